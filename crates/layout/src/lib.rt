@@ -1,0 +1,12 @@
+//! Objects in memory: a header, then the reference words, then the data words.
+#![tactic(auto)]
+
+mod header;
+mod parts;
+mod shape;
+mod splitting;
+
+pub use header::Header;
+pub use parts::Split;
+pub use shape::{Layout, Layouts};
+pub use splitting::{split, split_header, split_parts};

@@ -1,0 +1,85 @@
+//! Layouts, and the table of a heap's layouts.
+
+ghost use Rattle.std.specs.Prelude.{◌≡◌, ◌==◌, ◌<◌, length, slice_get};
+ghost use Rattle.layout.specs.Objects.{size_of};
+
+use std::marker::Model;
+
+/// How many reference words and data words an object has, 0 to 255 each (ours).
+#[derive(Clone, Copy, Debug, PartialEq, Eq)]
+pub struct Layout {
+    /// The number of reference words.
+    pub refs: u8,
+    /// The number of data words.
+    pub nums: u8,
+}
+
+impl Layout {
+    /// The words of an object, its header among them: 1 to 511.
+    pub fn size(&self) -> u32
+        ensures value { result ≡ size_of self.now }
+        ensures range { result < 512 }
+    {
+        1 + u32::from(self.refs) + u32::from(self.nums)
+    }
+}
+
+/// The layouts of a heap, by number from 0. A contract sees the list of them.
+#[derive(Debug, Drop)]
+pub struct Layouts {
+    items: Vec<Layout>,
+}
+
+impl Model for Layouts {
+    ghost use Rattle.std.specs.Prelude.{List};
+    ghost use Rattle.layout.specs.declared.shape.Layout.{Layout};
+
+    ghost Value = { List Layout };
+
+    ghost view = { λ t. t.items.items };
+}
+
+impl Layouts {
+    /// The table of these layouts.
+    pub fn new(items: Vec<Layout>) -> Layouts
+        ensures { result ≡ items.items }
+    {
+        Layouts { items }
+    }
+
+    /// The layout of this number, or `None` where the table ends before it.
+    pub fn get(&self, number: u32) -> Option<Layout>
+        ensures { result ≡ slice_get self.now number }
+    {
+        self.items.get(number as usize).copied()
+    }
+
+    /// The number of layouts.
+    pub fn len(&self) -> usize
+        ensures { result ≡ length self.now }
+    {
+        self.items.len()
+    }
+
+    /// Whether there are none.
+    pub fn is_empty(&self) -> bool
+        ensures { result ≡ (length self.now == 0) }
+    {
+        self.items.is_empty()
+    }
+
+    /// The layouts in order.
+    pub fn as_slice(&self) -> &[Layout]
+        ensures { result.now ≡ self.now }
+    {
+        &self.items
+    }
+
+    /// The layouts as they were handed in.
+    pub fn into_vec(self) -> Vec<Layout>
+        ensures { result.items ≡ self }
+    {
+        let Layouts { items } = self;
+        items
+    }
+}
