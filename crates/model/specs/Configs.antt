@@ -1,0 +1,38 @@
+-- The configurations that a heap may be made with.
+use Rattle.std.specs.Prelude.{◌≡◌, ℕ, ◌^◌, ◌==◌, ◌||◌, ◌&&◌, not, Bool, true, false, length, Option, Some, None, nat_le, nat_lt, if◌then◌else◌}
+use Rattle.std.specs.List.{list_all}
+use Rattle.layout.specs.declared.shape.Layout.{Layout}
+use Rattle.layout.specs.Objects.{size_of}
+use Rattle.model.specs.declared.config.Config.{Config}
+use Rattle.model.specs.declared.config.ConfigFault.{ConfigFault}
+use Rattle.model.specs.declared.config.ConfigFault.TheVariants as faults
+
+-- a power of two from 16 to 4096
+abbrev pub is_page_size : ℕ → Bool
+is_page_size n = (n == 16) || (n == 32) || (n == 64) || (n == 128) || (n == 256) || (n == 512) || (n == 1024) || (n == 2048) || (n == 4096)
+
+-- from low to high
+abbrev pub is_outside : ℕ → ℕ → ℕ → Bool
+is_outside n low high = nat_lt n low || nat_lt high n
+
+-- an object of the layout has room in a page
+abbrev pub fits_page : ℕ → Layout → Bool
+fits_page words l = nat_le (size_of l) words
+
+-- the first field that is out of its range
+unfoldable pub first_fault : Config → Option ConfigFault
+first_fault c =
+    if not (is_page_size c.words) then Some faults.Words else
+    (if is_outside c.frames 1 4096 then Some faults.Frames else
+    (if is_outside c.pages c.frames 65535 then Some faults.Pages else
+    (if is_outside c.threads 1 64 then Some faults.Threads else
+    (if is_outside c.workers 1 16 then Some faults.Workers else
+    (if is_outside c.registers 1 16 then Some faults.Registers else
+    (if is_outside c.globals 0 64 then Some faults.Globals else
+    (if is_outside (length c.layouts) 1 64 || not (list_all (fits_page c.words) c.layouts) then Some faults.Layouts else
+    (if is_outside c.births 1 (2 ^ 32) then Some faults.Births else
+    (if is_outside c.history 1 1000000 then Some faults.History else None)))))))))
+
+-- all fields are in their ranges
+abbrev pub IsConfig : Config → Type 0
+IsConfig c = first_fault c ≡ None

@@ -1,0 +1,133 @@
+//! What a heap is made with.
+
+ghost use Rattle.std.specs.Prelude.{◌≡◌, ◌==◌, IfOk};
+ghost use Rattle.std.specs.List.{list_all};
+ghost use Rattle.model.specs.Configs.{is_page_size, fits_page, first_fault};
+
+use layout::{Layout, Layouts};
+use std::alloc::{AllocError, Global};
+use thiserror::Error;
+
+/// The sizes and limits of a heap. Each field says its range; the limits are ours.
+#[derive(Debug, Drop)]
+pub struct Config {
+    /// The words of a page: 16 to 4,096, a power of two.
+    pub words: u32,
+    /// The frames, each the memory of one page: 1 to 4,096.
+    pub frames: u32,
+    /// The page numbers: 1 to 65,535, and at least as many as frames.
+    pub pages: u32,
+    /// The mutator threads: 1 to 64.
+    pub threads: u32,
+    /// The collector's workers: 1 to 16.
+    pub workers: u32,
+    /// The registers of each thread: 1 to 16.
+    pub registers: u32,
+    /// The global roots: 0 to 64.
+    pub globals: u32,
+    /// The layouts: 1 to 64, each of a size of at most the words of a page.
+    pub layouts: Layouts,
+    /// How many objects may be born: 1 to 2^32.
+    pub births: u64,
+    /// How many entries a history may have: 1 to 1,000,000.
+    pub history: u64,
+}
+
+/// The field of a configuration that is out of its range.
+#[derive(Clone, Copy, Debug, PartialEq, Eq, Error)]
+pub enum ConfigFault {
+    /// The words of a page.
+    #[error("words out of range")]
+    Words,
+    /// The frames.
+    #[error("frames out of range")]
+    Frames,
+    /// The pages.
+    #[error("pages out of range")]
+    Pages,
+    /// The threads.
+    #[error("threads out of range")]
+    Threads,
+    /// The workers.
+    #[error("workers out of range")]
+    Workers,
+    /// The registers.
+    #[error("registers out of range")]
+    Registers,
+    /// The globals.
+    #[error("globals out of range")]
+    Globals,
+    /// The layouts, by their number or by the size of one.
+    #[error("layouts out of range")]
+    Layouts,
+    /// The births.
+    #[error("births out of range")]
+    Births,
+    /// The history.
+    #[error("history out of range")]
+    History,
+}
+
+impl Config {
+    /// The first field that is out of its range, in the order of the fields; `None` where all
+    /// are in range.
+    #[tactic(auto, unfolding(crate::specs::Configs::first_fault))]
+    pub fn fault(&self) -> Option<ConfigFault>
+        ensures { result ≡ first_fault self.now }
+    {
+        let layouts = self.layouts.as_slice();
+        if !is_page_size(self.words) {
+            Some(ConfigFault::Words)
+        } else if self.frames < 1 || self.frames > 4096 {
+            Some(ConfigFault::Frames)
+        } else if self.pages < self.frames || self.pages > 65_535 {
+            Some(ConfigFault::Pages)
+        } else if self.threads < 1 || self.threads > 64 {
+            Some(ConfigFault::Threads)
+        } else if self.workers < 1 || self.workers > 16 {
+            Some(ConfigFault::Workers)
+        } else if self.registers < 1 || self.registers > 16 {
+            Some(ConfigFault::Registers)
+        } else if self.globals > 64 {
+            Some(ConfigFault::Globals)
+        } else if layouts.is_empty() || layouts.len() > 64 || !all_fit(layouts, self.words) {
+            Some(ConfigFault::Layouts)
+        } else if self.births < 1 || self.births > 1 << 32 {
+            Some(ConfigFault::Births)
+        } else if self.history < 1 || self.history > 1_000_000 {
+            Some(ConfigFault::History)
+        } else {
+            None
+        }
+    }
+
+    /// A second configuration of the same values.
+    pub fn copy(&self, alloc: Global) -> Result<Config, AllocError>
+        ensures { IfOk result (λ c. c ≡ self.now) }
+    {
+        Ok(Config {
+            layouts: Layouts::new(Vec::from_slice(alloc, self.layouts.as_slice())?),
+            words: self.words,
+            frames: self.frames,
+            pages: self.pages,
+            threads: self.threads,
+            workers: self.workers,
+            registers: self.registers,
+            globals: self.globals,
+            births: self.births,
+            history: self.history,
+        })
+    }
+}
+
+fn is_page_size(words: u32) -> bool
+    ensures { result ≡ is_page_size words }
+{
+    matches!(words, 16 | 32 | 64 | 128 | 256 | 512 | 1024 | 2048 | 4096)
+}
+
+fn all_fit(layouts: &[Layout], words: u32) -> bool
+    ensures { result ≡ list_all (fits_page words) layouts.now }
+{
+    layouts.iter().all(|layout| layout.size() <= words)
+}

@@ -1,0 +1,113 @@
+//! The records of a heap's state.
+
+use refword::{Addr, Word};
+
+/// How a page is used.
+#[derive(Clone, Copy, Debug, PartialEq, Eq)]
+pub enum PageState {
+    /// It has no memory, and its number may be taken.
+    Unused,
+    /// It has a frame, and buffers are taken in it.
+    Open,
+    /// It has a frame, and no buffer is taken in it any more.
+    Closed,
+    /// It is protected: its live objects are being copied out (the paper's relocation).
+    From,
+    /// Its objects are copied and its frame is given back; its side array stays.
+    Gone,
+}
+
+/// A page's record. The page of number n is the n-th record, counted from 1.
+#[derive(Clone, Copy, Debug, PartialEq, Eq)]
+pub struct Page {
+    /// How it is used.
+    pub state: PageState,
+    /// The number of its frame, from 0.
+    pub frame: Option<u32>,
+    /// How many words were given out so far: 0 to the words of a page.
+    pub top: u32,
+}
+
+/// The part of a page that a thread may still fill.
+#[derive(Clone, Copy, Debug, PartialEq, Eq)]
+pub struct Buffer {
+    /// The page's number.
+    pub page: u32,
+    /// The offset of the next object.
+    pub next: u32,
+    /// The offset at which the buffer ends.
+    pub end: u32,
+}
+
+/// Where the collector is in its cycle (the paper's phases, with their checkpoints).
+#[derive(Clone, Copy, Debug, PartialEq, Eq)]
+pub enum Phase {
+    /// No mark runs, and no page is protected.
+    Idle,
+    /// A mark has begun, and some thread hasn't crossed its checkpoint.
+    MarkCrossing,
+    /// A mark runs, and all threads have crossed.
+    Scanning,
+    /// Pages are protected, and some thread hasn't crossed the checkpoint.
+    ProtectCrossing,
+    /// Pages are protected, and all threads have crossed.
+    Relocating,
+}
+
+/// Where a load takes its word from.
+#[derive(Clone, Copy, Debug, PartialEq, Eq)]
+pub enum Place {
+    /// A reference field, counted from 0, of the object at an address.
+    Field {
+        /// The object's address.
+        object: Addr,
+        /// The number of the field.
+        index: u32,
+    },
+    /// The global of this number.
+    Global(u32),
+}
+
+/// A load that isn't finished (the paper's read barrier).
+#[derive(Clone, Copy, Debug, PartialEq, Eq)]
+pub struct Barrier {
+    /// The register that the load is for.
+    pub target: u32,
+    /// Where the word was loaded.
+    pub place: Place,
+    /// The word that was loaded.
+    pub raw: Word,
+    /// The word so far.
+    pub now: Word,
+    /// Whether the place was healed.
+    pub healed: bool,
+}
+
+/// An object that a worker scans.
+#[derive(Clone, Copy, Debug, PartialEq, Eq)]
+pub struct Scan {
+    /// The object's address.
+    pub object: Addr,
+    /// The number of the next reference field.
+    pub next: u32,
+}
+
+/// An entry of a protected page's side array: one live object, and where it goes.
+#[derive(Clone, Copy, Debug, PartialEq, Eq)]
+pub struct Forwarding {
+    /// The object's offset in its page.
+    pub offset: u32,
+    /// Its new address.
+    pub to: Addr,
+    /// Whether it is copied.
+    pub copied: bool,
+}
+
+/// A root that all threads share.
+#[derive(Clone, Copy, Debug, PartialEq, Eq)]
+pub struct Global {
+    /// What it names.
+    pub word: Word,
+    /// Whether the running mark has still to mark it.
+    pub todo: bool,
+}

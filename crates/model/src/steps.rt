@@ -1,0 +1,215 @@
+//! Steps of actors, their answers and their refusals.
+
+ghost use Rattle.std.specs.Prelude.{◌≡◌};
+
+use std::marker::Model;
+
+/// Who does a step. Threads and workers count from 0.
+#[derive(Clone, Copy, Debug, PartialEq, Eq)]
+pub enum Actor {
+    /// A mutator thread.
+    Thread(u32),
+    /// A worker of the collector.
+    Worker(u32),
+}
+
+/// A list of page numbers, as a contract sees it.
+#[derive(Debug, Drop)]
+pub struct PageList {
+    pages: Vec<u32>,
+}
+
+impl Model for PageList {
+    ghost use Rattle.std.specs.Prelude.{List, ℕ};
+
+    ghost Value = { List ℕ };
+
+    ghost view = { λ l. l.pages.items };
+}
+
+impl PageList {
+    /// The list of these pages.
+    pub fn new(pages: Vec<u32>) -> PageList
+        ensures { result ≡ pages.items }
+    {
+        PageList { pages }
+    }
+
+    /// The pages in order.
+    pub fn as_slice(&self) -> &[u32]
+        ensures { result.now ≡ self.now }
+    {
+        &self.pages
+    }
+
+    /// The pages as they were handed in.
+    pub fn into_vec(self) -> Vec<u32>
+        ensures { result.items ≡ self }
+    {
+        let PageList { pages } = self;
+        pages
+    }
+}
+
+/// What an actor does in one hold of the heap.
+#[derive(Debug, Drop)]
+pub enum Step {
+    /// A buffer of so many words is taken.
+    Take(u32),
+    /// The buffer is given back.
+    GiveBack,
+    /// An object is born.
+    New { target: u32, layout: u32 },
+    /// A reference field is loaded: a barrier opens.
+    Load { target: u32, object: u32, field: u32 },
+    /// A global is loaded: a barrier opens.
+    LoadGlobal { target: u32, global: u32 },
+    /// The word in the barrier is corrected or marked.
+    Trap,
+    /// The place of the load gets the word in the barrier.
+    Heal,
+    /// The register gets the word in the barrier, which closes.
+    Finish,
+    /// A reference field gets a register's word.
+    Store { object: u32, field: u32, source: u32 },
+    /// A global gets a register's word.
+    StoreGlobal { global: u32, source: u32 },
+    /// A data word is read.
+    Datum { object: u32, index: u32 },
+    /// A data word is written.
+    SetDatum { object: u32, index: u32, value: u64 },
+    /// Two registers are compared.
+    Same { left: u32, right: u32 },
+    /// A register is tested.
+    IsNull(u32),
+    /// A register gets another one's word.
+    CopyReg { target: u32, source: u32 },
+    /// A register becomes null.
+    ClearReg(u32),
+    /// The thread crosses the open checkpoint.
+    Cross,
+    /// A register that names a protected page is corrected.
+    Scrub(u32),
+    /// The thread blocks.
+    Park,
+    /// The thread runs again.
+    Unpark,
+    /// A mark starts.
+    StartMark,
+    /// The worker takes an object to scan.
+    Pick { page: u32, offset: u32 },
+    /// The worker scans the next field of its object.
+    ScanField,
+    /// A global is marked.
+    ScanGlobal(u32),
+    /// The mark ends.
+    EndMark,
+    /// Pages are protected.
+    Protect(PageList),
+    /// An object of a protected page is copied.
+    Copy { page: u32, entry: u32 },
+    /// A protected page gives its frame back.
+    Release(u32),
+    /// A parked thread is crossed.
+    CrossFor(u32),
+}
+
+/// What an accepted step says.
+#[derive(Clone, Copy, Debug, PartialEq, Eq)]
+pub enum Answer {
+    /// A buffer begins there.
+    Lent { page: u32, offset: u32 },
+    /// The object's birth number.
+    Birth(u32),
+    /// A barrier is open.
+    Loaded,
+    /// The word names the copy now.
+    Moved,
+    /// The word was marked.
+    Marked,
+    /// No trap was due.
+    Clear,
+    /// The place of the load was written.
+    Healed,
+    /// The place of the load had changed, and stays.
+    Changed,
+    /// The register names no protected page.
+    Clean,
+    /// A field was scanned.
+    Scanned,
+    /// The object is scanned.
+    Finished,
+    /// It is done.
+    Done,
+    /// A data word.
+    Datum(u64),
+    /// Whether it is so.
+    Truth(bool),
+    /// An object was copied to there.
+    MovedTo { page: u32, offset: u32 },
+    /// A mark ended: how many objects live, and how many pages became unused.
+    Ended { live: u64, retired: u64 },
+    /// How many objects go to how many pages.
+    Protected { objects: u64, targets: u64 },
+    /// How many frames are free now.
+    Released { free: u64 },
+}
+
+/// Why a step isn't accepted. A refused step changes nothing.
+#[derive(Clone, Copy, Debug, PartialEq, Eq)]
+pub enum Refusal {
+    /// There is no such actor, or it does no such step.
+    NoActor,
+    /// A number in the step names nothing.
+    BadIndex,
+    /// The thread is parked.
+    Parked,
+    /// The thread isn't parked.
+    NotParked,
+    /// A barrier is open.
+    Busy,
+    /// No barrier is open.
+    NotBusy,
+    /// A register is null.
+    Null,
+    /// A register names a protected page whose objects can't be copied yet.
+    Stall,
+    /// A register names a protected page.
+    Stale,
+    /// There is no buffer, or it is too small.
+    NoRoom,
+    /// The thread has a buffer.
+    HasBuffer,
+    /// There are fewer free frames than are needed.
+    NoFrames { need: u64, free: u64 },
+    /// There are fewer unused pages than are needed.
+    NoPages,
+    /// The collector's phase has no such step.
+    Phase,
+    /// The thread has crossed already.
+    AlreadyCrossed,
+    /// This thread hasn't crossed.
+    NotCrossed { thread: u32 },
+    /// Nothing there is to be scanned.
+    NotTodo,
+    /// A worker has it.
+    Taken,
+    /// Something is still to be scanned.
+    TodoLeft,
+    /// This thread's barrier is open.
+    Pending { thread: u32 },
+    /// This page isn't closed.
+    Unripe { page: u32 },
+    /// This page has an object that isn't copied.
+    Uncopied { page: u32 },
+    /// The object is copied already.
+    Copied,
+    /// This page has a buffer that is lent.
+    Lent { page: u32 },
+    /// No more objects may be born.
+    Births,
+    /// The history has as many entries as it may have.
+    HistoryFull,
+    /// Memory was refused.
+    Memory,
+}
