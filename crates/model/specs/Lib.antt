@@ -1,1 +1,3 @@
 pub mod Configs
+pub mod Stores
+pub mod Owning

@@ -8,6 +8,6 @@ mod steps;
 
 pub use config::{Config, ConfigFault};
 pub use records::{
-    Barrier, Buffer, Forwarding, Global, Page, PageState, Phase, Place, Scan,
+    Barrier, Buffer, Forwarding, Global, Page, PageState, Phase, Place, Room, Scan,
 };
 pub use steps::{Actor, Answer, PageList, Refusal, Step};

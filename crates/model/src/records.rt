@@ -39,6 +39,15 @@ pub struct Buffer {
     pub end: u32,
 }
 
+/// Why no buffer can be taken.
+#[derive(Clone, Copy, Debug, PartialEq, Eq)]
+pub enum Room {
+    /// No page has room, and no frame is free.
+    NoFrames,
+    /// No page has room, and no page number is unused.
+    NoPages,
+}
+
 /// Where the collector is in its cycle (the paper's phases, with their checkpoints).
 #[derive(Clone, Copy, Debug, PartialEq, Eq)]
 pub enum Phase {

@@ -1,0 +1,47 @@
+-- What holds of every store: each frame is the memory of one page, or free.
+use Rattle.std.specs.Prelude.{◌≡◌, ℕ, ◌+◌, ◌*◌, ◌≤◌, ◌<◌, Bool, true, false, List, length, count_by, is_some, is_none, Option, Some, None, slice_get}
+use Rattle.model.specs.declared.records.Page.{Page}
+use Rattle.model.specs.declared.records.PageState.{PageState}
+use Rattle.model.specs.declared.records.Buffer.{Buffer}
+use Rattle.model.specs.Stores.{StoreState, has_memory, is_protected, is_open, page_at, state_in, record_count}
+
+-- each element has it
+abbrev pub Each : {X : Type 0} → List X → (X → Type 0) → Type 0
+Each {X} xs P = (i : ℕ) (x : X) → slice_get xs i ≡ Some x → P x
+
+-- a page has a frame exactly where its state says so, and gave out no more words than it has
+pub record IsPage (words : ℕ) (p : Page) : Type 0 where
+  pub memory : is_some p.frame ≡ has_memory p.state
+  pub top : p.top ≤ words
+
+-- the page of an index has the frame exactly where it is the frame's owner
+pub record OwnsAlike (s : StoreState) : Type 0 where
+  pub owned : (i f : ℕ) (p : Page) → slice_get s.pages i ≡ Some p → p.frame ≡ Some f → slice_get s.owners f ≡ Some (Some (i + 1))
+  pub owner : (f n : ℕ) → slice_get s.owners f ≡ Some (Some n) → (i : ℕ) × (p : Page) × (n ≡ i + 1) × (slice_get s.pages i ≡ Some p) × (p.frame ≡ Some f)
+
+-- pages with memory and free frames add up to the frames, and no more pages are left than there are frames
+pub record IsBalanced (s : StoreState) : Type 0 where
+  pub frames : count_by (λ p. has_memory p.state) s.pages + count_by is_none s.owners ≡ length s.frames
+  pub leaving : count_by (λ p. is_protected p.state) s.pages ≤ length s.frames
+
+-- sizes
+pub record IsStoreSized (s : StoreState) : Type 0 where
+  pub words_low : 0 < s.words
+  pub words : s.words ≤ 4096
+  pub frame_count : length s.frames ≤ 4096
+  pub count : s.count ≤ 65535
+  pub owners : length s.owners ≡ length s.frames
+  pub pages : length s.pages ≡ record_count (length s.frames) s.count
+  pub frames : Each s.frames (λ ws. length ws ≡ s.words)
+
+pub record IsStore (s : StoreState) : Type 0 where
+  pub sized : IsStoreSized s
+  pub pages : Each s.pages (IsPage s.words)
+  pub owning : OwnsAlike s
+  pub balanced : IsBalanced s
+
+-- a buffer lies in an open page of the store
+pub record LiesIn (s : StoreState) (b : Buffer) : Type 0 where
+  pub page : is_open (state_in (page_at s b.page)) ≡ true
+  pub order : b.next ≤ b.end
+  pub end : b.end ≤ s.words

@@ -1,0 +1,177 @@
+-- Pages, and the frames that are their memory.
+use Rattle.std.specs.Prelude.{◌≡◌, ℕ, ◌+◌, ◌-◌, ◌*◌, ◌/◌, ◌%◌, ◌==◌, ◌&&◌, Bool, true, false, List, [], ◌∷◌, ◌++◌, length, take, drop, replicate, Option, Some, None, is_none, option_and_then, Result, Ok, Err, nat_le, nat_lt, slice_get, slice_set, position, if◌then◌else◌}
+use Rattle.std.specs.Option.{option_map}
+use Rattle.model.specs.declared.records.Page.{Page}
+use Rattle.model.specs.declared.records.PageState.{PageState}
+use Rattle.model.specs.declared.records.PageState.TheVariants.{Unused, Open, Closed, From, Gone}
+use Rattle.model.specs.declared.records.Buffer.{Buffer}
+use Rattle.model.specs.declared.records.Room.{Room}
+use Rattle.model.specs.declared.records.Room.TheVariants.{NoFrames, NoPages}
+
+-- Page n has its record at n - 1 of pages; a page without a record is unused.
+-- Each frame has the words of a page, and at most one owner, the number of a page.
+pub record StoreState : Type 0 where
+  pub words : ℕ
+  pub count : ℕ
+  pub pages : List Page
+  pub frames : List (List ℕ)
+  pub owners : List (Option ℕ)
+
+-- what a page is
+
+-- the record of page n
+unfoldable pub page_at : StoreState → ℕ → Option Page
+page_at s n = if n == 0 then None else slice_get s.pages (n - 1)
+
+abbrev pub state_in : Option Page → PageState
+state_in None = Unused
+state_in (Some p) = p.state
+
+-- how page n is used
+unfoldable pub state_at : StoreState → ℕ → PageState
+state_at s n = state_in (page_at s n)
+
+abbrev pub frame_in : Option Page → Option ℕ
+frame_in None = None
+frame_in (Some p) = p.frame
+
+abbrev pub is_open : PageState → Bool
+is_open Open = true
+is_open _ = false
+
+abbrev pub is_unused : PageState → Bool
+is_unused Unused = true
+is_unused _ = false
+
+-- pages of this state have memory
+abbrev pub has_memory : PageState → Bool
+has_memory Unused = false
+has_memory Gone = false
+has_memory _ = true
+
+-- pages of this state are being emptied, or were
+abbrev pub is_protected : PageState → Bool
+is_protected From = true
+is_protected Gone = true
+is_protected _ = false
+
+-- words
+
+abbrev pub at_offset : Option ℕ → ℕ → Option (ℕ × ℕ)
+at_offset None o = None
+at_offset (Some f) o = Some (f, o)
+
+-- the frame and the offset behind an address
+unfoldable pub spot_of : StoreState → ℕ → Option (ℕ × ℕ)
+spot_of s address = at_offset (frame_in (page_at s (address / s.words))) (address % s.words)
+
+abbrev pub word_in : List (List ℕ) → Option (ℕ × ℕ) → Option ℕ
+word_in frames None = None
+word_in frames (Some x) = option_and_then (λ ws. slice_get ws x.1) (slice_get frames x.0)
+
+-- the word at an address, if its page has memory
+unfoldable pub word_at : StoreState → ℕ → Option ℕ
+word_at s address = word_in s.frames (spot_of s address)
+
+abbrev pub changed_frame : List (List ℕ) → ℕ → Option (List ℕ) → (List ℕ → List ℕ) → List (List ℕ)
+changed_frame frames f None change = frames
+changed_frame frames f (Some ws) change = slice_set frames f (change ws)
+
+abbrev pub changed_in : List (List ℕ) → Option ℕ → (List ℕ → List ℕ) → List (List ℕ)
+changed_in frames None change = frames
+changed_in frames (Some f) change = changed_frame frames f (slice_get frames f) change
+
+-- the store with other words in the frame of page n
+unfoldable pub with_words : StoreState → ℕ → (List ℕ → List ℕ) → StoreState
+with_words s n change = record s { frames = changed_in s.frames (frame_in (page_at s n)) change }
+
+-- the store with another word at an address
+unfoldable pub with_word : StoreState → ℕ → ℕ → StoreState
+with_word s address v = with_words s (address / s.words) (λ ws. slice_set ws (address % s.words) v)
+
+-- the words of page n, if it has memory
+unfoldable pub words_at : StoreState → ℕ → Option (List ℕ)
+words_at s n = option_and_then (slice_get s.frames) (frame_in (page_at s n))
+
+-- words with others written over them from an offset on; what would go past their end is cut off
+abbrev pub overlaid : List ℕ → ℕ → List ℕ → List ℕ
+overlaid ws o xs = take (length ws) (take o ws ++ (xs ++ drop (length xs) (drop o ws)))
+
+-- buffers
+
+-- the page has so many words left
+abbrev pub has_room : ℕ → ℕ → Page → Bool
+has_room words n p = is_open p.state && nat_le n (words - p.top)
+
+-- the index of the lowest open page with room
+unfoldable pub page_with_room : ℕ → ℕ → List Page → Option ℕ
+page_with_room words n pages = position (has_room words n) pages
+
+-- the lowest free frame
+unfoldable pub free_frame : List (Option ℕ) → Option ℕ
+free_frame owners = position is_none owners
+
+abbrev pub unused_in : ℕ → List Page → Option ℕ → Option ℕ
+unused_in count pages (Some i) = Some i
+unused_in count pages None = if nat_lt (length pages) count then Some (length pages) else None
+
+-- the index of the lowest unused page
+unfoldable pub unused_page : ℕ → List Page → Option ℕ
+unused_page count pages = unused_in count pages (position (λ p. is_unused p.state) pages)
+
+abbrev pub fresh_page : ℕ → Page
+fresh_page f = record { state = Open; frame = Some f; top = 0 }
+
+-- the page of an index opened on a frame of zeros
+unfoldable pub opened : StoreState → ℕ → ℕ → StoreState
+opened s i f = record s { pages = slice_set s.pages i (fresh_page f); frames = slice_set s.frames f (replicate s.words 0); owners = slice_set s.owners f (Some (i + 1)) }
+
+abbrev pub top_in : Option Page → ℕ
+top_in None = 0
+top_in (Some p) = p.top
+
+abbrev pub raised : List Page → ℕ → Option Page → ℕ → List Page
+raised pages i None n = pages
+raised pages i (Some p) n = slice_set pages i (record p { top = p.top + n })
+
+abbrev pub buffer_of : ℕ → ℕ → ℕ → Buffer
+buffer_of i top n = record { page = i + 1; next = top; end = top + n }
+
+-- n words of the page of an index are given out
+unfoldable pub given : StoreState → ℕ → ℕ → StoreState × Buffer
+given s i n = (record s { pages = raised s.pages i (slice_get s.pages i) n }, buffer_of i (top_in (slice_get s.pages i)) n)
+
+abbrev pub taken_fresh : StoreState → ℕ → Option ℕ → Option ℕ → Result (StoreState × Buffer) Room
+taken_fresh s n None i = Err NoFrames
+taken_fresh s n (Some f) None = Err NoPages
+taken_fresh s n (Some f) (Some i) = Ok (given (opened s i f) i n)
+
+abbrev pub taken_at : StoreState → ℕ → Option ℕ → Result (StoreState × Buffer) Room
+taken_at s n (Some i) = Ok (given s i n)
+taken_at s n None = taken_fresh s n (free_frame s.owners) (unused_page s.count s.pages)
+
+-- a buffer of n words: in the lowest open page with room, else in the lowest unused page, opened on the lowest free frame
+unfoldable pub taken : StoreState → ℕ → Result (StoreState × Buffer) Room
+taken s n = taken_at s n (page_with_room s.words n s.pages)
+
+-- a call that took a buffer, or changed nothing
+abbrev pub Takes : StoreState → Result Buffer Room → StoreState → Result (StoreState × Buffer) Room → Type 0
+Takes old (Ok b) new outcome = outcome ≡ Ok (new, b)
+Takes old (Err e) new outcome = (outcome ≡ Err e) × (new ≡ old)
+
+abbrev pub blank_page : Page
+blank_page = record { state = Unused; frame = None; top = 0 }
+
+-- how many pages have records: no more are ever in use
+abbrev pub record_count : ℕ → ℕ → ℕ
+record_count frames pages = if nat_le pages (2 * frames) then pages else 2 * frames
+
+-- all pages unused, all frames free
+unfoldable pub first_store : ℕ → ℕ → ℕ → StoreState
+first_store words frames pages = record {
+  words = words;
+  count = pages;
+  pages = replicate (record_count frames pages) blank_page;
+  frames = replicate frames (replicate words 0);
+  owners = replicate frames None;
+}
