@@ -1,0 +1,41 @@
+-- What a search for a page or a frame has found.
+use Rattle.std.proofs.Common.{◌≡◌, ℕ, ◌+◌, ◌-◌, ◌<◌, ◌≤◌, ◌&&◌, Bool, true, false, List, length, Option, Some, None, is_none, position, count_by, nat_le, refl, sym, ◌∙◌, ap, subst, arith}
+use Rattle.std.specs.List.{slice_get}
+use Rattle.std.proofs.lemmas.Bool.Decides.{nat_tests}
+use Rattle.std.proofs.lemmas.List.Quantifiers.{position-Some}
+use Rattle.model.specs.declared.records.Page.{Page}
+use Rattle.model.specs.Stores.{has_room, is_open, is_unused, top_in, page_with_room, free_frame}
+use Rattle.model.proofs.Lists.{position_passes, get_within, count_positive}
+use Rattle.page.specs.Records.{is_unused_in}
+
+position_within : {X : Type 0} (p : X → Bool) (xs : List X) (i : ℕ) → position p xs ≡ Some i → (x : X) → i < length xs
+position_within p xs i e x = (position-Some p xs i x e).0
+
+room_left : (words n top : ℕ) (is_so : Bool) → 0 < n → is_so && nat_le n (words - top) ≡ true → top + n ≤ words
+room_left words n top true low e = grind (arith, nat_tests)
+room_left words n top false low e = absurd (cc)
+
+none_is : (o : Option ℕ) → is_none o ≡ true → o ≡ None
+none_is None e = refl
+none_is (Some x) e = absurd (cc)
+
+pub room_found : (words n : ℕ) (pages : List Page) (i : ℕ) → 0 < n → i < length pages → page_with_room words n pages ≡ Some i → top_in (slice_get pages i) + n ≤ words
+unfolding page_with_room
+room_found words n pages i low within e =
+    let found = get_within pages i within in
+    let passes = position_passes (has_room words n) pages i found.0 e found.1 in
+    rw found.1 (room_left words n found.0.top (is_open found.0.state) low passes)
+
+pub free_found : (owners : List (Option ℕ)) (f : ℕ) → f < length owners → free_frame owners ≡ Some f → slice_get owners f ≡ Some None
+unfolding free_frame
+free_found owners f within e =
+    let found = get_within owners f within in
+    found.1 ∙ ap Some (none_is found.0 (position_passes is_none owners f found.0 e found.1))
+
+pub free_counts : (owners : List (Option ℕ)) (f : ℕ) → f < length owners → free_frame owners ≡ Some f → 0 < count_by is_none owners
+free_counts owners f within e = count_positive is_none owners f None (free_found owners f within e) refl
+
+pub unused_found : (pages : List Page) (i : ℕ) → i < length pages → position (λ (p : Page). is_unused p.state) pages ≡ Some i → is_unused_in (slice_get pages i) ≡ true
+unused_found pages i within e =
+    let found = get_within pages i within in
+    rw found.1 (position_passes (λ (p : Page). is_unused p.state) pages i found.0 e found.1)

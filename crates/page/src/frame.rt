@@ -1,0 +1,74 @@
+//! The memory of a page.
+
+ghost use Rattle.std.specs.Prelude.{◌≡◌, ◌≤◌, ◌<◌, ◌^◌, length, slice_get, slice_set, slice_range, replicate, IfOk};
+ghost use Rattle.std.specs.Borrow.{sem};
+ghost use Rattle.page.specs.Lending.{LendsRun};
+
+use std::alloc::{AllocError, Global};
+use std::marker::Model;
+use std_alloc::vec::run_mut;
+
+/// The words of a frame. A contract sees the list of them.
+#[derive(Drop)]
+pub struct Frame {
+    words: Vec<u64, Global>,
+}
+
+impl Model for Frame {
+    ghost use Rattle.std.specs.Prelude.{List, ℕ};
+
+    ghost Value = { List ℕ };
+
+    ghost view = { λ f. f.words.items };
+}
+
+impl Frame {
+    /// A frame of zeros.
+    pub fn new(alloc: Global, words: u32) -> Result<Frame, AllocError>
+        ensures { IfOk result (λ f. f ≡ replicate words 0) }
+    {
+        Ok(Frame {
+            words: vec![in alloc; 0; words as usize]?,
+        })
+    }
+
+    /// The word at an offset.
+    pub fn get(&self, offset: usize) -> Option<u64>
+        ensures { result ≡ slice_get self.now offset }
+    {
+        self.words.get(offset).copied()
+    }
+
+    /// Writes the word at an offset, if the frame goes that far.
+    pub fn set(&mut self, offset: usize, value: u64)
+        ensures { self.new ≡ slice_set self.old offset value }
+    {
+        if offset < self.words.len() {
+            self.words[offset] = value;
+        }
+    }
+
+    /// Makes all words zero.
+    pub fn clear(&mut self)
+        ensures { self.new ≡ replicate (length self.old) 0 }
+    {
+        self.words.fill(0);
+    }
+
+    /// All words.
+    pub fn words(&self) -> &[u64]
+        ensures { result.now ≡ self.now }
+    {
+        &self.words
+    }
+
+    /// The words from one offset up to another.
+    pub fn run_mut(&mut self, start: usize, end: usize) -> &mut [u64]
+        requires order { start ≤ end }
+        requires within { end ≤ length self.old }
+        ensures value { result.now ≡ slice_range self.old start end }
+        ensures* after { sem 𝓛 (LendsRun self.entry start result) }
+    {
+        run_mut(&mut self.words, start, end)
+    }
+}

@@ -1,0 +1,9 @@
+//! The page store: pages, the frames that are their memory, and the buffers that threads fill.
+#![tactic(auto)]
+
+mod frame;
+mod search;
+mod store;
+
+pub use model::{Buffer, Page, PageState, Room};
+pub use store::Store;

@@ -1,0 +1,310 @@
+//! Pages and their frames.
+
+ghost use Rattle.std.specs.Prelude.{◌≡◌, ◌≤◌, ◌<◌, ◌+◌, ◌-◌, ◌^◌, length, slice_get, slice_set, slice_range, replicate, IfOk, IfSome, count_by, is_none, Some, None, true};
+ghost use Rattle.std.specs.Option.{option_map};
+ghost use Rattle.std.specs.Borrow.{sem};
+ghost use Rattle.model.specs.Stores.{first_store, page_at, state_at, state_in, spot_of, word_at, with_word, words_at, taken, Takes, given, opened, top_in, is_open, is_unused, unused_page, frame_in, record_count};
+ghost use Rattle.model.specs.Owning.{IsStore, LiesIn};
+ghost use Rattle.page.specs.Lending.{LendsPart};
+ghost use Rattle.page.specs.Records.{is_unused_in};
+
+use crate::frame::Frame;
+use crate::search::{free_frame, page_with_room, unused_record};
+use model::{Buffer, Page, PageState, Room};
+use std::alloc::{AllocError, Global};
+use std::marker::Model;
+
+/// The pages and frames of a heap.
+///
+/// Each open, closed or protected page owns one frame, no other page owns any, and each frame
+/// has one owner or is free: this is the invariant of the type. Pages have records only as far
+/// as they can ever be in use at once, which is twice the number of frames; the others are unused.
+#[derive(Drop)]
+pub struct Store {
+    words: u32,
+    count: u32,
+    pages: Vec<Page, Global>,
+    frames: Vec<Frame, Global>,
+    owners: Vec<Option<u32>, Global>,
+    free: u32,
+}
+
+impl Model for Store {
+    ghost use Rattle.model.specs.Stores.{StoreState};
+
+    ghost Value = { StoreState };
+
+    ghost use Rattle.page.specs.Views.{store_of, IsStoreInside};
+
+    ghost view = { store_of };
+
+    ghost invariant = { IsStoreInside };
+}
+
+fn blank_frames(alloc: Global, count: u32, words: u32) -> Result<Vec<Frame, Global>, AllocError>
+    ensures { IfOk result (λ v. v.items ≡ replicate count (replicate words 0)) }
+{
+    let mut frames = Vec::with_capacity(alloc, count as usize)?;
+    for _frame in 0..count {
+        frames.push(Frame::new(alloc, words)?)?;
+    }
+    Ok(frames)
+}
+
+fn many<T: Copy>(alloc: Global, count: u32, item: T) -> Result<Vec<T, Global>, AllocError>
+    ensures { IfOk result (λ v. v.items ≡ replicate count item) }
+{
+    let mut items = Vec::with_capacity(alloc, count as usize)?;
+    for _item in 0..count {
+        items.push(item)?;
+    }
+    Ok(items)
+}
+
+fn record_count(frames: u32, pages: u32) -> u32
+    requires { frames ≤ 4096 }
+    ensures { result ≡ record_count frames pages }
+{
+    if pages <= 2 * frames { pages } else { 2 * frames }
+}
+
+impl Store {
+    /// A store of so many frames and page numbers: all pages unused, all frames free. A page has
+    /// 1 to 4,096 words, and there are at most 4,096 frames and 65,535 pages. Fails only by memory.
+    #[tactic(auto, unfolding(model::specs::Stores::first_store))]
+    pub fn new(alloc: Global, words: u32, frames: u32, pages: u32) -> Result<Store, AllocError>
+        requires words_low { 0 < words }
+        requires words_high { words ≤ 4096 }
+        requires frames_high { frames ≤ 4096 }
+        requires pages_high { pages ≤ 65535 }
+        ensures { IfOk result (λ s. s ≡ first_store words frames pages) }
+    {
+        let blank = Page {
+            state: PageState::Unused,
+            frame: None,
+            top: 0,
+        };
+        Ok(Store {
+            words,
+            count: pages,
+            pages: many(alloc, record_count(frames, pages), blank)?,
+            frames: blank_frames(alloc, frames, words)?,
+            owners: many(alloc, frames, None)?,
+            free: frames,
+        })
+    }
+
+    /// The words of a page.
+    pub fn page_words(&self) -> u32
+        ensures value { result ≡ self.now.words }
+        ensures positive { 0 < result }
+        ensures range { result ≤ 4096 }
+    {
+        self.words
+    }
+
+    /// The number of page numbers: pages count from 1 to it.
+    pub fn page_count(&self) -> u32
+        ensures value { result ≡ self.now.count }
+        ensures range { result ≤ 65535 }
+    {
+        self.count
+    }
+
+    /// The records of the pages from number 1 on; pages beyond them are unused.
+    pub fn pages(&self) -> &[Page]
+        ensures { result.now ≡ self.now.pages }
+    {
+        &self.pages
+    }
+
+    /// The number of frames.
+    pub fn frame_count(&self) -> usize
+        ensures { result ≡ length self.now.frames }
+    {
+        self.frames.len()
+    }
+
+    /// The number of free frames.
+    pub fn free_frames(&self) -> u32
+        ensures { result ≡ count_by is_none self.now.owners }
+    {
+        self.free
+    }
+
+    /// The record of a page, if it has one.
+    #[tactic(auto, unfolding(model::specs::Stores::page_at))]
+    pub fn page(&self, number: u32) -> Option<Page>
+        ensures { result ≡ page_at self.now number }
+    {
+        let index = number.checked_sub(1)?;
+        self.pages.get(index as usize).copied()
+    }
+
+    /// The frame of a page, if it has memory.
+    fn frame(&self, number: u32) -> Option<u32>
+        ensures { result ≡ frame_in (page_at self.now number) }
+    {
+        match self.page(number) {
+            None => None,
+            Some(page) => page.frame,
+        }
+    }
+
+    /// How a page is used; unused where there is no such page.
+    #[tactic(auto, unfolding(model::specs::Stores::state_at))]
+    pub fn state(&self, number: u32) -> PageState
+        ensures { result ≡ state_at self.now number }
+    {
+        match self.page(number) {
+            None => PageState::Unused,
+            Some(page) => page.state,
+        }
+    }
+
+    /// The frame and the offset behind an address, if its page has memory.
+    #[tactic(auto, unfolding(model::specs::Stores::spot_of))]
+    fn spot(&self, address: u64) -> Option<(u32, usize)>
+        requires { address < 2 ^ 28 }
+        ensures { result ≡ spot_of self.now address }
+    {
+        let words = u64::from(self.words);
+        let frame = self.frame((address / words) as u32)?;
+        Some((frame, (address % words) as usize))
+    }
+
+    /// The word at an address, if its page has memory.
+    #[tactic(auto, unfolding(model::specs::Stores::word_at))]
+    pub fn word(&self, address: u64) -> Option<u64>
+        requires { address < 2 ^ 28 }
+        ensures { result ≡ word_at self.now address }
+    {
+        let (frame, offset) = self.spot(address)?;
+        let frame = self.frames.get(frame as usize)?;
+        frame.get(offset)
+    }
+
+    /// The words of a page, if it has memory.
+    #[tactic(auto, unfolding(model::specs::Stores::words_at))]
+    pub fn words(&self, page: u32) -> Option<&[u64]>
+        ensures { option_map (λ w. w.now) result ≡ words_at self.now page }
+    {
+        let frame = self.frame(page)?;
+        let frame = self.frames.get(frame as usize)?;
+        Some(frame.words())
+    }
+
+    /// Writes the word at an address, if its page has memory.
+    #[tactic(auto, unfolding(model::specs::Stores::with_word, model::specs::Stores::with_words, model::specs::Stores::spot_of))]
+    pub fn set_word(&mut self, address: u64, value: u64)
+        requires { address < 2 ^ 28 }
+        ensures { self.new ≡ with_word self.old address value }
+    {
+        if let Some((frame, offset)) = self.spot(address) {
+            if (frame as usize) < self.frames.len() {
+                let frame = &mut self.frames[frame as usize];
+                frame.set(offset, value);
+            }
+        }
+    }
+
+    /// Lends the free rest of a buffer, to be written.
+    pub fn part_mut(&mut self, buffer: &Buffer) -> &mut [u64]
+        requires { LiesIn self.old buffer.now }
+        ensures value { IfSome (words_at self.old buffer.now.page) (λ ws. result.now ≡ slice_range ws buffer.now.next buffer.now.end) }
+        ensures len { length result.now ≡ buffer.now.end - buffer.now.next }
+        ensures* after { sem 𝓛 (LendsPart self.entry buffer.now.page buffer.now.next result) }
+    {
+        let frame = self.open_frame(buffer.page);
+        let words = &mut self.frames[frame];
+        words.run_mut(buffer.next as usize, buffer.end as usize)
+    }
+
+    /// Gives out `n` words of the page of an index.
+    #[tactic(auto, unfolding(model::specs::Stores::given))]
+    fn give(&mut self, index: usize, n: u32) -> Buffer
+        requires there { index < length self.old.pages }
+        requires room { top_in (slice_get self.old.pages index) + n ≤ self.old.words }
+        ensures { given self.old index n ≡ (self.new, result) }
+    {
+        let page = &mut self.pages[index];
+        let top = page.top;
+        page.top = top + n;
+        Buffer {
+            page: (index + 1) as u32,
+            next: top,
+            end: top + n,
+        }
+    }
+
+    /// Opens the page of an index on a frame, and makes its words zero.
+    #[tactic(auto, unfolding(model::specs::Stores::opened))]
+    fn open(&mut self, index: usize, frame: usize)
+        requires unused { is_unused_in (slice_get self.old.pages index) ≡ true }
+        requires page_there { index < length self.old.pages }
+        requires free { slice_get self.old.owners frame ≡ Some None }
+        requires frame_there { frame < length self.old.owners }
+        ensures { self.new ≡ opened self.old index frame }
+    {
+        self.free -= 1;
+        self.pages[index] = Page {
+            state: PageState::Open,
+            frame: Some(frame as u32),
+            top: 0,
+        };
+        self.owners[frame] = Some((index + 1) as u32);
+        let words = &mut self.frames[frame];
+        words.clear();
+    }
+
+    /// The index of the lowest unused page.
+    fn unused_page(&self) -> Option<usize>
+        requires { 0 < count_by is_none self.now.owners }
+        ensures first { result ≡ unused_page self.now.count self.now.pages }
+        ensures there { IfSome result (λ i. i < length self.now.pages) }
+        ensures unused { IfSome result (λ i. is_unused_in (slice_get self.now.pages i) ≡ true) }
+    {
+        unused_record(&self.pages)
+    }
+
+    /// A buffer of `n` words: in the lowest open page that has room, else in the lowest unused
+    /// page, opened on the lowest free frame. `n` is 1 to the words of a page.
+    ///
+    /// Answers `NoFrames` where no frame is free, else `NoPages` where no page is unused; the
+    /// store is then as it was.
+    #[tactic(auto, unfolding(model::specs::Stores::taken))]
+    pub fn take(&mut self, n: u32) -> Result<Buffer, Room>
+        requires low { 0 < n }
+        requires high { n ≤ self.old.words }
+        ensures { Takes self.old result self.new (taken self.old n) }
+    {
+        if let Some(index) = page_with_room(&self.pages, self.words, n) {
+            return Ok(self.give(index, n));
+        }
+        let Some(frame) = free_frame(&self.owners) else {
+            return Err(Room::NoFrames);
+        };
+        let Some(index) = self.unused_page() else {
+            return Err(Room::NoPages);
+        };
+        self.open(index, frame);
+        Ok(self.give(index, n))
+    }
+
+    /// Takes a buffer back. Its rest is lost until the page is released, so the store stays.
+    pub fn give_back(&mut self, buffer: Buffer)
+        ensures { self.new ≡ self.old }
+    {
+        let _ = buffer;
+    }
+
+    /// The frame of an open page.
+    fn open_frame(&self, page: u32) -> usize
+        requires { is_open (state_in (page_at self.now page)) ≡ true }
+        ensures there { result < length self.now.frames }
+        ensures value { frame_in (page_at self.now page) ≡ Some result }
+    {
+        let _ = &self.words;
+        self.frame(page).unwrap() as usize
+    }
+}
