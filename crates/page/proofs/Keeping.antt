@@ -308,3 +308,17 @@ length_part ws a b h k = length-take-le (b - a) (drop a ws) (omega (arith, lengt
 pub some_is : (o : Option ℕ) (f : ℕ) → o ≡ Some f → IsSome o
 some_is None f e = absurd (cc)
 some_is (Some x) f e = search rules
+
+-- the parts of the store that there is at first
+pub first_inside : (words frames pages : ℕ) (ps : List Page) (fs : List (List ℕ)) (os : List (Option ℕ)) → 0 < words → words ≤ 4096 → frames ≤ 4096 → pages ≤ 65535 →
+    ps ≡ replicate (record_count frames pages) blank_page → fs ≡ replicate frames (replicate words 0) → os ≡ replicate frames None →
+    IsStore (record { words = words; count = pages; pages = ps; frames = fs; owners = os })
+unfolding first_store
+first_inside words frames pages ps fs os low high frames_high pages_high p f o = rw (p, f, o) (first_is_store words frames pages low high frames_high pages_high)
+
+pub first_free : (frames : ℕ) (os : List (Option ℕ)) → os ≡ replicate frames None → frames ≡ count_by is_none os
+first_free frames os e = rw e (omega (arith, count_replicate {X = Option ℕ} is_none frames None))
+
+-- each frame has an owner's place
+pub frame_of_owner : (s : StoreState) (f : ℕ) → IsStore s → f < length s.owners → f < length s.frames
+frame_of_owner s f h k = rw (← h.sized.owners) k

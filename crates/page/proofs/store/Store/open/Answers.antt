@@ -5,7 +5,7 @@ use Rattle.model.specs.Owning.{IsStore}
 use Rattle.model.proofs.Lists.{get_read, count_positive, count_set}
 use Rattle.page.specs.Views.{store_of}
 use Rattle.page.specs.Records.{is_unused_in}
-use Rattle.page.proofs.Keeping.{opened_with, opened_as}
+use Rattle.page.proofs.Keeping.{opened_with, opened_as, frame_of_owner}
 use Rattle.page.proofs.store.Store.open.Goals as goal
 
 pub overflow_sub-self : goal.overflow_sub-self
@@ -19,7 +19,8 @@ invariant_of-self c =
     let free = subst (λ (s : StoreState). slice_get s.owners c.args.frame ≡ Some None) (sym c.self.view_is) c.requires.free in
     let unused = subst (λ (s : StoreState). is_unused_in (slice_get s.pages c.args.index) ≡ true) (sym c.self.view_is) c.requires.unused in
     let page = subst (λ (s : StoreState). c.args.index < length s.pages) (sym c.self.view_is) c.requires.page_there in
-    let frame : c.args.frame < length s.frames = ? in
+    let owner = subst (λ (s : StoreState). c.args.frame < length s.owners) (sym c.self.view_is) c.requires.frame_there in
+    let frame = frame_of_owner s c.args.frame c.self.invariant.store owner in
     let words = get_read s.frames c.args.frame c.index_mut-words.result.now frame c.index_mut-words.ensures.value in
     let zeros : c.clear.new.self ≡ replicate s.words 0 = c.clear.ensures ∙ ap (λ n. replicate n 0) (c.self.invariant.store.sized.frames c.args.frame _ words) in
     record {
@@ -30,7 +31,8 @@ invariant_of-self c =
 pub returns : goal.returns
 returns c =
     let s = store_of c.self.inside in
-    let frame : c.args.frame < length s.frames = ? in
+    let owner = subst (λ (s : StoreState). c.args.frame < length s.owners) (sym c.self.view_is) c.requires.frame_there in
+    let frame = frame_of_owner s c.args.frame c.self.invariant.store owner in
     let words = get_read s.frames c.args.frame c.index_mut-words.result.now frame c.index_mut-words.ensures.value in
     let zeros : c.clear.new.self ≡ replicate s.words 0 = c.clear.ensures ∙ ap (λ n. replicate n 0) (c.self.invariant.store.sized.frames c.args.frame _ words) in
     opened_as s c.args.index c.args.frame c.clear.new.self zeros ∙ ap (λ t. opened t c.args.index c.args.frame) c.self.view_is
