@@ -89,19 +89,15 @@ MIXES = [
 
 
 def timed(program, path, status):
-    """Seconds of the fastest of some runs; ends the program where a run has
-    another exit status."""
-    best = None
-    for _ in range(RUNS):
-        begun = time.perf_counter()
-        done = subprocess.run([program, "run", path],
-                              stdout=subprocess.DEVNULL, stderr=subprocess.DEVNULL)
-        took = time.perf_counter() - begun
-        if done.returncode != status:
-            sys.exit(f"{path}: the program ended with status {done.returncode}, not {status}")
-        if best is None or took < best:
-            best = took
-    return best
+    """Seconds of one run; ends the bench where the run has another exit
+    status."""
+    begun = time.perf_counter()
+    done = subprocess.run([program, "run", path],
+                          stdout=subprocess.DEVNULL, stderr=subprocess.DEVNULL)
+    took = time.perf_counter() - begun
+    if done.returncode != status:
+        sys.exit(f"{path}: the program ended with status {done.returncode}, not {status}")
+    return took
 
 
 def write(path, lines):
@@ -118,11 +114,16 @@ def measure(program, folder, mix, words, count):
         "full": (mix.head(words, " history 1") + commands, 0),
         "whole": (mix.head(words) + commands, 0),
     }
-    took = {}
-    for form, (lines, status) in forms.items():
-        path = os.path.join(folder, form + ".script")
-        write(path, lines)
-        took[form] = timed(program, path, status)
+    def path(form):
+        return os.path.join(folder, form + ".script")
+
+    for form, (lines, _) in forms.items():
+        write(path(form), lines)
+    # The forms take turns, so that a slow moment doesn't fall on one alone.
+    took = {form: float("inf") for form in forms}
+    for _ in range(RUNS):
+        for form, (_, status) in forms.items():
+            took[form] = min(took[form], timed(program, path(form), status))
 
     def each(a, b):
         return (took[a] - took[b]) / count * 1e9
