@@ -1,0 +1,162 @@
+#!/usr/bin/env python3
+"""Times the program on generated scripts: python3 bench/run.py [PROGRAM].
+
+Each script has one mix of commands and is timed in four forms, each the best
+of several runs with its output thrown away:
+
+  head     the heap line and the layout lines alone: what it costs to start
+  faulty   the whole script with a fault in its last line; the program reads
+           all of a script before its first step, so this one only reads
+  full     the whole script on a heap whose history holds one step: after the
+           first accepted step each command is refused at once, so this one
+           reads, refuses and prints
+  whole    the script itself
+
+From these come nanoseconds a command:
+
+  read     (faulty - head) / commands
+  print    (full - faulty) / commands, with the refusal itself
+  step     (whole - full) / commands, an estimate: a refusal's text has
+           another length than the answer's, so it can even be below zero
+  all      (whole - head) / commands
+"""
+
+import os
+import subprocess
+import sys
+import tempfile
+import time
+
+RUNS = 5
+COMMANDS = [50_000, 100_000, 200_000]
+WORDS = [16, 4096]
+
+
+class Mix:
+    """Commands that are done once, and commands that are repeated.
+
+    `body` is a list of commands; the script repeats it up to the wanted number
+    of commands. `layouts` are the layout lines."""
+
+    def __init__(self, name, layouts, start, body):
+        self.name = name
+        self.layouts = layouts
+        self.start = start
+        self.body = body
+
+    def heap_line(self, words, more=""):
+        return (f"heap words {words} frames 1 pages 1 threads 1 workers 1"
+                f" registers 4 globals 0{more}")
+
+    def head(self, words, more=""):
+        return [self.heap_line(words, more)] + self.layouts
+
+    def commands(self, words, count):
+        lines = [line.format(words=words) for line in self.start]
+        return (lines + repeated(self.body, count - len(lines)))[:count]
+
+
+def repeated(body, count):
+    """The body over and over, written out, up to `count` commands. An edition
+    of the program that has blocks can be given a second form here."""
+    return (body * (count // len(body) + 1))[:count]
+
+
+MIXES = [
+    Mix("datum",
+        ["layout 0 2"],
+        ["t0 take {words}", "t0 new r0 0"],
+        ["t0 datum r0 1"]),
+    Mix("set and datum",
+        ["layout 0 2"],
+        ["t0 take {words}", "t0 new r0 0"],
+        ["t0 set r0 1 1234567890", "t0 datum r0 1"]),
+    Mix("registers",
+        ["layout 0 2"],
+        ["t0 take {words}", "t0 new r0 0"],
+        ["t0 mov r1 r0", "t0 same r0 r1", "t0 null r1", "t0 clear r1"]),
+    # Objects of one word until the page is full, then refusals.
+    Mix("new",
+        ["layout 0 0"],
+        ["t0 take {words}"],
+        ["t0 new r0 0"]),
+    # Buffers of one word until the page is full, then refusals.
+    Mix("take and give",
+        ["layout 0 0"],
+        [],
+        ["t0 take 1", "t0 give"]),
+]
+
+
+def timed(program, path, status):
+    """Seconds of one run; ends the bench where the run has another exit
+    status."""
+    begun = time.perf_counter()
+    done = subprocess.run([program, "run", path],
+                          stdout=subprocess.DEVNULL, stderr=subprocess.DEVNULL)
+    took = time.perf_counter() - begun
+    if done.returncode != status:
+        sys.exit(f"{path}: the program ended with status {done.returncode}, not {status}")
+    return took
+
+
+def write(path, lines):
+    with open(path, "w", encoding="ascii") as script:
+        script.write("\n".join(lines) + "\n")
+
+
+def measure(program, folder, mix, words, count):
+    """Nanoseconds a command: read, print, step, all."""
+    commands = mix.commands(words, count)
+    forms = {
+        "head": (mix.head(words), 0),
+        "faulty": (mix.head(words) + commands[:-1] + ["fault"], 2),
+        "full": (mix.head(words, " history 1") + commands, 0),
+        "whole": (mix.head(words) + commands, 0),
+    }
+    def path(form):
+        return os.path.join(folder, form + ".script")
+
+    for form, (lines, _) in forms.items():
+        write(path(form), lines)
+    # The forms take turns, so that a slow moment doesn't fall on one alone.
+    took = {form: float("inf") for form in forms}
+    for _ in range(RUNS):
+        for form, (_, status) in forms.items():
+            took[form] = min(took[form], timed(program, path(form), status))
+
+    def each(a, b):
+        return (took[a] - took[b]) / count * 1e9
+
+    return (each("faulty", "head"), each("full", "faulty"),
+            each("whole", "full"), each("whole", "head"))
+
+
+def main():
+    program = os.path.abspath(sys.argv[1] if len(sys.argv) > 1 else "./pauseless")
+    if not os.access(program, os.X_OK):
+        sys.exit(f"{program} isn't there: run 'make' first")
+    print("Nanoseconds a command, best of", RUNS, "runs.")
+    print()
+    print("| Mix | Words a page | Commands | read | print | step | all |")
+    print("|---|---|---|---|---|---|---|")
+    growth = []
+    with tempfile.TemporaryDirectory() as folder:
+        for mix in MIXES:
+            for words in WORDS:
+                alls = []
+                for count in COMMANDS:
+                    numbers = measure(program, folder, mix, words, count)
+                    alls.append(numbers[3])
+                    cells = " | ".join(f"{n:.1f}" for n in numbers)
+                    print(f"| {mix.name} | {words} | {count:,} | {cells} |", flush=True)
+                growth.append((mix.name, words, alls[-1] / alls[0] if alls[0] > 0 else 0.0))
+    print()
+    print(f"A command's cost at {COMMANDS[-1]:,} commands, over that at {COMMANDS[0]:,}:")
+    print()
+    for name, words, ratio in growth:
+        print(f"- {name}, {words} words a page: {ratio:.2f}")
+
+
+if __name__ == "__main__":
+    main()

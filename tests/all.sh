@@ -1,0 +1,47 @@
+#!/bin/sh
+# The whole test command: 'rt ci', then the examples. 'make test' runs it at
+# the top of the repository. The last line is 'N passed, M failed', and the
+# exit status is 0 where M is 0.
+
+RT=${RT:-rt}
+MAKE=${MAKE:-make}
+passed=0
+failed=0
+
+kept=$(mktemp -d) || exit 1
+trap 'rm -rf "$kept"' EXIT
+trap 'exit 1' HUP INT TERM
+
+# count NAME COMMAND..: runs the command, shows its output, and adds up the
+# counts of its last line. A command whose last line is none, or that ends
+# with a failure which it hasn't counted, is one failure more.
+count() {
+    name=$1
+    shift
+    { "$@"; echo $? > "$kept/status"; } | tee "$kept/output"
+    status=$(cat "$kept/status")
+    counts=$(sed -n '$s/^\([0-9][0-9]*\) passed, \([0-9][0-9]*\) failed$/\1 \2/p' "$kept/output")
+    if [ -z "$counts" ]; then
+        echo "failed: $name ended with status $status and without counts"
+        failed=$((failed + 1))
+        return
+    fi
+    passed=$((passed + ${counts% *}))
+    failed=$((failed + ${counts#* }))
+    if [ "$status" != 0 ] && [ "${counts#* }" = 0 ]; then
+        echo "failed: $name ended with status $status"
+        failed=$((failed + 1))
+    fi
+}
+
+count 'rt ci' "$RT" ci
+
+if "$MAKE" pauseless; then
+    count 'the examples' sh tests/examples.sh
+else
+    echo 'failed: the program could not be built'
+    failed=$((failed + 1))
+fi
+
+echo "$passed passed, $failed failed"
+[ "$failed" = 0 ]
