@@ -45,3 +45,8 @@ pub record LiesIn (s : StoreState) (b : Buffer) : Type 0 where
   pub page : is_open (state_in (page_at s b.page)) ≡ true
   pub order : b.next ≤ b.end
   pub end : b.end ≤ s.words
+
+-- a buffer that was taken lies in the new store, and so do those that lay in the old one
+pub record TakesWell (s t : StoreState) (b : Buffer) : Type 0 where
+  pub lies : LiesIn t b
+  pub stays : (c : Buffer) → LiesIn s c → LiesIn t c

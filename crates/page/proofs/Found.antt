@@ -8,10 +8,10 @@ use Rattle.model.specs.Stores.{has_room, is_open, is_unused, top_in, page_with_r
 use Rattle.model.proofs.Lists.{position_passes, get_within, count_positive}
 use Rattle.page.specs.Records.{is_unused_in}
 
-position_within : {X : Type 0} (p : X → Bool) (xs : List X) (i : ℕ) → position p xs ≡ Some i → (x : X) → i < length xs
+pub position_within : {X : Type 0} (p : X → Bool) (xs : List X) (i : ℕ) → position p xs ≡ Some i → (x : X) → i < length xs
 position_within p xs i e x = (position-Some p xs i x e).0
 
-room_left : (words n top : ℕ) (is_so : Bool) → 0 < n → is_so && nat_le n (words - top) ≡ true → top + n ≤ words
+pub room_left : (words n top : ℕ) (is_so : Bool) → 0 < n → is_so && nat_le n (words - top) ≡ true → top + n ≤ words
 room_left words n top true low e = grind (arith, nat_tests)
 room_left words n top false low e = absurd (cc)
 
@@ -39,3 +39,15 @@ pub unused_found : (pages : List Page) (i : ℕ) → i < length pages → positi
 unused_found pages i within e =
     let found = get_within pages i within in
     rw found.1 (position_passes (λ (p : Page). is_unused p.state) pages i found.0 e found.1)
+
+pub free_within : (owners : List (Option ℕ)) (f : ℕ) → free_frame owners ≡ Some f → f < length owners
+unfolding free_frame
+free_within owners f e = position_within is_none owners f e None
+
+pub room_within : (words n : ℕ) (pages : List Page) (i : ℕ) → page_with_room words n pages ≡ Some i → Page → i < length pages
+unfolding page_with_room
+room_within words n pages i e p = position_within (has_room words n) pages i e p
+
+pub room_passes : (words n : ℕ) (pages : List Page) (i : ℕ) → page_with_room words n pages ≡ Some i → (p : Page) → slice_get pages i ≡ Some p → has_room words n p ≡ true
+unfolding page_with_room
+room_passes words n pages i e p at = position_passes (has_room words n) pages i p e at

@@ -205,11 +205,11 @@ pub record HasFrame (s : StoreState) (n : ℕ) : Type 0 where
   pub is : frame_in (page_at s n) ≡ Some frame
   pub there : frame < length s.frames
 
-page_at_record : (s : StoreState) (n : ℕ) → n ≢ 0 → page_at s n ≡ slice_get s.pages (n - 1)
+pub page_at_record : (s : StoreState) (n : ℕ) → n ≢ 0 → page_at s n ≡ slice_get s.pages (n - 1)
 unfolding page_at
 page_at_record s n h = rw (ne_eqb n 0 h) refl
 
-page_at_zero : (s : StoreState) (n : ℕ) → n ≡ 0 → page_at s n ≡ None
+pub page_at_zero : (s : StoreState) (n : ℕ) → n ≡ 0 → page_at s n ≡ None
 unfolding page_at
 page_at_zero s n h = rw h refl
 
@@ -282,6 +282,10 @@ opened_as s i f ws e = rw e refl
 pub opened_pages : (s : StoreState) (i f : ℕ) → length (opened s i f).pages ≡ length s.pages
 unfolding opened
 opened_pages s i f = simp length-set
+
+pub opened_at : (s : StoreState) (i f : ℕ) (p : Page) → slice_get s.pages i ≡ Some p → slice_get (opened s i f).pages i ≡ Some (fresh_page f)
+unfolding opened
+opened_at s i f p e = get_set_same s.pages i p (fresh_page f) e
 
 pub opened_top : (s : StoreState) (i f : ℕ) → i < length s.pages → top_in (slice_get (opened s i f).pages i) ≡ zero
 unfolding opened

@@ -4,7 +4,7 @@ ghost use Rattle.std.specs.Prelude.{◌≡◌, ◌≤◌, ◌<◌, ◌+◌, ◌-
 ghost use Rattle.std.specs.Option.{option_map};
 ghost use Rattle.std.specs.Borrow.{sem};
 ghost use Rattle.model.specs.Stores.{first_store, page_at, state_at, state_in, spot_of, word_at, with_word, words_at, taken, Takes, given, opened, top_in, is_open, is_unused, unused_page, frame_in, record_count};
-ghost use Rattle.model.specs.Owning.{IsStore, LiesIn};
+ghost use Rattle.model.specs.Owning.{IsStore, LiesIn, TakesWell};
 ghost use Rattle.page.specs.Lending.{LendsPart};
 ghost use Rattle.page.specs.Records.{is_unused_in};
 
@@ -92,6 +92,13 @@ impl Store {
             owners: many(alloc, frames, None)?,
             free: frames,
         })
+    }
+
+    /// What holds of every store: each page's memory is one frame, of which it is the one owner.
+    pub fn law(&self)
+        ensures { IsStore self.now }
+    {
+        let _ = &self.words;
     }
 
     /// The words of a page.
@@ -272,8 +279,19 @@ impl Store {
     ///
     /// Answers `NoFrames` where no frame is free, else `NoPages` where no page is unused; the
     /// store is then as it was.
-    #[tactic(auto, unfolding(model::specs::Stores::taken))]
     pub fn take(&mut self, n: u32) -> Result<Buffer, Room>
+        requires low { 0 < n }
+        requires high { n ≤ self.old.words }
+        ensures takes { Takes self.old result self.new (taken self.old n) }
+        ensures buffers { IfOk result (TakesWell self.old self.new) }
+    {
+        self.law();
+        self.take_lowest(n)
+    }
+
+    /// What `take` does.
+    #[tactic(auto, unfolding(model::specs::Stores::taken))]
+    fn take_lowest(&mut self, n: u32) -> Result<Buffer, Room>
         requires low { 0 < n }
         requires high { n ≤ self.old.words }
         ensures { Takes self.old result self.new (taken self.old n) }

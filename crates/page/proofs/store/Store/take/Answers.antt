@@ -1,16 +1,5 @@
-use Rattle.std.proofs.Common.{◌≡◌, ◌<◌, ◌≤◌, ◌+◌, ◌∙◌, length, sym, subst, ap, arith, ℕ}
-use Rattle.std.specs.List.{slice_get}
-use Rattle.model.specs.Stores.{StoreState, top_in}
-use Rattle.page.proofs.Keeping.{opened_pages, opened_top, opened_words}
+use Rattle.page.proofs.Lying.{takes_by}
 use Rattle.page.proofs.store.Store.take.Goals as goal
 
-pub give-requires-2-clause-there : goal.give-requires-2-clause-there
-give-requires-2-clause-there c =
-    let same = ap (λ (s : StoreState). length s.pages) c.open.ensures ∙ opened_pages c.args.self.now c.in-Some-unused_page.index c.in-Some-free_frame.frame in
-    omega (arith, c.in-Some-unused_page.ensures.there)
-
-pub give-requires-2-clause-room : goal.give-requires-2-clause-room
-give-requires-2-clause-room c =
-    let top = ap (λ (s : StoreState). top_in (slice_get s.pages c.in-Some-unused_page.index)) c.open.ensures ∙ opened_top c.args.self.now c.in-Some-unused_page.index c.in-Some-free_frame.frame c.in-Some-unused_page.ensures.there in
-    let words = ap (λ (s : StoreState). s.words) c.open.ensures ∙ opened_words c.args.self.now c.in-Some-unused_page.index c.in-Some-free_frame.frame in
-    omega arith
+pub returns-clause-buffers : goal.returns-clause-buffers
+returns-clause-buffers c = takes_by c.args.self.now c.take_lowest.new.self c.args.n c.take_lowest.result c.law.ensures c.requires.low c.requires.high c.take_lowest.ensures

@@ -1,0 +1,147 @@
+-- The state of a heap, as plain data, and the edits that steps are made of.
+use Rattle.std.specs.Prelude.{◌≡◌, ℕ, ◌+◌, ◌-◌, ◌*◌, ◌/◌, ◌^◌, ◌==◌, Bool, true, false, List, [], ◌∷◌, length, replicate, Option, Some, None, option_and_then, slice_get, slice_set, if◌then◌else◌}
+use Rattle.layout.specs.declared.shape.Layout.{Layout}
+use Rattle.layout.specs.Objects.{size_of, header_bits}
+use Rattle.model.specs.declared.config.Config.{Config}
+use Rattle.model.specs.declared.records.Buffer.{Buffer}
+use Rattle.model.specs.declared.records.Barrier.{Barrier}
+use Rattle.model.specs.declared.records.Scan.{Scan}
+use Rattle.model.specs.declared.records.Forwarding.{Forwarding}
+use Rattle.model.specs.declared.records.Global.{Global}
+use Rattle.model.specs.declared.records.Phase.{Phase}
+use Rattle.model.specs.declared.records.Phase.TheVariants.{Idle}
+use Rattle.model.specs.Stores.{StoreState, first_store, word_at, with_word, with_words, overlaid, record_count}
+
+-- null, or an address with its not-marked-through bit
+abbrev pub Reference : Type 0
+Reference = Option (ℕ × Bool)
+
+pub record ThreadState : Type 0 where
+  pub registers : List Reference
+  pub buffer : Option Buffer
+  pub crossed : Bool
+  pub parked : Bool
+  pub barrier : Option Barrier
+
+-- Rows have a bit for each word of a page; a page's row stands where its record does in the store.
+pub record HeapState : Type 0 where
+  pub config : Config
+  pub store : StoreState
+  pub starts : List (List Bool)
+  pub live : List (List Bool)
+  pub mark : List (List Bool)
+  pub todo : List (List Bool)
+  pub sides : List (List Forwarding)
+  pub threads : List ThreadState
+  pub workers : List (Option Scan)
+  pub globals : List Global
+  pub phase : Phase
+  pub nmt : Bool
+  pub births : ℕ
+
+-- threads
+
+abbrev pub flat : {X : Type 0} → Option (Option X) → Option X
+flat None = None
+flat (Some o) = o
+
+abbrev pub register_in : Option ThreadState → ℕ → Reference
+register_in None r = None
+register_in (Some t) r = flat (slice_get t.registers r)
+
+-- the word in a register, null where there is none
+unfoldable pub register_of : HeapState → ℕ → ℕ → Reference
+register_of h t r = register_in (slice_get h.threads t) r
+
+abbrev pub changed_at : {X : Type 0} → List X → ℕ → Option X → (X → X) → List X
+changed_at xs i None change = xs
+changed_at xs i (Some x) change = slice_set xs i (change x)
+
+-- a list with the element of an index changed, if it is there
+abbrev pub changed : {X : Type 0} → List X → ℕ → (X → X) → List X
+changed xs i change = changed_at xs i (slice_get xs i) change
+
+abbrev pub set_register_of : ℕ → Reference → ThreadState → ThreadState
+set_register_of r w t = record t { registers = slice_set t.registers r w }
+
+-- the heap with another word in a register
+unfoldable pub with_register : HeapState → ℕ → ℕ → Reference → HeapState
+with_register h t r w = record h { threads = changed h.threads t (set_register_of r w) }
+
+abbrev pub set_buffer_of : Option Buffer → ThreadState → ThreadState
+set_buffer_of b t = record t { buffer = b }
+
+-- the heap with another buffer of a thread
+unfoldable pub with_buffer : HeapState → ℕ → Option Buffer → HeapState
+with_buffer h t b = record h { threads = changed h.threads t (set_buffer_of b) }
+
+abbrev pub buffer_in : Option ThreadState → Option Buffer
+buffer_in None = None
+buffer_in (Some t) = t.buffer
+
+-- the buffer of a thread
+abbrev pub buffer_of_thread : HeapState → ℕ → Option Buffer
+buffer_of_thread h t = buffer_in (slice_get h.threads t)
+
+-- rows
+
+abbrev pub blank_row : List Bool → List Bool
+blank_row row = replicate (length row) false
+
+-- the rows of a page that a buffer is the first of are blank
+abbrev pub opened_rows : Buffer → List (List Bool) → List (List Bool)
+opened_rows b rows = if b.next == 0 then changed rows (b.page - 1) blank_row else rows
+
+abbrev pub set_bit : ℕ → List Bool → List Bool
+set_bit o row = slice_set row o true
+
+-- objects
+
+abbrev pub layout_in : List Layout → Option ℕ → Option Layout
+layout_in layouts None = None
+layout_in layouts (Some l) = slice_get layouts l
+
+abbrev pub header_layout : Option ℕ → Option ℕ
+header_layout None = None
+header_layout (Some bits) = Some (bits / 2 ^ 32)
+
+-- the layout of the object at an address
+unfoldable pub layout_at : HeapState → ℕ → Option Layout
+layout_at h address = layout_in h.config.layouts (header_layout (word_at h.store address))
+
+-- the address of data word j of an object
+abbrev pub datum_address : ℕ → Layout → ℕ → ℕ
+datum_address address l j = address + 1 + l.refs + j
+
+-- the words of a new object: its header, then zeros
+abbrev pub fresh_object : ℕ → ℕ → Layout → List ℕ
+fresh_object birth number l = header_bits (record { birth = birth; layout = number }) ∷ replicate (l.refs + l.nums) 0
+
+-- the first state
+
+abbrev pub blank_thread : ℕ → ThreadState
+blank_thread registers = record { registers = replicate registers None; buffer = None; crossed = true; parked = false; barrier = None }
+
+abbrev pub blank_rows : Config → List (List Bool)
+blank_rows c = replicate (record_count c.frames c.pages) (replicate c.words false)
+
+abbrev pub no_sides : Config → List (List Forwarding)
+no_sides c = replicate (record_count c.frames c.pages) []
+
+-- the state that a heap begins in
+unfoldable pub first_heap : Config → HeapState
+first_heap c = record {
+  config = c;
+  store = first_store c.words c.frames c.pages;
+  starts = blank_rows c;
+  live = blank_rows c;
+  mark = blank_rows c;
+  todo = blank_rows c;
+  sides = no_sides c;
+  threads = replicate c.threads (blank_thread c.registers);
+  workers = replicate c.workers None;
+  globals = replicate c.globals (record { word = None; todo = false });
+  phase = Idle;
+  nmt = false;
+  births = 0;
+}

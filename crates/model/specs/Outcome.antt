@@ -1,0 +1,215 @@
+-- What each step does: its tests in order, its answer and its effect.
+use Rattle.std.specs.Prelude.{◌≡◌, ℕ, ◌+◌, ◌-◌, ◌*◌, ◌/◌, ◌==◌, ◌||◌, ◌&&◌, not, Bool, true, false, List, length, Option, Some, None, is_some, is_none, Result, Ok, Err, nat_lt, nat_le, slice_get, if◌then◌else◌}
+use Rattle.layout.specs.declared.shape.Layout.{Layout}
+use Rattle.layout.specs.Objects.{size_of}
+use Rattle.model.specs.declared.steps.Actor.{Actor}
+use Rattle.model.specs.declared.steps.Actor.TheVariants.{Thread, Worker}
+use Rattle.model.specs.declared.steps.Step.{Step}
+use Rattle.model.specs.declared.steps.Step.TheVariants as steps
+use Rattle.model.specs.declared.steps.Answer.{Answer}
+use Rattle.model.specs.declared.steps.Answer.TheVariants as answers
+use Rattle.model.specs.declared.steps.Refusal.{Refusal}
+use Rattle.model.specs.declared.steps.Refusal.TheVariants as refusals
+use Rattle.model.specs.declared.records.Buffer.{Buffer}
+use Rattle.model.specs.declared.records.Phase.{Phase}
+use Rattle.model.specs.declared.records.Phase.TheVariants.{ProtectCrossing}
+use Rattle.model.specs.declared.records.Room.{Room}
+use Rattle.model.specs.declared.records.Room.TheVariants.{NoFrames, NoPages}
+use Rattle.model.specs.Stores.{StoreState, state_at, is_protected, word_at, with_word, with_words, overlaid, taken}
+use Rattle.model.specs.Heaps.{HeapState, ThreadState, Reference, register_of, with_register, with_buffer, buffer_of_thread, changed, set_register_of, set_buffer_of, opened_rows, set_bit, layout_at, datum_address, fresh_object}
+use Rattle.model.specs.Refusing.{◌>>=◌, or_refuse, Outcome}
+
+-- registers that may be used
+
+abbrev pub has_crossed : Option ThreadState → Bool
+has_crossed None = false
+has_crossed (Some t) = t.crossed
+
+-- what keeps a thread from a protected page: nothing before it crosses the page's checkpoint
+abbrev pub held_back : Phase → Bool → Result Unit Refusal
+held_back ProtectCrossing false = Ok tt
+held_back ProtectCrossing true = Err refusals.Stall
+held_back _ _ = Err refusals.Stale
+
+-- an address that a thread may use
+unfoldable pub let_through : HeapState → ℕ → ℕ → Result Unit Refusal
+let_through h t address = if is_protected (state_at h.store (address / h.store.words)) then held_back h.phase (has_crossed (slice_get h.threads t)) else Ok tt
+
+abbrev pub use_word : HeapState → ℕ → Reference → Result ℕ Refusal
+use_word h t None = Err refusals.Null
+use_word h t (Some w) = do
+  _ ← let_through h t w.0
+  Ok w.0
+
+-- the address in a register that names an object
+unfoldable pub usable : HeapState → ℕ → ℕ → Result ℕ Refusal
+usable h t r = use_word h t (register_of h t r)
+
+abbrev pub use_or_null : HeapState → ℕ → Reference → Result (Option ℕ) Refusal
+use_or_null h t None = Ok None
+use_or_null h t (Some w) = do
+  _ ← let_through h t w.0
+  Ok (Some w.0)
+
+-- the address in a register, or none where it is null
+unfoldable pub usable_or_null : HeapState → ℕ → ℕ → Result (Option ℕ) Refusal
+usable_or_null h t r = use_or_null h t (register_of h t r)
+
+-- data
+
+abbrev pub datum_place : ℕ → ℕ → Option Layout → Option ℕ
+datum_place address j None = None
+datum_place address j (Some l) = if nat_lt j l.nums then Some (datum_address address l j) else None
+
+-- where data word j of the object at an address stands
+unfoldable pub datum_at : HeapState → ℕ → ℕ → Option ℕ
+datum_at h address j = datum_place address j (layout_at h address)
+
+unfoldable pub datum_outcome : HeapState → ℕ → ℕ → ℕ → Outcome
+datum_outcome h t object j = do
+  address ← usable h t object
+  place ← or_refuse (datum_at h address j) refusals.BadIndex
+  value ← or_refuse (word_at h.store place) refusals.BadIndex
+  Ok (h, answers.Datum value)
+
+unfoldable pub set_datum_outcome : HeapState → ℕ → ℕ → ℕ → ℕ → Outcome
+set_datum_outcome h t object j value = do
+  address ← usable h t object
+  place ← or_refuse (datum_at h address j) refusals.BadIndex
+  Ok (record h { store = with_word h.store place value }, answers.Done)
+
+-- registers
+
+abbrev pub same_address : Option ℕ → Option ℕ → Bool
+same_address None None = true
+same_address (Some a) (Some b) = a == b
+same_address _ _ = false
+
+unfoldable pub same_outcome : HeapState → ℕ → ℕ → ℕ → Outcome
+same_outcome h t left right = do
+  a ← usable_or_null h t left
+  b ← usable_or_null h t right
+  Ok (h, answers.Truth (same_address a b))
+
+unfoldable pub is_null_outcome : HeapState → ℕ → ℕ → Outcome
+is_null_outcome h t r = Ok (h, answers.Truth (is_none (register_of h t r)))
+
+unfoldable pub copy_register_outcome : HeapState → ℕ → ℕ → ℕ → Outcome
+copy_register_outcome h t target source = Ok (with_register h t target (register_of h t source), answers.Done)
+
+unfoldable pub clear_register_outcome : HeapState → ℕ → ℕ → Outcome
+clear_register_outcome h t target = Ok (with_register h t target None, answers.Done)
+
+-- buffers
+
+-- the heap after a thread took a buffer of the store
+unfoldable pub lent : HeapState → ℕ → StoreState → Buffer → HeapState
+lent h t s b = record h {
+  store = s;
+  starts = opened_rows b h.starts;
+  live = opened_rows b h.live;
+  mark = opened_rows b h.mark;
+  todo = opened_rows b h.todo;
+  threads = changed h.threads t (set_buffer_of (Some b));
+}
+
+abbrev pub took : HeapState → ℕ → Result (StoreState × Buffer) Room → Outcome
+took h t (Ok x) = Ok (lent h t x.0 x.1, answers.Lent x.1.page x.1.next)
+took h t (Err NoFrames) = Err (refusals.NoFrames 1 0)
+took h t (Err NoPages) = Err refusals.NoPages
+
+unfoldable pub take_outcome : HeapState → ℕ → ℕ → Outcome
+take_outcome h t n = if is_some (buffer_of_thread h t) then Err refusals.HasBuffer else took h t (taken h.store n)
+
+unfoldable pub give_back_outcome : HeapState → ℕ → Outcome
+give_back_outcome h t = if is_some (buffer_of_thread h t) then Ok (with_buffer h t None, answers.Done) else Err refusals.NoRoom
+
+-- new objects
+
+abbrev pub used_buffer : Buffer → ℕ → Buffer
+used_buffer b n = record b { next = b.next + n }
+
+abbrev pub born_in : Buffer → ℕ → ℕ → Reference → ThreadState → ThreadState
+born_in b n target w t = set_register_of target w (set_buffer_of (Some (used_buffer b n)) t)
+
+-- the heap after an object was made in a buffer
+unfoldable pub placed : HeapState → ℕ → ℕ → ℕ → Layout → Buffer → HeapState
+placed h t target number l b = record h {
+  store = with_words h.store b.page (λ ws. overlaid ws b.next (fresh_object h.births number l));
+  starts = changed h.starts (b.page - 1) (set_bit b.next);
+  threads = changed h.threads t (born_in b (size_of l) target (Some (b.page * h.store.words + b.next, h.nmt)));
+  births = h.births + 1;
+}
+
+unfoldable pub new_outcome : HeapState → ℕ → ℕ → ℕ → Outcome
+new_outcome h t target number = do
+  b ← or_refuse (buffer_of_thread h t) refusals.NoRoom
+  l ← or_refuse (slice_get h.config.layouts number) refusals.BadIndex
+  if nat_lt (b.end - b.next) (size_of l) then Err refusals.NoRoom else
+      (if nat_le h.config.births h.births then Err refusals.Births else Ok (placed h t target number l b, answers.Birth h.births))
+
+-- the tests before a row
+
+-- a thread does such a step
+abbrev pub is_for_threads : Step → Bool
+is_for_threads (steps.Take n) = true
+is_for_threads steps.GiveBack = true
+is_for_threads (steps.New target layout) = true
+is_for_threads (steps.Datum object index) = true
+is_for_threads (steps.SetDatum object index value) = true
+is_for_threads (steps.Same left right) = true
+is_for_threads (steps.IsNull r) = true
+is_for_threads (steps.CopyReg target source) = true
+is_for_threads (steps.ClearReg r) = true
+is_for_threads _ = false
+
+-- there is no such register
+unfoldable pub no_register : HeapState → ℕ → Bool
+no_register h r = nat_le h.config.registers r
+
+-- a number of the step names nothing
+abbrev pub has_bad_index : HeapState → Step → Bool
+has_bad_index h (steps.Take n) = (n == 0) || nat_lt h.store.words n
+has_bad_index h (steps.New target layout) = no_register h target || nat_le (length h.config.layouts) layout
+has_bad_index h (steps.Datum object index) = no_register h object
+has_bad_index h (steps.SetDatum object index value) = no_register h object
+has_bad_index h (steps.Same left right) = no_register h left || no_register h right
+has_bad_index h (steps.IsNull r) = no_register h r
+has_bad_index h (steps.CopyReg target source) = no_register h target || no_register h source
+has_bad_index h (steps.ClearReg r) = no_register h r
+has_bad_index h _ = false
+
+abbrev pub is_parked_in : Option ThreadState → Bool
+is_parked_in None = false
+is_parked_in (Some t) = t.parked
+
+abbrev pub is_loading_in : Option ThreadState → Bool
+is_loading_in None = false
+is_loading_in (Some t) = is_some t.barrier
+
+-- the tests that come before those of a step's own row
+unfoldable pub thread_gate : HeapState → ℕ → Step → Result Unit Refusal
+thread_gate h t s =
+    if nat_le (length h.threads) t || not (is_for_threads s) then Err refusals.NoActor else
+    (if has_bad_index h s then Err refusals.BadIndex else
+    (if is_parked_in (slice_get h.threads t) then Err refusals.Parked else
+    (if is_loading_in (slice_get h.threads t) then Err refusals.Busy else Ok tt)))
+
+abbrev pub thread_row : HeapState → ℕ → Step → Outcome
+thread_row h t (steps.Take n) = take_outcome h t n
+thread_row h t steps.GiveBack = give_back_outcome h t
+thread_row h t (steps.New target layout) = new_outcome h t target layout
+thread_row h t (steps.Datum object index) = datum_outcome h t object index
+thread_row h t (steps.SetDatum object index value) = set_datum_outcome h t object index value
+thread_row h t (steps.Same left right) = same_outcome h t left right
+thread_row h t (steps.IsNull r) = is_null_outcome h t r
+thread_row h t (steps.CopyReg target source) = copy_register_outcome h t target source
+thread_row h t (steps.ClearReg target) = clear_register_outcome h t target
+thread_row h t _ = Err refusals.NoActor
+
+-- what every step does
+unfoldable pub outcome : HeapState → Actor → Step → Outcome
+outcome h (Thread t) s = do
+  _ ← thread_gate h t s
+  thread_row h t s
+outcome h (Worker w) s = Err refusals.NoActor

@@ -1,0 +1,150 @@
+-- The plain heap: it never moves and never frees an object.
+use Rattle.std.specs.Prelude.{◌≡◌, ℕ, ◌==◌, Bool, true, false, List, [], ◌∷◌, ◌++◌, length, replicate, Option, Some, None, option_and_then, slice_get, slice_set, if◌then◌else◌, is_none}
+use Rattle.layout.specs.declared.shape.Layout.{Layout}
+use Rattle.model.specs.declared.config.Config.{Config}
+use Rattle.model.specs.declared.steps.Actor.{Actor}
+use Rattle.model.specs.declared.steps.Actor.TheVariants.{Thread, Worker}
+use Rattle.model.specs.declared.steps.Step.{Step}
+use Rattle.model.specs.declared.steps.Step.TheVariants as steps
+use Rattle.model.specs.declared.steps.Answer.{Answer}
+use Rattle.model.specs.declared.steps.Answer.TheVariants as answers
+use Rattle.model.specs.Heaps.{flat, changed}
+
+-- an object: the number of its layout, its references, each a birth or none, and its data
+pub record Object : Type 0 where
+  pub layout : ℕ
+  pub refs : List (Option ℕ)
+  pub data_words : List ℕ
+
+-- the register that a load is for, and the birth that it loads, or none
+pub record Pending : Type 0 where
+  pub target : ℕ
+  pub found : Option ℕ
+
+pub record PlainThread : Type 0 where
+  pub registers : List (Option ℕ)
+  pub pending : Option Pending
+
+-- the object of birth b stands at b of objects
+pub record PlainHeap : Type 0 where
+  pub objects : List Object
+  pub threads : List PlainThread
+  pub globals : List (Option ℕ)
+
+-- what is there
+
+abbrev pub name_in : Option PlainThread → ℕ → Option ℕ
+name_in None r = None
+name_in (Some t) r = flat (slice_get t.registers r)
+
+-- the birth in a register
+unfoldable pub name_of : PlainHeap → ℕ → ℕ → Option ℕ
+name_of p t r = name_in (slice_get p.threads t) r
+
+abbrev pub object_of : PlainHeap → Option ℕ → Option Object
+object_of p None = None
+object_of p (Some b) = slice_get p.objects b
+
+abbrev pub field_of : Option Object → ℕ → Option (Option ℕ)
+field_of None i = None
+field_of (Some o) i = slice_get o.refs i
+
+abbrev pub datum_of : Option Object → ℕ → Option ℕ
+datum_of None j = None
+datum_of (Some o) j = slice_get o.data_words j
+
+abbrev pub pending_in : Option PlainThread → Option Pending
+pending_in None = None
+pending_in (Some t) = t.pending
+
+-- what changes
+
+abbrev pub set_name : ℕ → Option ℕ → PlainThread → PlainThread
+set_name r b t = record t { registers = slice_set t.registers r b }
+
+-- the plain heap with another birth in a register
+unfoldable pub naming : PlainHeap → ℕ → ℕ → Option ℕ → PlainHeap
+naming p t r b = record p { threads = changed p.threads t (set_name r b) }
+
+abbrev pub blank_object : ℕ → Layout → Object
+blank_object number l = record { layout = number; refs = replicate l.refs None; data_words = replicate l.nums 0 }
+
+-- one more birth, named by a register
+abbrev pub born : PlainHeap → ℕ → ℕ → ℕ → Option Layout → PlainHeap
+born p t r number None = p
+born p t r number (Some l) = naming (record p { objects = p.objects ++ blank_object number l ∷ [] }) t r (Some (length p.objects))
+
+abbrev pub start_load : ℕ → Option ℕ → PlainThread → PlainThread
+start_load r b t = record t { pending = Some (record { target = r; found = b }) }
+
+-- what a load finds becomes pending; nothing, where there is no such place
+abbrev pub loading : PlainHeap → ℕ → ℕ → Option (Option ℕ) → PlainHeap
+loading p t r None = p
+loading p t r (Some b) = record p { threads = changed p.threads t (start_load r b) }
+
+abbrev pub end_load : Pending → PlainThread → PlainThread
+end_load l t = record t { registers = slice_set t.registers l.target l.found; pending = None }
+
+abbrev pub finishing : PlainHeap → ℕ → Option Pending → PlainHeap
+finishing p t None = p
+finishing p t (Some l) = record p { threads = changed p.threads t (end_load l) }
+
+abbrev pub set_field : ℕ → Option ℕ → Object → Object
+set_field i b o = record o { refs = slice_set o.refs i b }
+
+abbrev pub storing : PlainHeap → Option ℕ → ℕ → Option ℕ → PlainHeap
+storing p None i b = p
+storing p (Some a) i b = record p { objects = changed p.objects a (set_field i b) }
+
+abbrev pub set_datum : ℕ → ℕ → Object → Object
+set_datum j v o = record o { data_words = slice_set o.data_words j v }
+
+abbrev pub writing : PlainHeap → Option ℕ → ℕ → ℕ → PlainHeap
+writing p None j v = p
+writing p (Some a) j v = record p { objects = changed p.objects a (set_datum j v) }
+
+abbrev pub thread_plain : List Layout → PlainHeap → ℕ → Step → PlainHeap
+thread_plain ls p t (steps.New target layout) = born p t target layout (slice_get ls layout)
+thread_plain ls p t (steps.Load target object field) = loading p t target (field_of (object_of p (name_of p t object)) field)
+thread_plain ls p t (steps.LoadGlobal target global) = loading p t target (slice_get p.globals global)
+thread_plain ls p t steps.Finish = finishing p t (pending_in (slice_get p.threads t))
+thread_plain ls p t (steps.Store object field source) = storing p (name_of p t object) field (name_of p t source)
+thread_plain ls p t (steps.StoreGlobal global source) = record p { globals = slice_set p.globals global (name_of p t source) }
+thread_plain ls p t (steps.SetDatum object index value) = writing p (name_of p t object) index value
+thread_plain ls p t (steps.CopyReg target source) = naming p t target (name_of p t source)
+thread_plain ls p t (steps.ClearReg target) = naming p t target None
+thread_plain ls p t _ = p
+
+-- what a step does to the plain heap: that of a worker nothing
+unfoldable pub plain_step : List Layout → PlainHeap → Actor → Step → PlainHeap
+plain_step ls p (Thread t) s = thread_plain ls p t s
+plain_step ls p (Worker w) s = p
+
+abbrev pub as_datum : Option ℕ → Option Answer
+as_datum None = None
+as_datum (Some v) = Some (answers.Datum v)
+
+abbrev pub same_name : Option ℕ → Option ℕ → Bool
+same_name None None = true
+same_name (Some a) (Some b) = a == b
+same_name _ _ = false
+
+abbrev pub thread_answer : PlainHeap → ℕ → Step → Option Answer
+thread_answer p t (steps.New target layout) = Some (answers.Birth (length p.objects))
+thread_answer p t (steps.Datum object index) = as_datum (datum_of (object_of p (name_of p t object)) index)
+thread_answer p t (steps.Same left right) = Some (answers.Truth (same_name (name_of p t left) (name_of p t right)))
+thread_answer p t (steps.IsNull r) = Some (answers.Truth (is_none (name_of p t r)))
+thread_answer p t _ = None
+
+-- what the plain heap answers, where it says anything
+unfoldable pub plain_answer : PlainHeap → Actor → Step → Option Answer
+plain_answer p (Thread t) s = thread_answer p t s
+plain_answer p (Worker w) s = None
+
+-- the plain heap without births
+unfoldable pub plain_start : Config → PlainHeap
+plain_start c = record {
+  objects = [];
+  threads = replicate c.threads (record { registers = replicate c.registers None; pending = None });
+  globals = replicate c.globals None;
+}

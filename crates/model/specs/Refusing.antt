@@ -1,0 +1,23 @@
+-- Steps that may be refused.
+use Rattle.std.specs.Prelude.{◌≡◌, Result, Ok, Err, Option, Some, None}
+use Rattle.model.specs.declared.steps.Refusal.{Refusal}
+use Rattle.model.specs.declared.steps.Answer.{Answer}
+use Rattle.model.specs.Heaps.{HeapState}
+
+infixl 10 ◌>>=◌
+abbrev pub ◌>>=◌ : {A B : Type 0} → Result A Refusal → (A → Result B Refusal) → Result B Refusal
+(Ok x) >>= f = f x
+(Err e) >>= f = Err e
+
+abbrev pub or_refuse : {A : Type 0} → Option A → Refusal → Result A Refusal
+or_refuse None e = Err e
+or_refuse (Some x) e = Ok x
+
+-- the state and the answer after a step, or why it is refused
+abbrev pub Outcome : Type 0
+Outcome = Result (HeapState × Answer) Refusal
+
+-- a call that gave this result did what the outcome says; a refused one changed nothing
+abbrev pub Does : HeapState → Result Answer Refusal → HeapState → Outcome → Type 0
+Does old (Ok a) new outcome = outcome ≡ Ok (new, a)
+Does old (Err e) new outcome = (outcome ≡ Err e) × (new ≡ old)
