@@ -1,0 +1,6 @@
+use Rattle.std.proofs.Common.{◌≡◌, replicate, None, false}
+use Rattle.model.specs.Heaps.{blank_thread}
+use Rattle.heap.proofs.heap.making.many.Given as goal
+
+abbrev pub invariant-loop-item : goal.invariant-loop-item
+invariant-loop-item g l = l.items.items ≡ replicate l._item l.item

@@ -1,0 +1,6 @@
+use Rattle.std.proofs.Common.{◌≡◌, replicate, None, false}
+use Rattle.model.specs.Heaps.{blank_thread}
+use Rattle.heap.proofs.rows.Rows.new.Given as goal
+
+abbrev pub invariant-loop-row : goal.invariant-loop-row
+invariant-loop-row l = l.rows.items ≡ replicate l._row (replicate l.words false)

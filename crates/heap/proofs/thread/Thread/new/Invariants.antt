@@ -1,0 +1,6 @@
+use Rattle.std.proofs.Common.{◌≡◌, replicate, None, false}
+use Rattle.model.specs.Heaps.{blank_thread}
+use Rattle.heap.proofs.thread.Thread.new.Given as goal
+
+abbrev pub invariant-loop-register : goal.invariant-loop-register
+invariant-loop-register l = l.words.items ≡ replicate l._register None

@@ -1,0 +1,24 @@
+-- A heap as contracts see it.
+use Rattle.model.specs.Heaps.{HeapState, no_sides}
+use Rattle.model.specs.Holding.{IsHeap}
+use Rattle.heap.specs.declared.heap.Heap.TheInside.{Inside}
+
+abbrev pub heap_of : Inside → HeapState
+heap_of h = record {
+  config = h.config;
+  store = h.store;
+  starts = h.starts;
+  live = h.live;
+  mark = h.mark;
+  todo = h.todo;
+  sides = no_sides h.config;
+  threads = h.threads.items;
+  workers = h.workers.items;
+  globals = h.globals.items;
+  phase = h.phase;
+  nmt = h.nmt;
+  births = h.births;
+}
+
+abbrev pub IsHeapInside : Inside → Type 0
+IsHeapInside h = IsHeap (heap_of h)

@@ -1,0 +1,133 @@
+//! The heap.
+
+
+
+
+mod making;
+
+
+ghost use Rattle.std.specs.Prelude.{◌≡◌};
+
+use crate::rows::Rows;
+use crate::thread::Thread;
+use model::{Config, Global, Phase, Scan};
+use page::Store;
+use std::marker::Model;
+
+/// The heap of a program: objects on pages, the threads that use them, and the collector.
+///
+/// A contract sees all of it as plain data. It keeps, beside what its store keeps, that each
+/// thread's buffer lies in an open page, and that births stay within their limit.
+#[derive(Drop)]
+pub struct Heap {
+    config: Config,
+    store: Store,
+    starts: Rows,
+    live: Rows,
+    mark: Rows,
+    todo: Rows,
+    threads: Vec<Thread>,
+    workers: Vec<Option<Scan>>,
+    globals: Vec<Global>,
+    phase: Phase,
+    nmt: bool,
+    births: u64,
+}
+
+impl Model for Heap {
+    ghost use Rattle.model.specs.Heaps.{HeapState};
+
+    ghost Value = { HeapState };
+
+    ghost use Rattle.heap.specs.Views.{heap_of, IsHeapInside};
+
+    ghost view = { heap_of };
+
+    ghost invariant = { IsHeapInside };
+}
+
+impl Heap {
+    /// What it was made with.
+    pub fn config(&self) -> &Config
+        ensures { result.now ≡ self.now.config }
+    {
+        &self.config
+    }
+
+    /// Its pages and frames.
+    pub fn store(&self) -> &Store
+        ensures { result.now ≡ self.now.store }
+    {
+        &self.store
+    }
+
+    /// Where objects start.
+    pub fn starts(&self) -> &Rows
+        ensures { result.now ≡ self.now.starts }
+    {
+        &self.starts
+    }
+
+    /// Which objects the last mark found to live.
+    pub fn live(&self) -> &Rows
+        ensures { result.now ≡ self.now.live }
+    {
+        &self.live
+    }
+
+    /// Which objects the running mark has marked.
+    pub fn mark(&self) -> &Rows
+        ensures { result.now ≡ self.now.mark }
+    {
+        &self.mark
+    }
+
+    /// Which marked objects are still to be scanned.
+    pub fn todo(&self) -> &Rows
+        ensures { result.now ≡ self.now.todo }
+    {
+        &self.todo
+    }
+
+    /// The mutator threads, by number from 0.
+    pub fn threads(&self) -> &[Thread]
+        ensures { result.now ≡ self.now.threads }
+    {
+        &self.threads
+    }
+
+    /// What each worker scans, by number from 0.
+    pub fn workers(&self) -> &[Option<Scan>]
+        ensures { result.now ≡ self.now.workers }
+    {
+        &self.workers
+    }
+
+    /// The global roots, by number from 0.
+    pub fn globals(&self) -> &[Global]
+        ensures { result.now ≡ self.now.globals }
+    {
+        &self.globals
+    }
+
+    /// Where the collector is in its cycle.
+    pub fn phase(&self) -> Phase
+        ensures { result ≡ self.now.phase }
+    {
+        self.phase
+    }
+
+    /// The not-marked-through bit of words that are marked through.
+    pub fn nmt(&self) -> bool
+        ensures { result ≡ self.now.nmt }
+    {
+        self.nmt
+    }
+
+    /// How many objects were born.
+    pub fn births(&self) -> u64
+        ensures { result ≡ self.now.births }
+    {
+        self.births
+    }
+}

@@ -1,0 +1,13 @@
+//! The heap: pages, threads, workers, globals and the collector's state, and the steps of threads.
+#![tactic(auto)]
+
+mod fault;
+mod heap;
+mod rows;
+mod thread;
+
+pub use fault::NewFault;
+pub use heap::Heap;
+pub use model::{Config, ConfigFault, Refusal};
+pub use rows::{Row, Rows};
+pub use thread::Thread;

@@ -1,0 +1,107 @@
+//! The record of a mutator thread.
+
+ghost use Rattle.std.specs.Prelude.{◌≡◌, ◌<◌, length, slice_get, slice_set, replicate, None, IfOk};
+ghost use Rattle.model.specs.Heaps.{blank_thread, set_register_of, set_buffer_of, flat};
+
+use model::{Barrier, Buffer};
+use refword::Word;
+use std::alloc::{AllocError, Global};
+use std::marker::Model;
+
+/// A mutator thread: its registers, its buffer, and what it takes part in.
+#[derive(Debug, Drop)]
+pub struct Thread {
+    registers: Vec<Word>,
+    buffer: Option<Buffer>,
+    crossed: bool,
+    parked: bool,
+    barrier: Option<Barrier>,
+}
+
+impl Model for Thread {
+    ghost use Rattle.model.specs.Heaps.{ThreadState};
+
+    ghost Value = { ThreadState };
+
+    ghost view = { λ t. record { registers = t.registers.items; buffer = t.buffer; crossed = t.crossed; parked = t.parked; barrier = t.barrier } };
+}
+
+impl Thread {
+    /// A thread whose registers are null. It has crossed, and it runs.
+    pub fn new(alloc: Global, registers: u32) -> Result<Thread, AllocError>
+        ensures { IfOk result (λ t. t ≡ blank_thread registers) }
+    {
+        let mut words = Vec::with_capacity(alloc, registers as usize)?;
+        for _register in 0..registers {
+            words.push(Word::null())?;
+        }
+        Ok(Thread {
+            registers: words,
+            buffer: None,
+            crossed: true,
+            parked: false,
+            barrier: None,
+        })
+    }
+
+    /// The words in its registers, by number from 0.
+    pub fn registers(&self) -> &[Word]
+        ensures { result.now ≡ self.now.registers }
+    {
+        &self.registers
+    }
+
+    /// The buffer that it fills, if it has one.
+    pub fn buffer(&self) -> Option<Buffer>
+        ensures { result ≡ self.now.buffer }
+    {
+        self.buffer
+    }
+
+    /// Whether it has crossed the open checkpoint; true where none is open.
+    pub fn crossed(&self) -> bool
+        ensures { result ≡ self.now.crossed }
+    {
+        self.crossed
+    }
+
+    /// Whether it is blocked.
+    pub fn parked(&self) -> bool
+        ensures { result ≡ self.now.parked }
+    {
+        self.parked
+    }
+
+    /// Its load that isn't finished, if there is one.
+    pub fn barrier(&self) -> Option<Barrier>
+        ensures { result ≡ self.now.barrier }
+    {
+        self.barrier
+    }
+
+    /// The word in a register, null where there is no such register.
+    pub fn register(&self, number: u32) -> Word
+        ensures { result ≡ flat (slice_get self.now.registers number) }
+    {
+        match self.registers.get(number as usize) {
+            None => Word::null(),
+            Some(word) => *word,
+        }
+    }
+
+    /// Writes a register, if it is there.
+    pub fn set_register(&mut self, number: u32, word: Word)
+        ensures { self.new ≡ set_register_of number word self.old }
+    {
+        if (number as usize) < self.registers.len() {
+            self.registers[number as usize] = word;
+        }
+    }
+
+    /// Sets its buffer.
+    pub fn set_buffer(&mut self, buffer: Option<Buffer>)
+        ensures { self.new ≡ set_buffer_of buffer self.old }
+    {
+        self.buffer = buffer;
+    }
+}

@@ -1,0 +1,15 @@
+-- What the code of a heap keeps at all times.
+use Rattle.std.specs.Prelude.{◌≡◌, ℕ, ◌≤◌, ◌^◌, Option, Some, None, IfSome}
+use Rattle.model.specs.declared.records.Buffer.{Buffer}
+use Rattle.model.specs.Owning.{Each, LiesIn}
+use Rattle.model.specs.Stores.{StoreState}
+use Rattle.model.specs.Heaps.{HeapState, ThreadState}
+
+-- the buffer of a thread lies in an open page
+abbrev pub FillsIn : StoreState → ThreadState → Type 0
+FillsIn s t = IfSome t.buffer (LiesIn s)
+
+pub record IsHeap (h : HeapState) : Type 0 where
+  pub births_high : h.config.births ≤ 2 ^ 32
+  pub births : h.births ≤ h.config.births
+  pub buffers : Each h.threads (FillsIn h.store)
