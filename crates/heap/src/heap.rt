@@ -1,9 +1,9 @@
 //! The heap.
-
-
-
-
+mod birth;
+mod buffers;
+mod data;
 mod making;
+mod registers;
 
 
 ghost use Rattle.std.specs.Prelude.{◌≡◌};

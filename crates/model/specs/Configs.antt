@@ -1,5 +1,5 @@
 -- The configurations that a heap may be made with.
-use Rattle.std.specs.Prelude.{◌≡◌, ℕ, ◌^◌, ◌==◌, ◌||◌, ◌&&◌, not, Bool, true, false, length, Option, Some, None, nat_le, nat_lt, if◌then◌else◌}
+use Rattle.std.specs.Prelude.{◌≡◌, ℕ, ◌≤◌, ◌^◌, ◌==◌, ◌||◌, ◌&&◌, not, Bool, true, false, length, Option, Some, None, nat_le, nat_lt, if◌then◌else◌}
 use Rattle.std.specs.List.{list_all}
 use Rattle.layout.specs.declared.shape.Layout.{Layout}
 use Rattle.layout.specs.Objects.{size_of}
@@ -36,3 +36,20 @@ first_fault c =
 -- all fields are in their ranges
 abbrev pub IsConfig : Config → Type 0
 IsConfig c = first_fault c ≡ None
+
+-- what being in range says of the numbers
+pub record IsRanged (c : Config) : Type 0 where
+  pub words_low : 16 ≤ c.words
+  pub words_high : c.words ≤ 4096
+  pub frames_low : 1 ≤ c.frames
+  pub frames_high : c.frames ≤ 4096
+  pub pages_low : c.frames ≤ c.pages
+  pub pages_high : c.pages ≤ 65535
+  pub threads : c.threads ≤ 64
+  pub workers : c.workers ≤ 16
+  pub registers : c.registers ≤ 16
+  pub globals : c.globals ≤ 64
+  pub layouts : length c.layouts ≤ 64
+  pub fitting : list_all (fits_page c.words) c.layouts ≡ true
+  pub births : c.births ≤ 2 ^ 32
+  pub history : c.history ≤ 1000000

@@ -1,6 +1,7 @@
 -- What the code of a heap keeps at all times.
-use Rattle.std.specs.Prelude.{◌≡◌, ℕ, ◌≤◌, ◌^◌, Option, Some, None, IfSome}
+use Rattle.std.specs.Prelude.{◌≡◌, ℕ, ◌≤◌, Option, Some, None, IfSome}
 use Rattle.model.specs.declared.records.Buffer.{Buffer}
+use Rattle.model.specs.Configs.{IsRanged}
 use Rattle.model.specs.Owning.{Each, LiesIn}
 use Rattle.model.specs.Stores.{StoreState}
 use Rattle.model.specs.Heaps.{HeapState, ThreadState}
@@ -10,6 +11,6 @@ abbrev pub FillsIn : StoreState → ThreadState → Type 0
 FillsIn s t = IfSome t.buffer (LiesIn s)
 
 pub record IsHeap (h : HeapState) : Type 0 where
-  pub births_high : h.config.births ≤ 2 ^ 32
+  pub config : IsRanged h.config
   pub births : h.births ≤ h.config.births
   pub buffers : Each h.threads (FillsIn h.store)

@@ -129,15 +129,16 @@ give_back_outcome h t = if is_some (buffer_of_thread h t) then Ok (with_buffer h
 abbrev pub used_buffer : Buffer → ℕ → Buffer
 used_buffer b n = record b { next = b.next + n }
 
-abbrev pub born_in : Buffer → ℕ → ℕ → Reference → ThreadState → ThreadState
-born_in b n target w t = set_register_of target w (set_buffer_of (Some (used_buffer b n)) t)
+-- a thread's register gets a new object's word, and its buffer is what is left of it
+abbrev pub handed : ℕ → Reference → Buffer → ThreadState → ThreadState
+handed target w rest t = set_register_of target w (set_buffer_of (Some rest) t)
 
 -- the heap after an object was made in a buffer
 unfoldable pub placed : HeapState → ℕ → ℕ → ℕ → Layout → Buffer → HeapState
 placed h t target number l b = record h {
   store = with_words h.store b.page (λ ws. overlaid ws b.next (fresh_object h.births number l));
   starts = changed h.starts (b.page - 1) (set_bit b.next);
-  threads = changed h.threads t (born_in b (size_of l) target (Some (b.page * h.store.words + b.next, h.nmt)));
+  threads = changed h.threads t (handed target (Some (b.page * h.store.words + b.next, h.nmt)) (used_buffer b (size_of l)));
   births = h.births + 1;
 }
 

@@ -1,8 +1,8 @@
 //! What a heap is made with.
 
-ghost use Rattle.std.specs.Prelude.{◌≡◌, ◌==◌, IfOk};
+ghost use Rattle.std.specs.Prelude.{◌≡◌, ◌==◌, IfOk, IfNone};
 ghost use Rattle.std.specs.List.{list_all};
-ghost use Rattle.model.specs.Configs.{is_page_size, fits_page, first_fault};
+ghost use Rattle.model.specs.Configs.{is_page_size, fits_page, first_fault, IsRanged};
 
 use layout::{Layout, Layouts};
 use std::alloc::{AllocError, Global};
@@ -71,8 +71,16 @@ pub enum ConfigFault {
 impl Config {
     /// The first field that is out of its range, in the order of the fields; `None` where all
     /// are in range.
-    #[tactic(auto, unfolding(crate::specs::Configs::first_fault))]
+    #[tactic(auto, using(crate::proofs::Ranges::none_in_range))]
     pub fn fault(&self) -> Option<ConfigFault>
+        ensures first { result ≡ first_fault self.now }
+        ensures ranges { IfNone result (IsRanged self.now) }
+    {
+        self.first_fault()
+    }
+
+    #[tactic(auto, unfolding(crate::specs::Configs::first_fault))]
+    fn first_fault(&self) -> Option<ConfigFault>
         ensures { result ≡ first_fault self.now }
     {
         let layouts = self.layouts.as_slice();

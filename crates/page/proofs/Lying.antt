@@ -1,5 +1,5 @@
 -- Buffers lie in open pages, whatever is done to the store.
-use Rattle.std.proofs.Common.{◌≡◌, ◌≢◌, ◌⊎◌, inl, inr, ℕ, ◌+◌, ◌-◌, ◌*◌, ◌<◌, ◌≤◌, ◌^◌, Bool, true, false, ◌&&◌, List, length, position, Option, Some, None, set, refl, sym, ◌∙◌, ap, subst, arith, rules}
+use Rattle.std.proofs.Common.{◌≡◌, ◌≢◌, ◌⊎◌, inl, inr, ℕ, ◌+◌, ◌-◌, ◌/◌, ◌<◌, ◌≤◌, Bool, true, false, ◌&&◌, List, length, position, Option, Some, None, set, refl, sym, ◌∙◌, ap, subst, arith, rules}
 use Rattle.std.specs.List.{slice_get}
 use Rattle.std.specs.Prelude.{Ok, Err, Result, IfOk}
 use Rattle.std.proofs.lemmas.Option.{slice_get_within}
@@ -7,7 +7,7 @@ use Rattle.model.specs.declared.records.Page.{Page}
 use Rattle.model.specs.declared.records.Room.{Room}
 use Rattle.model.specs.declared.records.Room.TheVariants.{NoFrames, NoPages}
 use Rattle.model.specs.declared.records.Buffer.{Buffer}
-use Rattle.model.specs.Stores.{StoreState, is_open, is_unused, page_at, state_in, opened, given, buffer_of, Takes, fresh_page, taken, page_with_room, free_frame, unused_page}
+use Rattle.model.specs.Stores.{StoreState, is_open, is_unused, page_at, state_in, opened, given, buffer_of, Takes, with_words, with_word, fresh_page, taken, page_with_room, free_frame, unused_page}
 use Rattle.model.specs.Owning.{IsStore, LiesIn, TakesWell}
 use Rattle.model.proofs.Lists.{get_set, get_set_same, get_set_other, same_or_not, get_within}
 use Rattle.page.proofs.Found.{position_within, room_left, free_counts, free_within, room_within, room_passes}
@@ -128,3 +128,12 @@ takes_well s t n b h low high e = by_room (page_with_room s.words n s.pages) ref
 pub takes_by : (s t : StoreState) (n : ℕ) (r : Result Buffer Room) → IsStore s → 0 < n → n ≤ s.words → Takes s r t (taken s n) → IfOk r (TakesWell s t)
 takes_by s t n (Ok b) h low high e = takes_well s t n b h low high e
 takes_by s t n (Err x) h low high e = search rules
+
+-- other words in a page's frame
+pub words_lie : (s : StoreState) (n : ℕ) (change : List ℕ → List ℕ) (b : Buffer) → LiesIn s b → LiesIn (with_words s n change) b
+unfolding with_words
+words_lie s n change b h = lies_same s (with_words s n change) b refl refl h
+
+pub word_lies : (s : StoreState) (address v : ℕ) (b : Buffer) → LiesIn s b → LiesIn (with_word s address v) b
+unfolding with_word
+word_lies s address v b h = words_lie s (address / s.words) _ b h

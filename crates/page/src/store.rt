@@ -172,7 +172,7 @@ impl Store {
     /// The frame and the offset behind an address, if its page has memory.
     #[tactic(auto, unfolding(model::specs::Stores::spot_of))]
     fn spot(&self, address: u64) -> Option<(u32, usize)>
-        requires { address < 2 ^ 28 }
+        requires { address < 2 ^ 32 }
         ensures { result ≡ spot_of self.now address }
     {
         let words = u64::from(self.words);
@@ -183,7 +183,7 @@ impl Store {
     /// The word at an address, if its page has memory.
     #[tactic(auto, unfolding(model::specs::Stores::word_at))]
     pub fn word(&self, address: u64) -> Option<u64>
-        requires { address < 2 ^ 28 }
+        requires { address < 2 ^ 32 }
         ensures { result ≡ word_at self.now address }
     {
         let (frame, offset) = self.spot(address)?;
@@ -204,7 +204,7 @@ impl Store {
     /// Writes the word at an address, if its page has memory.
     #[tactic(auto, unfolding(model::specs::Stores::with_word, model::specs::Stores::with_words, model::specs::Stores::spot_of))]
     pub fn set_word(&mut self, address: u64, value: u64)
-        requires { address < 2 ^ 28 }
+        requires { address < 2 ^ 32 }
         ensures { self.new ≡ with_word self.old address value }
     {
         if let Some((frame, offset)) = self.spot(address) {

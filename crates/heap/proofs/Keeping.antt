@@ -1,0 +1,36 @@
+-- What is done to a heap keeps its invariant.
+use Rattle.std.proofs.Common.{◌≡◌, ℕ, Bool, ◌-◌, ◌<◌, ◌≤◌, ◌^◌, ◌+◌, List, Option, Some, None, replicate, refl, sym, ◌∙◌, ap, subst, arith, set}
+use Rattle.std.specs.List.{slice_get}
+use Rattle.std.specs.Option.{IfSome}
+use Rattle.model.specs.declared.config.Config.{Config}
+use Rattle.model.specs.declared.records.Buffer.{Buffer}
+use Rattle.model.specs.Stores.{StoreState}
+use Rattle.model.specs.Owning.{Each, LiesIn}
+use Rattle.model.specs.Holding.{IsHeap, FillsIn}
+use Rattle.model.specs.Heaps.{HeapState, ThreadState, Reference, changed, changed_at, set_register_of, with_register, first_heap}
+use Rattle.model.proofs.Lists.{each_set, each_replicate}
+
+pub each_changed : {X : Type 0} (P : X → Type 0) (xs : List X) (i : ℕ) (change : X → X) → Each xs P → ((x : X) → P x → P (change x)) → Each (changed xs i change) P
+each_changed {X} P xs i change h k = by_element (slice_get xs i) refl
+  where
+    by_element : (o : Option X) → slice_get xs i ≡ o → Each (changed_at xs i o change) P
+    by_element None e = h
+    by_element (Some x) e = each_set P xs i (change x) h (k x (h i x e))
+
+pub thread_keeps : (h : HeapState) (t : ℕ) (x : ThreadState) → IsHeap h → FillsIn h.store x → IsHeap (record h { threads = set h.threads t x })
+thread_keeps h t x i f = record { config = i.config; births = i.births; buffers = each_set (FillsIn h.store) h.threads t x i.buffers f }
+
+fills_in : (s t : StoreState) (b : Option Buffer) → ((c : Buffer) → LiesIn s c → LiesIn t c) → IfSome b (LiesIn s) → IfSome b (LiesIn t)
+fills_in s t None h f = f
+fills_in s t (Some b) h f = h b f
+
+pub store_keeps : (h : HeapState) (s : StoreState) → IsHeap h → ((c : Buffer) → LiesIn h.store c → LiesIn s c) → IsHeap (record h { store = s })
+store_keeps h s i k = record { config = i.config; births = i.births; buffers = λ t x e. fills_in h.store s x.buffer k (i.buffers t x e) }
+
+-- an object is made: other words in a page, one more birth
+pub birth_keeps : (h : HeapState) (s : StoreState) (starts : List (List Bool)) → IsHeap h → h.births < h.config.births → ((c : Buffer) → LiesIn h.store c → LiesIn s c) → IsHeap (record h { store = s; starts = starts; births = h.births + 1 })
+birth_keeps h s starts i low k = record { config = i.config; births = omega arith; buffers = λ t x e. fills_in h.store s x.buffer k (i.buffers t x e) }
+
+-- what is left of a buffer lies where it did
+pub rest_lies : (s : StoreState) (b : Buffer) (n : ℕ) → LiesIn s b → n ≤ b.end - b.next → LiesIn s (record b { next = b.next + n })
+rest_lies s b n h room = record { page = h.page; order = omega (arith, h.order, room); end = h.end }

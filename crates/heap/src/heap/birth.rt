@@ -1,0 +1,115 @@
+//! New objects.
+
+ghost use Rattle.std.specs.Prelude.{◌≡◌, ◌≤◌, ◌<◌, ◌+◌, ◌-◌, ◌*◌, ◌∷◌, ◌++◌, length, drop, replicate, slice_get, Some};
+ghost use Rattle.layout.specs.Objects.{size_of};
+ghost use Rattle.model.specs.Stores.{overlaid, with_words};
+ghost use Rattle.model.specs.Owning.{LiesIn};
+ghost use Rattle.model.specs.Refusing.{Does};
+ghost use Rattle.model.specs.Heaps.{changed};
+ghost use Rattle.model.specs.Outcome.{placed, new_outcome, handed};
+
+use crate::heap::Heap;
+use layout::{Header, Layout};
+use model::{Answer, Buffer, Refusal};
+use page::Store;
+use refword::{Addr, Word};
+
+/// Writes an object's header, and zeros behind it.
+fn write_object(part: &mut [u64], header: u64, others: usize)
+    requires { others < length part.old }
+    ensures { part.new ≡ (header ∷ replicate others 0) ++ drop (1 + others) part.old }
+{
+    let object = &mut part[..1 + others];
+    object.fill(0);
+    object[0] = header;
+}
+
+/// Writes a new object at the head of a buffer's free rest.
+fn write_new(store: &mut Store, buffer: Buffer, header: u64, others: u32)
+    requires lies { LiesIn store.old buffer }
+    requires room { others < buffer.end - buffer.next }
+    ensures { store.new ≡ with_words store.old buffer.page (λ ws. overlaid ws buffer.next (header ∷ replicate others 0)) }
+{
+    store.law();
+    let part = store.part_mut(&buffer);
+    write_object(part, header, others as usize);
+}
+
+impl Heap {
+    /// A thread makes an object in its buffer, with null references and data of 0, and a
+    /// register gets its word, which is marked through.
+    ///
+    /// Refused where there is no buffer, or it has fewer words left than the object
+    /// (`NoRoom`); `BadIndex` where there is no such layout; `Births` where no more may be born.
+    #[tactic(auto, unfolding(model::specs::Outcome::new_outcome))]
+    pub fn new_object(&mut self, thread: u32, target: u32, number: u32) -> Result<Answer, Refusal>
+        ensures { Does self.old result self.new (new_outcome self.old thread target number) }
+    {
+        let Some(buffer) = self.buffer(thread) else {
+            return Err(Refusal::NoRoom);
+        };
+        let Some(layout) = self.config.layouts.get(number) else {
+            return Err(Refusal::BadIndex);
+        };
+        if buffer.end - buffer.next < layout.size() {
+            return Err(Refusal::NoRoom);
+        }
+        if self.births >= self.config.births {
+            return Err(Refusal::Births);
+        }
+        let birth = self.births as u32;
+        self.place(thread, target, number, layout, buffer);
+        Ok(Answer::Birth(birth))
+    }
+
+    /// Makes an object in a buffer that has room for it.
+    #[tactic(auto, unfolding(model::specs::Outcome::placed))]
+    fn place(&mut self, thread: u32, target: u32, number: u32, layout: Layout, buffer: Buffer)
+        requires there { slice_get self.old.config.layouts number ≡ Some layout }
+        requires lies { LiesIn self.old.store buffer }
+        requires room { size_of layout ≤ buffer.end - buffer.next }
+        requires births { self.old.births < self.old.config.births }
+        ensures { self.new ≡ placed self.old thread target number layout buffer }
+    {
+        let header = Header {
+            birth: self.births as u32,
+            layout: number as u8,
+        };
+        let size = layout.size();
+        let word = Word::of(self.buffer_address(buffer), self.nmt);
+        write_new(&mut self.store, buffer, header.write(), size - 1);
+        self.starts
+            .set(buffer.page.saturating_sub(1) as usize, buffer.next as usize);
+        self.births += 1;
+        let rest = Buffer {
+            page: buffer.page,
+            next: buffer.next + size,
+            end: buffer.end,
+        };
+        self.hand_over(thread, target, word, rest);
+    }
+
+    /// A thread's register gets a new object's word, and its buffer is what is left of it.
+    fn hand_over(&mut self, thread: u32, target: u32, word: Word, rest: Buffer)
+        requires { LiesIn self.old.store rest }
+        ensures { self.new ≡ record self.old { threads = changed self.old.threads thread (handed target word rest) } }
+    {
+        if (thread as usize) < self.threads.len() {
+            let record = &mut self.threads[thread as usize];
+            record.set_buffer(Some(rest));
+            record.set_register(target, word);
+        }
+    }
+
+    /// The address at which the next object of a buffer starts.
+    fn buffer_address(&self, buffer: Buffer) -> Addr
+        requires lies { LiesIn self.now.store buffer }
+        requires room { buffer.next < buffer.end }
+        ensures { result ≡ buffer.page * self.now.store.words + buffer.next }
+    {
+        self.store.law();
+        let page = u64::from(buffer.page);
+        let words = u64::from(self.store.page_words());
+        Addr::new(page * words + u64::from(buffer.next)).unwrap()
+    }
+}

@@ -1,0 +1,91 @@
+//! Buffers of threads.
+
+ghost use Rattle.std.specs.Prelude.{◌≡◌, ◌≤◌, ◌<◌, slice_get, Some, None, IfSome};
+ghost use Rattle.model.specs.Owning.{LiesIn};
+ghost use Rattle.model.specs.Heaps.{buffer_of_thread, opened_rows, with_buffer};
+ghost use Rattle.model.specs.Refusing.{Does};
+ghost use Rattle.model.specs.Outcome.{lent, take_outcome, give_back_outcome};
+
+use crate::heap::Heap;
+use crate::rows::Rows;
+use model::{Answer, Buffer, Refusal, Room};
+
+/// Clears the row of a page of which a buffer is the first.
+fn open_row(rows: &mut Rows, buffer: Buffer)
+    ensures { rows.new ≡ opened_rows buffer rows.old }
+{
+    if buffer.next == 0 {
+        rows.clear(buffer.page.saturating_sub(1) as usize);
+    }
+}
+
+impl Heap {
+    /// The buffer of a thread, if it has one.
+    pub fn buffer(&self, thread: u32) -> Option<Buffer>
+        ensures value { result ≡ buffer_of_thread self.now thread }
+        ensures lies { IfSome result (LiesIn self.now.store) }
+    {
+        match self.threads.get(thread as usize) {
+            None => None,
+            Some(record) => record.buffer(),
+        }
+    }
+
+    /// Gives a thread a buffer that was taken of the store.
+    #[tactic(auto, unfolding(model::specs::Outcome::lent))]
+    fn lend(&mut self, thread: u32, buffer: Buffer)
+        requires { LiesIn self.old.store buffer }
+        ensures { self.new ≡ lent self.old thread self.old.store buffer }
+    {
+        open_row(&mut self.starts, buffer);
+        open_row(&mut self.live, buffer);
+        open_row(&mut self.mark, buffer);
+        open_row(&mut self.todo, buffer);
+        if (thread as usize) < self.threads.len() {
+            let record = &mut self.threads[thread as usize];
+            record.set_buffer(Some(buffer));
+        }
+    }
+
+    /// A thread takes a buffer, in the lowest open page with room, else in a fresh page.
+    ///
+    /// Refused where it has one (`HasBuffer`); where no page has room and no frame is free
+    /// (`NoFrames`); where no page number is unused (`NoPages`).
+    #[tactic(auto, unfolding(model::specs::Outcome::take_outcome, model::specs::Outcome::lent))]
+    pub fn take(&mut self, thread: u32, words: u32) -> Result<Answer, Refusal>
+        requires low { 0 < words }
+        requires high { words ≤ self.old.store.words }
+        ensures { Does self.old result self.new (take_outcome self.old thread words) }
+    {
+        if self.buffer(thread).is_some() {
+            return Err(Refusal::HasBuffer);
+        }
+        match self.store.take(words) {
+            Ok(buffer) => {
+                self.lend(thread, buffer);
+                Ok(Answer::Lent {
+                    page: buffer.page,
+                    offset: buffer.next,
+                })
+            }
+            Err(Room::NoFrames) => Err(Refusal::NoFrames { need: 1, free: 0 }),
+            Err(Room::NoPages) => Err(Refusal::NoPages),
+        }
+    }
+
+    /// A thread gives its buffer back, whose rest is lost. Refused where it has none (`NoRoom`).
+    #[tactic(auto, unfolding(model::specs::Outcome::give_back_outcome, model::specs::Heaps::with_buffer))]
+    pub fn give_back(&mut self, thread: u32) -> Result<Answer, Refusal>
+        ensures { Does self.old result self.new (give_back_outcome self.old thread) }
+    {
+        let Some(buffer) = self.buffer(thread) else {
+            return Err(Refusal::NoRoom);
+        };
+        self.store.give_back(buffer);
+        if (thread as usize) < self.threads.len() {
+            let record = &mut self.threads[thread as usize];
+            record.set_buffer(None);
+        }
+        Ok(Answer::Done)
+    }
+}

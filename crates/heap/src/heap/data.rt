@@ -1,0 +1,65 @@
+//! Data words of objects.
+
+ghost use Rattle.std.specs.Prelude.{◌≡◌, ◌<◌, ◌^◌, IfSome};
+ghost use Rattle.model.specs.Heaps.{layout_at};
+ghost use Rattle.model.specs.Refusing.{Does};
+ghost use Rattle.model.specs.Outcome.{datum_at, datum_outcome, set_datum_outcome};
+
+use crate::heap::Heap;
+use layout::Layout;
+use model::{Answer, Refusal};
+use refword::Addr;
+
+impl Heap {
+    /// The layout of the object at an address, if one is there.
+    #[tactic(auto, unfolding(model::specs::Heaps::layout_at))]
+    pub fn layout_at(&self, address: Addr) -> Option<Layout>
+        ensures { result ≡ layout_at self.now address }
+    {
+        let header = self.store.word(address.number())?;
+        let number = (header >> 32) as u32;
+        self.config.layouts.get(number)
+    }
+
+    /// Where a data word of the object at an address stands.
+    #[tactic(auto, unfolding(model::specs::Outcome::datum_at))]
+    fn datum_at(&self, address: Addr, index: u32) -> Option<u64>
+        ensures value { result ≡ datum_at self.now address index }
+        ensures range { IfSome result (λ place. place < 2 ^ 32) }
+    {
+        let layout = self.layout_at(address)?;
+        if index >= u32::from(layout.nums) {
+            return None;
+        }
+        Some(address.number() + 1 + u64::from(layout.refs) + u64::from(index))
+    }
+
+    /// Reads a data word. Refused where the register is null or can't be used, then `BadIndex`
+    /// where the object has no such word.
+    #[tactic(auto, unfolding(model::specs::Outcome::datum_outcome))]
+    pub fn datum(&self, thread: u32, object: u32, index: u32) -> Result<Answer, Refusal>
+        ensures { Does self.now result self.now (datum_outcome self.now thread object index) }
+    {
+        let address = self.usable(thread, object)?;
+        let Some(place) = self.datum_at(address, index) else {
+            return Err(Refusal::BadIndex);
+        };
+        let Some(value) = self.store.word(place) else {
+            return Err(Refusal::BadIndex);
+        };
+        Ok(Answer::Datum(value))
+    }
+
+    /// Writes a data word. Refused as `datum` is.
+    #[tactic(auto, unfolding(model::specs::Outcome::set_datum_outcome))]
+    pub fn set_datum(&mut self, thread: u32, object: u32, index: u32, value: u64) -> Result<Answer, Refusal>
+        ensures { Does self.old result self.new (set_datum_outcome self.old thread object index value) }
+    {
+        let address = self.usable(thread, object)?;
+        let Some(place) = self.datum_at(address, index) else {
+            return Err(Refusal::BadIndex);
+        };
+        self.store.set_word(place, value);
+        Ok(Answer::Done)
+    }
+}

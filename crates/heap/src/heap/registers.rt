@@ -1,0 +1,129 @@
+//! Registers, and the steps on them alone.
+
+ghost use Rattle.std.specs.Prelude.{◌≡◌, slice_get, is_none};
+ghost use Rattle.model.specs.Heaps.{register_of, with_register};
+ghost use Rattle.model.specs.Refusing.{Does};
+ghost use Rattle.model.specs.Outcome.{has_crossed, let_through, usable, usable_or_null, same_outcome, is_null_outcome, copy_register_outcome, clear_register_outcome};
+
+use crate::heap::Heap;
+use model::{Answer, PageState, Phase, Refusal};
+use refword::{Addr, Word};
+
+impl Heap {
+    /// The word in a register, null where there is no such register.
+    #[tactic(auto, unfolding(model::specs::Heaps::register_of))]
+    pub fn register(&self, thread: u32, register: u32) -> Word
+        ensures { result ≡ register_of self.now thread register }
+    {
+        match self.threads.get(thread as usize) {
+            None => Word::null(),
+            Some(record) => record.register(register),
+        }
+    }
+
+    /// Writes a register, if it is there.
+    #[tactic(auto, unfolding(model::specs::Heaps::with_register))]
+    fn set_register(&mut self, thread: u32, register: u32, word: Word)
+        ensures { self.new ≡ with_register self.old thread register word }
+    {
+        if (thread as usize) < self.threads.len() {
+            let record = &mut self.threads[thread as usize];
+            record.set_register(register, word);
+        }
+    }
+
+    fn has_crossed(&self, thread: u32) -> bool
+        ensures { result ≡ has_crossed (slice_get self.now.threads thread) }
+    {
+        match self.threads.get(thread as usize) {
+            None => false,
+            Some(record) => record.crossed(),
+        }
+    }
+
+    /// Whether a thread may use an address: not on a protected page, unless the thread has still
+    /// to cross the checkpoint at which pages are being protected.
+    #[tactic(auto, unfolding(model::specs::Outcome::let_through))]
+    fn let_through(&self, thread: u32, address: Addr) -> Result<(), Refusal>
+        ensures { result ≡ let_through self.now thread address }
+    {
+        let page = address.number() / u64::from(self.store.page_words());
+        if !matches!(
+            self.store.state(page as u32),
+            PageState::From | PageState::Gone
+        ) {
+            return Ok(());
+        }
+        match self.phase {
+            Phase::ProtectCrossing => {
+                if self.has_crossed(thread) {
+                    Err(Refusal::Stall)
+                } else {
+                    Ok(())
+                }
+            }
+            _ => Err(Refusal::Stale),
+        }
+    }
+
+    /// The address in a register that names an object and may be used.
+    #[tactic(auto, unfolding(model::specs::Outcome::usable))]
+    pub fn usable(&self, thread: u32, register: u32) -> Result<Addr, Refusal>
+        ensures { result ≡ usable self.now thread register }
+    {
+        let Some(address) = self.register(thread, register).addr() else {
+            return Err(Refusal::Null);
+        };
+        self.let_through(thread, address)?;
+        Ok(address)
+    }
+
+    /// The address in a register that may be used, or none where it is null.
+    #[tactic(auto, unfolding(model::specs::Outcome::usable_or_null))]
+    pub fn usable_or_null(&self, thread: u32, register: u32) -> Result<Option<Addr>, Refusal>
+        ensures { result ≡ usable_or_null self.now thread register }
+    {
+        let Some(address) = self.register(thread, register).addr() else {
+            return Ok(None);
+        };
+        self.let_through(thread, address)?;
+        Ok(Some(address))
+    }
+
+    /// Whether two registers name the same object, or both none.
+    #[tactic(auto, unfolding(model::specs::Outcome::same_outcome))]
+    pub fn same(&self, thread: u32, left: u32, right: u32) -> Result<Answer, Refusal>
+        ensures { Does self.now result self.now (same_outcome self.now thread left right) }
+    {
+        let left = self.usable_or_null(thread, left)?;
+        let right = self.usable_or_null(thread, right)?;
+        Ok(Answer::Truth(left == right))
+    }
+
+    /// Whether a register is null.
+    #[tactic(auto, unfolding(model::specs::Outcome::is_null_outcome))]
+    pub fn is_null(&self, thread: u32, register: u32) -> Result<Answer, Refusal>
+        ensures { Does self.now result self.now (is_null_outcome self.now thread register) }
+    {
+        Ok(Answer::Truth(self.register(thread, register).is_null()))
+    }
+
+    /// A register gets another one's word.
+    #[tactic(auto, unfolding(model::specs::Outcome::copy_register_outcome))]
+    pub fn copy_register(&mut self, thread: u32, target: u32, source: u32) -> Result<Answer, Refusal>
+        ensures { Does self.old result self.new (copy_register_outcome self.old thread target source) }
+    {
+        let word = self.register(thread, source);
+        self.set_register(thread, target, word);
+        Ok(Answer::Done)
+    }
+
+    /// A register becomes null.
+    #[tactic(auto, unfolding(model::specs::Outcome::clear_register_outcome))]
+    pub fn clear_register(&mut self, thread: u32, target: u32) -> Result<Answer, Refusal>
+        ensures { Does self.old result self.new (clear_register_outcome self.old thread target) }
+    {
+        self.set_register(thread, target, Word::null());
+        Ok(Answer::Done)
+    }
+}
