@@ -1,0 +1,60 @@
+-- Books: a heap and the history of its accepted steps.
+use Rattle.std.specs.Prelude.{◌≡◌, Bool, List, [], ◌∷◌, ◌++◌, length, nat_le, Result, Ok, Err, Some, None, if◌then◌else◌, ◌⊎◌}
+use Rattle.model.specs.declared.config.Config.{Config}
+use Rattle.model.specs.declared.steps.Actor.{Actor}
+use Rattle.model.specs.declared.steps.Step.{Step}
+use Rattle.model.specs.declared.steps.Answer.{Answer}
+use Rattle.model.specs.declared.steps.Refusal.{Refusal}
+use Rattle.model.specs.declared.steps.Refusal.TheVariants as refusals
+use Rattle.model.specs.Configs.{first_fault}
+use Rattle.model.specs.Heaps.{HeapState, first_heap}
+use Rattle.model.specs.Refusing.{Outcome}
+use Rattle.model.specs.Outcome.{outcome}
+use Rattle.heap.specs.declared.fault.NewFault.{NewFault}
+use Rattle.heap.specs.declared.fault.NewFault.TheVariants as faults
+use Rattle.cycle.specs.declared.book.Entry.{Entry}
+
+pub record BookState : Type 0 where
+  pub heap : HeapState
+  pub history : List Entry
+
+-- the history has as many entries as it may have
+unfoldable pub is_full : BookState → Bool
+is_full b = nat_le b.heap.config.history (length b.history)
+
+-- the first heap of a configuration, and no history
+unfoldable pub first_book : Config → BookState
+first_book c = record { heap = first_heap c; history = [] }
+
+-- making a book gives its first state, the first fault of its configuration, or want of memory
+abbrev pub MakesBook : Config → Result BookState NewFault → Type 0
+MakesBook c (Ok b) = (first_fault c ≡ None) × (b ≡ first_book c)
+MakesBook c (Err (faults.Config f)) = first_fault c ≡ Some f
+MakesBook c (Err faults.Memory) = first_fault c ≡ None
+
+-- a reply to a step
+abbrev pub Reply : Type 0
+Reply = Result Answer Refusal
+
+-- the book and the answer after a step, or why it is refused
+abbrev pub BookOutcome : Type 0
+BookOutcome = Result (BookState × Answer) Refusal
+
+abbrev pub entered : BookState → Actor → Step → Outcome → BookOutcome
+entered b actor step (Err e) = Err e
+entered b actor step (Ok x) = Ok (record { heap = x.0; history = b.history ++ record { actor = actor; step = step; answer = x.1 } ∷ [] }, x.1)
+
+-- a full history refuses; else the heap's outcome, an accepted step entering the history with its answer
+unfoldable pub acted : BookState → Actor → Step → BookOutcome
+acted b actor step = if is_full b then Err refusals.HistoryFull else entered b actor step (outcome b.heap actor step)
+
+-- a call did what the outcome says, or memory ran out; a refused one changed nothing
+abbrev pub Acts : BookState → Reply → BookState → BookOutcome → Type 0
+Acts old (Ok answer) new outcome = outcome ≡ Ok (new, answer)
+Acts old (Err e) new outcome = ((e ≡ refusals.Memory) ⊎ (outcome ≡ Err e)) × (new ≡ old)
+
+-- one reply for each step, in order, each step done on the book that the one before left
+abbrev pub Ran : BookState → List (Actor × Step) → List Reply → BookState → Type 0
+Ran b [] [] c = c ≡ b
+Ran b (s ∷ ss) (r ∷ rs) c = (d : BookState) × Acts b r d (acted b s.0 s.1) × Ran d ss rs c
+Ran b _ _ c = ⊥

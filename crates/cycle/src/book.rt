@@ -1,0 +1,110 @@
+//! A heap and its history.
+
+ghost use Rattle.std.specs.Prelude.{◌≡◌, ◌<◌, ◌++◌, ◌∷◌, [], vec_len, vec_capacity};
+ghost use Rattle.cycle.specs.Books.{Acts, MakesBook, acted, is_full, first_book};
+
+use crate::stepping::Stepping;
+use heap::{Config, Heap, NewFault};
+use model::{Actor, Answer, Refusal, Step};
+use std::alloc::Global;
+use std::marker::Model;
+
+/// An accepted step of an actor, with its answer.
+#[derive(Debug, Drop)]
+pub struct Entry {
+    /// Who did it.
+    pub actor: Actor,
+    /// What was done.
+    pub step: Step,
+    /// What it said.
+    pub answer: Answer,
+}
+
+/// A heap and the history of its accepted steps, oldest first.
+#[derive(Drop)]
+pub struct Book {
+    heap: Heap,
+    history: Vec<Entry>,
+}
+
+impl Model for Book {
+    ghost use Rattle.cycle.specs.Books.{BookState};
+
+    ghost Value = { BookState };
+
+    ghost use Rattle.cycle.specs.Views.{book_of};
+
+    ghost view = { book_of };
+}
+
+impl Book {
+    /// A book of the first heap of a configuration, without entries. Faults as `Heap::new` does.
+    #[tactic(auto, unfolding(crate::specs::Books::first_book))]
+    pub fn new(alloc: Global, config: Config) -> Result<Book, NewFault>
+        ensures { MakesBook config result }
+    {
+        match Heap::new(alloc, config) {
+            Ok(heap) => Ok(Book {
+                heap,
+                history: Vec::new(alloc),
+            }),
+            Err(fault) => Err(fault),
+        }
+    }
+
+    /// The heap as it stands.
+    pub fn heap(&self) -> &Heap
+        ensures { result.now ≡ self.now.heap }
+    {
+        &self.heap
+    }
+
+    /// The accepted steps so far, with their answers, oldest first.
+    pub fn history(&self) -> &[Entry]
+        ensures { result.now ≡ self.now.history }
+    {
+        &self.history
+    }
+
+    #[tactic(auto, unfolding(crate::specs::Books::is_full))]
+    fn is_full(&self) -> bool
+        ensures { result ≡ is_full self.now }
+    {
+        self.history.len() as u64 >= self.heap.config().history
+    }
+
+    /// One step of an actor. An accepted step enters the history with its answer.
+    ///
+    /// `HistoryFull` is tested first; then room for the entry is made, and `Memory` answered
+    /// where it is refused. A step that is refused for any cause leaves heap and history as
+    /// they were.
+    #[tactic(auto, unfolding(crate::specs::Books::acted))]
+    pub fn act(&mut self, actor: Actor, step: Step) -> Result<Answer, Refusal>
+        ensures { Acts self.old result self.new (acted self.old actor step) }
+    {
+        if self.is_full() {
+            return Err(Refusal::HistoryFull);
+        }
+        if self.history.reserve(1).is_err() {
+            return Err(Refusal::Memory);
+        }
+        let answer = self.heap.step(actor, &step)?;
+        enter(
+            &mut self.history,
+            Entry {
+                actor,
+                step,
+                answer,
+            },
+        );
+        Ok(answer)
+    }
+}
+
+/// Adds an entry for which there is room.
+fn enter(history: &mut Vec<Entry>, entry: Entry)
+    requires { vec_len history.old < vec_capacity history.old }
+    ensures { history.new.items ≡ history.old.items ++ entry ∷ [] }
+{
+    let _ = history.push(entry);
+}

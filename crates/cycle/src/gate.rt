@@ -1,0 +1,96 @@
+//! The tests that come before those of a step's own row.
+
+ghost use Rattle.std.specs.Prelude.{◌≡◌, length, nat_le, slice_get};
+ghost use Rattle.model.specs.Outcome.{no_register, has_bad_index, is_for_threads, is_parked_in, is_loading_in, thread_gate};
+
+use heap::Heap;
+use model::{Refusal, Step};
+
+#[tactic(auto, unfolding(model::specs::Outcome::no_register))]
+fn no_register(heap: &Heap, register: u32) -> bool
+    ensures { result ≡ no_register heap.now register }
+{
+    register >= heap.config().registers
+}
+
+fn no_layout(heap: &Heap, layout: u32) -> bool
+    ensures { result ≡ nat_le (length heap.now.config.layouts) layout }
+{
+    layout as usize >= heap.config().layouts.len()
+}
+
+/// Whether a number in a step names nothing.
+fn has_bad_index(heap: &Heap, step: &Step) -> bool
+    ensures { result ≡ has_bad_index heap.now step.now }
+{
+    match step {
+        Step::Take(n) => *n == 0 || *n > heap.store().page_words(),
+        Step::New { target, layout } => no_register(heap, *target) || no_layout(heap, *layout),
+        Step::Datum { object, .. } => no_register(heap, *object),
+        Step::SetDatum { object, .. } => no_register(heap, *object),
+        Step::Same { left, right } => no_register(heap, *left) || no_register(heap, *right),
+        Step::IsNull(register) => no_register(heap, *register),
+        Step::CopyReg { target, source } => {
+            no_register(heap, *target) || no_register(heap, *source)
+        }
+        Step::ClearReg(register) => no_register(heap, *register),
+        _ => false,
+    }
+}
+
+/// Whether a thread does such a step.
+fn is_for_threads(step: &Step) -> bool
+    ensures { result ≡ is_for_threads step.now }
+{
+    matches!(
+        step,
+        Step::Take(_)
+            | Step::GiveBack
+            | Step::New { .. }
+            | Step::Datum { .. }
+            | Step::SetDatum { .. }
+            | Step::Same { .. }
+            | Step::IsNull(_)
+            | Step::CopyReg { .. }
+            | Step::ClearReg(_)
+    )
+}
+
+fn is_parked(heap: &Heap, thread: u32) -> bool
+    ensures { result ≡ is_parked_in (slice_get heap.now.threads thread) }
+{
+    match heap.threads().get(thread as usize) {
+        None => false,
+        Some(record) => record.parked(),
+    }
+}
+
+fn is_loading(heap: &Heap, thread: u32) -> bool
+    ensures { result ≡ is_loading_in (slice_get heap.now.threads thread) }
+{
+    match heap.threads().get(thread as usize) {
+        None => false,
+        Some(record) => record.barrier().is_some(),
+    }
+}
+
+/// The tests of every step of a thread, in their order: no such thread, or no step of a thread;
+/// a number that names nothing; a parked thread; an open barrier.
+#[tactic(auto, unfolding(model::specs::Outcome::thread_gate))]
+pub fn thread_gate(heap: &Heap, thread: u32, step: &Step) -> Result<(), Refusal>
+    ensures { result ≡ thread_gate heap.now thread step.now }
+{
+    if thread as usize >= heap.threads().len() || !is_for_threads(step) {
+        return Err(Refusal::NoActor);
+    }
+    if has_bad_index(heap, step) {
+        return Err(Refusal::BadIndex);
+    }
+    if is_parked(heap, thread) {
+        return Err(Refusal::Parked);
+    }
+    if is_loading(heap, thread) {
+        return Err(Refusal::Busy);
+    }
+    Ok(())
+}

@@ -1,0 +1,55 @@
+//! Steps on a heap.
+
+ghost use Rattle.std.specs.Prelude.{◌≡◌, false};
+ghost use Rattle.model.specs.Refusing.{Does};
+ghost use Rattle.model.specs.Outcome.{has_bad_index, thread_row, outcome};
+
+use crate::gate::thread_gate;
+use heap::Heap;
+use model::{Actor, Answer, Refusal, Step};
+
+/// What actors do to a heap, one step at a time.
+pub trait Stepping {
+    /// One step of an actor, which is accepted or refused. A refused step changes nothing.
+    fn step(&mut self, actor: Actor, step: &Step) -> Result<Answer, Refusal>;
+}
+
+impl Stepping for Heap {
+    /// Does exactly what the step's row says: refuses it by the first test that holds, and else
+    /// gives its answer and has its effect. It takes no memory.
+    #[tactic(auto, unfolding(model::specs::Outcome::outcome, model::specs::Outcome::thread_gate))]
+    fn step(&mut self, actor: Actor, step: &Step) -> Result<Answer, Refusal>
+        ensures { Does self.old result self.new (outcome self.old actor step.now) }
+    {
+        match actor {
+            Actor::Thread(thread) => {
+                thread_gate(self, thread, step)?;
+                thread_row(self, thread, step)
+            }
+            Actor::Worker(_) => Err(Refusal::NoActor),
+        }
+    }
+}
+
+/// The step of a thread whose leading tests were passed.
+fn thread_row(heap: &mut Heap, thread: u32, step: &Step) -> Result<Answer, Refusal>
+    requires { has_bad_index heap.old step.now ≡ false }
+    ensures { Does heap.old result heap.new (thread_row heap.old thread step.now) }
+{
+    match step {
+        Step::Take(words) => heap.take(thread, *words),
+        Step::GiveBack => heap.give_back(thread),
+        Step::New { target, layout } => heap.new_object(thread, *target, *layout),
+        Step::Datum { object, index } => heap.datum(thread, *object, *index),
+        Step::SetDatum {
+            object,
+            index,
+            value,
+        } => heap.set_datum(thread, *object, *index, *value),
+        Step::Same { left, right } => heap.same(thread, *left, *right),
+        Step::IsNull(register) => heap.is_null(thread, *register),
+        Step::CopyReg { target, source } => heap.copy_register(thread, *target, *source),
+        Step::ClearReg(register) => heap.clear_register(thread, *register),
+        _ => Err(Refusal::NoActor),
+    }
+}
