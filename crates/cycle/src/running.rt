@@ -1,6 +1,6 @@
 //! Runs of a list of steps.
 
-ghost use Rattle.std.specs.Prelude.{◌≡◌, IfOk, OnErr};
+ghost use Rattle.std.specs.Prelude.{◌≡◌, ◌<◌, ◌≤◌, ◌++◌, ◌∷◌, [], IfOk, OnErr, vec_len, vec_capacity};
 ghost use Rattle.cycle.specs.Books.{Ran};
 
 use crate::book::Book;
@@ -20,9 +20,18 @@ pub fn run(
     ensures err { OnErr result (book.new ≡ book.old) }
 {
     let mut replies = Vec::with_capacity(alloc, steps.len())?;
-    for (actor, step) in steps {
+    'steps: for (actor, step) in steps {
         let reply = book.act(actor, step);
-        replies.push(reply).unwrap();
+        add(&mut replies, reply);
     }
     Ok(replies)
+}
+
+/// Adds a reply for which there is room.
+fn add(replies: &mut Vec<Result<Answer, Refusal>>, reply: Result<Answer, Refusal>)
+    requires { vec_len replies.old < vec_capacity replies.old }
+    ensures added { replies.new.items ≡ replies.old.items ++ reply ∷ [] }
+    ensures room { vec_capacity replies.old ≤ vec_capacity replies.new }
+{
+    let _ = replies.push(reply);
 }

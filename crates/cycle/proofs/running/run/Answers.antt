@@ -1,0 +1,16 @@
+use Rattle.std.proofs.Common.{◌≡◌, ◌≤◌, ◌+◌, ◌∷◌, [], ◌++◌, ◌∙◌, length, length-append, append_assoc, ap, sym, subst, arith, rules}
+use Rattle.cycle.specs.Books.{Ran}
+use Rattle.cycle.proofs.Runs.{ran_more, next_part, one_longer}
+use Rattle.cycle.proofs.running.run.Goals as goal
+
+pub steps-preserved : goal.steps-preserved
+steps-preserved c =
+    let i = c.steps.invariant in
+    record {
+  goes = tt;
+  ends = tt;
+  ran = rw c.add.ensures.added (ran_more c.steps.yielded c.steps.replies.items c.args.book.now c.steps.book c.act-reply.new.self (c.in-Some.actor, c.in-Some.step) c.act-reply.result i.ran c.act-reply.ensures);
+  parts = next_part c.steps.yielded _ _ c.args.steps.items (c.in-Some.actor, c.in-Some.step) i.parts c.in-Some.ensures.steps.0;
+  count = one_longer c.steps.replies.items c.add.new.replies.items c.steps.yielded _ (c.in-Some.actor, c.in-Some.step) i.count c.add.ensures.added;
+  room = omega (arith, i.room, c.add.ensures.room);
+}
