@@ -36,20 +36,38 @@ limit_in line at name most (Some w) = if bytes_eq w.0 name then number_at line w
 unfoldable pub limit_at : List ℕ → ℕ → List ℕ → ℕ → Result (ℕ × ℕ) Flaw
 limit_at line at name most = limit_in line at name most (word_at line at)
 
--- the numbers of a heap line, from the place behind its first word on
-unfoldable pub heap_in : List ℕ → ℕ → Result Sizes Flaw
-heap_in line at = do
+-- the words of a page, the frames and the pages
+unfoldable pub memory_at : List ℕ → ℕ → Result ((ℕ × ℕ × ℕ) × ℕ) Flaw
+memory_at line at = do
   words ← page_size_at line at
   frames ← field_at line words.1 (codes "frames") 1 MOST_FRAMES
   pages ← field_at line frames.1 (codes "pages") frames.0 MOST_PAGES
-  threads ← field_at line pages.1 (codes "threads") 1 MOST_THREADS
+  Ok ((words.0, frames.0, pages.0), pages.1)
+
+-- the threads, the workers and the registers
+unfoldable pub actors_at : List ℕ → ℕ → Result ((ℕ × ℕ × ℕ) × ℕ) Flaw
+actors_at line at = do
+  threads ← field_at line at (codes "threads") 1 MOST_THREADS
   workers ← field_at line threads.1 (codes "workers") 1 16
   registers ← field_at line workers.1 (codes "registers") 1 16
-  globals ← field_at line registers.1 (codes "globals") 0 64
+  Ok ((threads.0, workers.0, registers.0), registers.1)
+
+-- the globals, the births and the history
+unfoldable pub limits_at : List ℕ → ℕ → Result ((ℕ × ℕ × ℕ) × ℕ) Flaw
+limits_at line at = do
+  globals ← field_at line at (codes "globals") 0 64
   births ← limit_at line globals.1 (codes "births") 4294967296
   history ← limit_at line births.1 (codes "history") 1000000
-  _ ← end_at line history.1
-  Ok (record { words = words.0; frames = frames.0; pages = pages.0; threads = threads.0; workers = workers.0; registers = registers.0; globals = globals.0; births = births.0; history = history.0 })
+  Ok ((globals.0, births.0, history.0), history.1)
+
+-- the numbers of a heap line, from the place behind its first word on
+unfoldable pub heap_in : List ℕ → ℕ → Result Sizes Flaw
+heap_in line at = do
+  memory ← memory_at line at
+  actors ← actors_at line memory.1
+  limits ← limits_at line actors.1
+  _ ← end_at line limits.1
+  Ok (record { words = memory.0.0; frames = memory.0.1; pages = memory.0.2; threads = actors.0.0; workers = actors.0.1; registers = actors.0.2; globals = limits.0.0; births = limits.0.1; history = limits.0.2 })
 
 -- a layout, from the place behind the line's first word on
 unfoldable pub layout_in : Sizes → List ℕ → ℕ → Result Layout Flaw

@@ -4,3 +4,4 @@ pub mod Orders
 pub mod Reading
 pub mod Scripts
 pub mod Views
+pub mod Spelling

@@ -2,7 +2,7 @@
 
 ghost use Rattle.std.specs.Prelude.{◌≡◌, ◌==◌, ◌≤◌, IfOk};
 ghost use Rattle.model.specs.Configs.{is_page_size};
-ghost use Rattle.parser.specs.Headings.{field_at, page_size_at, limit_at, heap_in, layout_in, config_of};
+ghost use Rattle.parser.specs.Headings.{field_at, page_size_at, limit_at, memory_at, actors_at, limits_at, heap_in, layout_in, config_of};
 
 use crate::fault::{FaultKind, Flaw};
 use crate::words::{end_at, fixed_at, number_at, word_at};
@@ -109,29 +109,56 @@ fn limit_at(line: &[u8], at: usize, name: &[u8], most: u64) -> Result<(u64, usiz
     }
 }
 
+/// The words of a page, the frames and the pages, and the place after them.
+#[tactic(auto, unfolding(crate::specs::Headings::memory_at))]
+fn memory_at(line: &[u8], at: usize) -> Result<((u32, u32, u32), usize), Flaw>
+    ensures { result ≡ memory_at line.now at }
+{
+    let (words, at) = page_size_at(line, at)?;
+    let (frames, at) = field_at(line, at, b"frames", 1, MOST_FRAMES)?;
+    let (pages, at) = field_at(line, at, b"pages", frames, MOST_PAGES)?;
+    Ok(((words as u32, frames as u32, pages as u32), at))
+}
+
+/// The threads, the workers and the registers, and the place after them.
+#[tactic(auto, unfolding(crate::specs::Headings::actors_at))]
+fn actors_at(line: &[u8], at: usize) -> Result<((u32, u32, u32), usize), Flaw>
+    ensures { result ≡ actors_at line.now at }
+{
+    let (threads, at) = field_at(line, at, b"threads", 1, MOST_THREADS)?;
+    let (workers, at) = field_at(line, at, b"workers", 1, 16)?;
+    let (registers, at) = field_at(line, at, b"registers", 1, 16)?;
+    Ok(((threads as u32, workers as u32, registers as u32), at))
+}
+
+/// The globals, the births and the history, and the place after them.
+#[tactic(auto, unfolding(crate::specs::Headings::limits_at))]
+fn limits_at(line: &[u8], at: usize) -> Result<((u32, u64, u64), usize), Flaw>
+    ensures { result ≡ limits_at line.now at }
+{
+    let (globals, at) = field_at(line, at, b"globals", 0, 64)?;
+    let (births, at) = limit_at(line, at, b"births", 1 << 32)?;
+    let (history, at) = limit_at(line, at, b"history", 1_000_000)?;
+    Ok(((globals as u32, births, history), at))
+}
+
 /// What the heap line says behind its first word.
 #[tactic(auto, unfolding(crate::specs::Headings::heap_in))]
 pub fn heap_in(line: &[u8], at: usize) -> Result<Sizes, Flaw>
     ensures { result ≡ heap_in line.now at }
 {
-    let (words, at) = page_size_at(line, at)?;
-    let (frames, at) = field_at(line, at, b"frames", 1, MOST_FRAMES)?;
-    let (pages, at) = field_at(line, at, b"pages", frames, MOST_PAGES)?;
-    let (threads, at) = field_at(line, at, b"threads", 1, MOST_THREADS)?;
-    let (workers, at) = field_at(line, at, b"workers", 1, 16)?;
-    let (registers, at) = field_at(line, at, b"registers", 1, 16)?;
-    let (globals, at) = field_at(line, at, b"globals", 0, 64)?;
-    let (births, at) = limit_at(line, at, b"births", 1 << 32)?;
-    let (history, at) = limit_at(line, at, b"history", 1_000_000)?;
+    let ((words, frames, pages), at) = memory_at(line, at)?;
+    let ((threads, workers, registers), at) = actors_at(line, at)?;
+    let ((globals, births, history), at) = limits_at(line, at)?;
     end_at(line, at)?;
     Ok(Sizes {
-        words: words as u32,
-        frames: frames as u32,
-        pages: pages as u32,
-        threads: threads as u32,
-        workers: workers as u32,
-        registers: registers as u32,
-        globals: globals as u32,
+        words,
+        frames,
+        pages,
+        threads,
+        workers,
+        registers,
+        globals,
         births,
         history,
     })
