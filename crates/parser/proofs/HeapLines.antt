@@ -60,7 +60,7 @@ page_size_ok line at v h =
     subst (λ (x : ℕ × ℕ). IsPageSizeAt line at x) (ok_is b.0 v g.1)
         (record { spelled = fixed_ok line at (codes "words") kinds.UnknownWord a.0 a.1 ∙ ap (λ (t : List (List ℕ)). codes "words" ∷ t) n.spelled; is = not_false (is_page_size b.0.0) g.0; below = n.below })
 
-page_size_range : (n : ℕ) → is_page_size n ≡ true → (16 ≤ n) × (n ≤ 4096)
+pub page_size_range : (n : ℕ) → is_page_size n ≡ true → (16 ≤ n) × (n ≤ 4096)
 page_size_range n h = grind (arith, nat_tests)
 
 page_size_again : (line : List ℕ) (at n : ℕ) (ws : List (List ℕ)) → is_page_size n ≡ true → words_from line at ≡ codes "words" ∷ decimal n ∷ ws → Reads line (page_size_at line at) n ws

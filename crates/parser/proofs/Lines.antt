@@ -6,7 +6,8 @@ use Rattle.parser.specs.declared.fault.LineFault.{LineFault}
 use Rattle.parser.specs.Reading.{newline, CutsLine, ReadSoFar, lines_in, last_line, goes_on, in_line, line_in}
 use Rattle.parser.proofs.Splitting.{IsCons, split_cons, split_some, split_none}
 
-lines_cons : (n : ℕ) (s : ReadSoFar) (line : List ℕ) (lines : List (List ℕ)) → IsCons lines → lines_in n s (line ∷ lines) ≡ goes_on (in_line n (line_in s line)) (λ t. lines_in (n + 1) t lines)
+-- a line that isn't the last leads on
+pub lines_cons : (n : ℕ) (s : ReadSoFar) (line : List ℕ) (lines : List (List ℕ)) → IsCons lines → lines_in n s (line ∷ lines) ≡ goes_on (in_line n (line_in s line)) (λ t. lines_in (n + 1) t lines)
 unfolding lines_in
 lines_cons n s line lines h = rw h.is refl
 

@@ -89,6 +89,10 @@ canonical_decimal n h = elim (cases_lt 0 n) [
     | inr none ↦ let e : n ≡ 0 = omega arith in let d : decimal 0 ≡ 48 ∷ [] = decimal_digit 0 (omega arith) in rw (e, d) refl
   ]
 
+-- a number is written in digits
+pub decimal_digits : (n : ℕ) → n < 2 ^ 64 → list_all is_digit (decimal n) ≡ true
+decimal_digits n h = digits_decimal own n h
+
 -- a number that is written is read again
 pub number_read : (n : ℕ) → n < 2 ^ 64 → (is_number (decimal n) ≡ true) × (capped_from 0 (decimal n) ≡ n)
 unfolding is_number
