@@ -1,0 +1,324 @@
+-- Commands: what is read is written so, and what is written so is read.
+use Rattle.std.proofs.Common.{◌≡◌, ℕ, ◌+◌, ◌^◌, ◌<◌, ◌≤◌, Bool, true, false, cond, List, [], ◌∷◌, ◌++◌, length, Option, Some, None, refl, sym, ap, subst, ◌∙◌, arith, inl, inr, lit<, append-nil}
+use Rattle.std.specs.Prelude.{Result, Ok, Err, ◌==◌, codes, ◌⊎◌}
+use Rattle.std.specs.Str.{bytes_eq}
+use Rattle.std.specs.Fmt.{decimal}
+use Rattle.std.specs.List.{join_with_byte}
+use Rattle.std.proofs.lemmas.List.Splits.{join_with_byte-slice_split}
+use Rattle.std.proofs.lemmas.Slice.Eq.{bytes_eq-Decides}
+use Rattle.std.proofs.lemmas.Bool.Decides.{nat_tests, Decides-eqb}
+use Rattle.model.specs.declared.config.Config.{Config}
+use Rattle.model.specs.declared.steps.Actor.{Actor}
+use Rattle.model.specs.declared.steps.Actor.TheVariants.{Thread, Worker}
+use Rattle.parser.specs.declared.fault.FaultKind.TheVariants as kinds
+use Rattle.parser.specs.declared.fault.Flaw.{Flaw}
+use Rattle.parser.specs.declared.heading.Sizes.{Sizes}
+use Rattle.parser.specs.declared.order.Order.{Order}
+use Rattle.parser.specs.declared.order.Order.TheVariants as orders
+use Rattle.parser.specs.declared.order.Keyword.{Keyword}
+use Rattle.parser.specs.declared.order.Keyword.TheVariants as keywords
+use Rattle.parser.specs.Words.{◌>>=◌, or_flaw, flaw, word_or, number_at, small_at, named_at, end_at}
+use Rattle.parser.specs.Orders.{thread_keyword, keyword_in, register_at, slot_at, pair_at, first_byte, actor_at, operands_at, order_at}
+use Rattle.parser.specs.Headings.{config_of}
+use Rattle.parser.specs.Spelling.{actor_word, register_word, order_words, IsActor, IsFor, IsOrder}
+use Rattle.parser.proofs.Places.{words_from, words_whole, Reads}
+use Rattle.parser.proofs.Pieces.{bind_ok, guard_ok, test_ok, ok_is, or_flaw_ok, word_ok, word_again, IsNumberAt, number_ok, number_again, small_ok, small_again, IsNameAt, named_ok, named_again, end_ok, end_again}
+
+-- a register that is there is the word at a place
+record IsRegisterAt (sizes : Sizes) (line : List ℕ) (at : ℕ) (v : ℕ × ℕ) : Type 0 where
+  spelled : words_from line at ≡ register_word v.0 ∷ words_from line v.1
+  below : v.0 < sizes.registers
+
+register_ok : (sizes : Sizes) (line : List ℕ) (at : ℕ) (v : ℕ × ℕ) → sizes.registers < 2 ^ 64 → register_at sizes line at ≡ Ok v → IsRegisterAt sizes line at v
+unfolding register_at
+register_ok sizes line at v fits h = let n = named_ok line at 114 sizes.registers kinds.NoSuchRegister v fits h in record { spelled = n.spelled; below = n.below }
+
+register_again : (sizes : Sizes) (line : List ℕ) (at n : ℕ) (ws : List (List ℕ)) → sizes.registers < 2 ^ 64 → n < sizes.registers → words_from line at ≡ register_word n ∷ ws → Reads line (register_at sizes line at) n ws
+unfolding register_at
+register_again sizes line at n ws fits below h = named_again line at 114 sizes.registers kinds.NoSuchRegister n ws (omega arith) below h
+
+-- a register and a number are the words at a place
+record IsSlotAt (sizes : Sizes) (line : List ℕ) (at : ℕ) (v : (ℕ × ℕ) × ℕ) : Type 0 where
+  spelled : words_from line at ≡ register_word v.0.0 ∷ decimal v.0.1 ∷ words_from line v.1
+  below : v.0.0 < sizes.registers
+  small : v.0.1 < 2 ^ 32
+
+slot_ok : (sizes : Sizes) (line : List ℕ) (at : ℕ) (v : (ℕ × ℕ) × ℕ) → sizes.registers < 2 ^ 64 → slot_at sizes line at ≡ Ok v → IsSlotAt sizes line at v
+unfolding slot_at
+slot_ok sizes line at v fits h =
+    let a = bind_ok (register_at sizes line at) _ v h in
+    let b = bind_ok (small_at line a.0.1) _ v a.2 in
+    let r = register_ok sizes line at a.0 fits a.1 in
+    let n = small_ok line a.0.1 b.0 b.1 in
+    subst (λ (x : (ℕ × ℕ) × ℕ). IsSlotAt sizes line at x) (ok_is ((a.0.0, b.0.0), b.0.1) v b.2)
+        (record { spelled = r.spelled ∙ ap (λ (t : List (List ℕ)). register_word a.0.0 ∷ t) n.spelled; below = r.below; small = omega (arith, n.below) })
+
+slot_again : (sizes : Sizes) (line : List ℕ) (at r n : ℕ) (ws : List (List ℕ)) → sizes.registers < 2 ^ 64 → r < sizes.registers → n < 2 ^ 32 → words_from line at ≡ register_word r ∷ decimal n ∷ ws → Reads line (slot_at sizes line at) (r, n) ws
+unfolding slot_at
+slot_again sizes line at r n ws fits below small h =
+    let a = register_again sizes line at r (decimal n ∷ ws) fits below h in
+    let b = small_again line a.0 n ws small a.2 in
+    (b.0, rw (a.1, b.1) refl, b.2)
+
+-- two registers are the words at a place
+record IsPairAt (sizes : Sizes) (line : List ℕ) (at : ℕ) (v : (ℕ × ℕ) × ℕ) : Type 0 where
+  spelled : words_from line at ≡ register_word v.0.0 ∷ register_word v.0.1 ∷ words_from line v.1
+  left : v.0.0 < sizes.registers
+  right : v.0.1 < sizes.registers
+
+pair_ok : (sizes : Sizes) (line : List ℕ) (at : ℕ) (v : (ℕ × ℕ) × ℕ) → sizes.registers < 2 ^ 64 → pair_at sizes line at ≡ Ok v → IsPairAt sizes line at v
+unfolding pair_at
+pair_ok sizes line at v fits h =
+    let a = bind_ok (register_at sizes line at) _ v h in
+    let b = bind_ok (register_at sizes line a.0.1) _ v a.2 in
+    let r = register_ok sizes line at a.0 fits a.1 in
+    let n = register_ok sizes line a.0.1 b.0 fits b.1 in
+    subst (λ (x : (ℕ × ℕ) × ℕ). IsPairAt sizes line at x) (ok_is ((a.0.0, b.0.0), b.0.1) v b.2)
+        (record { spelled = r.spelled ∙ ap (λ (t : List (List ℕ)). register_word a.0.0 ∷ t) n.spelled; left = r.below; right = n.below })
+
+pair_again : (sizes : Sizes) (line : List ℕ) (at r n : ℕ) (ws : List (List ℕ)) → sizes.registers < 2 ^ 64 → r < sizes.registers → n < sizes.registers → words_from line at ≡ register_word r ∷ register_word n ∷ ws → Reads line (pair_at sizes line at) (r, n) ws
+unfolding pair_at
+pair_again sizes line at r n ws fits left right h =
+    let a = register_again sizes line at r (register_word n ∷ ws) fits left h in
+    let b = register_again sizes line a.0 n ws fits right a.2 in
+    (b.0, rw (a.1, b.1) refl, b.2)
+
+-- ---- orders
+
+-- the word of a keyword
+abbrev keyword_text : Keyword → List ℕ
+keyword_text keywords.Take = codes "take"
+keyword_text keywords.Give = codes "give"
+keyword_text keywords.New = codes "new"
+keyword_text keywords.Datum = codes "datum"
+keyword_text keywords.Set = codes "set"
+keyword_text keywords.Same = codes "same"
+keyword_text keywords.Null = codes "null"
+keyword_text keywords.Move = codes "mov"
+keyword_text keywords.Clear = codes "clear"
+
+-- the keyword of an order
+abbrev keyword_of : Order → Keyword
+keyword_of (orders.Take n) = keywords.Take
+keyword_of orders.Give = keywords.Give
+keyword_of (orders.New target layout) = keywords.New
+keyword_of (orders.Datum object index) = keywords.Datum
+keyword_of (orders.Set object index value) = keywords.Set
+keyword_of (orders.Same left right) = keywords.Same
+keyword_of (orders.Null r) = keywords.Null
+keyword_of (orders.Move target source) = keywords.Move
+keyword_of (orders.Clear r) = keywords.Clear
+
+-- the words behind an order's name
+abbrev operand_words : Order → List (List ℕ)
+operand_words (orders.Take n) = decimal n ∷ []
+operand_words orders.Give = []
+operand_words (orders.New target layout) = register_word target ∷ decimal layout ∷ []
+operand_words (orders.Datum object index) = register_word object ∷ decimal index ∷ []
+operand_words (orders.Set object index value) = register_word object ∷ decimal index ∷ decimal value ∷ []
+operand_words (orders.Same left right) = register_word left ∷ register_word right ∷ []
+operand_words (orders.Null r) = register_word r ∷ []
+operand_words (orders.Move target source) = register_word target ∷ register_word source ∷ []
+operand_words (orders.Clear r) = register_word r ∷ []
+
+words_are : (o : Order) → order_words o ≡ keyword_text (keyword_of o) ∷ operand_words o
+words_are (orders.Take n) = refl
+words_are orders.Give = refl
+words_are (orders.New target layout) = refl
+words_are (orders.Datum object index) = refl
+words_are (orders.Set object index value) = refl
+words_are (orders.Same left right) = refl
+words_are (orders.Null r) = refl
+words_are (orders.Move target source) = refl
+words_are (orders.Clear r) = refl
+
+-- an order of the keyword is spelled from a place on, behind its name
+record IsOrderAt (sizes : Sizes) (line : List ℕ) (at : ℕ) (k : Keyword) (v : Order × ℕ) : Type 0 where
+  keyword : keyword_of v.0 ≡ k
+  spelled : words_from line at ≡ operand_words v.0 ++ words_from line v.1
+  fits : IsOrder sizes.registers v.0
+
+operands_ok : (sizes : Sizes) (line : List ℕ) (at : ℕ) (k : Keyword) (v : Order × ℕ) → sizes.registers < 2 ^ 64 → operands_at sizes line at k ≡ Ok v → IsOrderAt sizes line at k v
+unfolding operands_at
+operands_ok sizes line at keywords.Take v fits h =
+    let a = bind_ok (small_at line at) _ v h in
+    let n = small_ok line at a.0 a.1 in
+    subst (λ (x : Order × ℕ). IsOrderAt sizes line at keywords.Take x) (ok_is (orders.Take a.0.0, a.0.1) v a.2) (record { keyword = refl; spelled = n.spelled; fits = omega (arith, n.below) })
+operands_ok sizes line at keywords.Give v fits h =
+    subst (λ (x : Order × ℕ). IsOrderAt sizes line at keywords.Give x) (ok_is (orders.Give, at) v h) (record { keyword = refl; spelled = refl; fits = tt })
+operands_ok sizes line at keywords.New v fits h =
+    let a = bind_ok (slot_at sizes line at) _ v h in
+    let s = slot_ok sizes line at a.0 fits a.1 in
+    subst (λ (x : Order × ℕ). IsOrderAt sizes line at keywords.New x) (ok_is (orders.New a.0.0.0 a.0.0.1, a.0.1) v a.2) (record { keyword = refl; spelled = s.spelled; fits = (s.below, s.small) })
+operands_ok sizes line at keywords.Datum v fits h =
+    let a = bind_ok (slot_at sizes line at) _ v h in
+    let s = slot_ok sizes line at a.0 fits a.1 in
+    subst (λ (x : Order × ℕ). IsOrderAt sizes line at keywords.Datum x) (ok_is (orders.Datum a.0.0.0 a.0.0.1, a.0.1) v a.2) (record { keyword = refl; spelled = s.spelled; fits = (s.below, s.small) })
+operands_ok sizes line at keywords.Set v fits h =
+    let a = bind_ok (slot_at sizes line at) _ v h in
+    let s = slot_ok sizes line at a.0 fits a.1 in
+    let b = bind_ok (number_at line a.0.1 0 18446744073709551615) _ v a.2 in
+    let n = number_ok line a.0.1 0 18446744073709551615 b.0 (lit< tt) b.1 in
+    subst (λ (x : Order × ℕ). IsOrderAt sizes line at keywords.Set x) (ok_is (orders.Set a.0.0.0 a.0.0.1 b.0.0, b.0.1) v b.2)
+        (record { keyword = refl; spelled = s.spelled ∙ ap (λ (t : List (List ℕ)). register_word a.0.0.0 ∷ decimal a.0.0.1 ∷ t) n.spelled; fits = ((s.below, s.small), omega (arith, n.below)) })
+operands_ok sizes line at keywords.Same v fits h =
+    let a = bind_ok (pair_at sizes line at) _ v h in
+    let p = pair_ok sizes line at a.0 fits a.1 in
+    subst (λ (x : Order × ℕ). IsOrderAt sizes line at keywords.Same x) (ok_is (orders.Same a.0.0.0 a.0.0.1, a.0.1) v a.2) (record { keyword = refl; spelled = p.spelled; fits = (p.left, p.right) })
+operands_ok sizes line at keywords.Null v fits h =
+    let a = bind_ok (register_at sizes line at) _ v h in
+    let r = register_ok sizes line at a.0 fits a.1 in
+    subst (λ (x : Order × ℕ). IsOrderAt sizes line at keywords.Null x) (ok_is (orders.Null a.0.0, a.0.1) v a.2) (record { keyword = refl; spelled = r.spelled; fits = r.below })
+operands_ok sizes line at keywords.Move v fits h =
+    let a = bind_ok (pair_at sizes line at) _ v h in
+    let p = pair_ok sizes line at a.0 fits a.1 in
+    subst (λ (x : Order × ℕ). IsOrderAt sizes line at keywords.Move x) (ok_is (orders.Move a.0.0.0 a.0.0.1, a.0.1) v a.2) (record { keyword = refl; spelled = p.spelled; fits = (p.left, p.right) })
+operands_ok sizes line at keywords.Clear v fits h =
+    let a = bind_ok (register_at sizes line at) _ v h in
+    let r = register_ok sizes line at a.0 fits a.1 in
+    subst (λ (x : Order × ℕ). IsOrderAt sizes line at keywords.Clear x) (ok_is (orders.Clear a.0.0, a.0.1) v a.2) (record { keyword = refl; spelled = r.spelled; fits = r.below })
+
+operands_again : (sizes : Sizes) (line : List ℕ) (at : ℕ) (o : Order) (ws : List (List ℕ)) → sizes.registers < 2 ^ 64 → IsOrder sizes.registers o → words_from line at ≡ operand_words o ++ ws → Reads line (operands_at sizes line at (keyword_of o)) o ws
+unfolding operands_at
+operands_again sizes line at (orders.Take n) ws fits is h = let a = small_again line at n ws is h in (a.0, rw a.1 refl, a.2)
+operands_again sizes line at orders.Give ws fits is h = (at, refl, h)
+operands_again sizes line at (orders.New target layout) ws fits is h = let a = slot_again sizes line at target layout ws fits is.0 is.1 h in (a.0, rw a.1 refl, a.2)
+operands_again sizes line at (orders.Datum object index) ws fits is h = let a = slot_again sizes line at object index ws fits is.0 is.1 h in (a.0, rw a.1 refl, a.2)
+operands_again sizes line at (orders.Set object index value) ws fits is h =
+    let a = slot_again sizes line at object index (decimal value ∷ ws) fits is.0.0 is.0.1 h in
+    let b = number_again line a.0 0 18446744073709551615 value ws is.1 (omega arith) (omega (arith, is.1)) a.2 in
+    (b.0, rw (a.1, b.1) refl, b.2)
+operands_again sizes line at (orders.Same left right) ws fits is h = let a = pair_again sizes line at left right ws fits is.0 is.1 h in (a.0, rw a.1 refl, a.2)
+operands_again sizes line at (orders.Null r) ws fits is h = let a = register_again sizes line at r ws fits is h in (a.0, rw a.1 refl, a.2)
+operands_again sizes line at (orders.Move target source) ws fits is h = let a = pair_again sizes line at target source ws fits is.0 is.1 h in (a.0, rw a.1 refl, a.2)
+operands_again sizes line at (orders.Clear r) ws fits is h = let a = register_again sizes line at r ws fits is h in (a.0, rw a.1 refl, a.2)
+
+-- one test of a keyword: the word is its text, or a later test tells
+key_ok : (w text : List ℕ) (this k : Keyword) (rest : Option Keyword) → cond (bytes_eq w text) (Some this) rest ≡ Some k → ((w ≡ text) × (this ≡ k)) ⊎ (rest ≡ Some k)
+key_ok w text this k rest h = chosen (bytes_eq w text) (bytes_eq-Decides w text).0 h
+  where
+    chosen : (b : Bool) → (b ≡ true → w ≡ text) → cond b (Some this) rest ≡ Some k → ((w ≡ text) × (this ≡ k)) ⊎ (rest ≡ Some k)
+    chosen true f e = inl (f refl, cc)
+    chosen false f e = inr e
+
+named_by : (w text : List ℕ) (this k : Keyword) → keyword_text this ≡ text → (w ≡ text) × (this ≡ k) → w ≡ keyword_text k
+named_by w text this k e p = p.0 ∙ sym e ∙ ap keyword_text p.1
+
+keyword_ok : (w : List ℕ) (k : Keyword) → thread_keyword w ≡ Some k → w ≡ keyword_text k
+unfolding thread_keyword
+keyword_ok w k h =
+    elim (key_ok w (codes "take") keywords.Take k _ h) [ inl p ↦ named_by w _ _ k refl p | inr h2 ↦
+    elim (key_ok w (codes "give") keywords.Give k _ h2) [ inl p ↦ named_by w _ _ k refl p | inr h3 ↦
+    elim (key_ok w (codes "new") keywords.New k _ h3) [ inl p ↦ named_by w _ _ k refl p | inr h4 ↦
+    elim (key_ok w (codes "datum") keywords.Datum k _ h4) [ inl p ↦ named_by w _ _ k refl p | inr h5 ↦
+    elim (key_ok w (codes "set") keywords.Set k _ h5) [ inl p ↦ named_by w _ _ k refl p | inr h6 ↦
+    elim (key_ok w (codes "same") keywords.Same k _ h6) [ inl p ↦ named_by w _ _ k refl p | inr h7 ↦
+    elim (key_ok w (codes "null") keywords.Null k _ h7) [ inl p ↦ named_by w _ _ k refl p | inr h8 ↦
+    elim (key_ok w (codes "mov") keywords.Move k _ h8) [ inl p ↦ named_by w _ _ k refl p | inr h9 ↦
+    elim (key_ok w (codes "clear") keywords.Clear k _ h9) [ inl p ↦ named_by w _ _ k refl p | inr h10 ↦ absurd cc ] ] ] ] ] ] ] ] ]
+
+keyword_again : (k : Keyword) → thread_keyword (keyword_text k) ≡ Some k
+unfolding thread_keyword
+keyword_again keywords.Take = refl
+keyword_again keywords.Give = refl
+keyword_again keywords.New = refl
+keyword_again keywords.Datum = refl
+keyword_again keywords.Set = refl
+keyword_again keywords.Same = refl
+keyword_again keywords.Null = refl
+keyword_again keywords.Move = refl
+keyword_again keywords.Clear = refl
+
+-- who may give the keyword's order
+actor_keyword : (actor : Actor) (w : List ℕ) (k : Keyword) (o : Order) → keyword_in actor w ≡ Some k → IsFor actor o × (w ≡ keyword_text k)
+actor_keyword (Thread t) w k o h = (tt, keyword_ok w k h)
+actor_keyword (Worker t) w k o h = absurd cc
+
+-- an order is spelled from a place to the end
+pub record IsOrderFrom (sizes : Sizes) (line : List ℕ) (actor : Actor) (at : ℕ) (o : Order) : Type 0 where
+  pub spelled : words_from line at ≡ order_words o
+  pub own : IsFor actor o
+  pub fits : IsOrder sizes.registers o
+
+pub order_ok : (sizes : Sizes) (line : List ℕ) (actor : Actor) (at : ℕ) (o : Order) → sizes.registers < 2 ^ 64 → order_at sizes line actor at ≡ Ok o → IsOrderFrom sizes line actor at o
+unfolding order_at
+order_ok sizes line actor at o fits h =
+    let w = bind_ok (word_or line at kinds.UnknownWord) _ o h in
+    let k = bind_ok (or_flaw (keyword_in actor w.0.0) (flaw at kinds.UnknownWord)) _ o w.2 in
+    let v = bind_ok (operands_at sizes line w.0.1 k.0) _ o k.2 in
+    let e = bind_ok (end_at line v.0.1) _ o v.2 in
+    let first = word_ok line at kinds.UnknownWord w.0 w.1 in
+    let key = actor_keyword actor w.0.0 k.0 v.0.0 (or_flaw_ok (keyword_in actor w.0.0) (flaw at kinds.UnknownWord) k.0 k.1) in
+    let operands = operands_ok sizes line w.0.1 k.0 v.0 fits v.1 in
+    let last = end_ok line v.0.1 e.0 e.1 in
+    let all : words_from line at ≡ order_words v.0.0 =
+        first ∙ ap (λ (t : List ℕ). t ∷ words_from line w.0.1) (key.1 ∙ sym (ap keyword_text operands.keyword))
+        ∙ ap (λ (t : List (List ℕ)). keyword_text (keyword_of v.0.0) ∷ t) (operands.spelled ∙ ap (λ (t : List (List ℕ)). operand_words v.0.0 ++ t) last ∙ append-nil (operand_words v.0.0))
+        ∙ sym (words_are v.0.0) in
+    subst (λ (x : Order). IsOrderFrom sizes line actor at x) (ok_is v.0.0 o e.2) (record { spelled = all; own = key.0; fits = operands.fits })
+
+in_keyword : (actor : Actor) (o : Order) (k : Keyword) → IsFor actor o → keyword_in actor (keyword_text k) ≡ Some k
+in_keyword (Thread t) o k own = keyword_again k
+in_keyword (Worker t) o k own = absurd own
+
+pub order_again : (sizes : Sizes) (line : List ℕ) (actor : Actor) (at : ℕ) (o : Order) → sizes.registers < 2 ^ 64 → IsFor actor o → IsOrder sizes.registers o → words_from line at ≡ order_words o → order_at sizes line actor at ≡ Ok o
+unfolding order_at
+order_again sizes line actor at o fits own is h =
+    let w = word_again line at kinds.UnknownWord (keyword_text (keyword_of o)) (operand_words o) (h ∙ words_are o) in
+    let key = in_keyword actor o (keyword_of o) own in
+    let v = operands_again sizes line w.0 o [] fits is (w.2 ∙ sym (append-nil (operand_words o))) in
+    let e = end_again line v.0 v.2 in
+    rw (w.1, key, v.1, e) refl
+
+-- ---- actors
+
+-- an actor that is there is the first word
+pub record IsActorAt (sizes : Sizes) (line : List ℕ) (a : Actor × ℕ) : Type 0 where
+  pub spelled : words_from line 0 ≡ actor_word a.0 ∷ words_from line a.1
+  pub there : IsActor (config_of sizes []) a.0
+
+-- few enough threads and workers for their numbers
+pub record AreFew (sizes : Sizes) : Type 0 where
+  pub threads : sizes.threads < 2 ^ 64
+  pub workers : sizes.workers < 2 ^ 64
+  pub registers : sizes.registers < 2 ^ 64
+
+one_of : {A : Type 0} (b : Bool) (x y : Result A Flaw) (z : A) → cond b x y ≡ Ok z → (x ≡ Ok z) ⊎ (y ≡ Ok z)
+one_of true x y z h = inl h
+one_of false x y z h = inr h
+
+pub actor_ok : (sizes : Sizes) (line : List ℕ) (a : Actor × ℕ) → AreFew sizes → actor_at sizes line ≡ Ok a → IsActorAt sizes line a
+unfolding actor_at
+actor_ok sizes line a few h =
+    elim (one_of (first_byte line == 119) _ _ a h) [
+      | inl worker ↦
+        let w = bind_ok (named_at line 0 119 sizes.workers kinds.NoSuchActor) _ a worker in
+        let n = named_ok line 0 119 sizes.workers kinds.NoSuchActor w.0 few.workers w.1 in
+        subst (λ (x : Actor × ℕ). IsActorAt sizes line x) (ok_is (Worker w.0.0, w.0.1) a w.2) (record { spelled = n.spelled; there = n.below })
+      | inr thread ↦
+        let t = bind_ok (named_at line 0 116 sizes.threads kinds.NoSuchActor) _ a thread in
+        let n = named_ok line 0 116 sizes.threads kinds.NoSuchActor t.0 few.threads t.1 in
+        subst (λ (x : Actor × ℕ). IsActorAt sizes line x) (ok_is (Thread t.0.0, t.0.1) a t.2) (record { spelled = n.spelled; there = n.below })
+    ]
+
+first_joined : (b : ℕ) (w : List ℕ) (ws : List (List ℕ)) → first_byte (join_with_byte 32 ((b ∷ w) ∷ ws)) ≡ b
+first_joined b w [] = refl
+first_joined b w (v ∷ ws) = refl
+
+-- the line is its words, joined
+pub line_is : (line : List ℕ) (ws : List (List ℕ)) → words_from line 0 ≡ ws → line ≡ join_with_byte 32 ws
+line_is line ws h = sym (join_with_byte-slice_split 32 line) ∙ ap (join_with_byte 32) (sym (words_whole line) ∙ h)
+
+first_is : (line : List ℕ) (b : ℕ) (w : List ℕ) (ws : List (List ℕ)) → words_from line 0 ≡ (b ∷ w) ∷ ws → first_byte line ≡ b
+first_is line b w ws h = ap first_byte (line_is line ((b ∷ w) ∷ ws) h) ∙ first_joined b w ws
+
+pub actor_again : (sizes : Sizes) (line : List ℕ) (a : Actor) (ws : List (List ℕ)) → AreFew sizes → IsActor (config_of sizes []) a → words_from line 0 ≡ actor_word a ∷ ws → Reads line (actor_at sizes line) a ws
+unfolding actor_at
+actor_again sizes line (Thread t) ws few there h =
+    let test : (first_byte line == 119) ≡ false = rw (first_is line 116 (decimal t) ws h) refl in
+    let n = named_again line 0 116 sizes.threads kinds.NoSuchActor t ws (omega (arith, few.threads, there)) there h in
+    (n.0, rw (test, n.1) refl, n.2)
+actor_again sizes line (Worker w) ws few there h =
+    let test : (first_byte line == 119) ≡ true = rw (first_is line 119 (decimal w) ws h) refl in
+    let n = named_again line 0 119 sizes.workers kinds.NoSuchActor w ws (omega (arith, few.workers, there)) there h in
+    (n.0, rw (test, n.1) refl, n.2)

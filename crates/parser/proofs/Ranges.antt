@@ -1,0 +1,92 @@
+-- The sizes of a heap line and the layouts make a configuration that is in range, and the other way.
+use Rattle.std.proofs.Common.{◌≡◌, ℕ, ◌+◌, ◌^◌, ◌<◌, ◌≤◌, Bool, true, false, cond, nat_lt, List, [], ◌∷◌, length, Option, Some, None, refl, sym, ap, subst, ◌∙◌, arith}
+use Rattle.std.specs.Prelude.{◌||◌, not, nat_le}
+use Rattle.std.specs.List.{list_all}
+use Rattle.std.proofs.lemmas.Bool.Decides.{nat_tests}
+use Rattle.layout.specs.declared.shape.Layout.{Layout}
+use Rattle.model.specs.declared.config.Config.{Config}
+use Rattle.model.specs.declared.config.ConfigFault.{ConfigFault}
+use Rattle.model.specs.Configs.{is_page_size, is_outside, fits_page, first_fault, IsConfig}
+use Rattle.parser.specs.declared.heading.Sizes.{Sizes}
+use Rattle.parser.specs.Headings.{config_of}
+use Rattle.parser.specs.Spelling.{IsOffered}
+use Rattle.parser.proofs.HeapLines.{IsSizes}
+
+-- the sizes in a configuration
+abbrev pub sizes_in : Config → Sizes
+sizes_in c = record { words = c.words; frames = c.frames; pages = c.pages; threads = c.threads; workers = c.workers; registers = c.registers; globals = c.globals; births = c.births; history = c.history }
+
+-- some layouts, not too many, each with room in a page
+pub record AreLayouts (words : ℕ) (ls : List Layout) : Type 0 where
+  pub some : 1 ≤ length ls
+  pub few : length ls ≤ 64
+  pub room : list_all (fits_page words) ls ≡ true
+
+inside : (n low high : ℕ) → low ≤ n → n ≤ high → is_outside n low high ≡ false
+inside n low high a b = grind (arith, nat_tests)
+
+pub config_in_range : (s : Sizes) (ls : List Layout) → IsSizes s → AreLayouts s.words ls → IsConfig (config_of s ls)
+unfolding first_fault
+config_in_range s ls r l =
+    let frames = inside s.frames 1 4096 r.frames (omega (arith, r.frames_most)) in
+    let pages = inside s.pages s.frames 65535 r.pages (omega (arith, r.pages_most)) in
+    let threads = inside s.threads 1 64 r.threads (omega (arith, r.threads_most)) in
+    let workers = inside s.workers 1 16 r.workers r.workers_most in
+    let registers = inside s.registers 1 16 r.registers r.registers_most in
+    let globals = inside s.globals 0 64 (omega arith) r.globals_most in
+    let count = inside (length ls) 1 64 l.some l.few in
+    let births = inside s.births 1 (2 ^ 32) r.births r.births_most in
+    let history = inside s.history 1 1000000 r.history r.history_most in
+    rw (r.words, frames, pages, threads, workers, registers, globals, count, l.room, births, history) refl
+
+no_fault : (b : Bool) (f : ConfigFault) (rest : Option ConfigFault) → cond b (Some f) rest ≡ None → (b ≡ false) × (rest ≡ None)
+no_fault true f rest h = absurd cc
+no_fault false f rest h = (refl, h)
+
+neither : (a b : Bool) → (a || b) ≡ false → (a ≡ false) × (b ≡ false)
+neither true b h = absurd cc
+neither false b h = (refl, h)
+
+not_false : (a : Bool) → not a ≡ false → a ≡ true
+not_false true h = refl
+not_false false h = absurd cc
+
+within : (n low high : ℕ) → is_outside n low high ≡ false → (low ≤ n) × (n ≤ high)
+within n low high h = let p = neither (nat_lt n low) (nat_lt high n) h in (grind (arith, nat_tests), grind (arith, nat_tests))
+
+-- the first three fields and those behind them
+pub record IsInRange (c : Config) : Type 0 where
+  pub sizes : IsSizes (sizes_in c)
+  pub layouts : AreLayouts c.words c.layouts
+
+pub config_tells : (c : Config) → IsConfig c → IsOffered c → IsInRange c
+unfolding first_fault
+config_tells c h o =
+    let w = no_fault (not (is_page_size c.words)) _ _ h in
+    let f = no_fault (is_outside c.frames 1 4096) _ _ w.1 in
+    let p = no_fault (is_outside c.pages c.frames 65535) _ _ f.1 in
+    let t = no_fault (is_outside c.threads 1 64) _ _ p.1 in
+    let k = no_fault (is_outside c.workers 1 16) _ _ t.1 in
+    let r = no_fault (is_outside c.registers 1 16) _ _ k.1 in
+    let g = no_fault (is_outside c.globals 0 64) _ _ r.1 in
+    let l = no_fault (is_outside (length c.layouts) 1 64 || not (list_all (fits_page c.words) c.layouts)) _ _ g.1 in
+    let b = no_fault (is_outside c.births 1 (2 ^ 32)) _ _ l.1 in
+    let y = no_fault (is_outside c.history 1 1000000) _ _ b.1 in
+    let both = neither (is_outside (length c.layouts) 1 64) (not (list_all (fits_page c.words) c.layouts)) l.0 in
+    let count = within (length c.layouts) 1 64 both.0 in
+    let frames = within c.frames 1 4096 f.0 in
+    let pages = within c.pages c.frames 65535 p.0 in
+    let threads = within c.threads 1 64 t.0 in
+    let workers = within c.workers 1 16 k.0 in
+    let registers = within c.registers 1 16 r.0 in
+    let globals = within c.globals 0 64 g.0 in
+    let births = within c.births 1 (2 ^ 32) b.0 in
+    let history = within c.history 1 1000000 y.0 in
+    record {
+      sizes = record {
+        words = not_false (is_page_size c.words) w.0; frames = frames.0; frames_most = o.frames; pages = pages.0; pages_most = o.pages; threads = threads.0; threads_most = o.threads;
+        workers = workers.0; workers_most = workers.1; registers = registers.0; registers_most = registers.1; globals_most = globals.1;
+        births = births.0; births_most = births.1; history = history.0; history_most = history.1;
+      };
+      layouts = record { some = count.0; few = count.1; room = not_false (list_all (fits_page c.words) c.layouts) both.1 };
+    }

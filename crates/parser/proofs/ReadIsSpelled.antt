@@ -1,0 +1,285 @@
+-- What is read is a script that all limits allow, and is spelled by the bytes.
+use Rattle.std.proofs.Common.{◌≡◌, ℕ, zero, suc, ◌+◌, ◌^◌, ◌<◌, ◌≤◌, Bool, true, false, cond, nat_lt, List, [], ◌∷◌, ◌++◌, length, Option, Some, None, refl, sym, ap, subst, ◌∙◌, arith, inl, inr, append-nil, append_assoc, length-append}
+use Rattle.std.specs.Prelude.{Result, Ok, Err, ◌==◌, ◌&&◌, not, nat_le, codes, ◌⊎◌, map, filter}
+use Rattle.std.specs.Str.{bytes_eq}
+use Rattle.std.specs.Fmt.{decimal}
+use Rattle.std.specs.List.{AllByRecursion, list_all, slice_split, flat_map, join_with_byte}
+use Rattle.std.proofs.lemmas.List.{map-append}
+use Rattle.std.proofs.lemmas.List.Folds.{list_all-append}
+use Rattle.std.proofs.lemmas.List.Splits.{join_with_byte-slice_split}
+use Rattle.std.proofs.lemmas.Slice.Eq.{bytes_eq-Decides}
+use Rattle.std.proofs.lemmas.Bool.{ltb-true}
+use Rattle.std.proofs.lemmas.Bool.Decides.{nat_tests}
+use Rattle.layout.specs.declared.shape.Layout.{Layout}
+use Rattle.model.specs.declared.config.Config.{Config}
+use Rattle.model.specs.Configs.{fits_page}
+use Rattle.parser.specs.declared.fault.FaultKind.TheVariants as kinds
+use Rattle.parser.specs.declared.fault.Flaw.{Flaw}
+use Rattle.parser.specs.declared.fault.LineFault.{LineFault}
+use Rattle.parser.specs.declared.heading.Sizes.{Sizes}
+use Rattle.parser.specs.declared.order.Command.{Command}
+use Rattle.parser.specs.declared.reading.TheConstants.{MOST_COMMANDS, MOST_LAYOUTS}
+use Rattle.parser.specs.Words.{◌>>=◌, flaw, word_at}
+use Rattle.parser.specs.Headings.{config_of, heap_in, layout_in}
+use Rattle.parser.specs.Orders.{actor_at, order_at}
+use Rattle.parser.specs.Reading.{ScriptValue, script_of, ReadSoFar, nothing, newline, is_idle, first_word_in, first_word, heap_line, layout_line, command_line, later_line, line_after, line_in, in_line, goes_on, fault_at_start, whole, finished, last_line, lines_in, script_in}
+use Rattle.parser.specs.Spelling.{line_of, actor_word, order_words, command_line_of, layout_line_of, size_words, SpellsHeap, says_something, ended, IsLine, Spells, IsOffered, IsLayout, IsCommand, IsScript}
+use Rattle.parser.proofs.Splitting.{split_cons}
+use Rattle.parser.proofs.Places.{words_from, word_is, no_word_is, words_whole}
+use Rattle.parser.proofs.Pieces.{bind_ok, guard_ok, test_ok, ok_is}
+use Rattle.parser.proofs.Operands.{AreFew, IsOrderFrom, order_ok, IsActorAt, actor_ok, line_is}
+use Rattle.parser.proofs.HeapLines.{IsSizes, IsHeapAt, heap_ok, IsLayoutAt, layout_ok}
+use Rattle.parser.proofs.Ranges.{AreLayouts, config_in_range}
+use Rattle.parser.proofs.Lists.{all_push, all_front, told, filter_told, joined_lines, split_lines}
+
+-- ---- the first word
+
+first_found : (line : List ℕ) (o : Option (List ℕ × ℕ)) → word_at line 0 ≡ o → words_from line 0 ≡ (first_word_in o).0 ∷ words_from line (first_word_in o).1
+first_found line None e = let none = no_word_is line 0 e in let whole_line = words_whole line in let some = split_cons (λ b. b == 32) line in let first = some.is in absurd cc
+first_found line (Some w) e = word_is line 0 w e
+
+-- the words of a line are the first one and those behind it
+pub first_words : (line : List ℕ) → words_from line 0 ≡ (first_word line).0 ∷ words_from line (first_word line).1
+unfolding first_word
+first_words line = first_found line (word_at line 0) refl
+
+-- a line by its first word and what stands behind it
+pub line_by_words : (line w : List ℕ) (ws : List (List ℕ)) → (first_word line).0 ≡ w → words_from line (first_word line).1 ≡ ws → line ≡ line_of (w ∷ ws)
+line_by_words line w ws first rest =
+    line_is line (w ∷ ws) (first_words line ∙ ap (λ (t : List ℕ). t ∷ words_from line (first_word line).1) first ∙ ap (λ (t : List (List ℕ)). w ∷ t) rest)
+
+-- ---- what was read so far
+
+-- behind the heap line: the lines that said something spell what was read, and it is in range
+record IsBehind (said : List (List ℕ)) (r : ReadSoFar) : Type 0 where
+  sizes : Sizes
+  sizes_is : r.sizes ≡ Some sizes
+  heap : List ℕ
+  heap_spelled : SpellsHeap heap (config_of sizes [])
+  said_is : said ≡ heap ∷ map layout_line_of r.layouts ++ map command_line_of r.commands
+  range : IsSizes sizes
+  layouts : AllByRecursion IsLayout r.layouts
+  room : list_all (fits_page sizes.words) r.layouts ≡ true
+  few : length r.layouts ≤ 64
+  commands : AllByRecursion (IsCommand (config_of sizes [])) r.commands
+  count : length r.commands ≤ MOST_COMMANDS
+
+-- before the heap line nothing was said
+record IsBefore (said : List (List ℕ)) (r : ReadSoFar) : Type 0 where
+  said_is : said ≡ []
+  is : r ≡ nothing
+
+abbrev Said : List (List ℕ) → ReadSoFar → Type 0
+Said said r = IsBefore said r ⊎ IsBehind said r
+
+few_actors : (s : Sizes) → IsSizes s → AreFew s
+few_actors s r = record { threads = omega (arith, r.threads_most); workers = omega (arith, r.workers_most); registers = omega (arith, r.registers_most) }
+
+heap_step : (line : List ℕ) (t : ReadSoFar) → heap_line nothing line ≡ Ok t → IsBehind (line ∷ []) t
+unfolding heap_line
+heap_step line t h =
+    let g = test_ok (bytes_eq (first_word line).0 (codes "heap")) _ _ t h in
+    let s = bind_ok (heap_in line (first_word line).1) _ t g.1 in
+    let first : (first_word line).0 ≡ codes "heap" = (bytes_eq-Decides (first_word line).0 (codes "heap")).0 g.0 in
+    let sizes = heap_ok line (first_word line).1 s.0 s.1 in
+    subst (λ (x : ReadSoFar). IsBehind (line ∷ []) x) (ok_is (record nothing { sizes = Some s.0 }) t s.2) (record {
+      sizes = s.0; sizes_is = refl; heap = line;
+      heap_spelled = record { births = sizes.births; history = sizes.history; births_spelled = sizes.births_spelled; history_spelled = sizes.history_spelled; line_is = line_by_words line (codes "heap") _ first sizes.spelled };
+      said_is = refl; range = sizes.range; layouts = tt; room = refl; few = omega arith; commands = tt; count = omega arith;
+    })
+
+add_layout : (heap : List ℕ) (ls : List Layout) (l : Layout) (said : List (List ℕ)) (line : List ℕ) (cs : List Command) → cs ≡ [] → line ≡ layout_line_of l → said ≡ heap ∷ map layout_line_of ls ++ map command_line_of cs →
+    said ++ line ∷ [] ≡ heap ∷ map layout_line_of (ls ++ l ∷ []) ++ map command_line_of cs
+add_layout heap ls l said line cs none is h =
+    rw (h, none, is, append-nil (map layout_line_of ls), append-nil (map layout_line_of (ls ++ l ∷ [])), map-append layout_line_of ls (l ∷ [])) refl
+
+add_command : (front : List (List ℕ)) (c : Command) (said : List (List ℕ)) (line : List ℕ) (cs : List Command) → line ≡ command_line_of c → said ≡ front ++ map command_line_of cs →
+    said ++ line ∷ [] ≡ front ++ map command_line_of (cs ++ c ∷ [])
+add_command front c said line cs is h = rw (h, is, map-append command_line_of cs (c ∷ [])) (append_assoc front (map command_line_of cs) (command_line_of c ∷ []))
+
+both_true : (a b : Bool) → (a && b) ≡ true → (a ≡ true) × (b ≡ true)
+both_true true b h = (refl, h)
+both_true false b h = absurd cc
+
+room_more : (words : ℕ) (ls : List Layout) (l : Layout) → list_all (fits_page words) ls ≡ true → 1 + l.refs + l.nums ≤ words → list_all (fits_page words) (ls ++ l ∷ []) ≡ true
+room_more words ls l h room =
+    let fits : fits_page words l ≡ true = grind (arith, nat_tests) in
+    list_all-append (fits_page words) ls (l ∷ []) ∙ (rw (h, fits) refl)
+
+layout_step : (said : List (List ℕ)) (r t : ReadSoFar) (b : IsBehind said r) (line : List ℕ) → (first_word line).0 ≡ codes "layout" → r.commands ≡ [] → length r.layouts < MOST_LAYOUTS → layout_line r b.sizes line ≡ Ok t → IsBehind (said ++ line ∷ []) t
+unfolding layout_line
+layout_step said r t b line first none few h =
+    let l = bind_ok (layout_in b.sizes line (first_word line).1) _ t h in
+    let layout = layout_ok b.sizes line (first_word line).1 l.0 l.1 in
+    let line_is_layout : line ≡ layout_line_of l.0 = line_by_words line (codes "layout") _ first layout.spelled in
+    subst (λ (x : ReadSoFar). IsBehind (said ++ line ∷ []) x) (ok_is (record r { layouts = r.layouts ++ l.0 ∷ [] }) t l.2) (record {
+      sizes = b.sizes; sizes_is = b.sizes_is; heap = b.heap; heap_spelled = b.heap_spelled;
+      said_is = add_layout b.heap r.layouts l.0 said line r.commands none line_is_layout b.said_is;
+      range = b.range; layouts = all_push IsLayout r.layouts l.0 b.layouts layout.is; room = room_more b.sizes.words r.layouts l.0 b.room layout.room;
+      few = omega (arith, length-append r.layouts (l.0 ∷ [])); commands = b.commands; count = b.count;
+    })
+
+command_step : (said : List (List ℕ)) (r t : ReadSoFar) (b : IsBehind said r) (line : List ℕ) → command_line r b.sizes line ≡ Ok t → IsBehind (said ++ line ∷ []) t
+unfolding command_line
+command_step said r t b line h =
+    let few = few_actors b.sizes b.range in
+    let a = bind_ok (actor_at b.sizes line) _ t h in
+    let g = guard_ok (nat_le MOST_COMMANDS (length r.commands)) _ _ t a.2 in
+    let o = bind_ok (order_at b.sizes line a.0.0 a.0.1) _ t g.1 in
+    let actor = actor_ok b.sizes line a.0 few a.1 in
+    let order = order_ok b.sizes line a.0.0 a.0.1 o.0 few.registers o.1 in
+    let command : Command = record { actor = a.0.0; order = o.0 } in
+    let line_is_command : line ≡ command_line_of command = line_is line (actor_word a.0.0 ∷ order_words o.0) (actor.spelled ∙ ap (λ (t : List (List ℕ)). actor_word a.0.0 ∷ t) order.spelled) in
+    let below = g.0 in
+    let room : length r.commands < MOST_COMMANDS = grind (arith, nat_tests) in
+    subst (λ (x : ReadSoFar). IsBehind (said ++ line ∷ []) x) (ok_is (record r { commands = r.commands ++ command ∷ [] }) t o.2) (record {
+      sizes = b.sizes; sizes_is = b.sizes_is; heap = b.heap; heap_spelled = b.heap_spelled;
+      said_is = add_command (b.heap ∷ map layout_line_of r.layouts) command said line r.commands line_is_command b.said_is;
+      range = b.range; layouts = b.layouts; room = b.room; few = b.few;
+      commands = all_push (IsCommand (config_of b.sizes [])) r.commands command b.commands (record { actor = actor.there; own = order.own; order = order.fits });
+      count = omega (arith, length-append r.commands (command ∷ []));
+    })
+
+one_of : {A : Type 0} (b : Bool) (x y : Result A Flaw) (z : A) → cond b x y ≡ Ok z → ((b ≡ true) × (x ≡ Ok z)) ⊎ ((b ≡ false) × (y ≡ Ok z))
+one_of true x y z h = inl (refl, h)
+one_of false x y z h = inr (refl, h)
+
+no_length : {A : Type 0} (xs : List A) → (length xs == 0) ≡ true → xs ≡ []
+no_length [] h = refl
+no_length (x ∷ xs) h = absurd (grind (arith, nat_tests))
+
+later_step : (said : List (List ℕ)) (r t : ReadSoFar) (b : IsBehind said r) (line : List ℕ) → later_line r b.sizes line ≡ Ok t → IsBehind (said ++ line ∷ []) t
+unfolding later_line
+later_step said r t b line h =
+    elim (one_of (bytes_eq (first_word line).0 (codes "layout") && (length r.commands == 0) && nat_lt (length r.layouts) MOST_LAYOUTS) _ _ t h) [
+      | inl p ↦
+        let most = both_true (bytes_eq (first_word line).0 (codes "layout") && (length r.commands == 0)) (nat_lt (length r.layouts) MOST_LAYOUTS) p.0 in
+        let first = both_true (bytes_eq (first_word line).0 (codes "layout")) (length r.commands == 0) most.0 in
+        let below = most.1 in
+        let few : length r.layouts < MOST_LAYOUTS = ltb-true (length r.layouts) MOST_LAYOUTS below in
+        layout_step said r t b line ((bytes_eq-Decides (first_word line).0 (codes "layout")).0 first.0) (no_length r.commands first.1) few p.1
+      | inr p ↦
+        let g = guard_ok (length r.layouts == 0) _ _ t p.1 in
+        let e = guard_ok (bytes_eq (first_word line).0 (codes "end")) _ _ t g.1 in
+        command_step said r t b line e.1
+    ]
+
+-- ---- a line, and the lines
+
+line_step : (said : List (List ℕ)) (r t : ReadSoFar) (line : List ℕ) → Said said r → is_idle line ≡ false → line_after r r.sizes line ≡ Ok t → Said (said ++ line ∷ []) t
+line_step said r t line (inl before) idle h =
+    let first : heap_line nothing line ≡ Ok t = subst (λ (x : ReadSoFar). line_after x x.sizes line ≡ Ok t) before.is h in
+    inr (rw before.said_is (heap_step line t first))
+line_step said r t line (inr behind) idle h =
+    let later : later_line r behind.sizes line ≡ Ok t = subst (λ (o : Option Sizes). line_after r o line ≡ Ok t) behind.sizes_is h in
+    inr (later_step said r t behind line later)
+
+line_ok : (said : List (List ℕ)) (r t : ReadSoFar) (line : List ℕ) → Said said r → line_in r line ≡ Ok t → Said (said ++ told says_something line) t
+unfolding line_in
+line_ok said r t line so_far h =
+    elim (one_of (is_idle line) _ _ t h) [
+      | inl p ↦ rw (p.0, append-nil said, ← ok_is r t p.1) so_far
+      | inr p ↦ rw p.0 (line_step said r t line so_far p.0 p.1)
+    ]
+
+-- a script and the lines that spell it
+record IsTold (said : List (List ℕ)) (s : ScriptValue) : Type 0 where
+  script : IsScript s
+  heap : List ℕ
+  heap_spelled : SpellsHeap heap s.config
+  said_is : said ≡ heap ∷ map layout_line_of s.config.layouts ++ map command_line_of s.commands
+
+commands_with : (s : Sizes) (ls : List Layout) (cs : List Command) → AllByRecursion (IsCommand (config_of s [])) cs → AllByRecursion (IsCommand (config_of s ls)) cs
+commands_with s ls [] h = tt
+commands_with s ls (c ∷ cs) h = (record { actor = h.0.actor; own = h.0.own; order = h.0.order }, commands_with s ls cs h.1)
+
+guard_line : {A : Type 0} (b : Bool) (d : LineFault) (x y : A) → cond b (Err d) (Ok x) ≡ Ok y → (b ≡ false) × (x ≡ y)
+guard_line true d x y e = absurd cc
+guard_line false d x y e = (refl, cc)
+
+some_layouts : (ls : List Layout) → (length ls == 0) ≡ false → 1 ≤ length ls
+some_layouts ls h = grind (arith, nat_tests)
+
+finished_ok : (n : ℕ) (said : List (List ℕ)) (r : ReadSoFar) (s : ScriptValue) → Said said r → finished n r ≡ Ok s → IsTold said s
+unfolding finished
+finished_ok n said r s (inl before) h =
+    let e : whole n nothing None ≡ Ok s = subst (λ (x : ReadSoFar). whole n x x.sizes ≡ Ok s) before.is h in absurd cc
+finished_ok n said r s (inr b) h =
+    let e : whole n r (Some b.sizes) ≡ Ok s = subst (λ (o : Option Sizes). whole n r o ≡ Ok s) b.sizes_is h in
+    let g = guard_line (length r.layouts == 0) (fault_at_start n kinds.LayoutLineExpected) (script_of (config_of b.sizes r.layouts) r.commands) s e in
+    let layouts : AreLayouts b.sizes.words r.layouts = record { some = some_layouts r.layouts g.0; few = b.few; room = b.room } in
+    subst (λ (x : ScriptValue). IsTold said x) g.1 (record {
+      script = record {
+        config = config_in_range b.sizes r.layouts b.range layouts;
+        offered = record { frames = b.range.frames_most; pages = b.range.pages_most; threads = b.range.threads_most };
+        layouts = b.layouts; commands = commands_with b.sizes r.layouts r.commands b.commands; count = b.count;
+      };
+      heap = b.heap;
+      heap_spelled = record { births = b.heap_spelled.births; history = b.heap_spelled.history; births_spelled = b.heap_spelled.births_spelled; history_spelled = b.heap_spelled.history_spelled; line_is = b.heap_spelled.line_is };
+      said_is = b.said_is;
+    })
+
+-- the lines of what is left, and what they say behind what was said
+record IsReadFrom (said : List (List ℕ)) (parts : List (List ℕ)) (s : ScriptValue) : Type 0 where
+  lines : List (List ℕ)
+  parts_are : parts ≡ lines ++ [] ∷ []
+  all_told : IsTold (said ++ filter says_something lines) s
+
+never : {A B : Type 0} (x : Result A LineFault) (f : A → LineFault) (y : B) → goes_on x (λ t. Err (f t)) ≡ Ok y → ⊥
+never (Ok x) f y e = absurd cc
+never (Err d) f y e = absurd cc
+
+pick_false : {A : Type 0} (c : Bool) (x y z : A) → c ≡ false → cond c x y ≡ z → y ≡ z
+pick_false true x y z e h = absurd cc
+pick_false false x y z e h = h
+
+last_ok : (n : ℕ) (said : List (List ℕ)) (r : ReadSoFar) (rest : List ℕ) (s : ScriptValue) → Said said r → last_line n r rest ≡ Ok s → IsReadFrom said (rest ∷ []) s
+unfolding last_line
+last_ok n said r [] s so_far h = record { lines = []; parts_are = refl; all_told = rw (append-nil said) (finished_ok n said r s so_far h) }
+last_ok n said r (b ∷ bs) s so_far h =
+    let some : (length (b ∷ bs) == 0) ≡ false = grind (arith, nat_tests) in
+    absurd (never (in_line n (line_in r (b ∷ bs))) _ s (pick_false (length (b ∷ bs) == 0) _ _ (Ok s) some h))
+
+on_ok : {A B : Type 0} (n : ℕ) (x : Result A Flaw) (f : A → Result B LineFault) (y : B) → goes_on (in_line n x) f ≡ Ok y → (t : A) × (x ≡ Ok t) × (f t ≡ Ok y)
+on_ok n (Ok t) f y e = (t, refl, e)
+on_ok n (Err d) f y e = absurd cc
+
+lines_ok : (n : ℕ) (said : List (List ℕ)) (r : ReadSoFar) (line : List ℕ) (more : List (List ℕ)) (s : ScriptValue) → Said said r → lines_in n r (line ∷ more) ≡ Ok s → IsReadFrom said (line ∷ more) s
+unfolding lines_in
+lines_ok n said r line [] s so_far h = last_ok n said r line s so_far h
+lines_ok n said r line (next ∷ more) s so_far h =
+    let t = on_ok n (line_in r line) _ s h in
+    let rest = lines_ok (n + 1) (said ++ told says_something line) t.0 next more s (line_ok said r t.0 line so_far t.1) t.2 in
+    record {
+      lines = line ∷ rest.lines;
+      parts_are = ap (λ (x : List (List ℕ)). line ∷ x) rest.parts_are;
+      all_told = subst (λ (x : List (List ℕ)). IsTold x s) (append_assoc said (told says_something line) (filter says_something rest.lines) ∙ ap (λ (x : List (List ℕ)). said ++ x) (sym (filter_told says_something line rest.lines))) rest.all_told;
+    }
+
+-- what is read of bytes is a script that all limits allow, and the bytes spell it
+pub record IsSpelled (bytes : List ℕ) (s : ScriptValue) : Type 0 where
+  pub script : IsScript s
+  pub spelled : Spells bytes s
+
+parts_ok : (bytes : List ℕ) (parts : List (List ℕ)) (s : ScriptValue) → slice_split newline bytes ≡ parts → IsReadFrom [] parts s → IsSpelled bytes s
+parts_ok bytes parts s e h =
+    let whole_split : slice_split newline bytes ≡ h.lines ++ [] ∷ [] = e ∙ h.parts_are in
+    record {
+      script = h.all_told.script;
+      spelled = record {
+        lines = h.lines;
+        each = all_front IsLine h.lines ([] ∷ []) (subst (λ (x : List (List ℕ)). AllByRecursion IsLine x) whole_split (split_lines bytes));
+        bytes_are = sym (join_with_byte-slice_split 10 bytes) ∙ ap (join_with_byte 10) whole_split ∙ joined_lines h.lines;
+        heap = h.all_told.heap;
+        heap_spelled = h.all_told.heap_spelled;
+        said = h.all_told.said_is;
+      };
+    }
+
+pub read_is_spelled : (bytes : List ℕ) (s : ScriptValue) → script_in bytes ≡ Ok s → IsSpelled bytes s
+unfolding script_in
+read_is_spelled bytes s h =
+    let cut = split_cons newline bytes in
+    let start : Said [] nothing = inl (record { said_is = refl; is = refl }) in
+    let all : lines_in 1 nothing (cut.first ∷ cut.others) ≡ Ok s = rw cut.is at h in
+    parts_ok bytes (cut.first ∷ cut.others) s cut.is (lines_ok 1 [] nothing cut.first cut.others s start all)

@@ -1,0 +1,163 @@
+-- A script from its first line to its last.
+use Rattle.std.specs.Prelude.{◌≡◌, ℕ, ◌+◌, ◌==◌, ◌&&◌, Bool, true, List, [], ◌∷◌, ◌++◌, length, take, drop, Option, Some, None, Result, Ok, Err, nat_lt, nat_le, if◌then◌else◌, codes, position}
+use Rattle.std.specs.Str.{bytes_eq}
+use Rattle.std.specs.List.{slice_split}
+use Rattle.layout.specs.declared.shape.Layout.{Layout}
+use Rattle.model.specs.declared.config.Config.{Config}
+use Rattle.parser.specs.declared.fault.FaultKind.{FaultKind}
+use Rattle.parser.specs.declared.fault.FaultKind.TheVariants as kinds
+use Rattle.parser.specs.declared.fault.Flaw.{Flaw}
+use Rattle.parser.specs.declared.fault.LineFault.{LineFault}
+use Rattle.parser.specs.declared.fault.ParseFault.{ParseFault}
+use Rattle.parser.specs.declared.fault.ParseFault.TheVariants as faults
+use Rattle.parser.specs.declared.heading.Sizes.{Sizes}
+use Rattle.parser.specs.declared.order.Command.{Command}
+use Rattle.parser.specs.declared.reading.Stop.{Stop}
+use Rattle.parser.specs.declared.reading.Stop.TheVariants as stops
+use Rattle.parser.specs.declared.reading.TheConstants.{MOST_COMMANDS, MOST_LAYOUTS}
+use Rattle.parser.specs.Words.{◌>>=◌, flaw, word_at}
+use Rattle.parser.specs.Headings.{heap_in, layout_in, config_of}
+use Rattle.parser.specs.Orders.{actor_at, order_at}
+
+-- a script as contracts see it
+pub record ScriptValue : Type 0 where
+  pub config : Config
+  pub commands : List Command
+
+-- the script of a configuration and commands
+abbrev pub script_of : Config → List Command → ScriptValue
+script_of config commands = record { config = config; commands = commands }
+
+-- what was read so far
+pub record ReadSoFar : Type 0 where
+  pub sizes : Option Sizes
+  pub layouts : List Layout
+  pub commands : List Command
+
+-- nothing is read
+abbrev pub nothing : ReadSoFar
+nothing = record { sizes = None; layouts = []; commands = [] }
+
+-- the byte that ends a line
+abbrev pub newline : ℕ → Bool
+newline b = b == 10
+
+-- an empty line or a comment
+abbrev pub is_idle : List ℕ → Bool
+is_idle [] = true
+is_idle (b ∷ bs) = b == 35
+
+-- a word, or none as an empty one
+abbrev pub first_word_in : Option (List ℕ × ℕ) → List ℕ × ℕ
+first_word_in None = ([], 0)
+first_word_in (Some w) = w
+
+-- the first word of a line, and the place after it
+unfoldable pub first_word : List ℕ → List ℕ × ℕ
+first_word line = first_word_in (word_at line 0)
+
+-- a heap line gives the sizes
+unfoldable pub heap_line : ReadSoFar → List ℕ → Result ReadSoFar Flaw
+heap_line s line = if bytes_eq (first_word line).0 (codes "heap") then (do
+  sizes ← heap_in line (first_word line).1
+  Ok (record s { sizes = Some sizes })) else Err (flaw 0 kinds.HeapLineExpected)
+
+-- a layout line adds a layout
+unfoldable pub layout_line : ReadSoFar → Sizes → List ℕ → Result ReadSoFar Flaw
+layout_line s sizes line = do
+  layout ← layout_in sizes line (first_word line).1
+  Ok (record s { layouts = s.layouts ++ layout ∷ [] })
+
+-- a command line adds a command
+unfoldable pub command_line : ReadSoFar → Sizes → List ℕ → Result ReadSoFar Flaw
+command_line s sizes line = do
+  actor ← actor_at sizes line
+  if nat_le MOST_COMMANDS (length s.commands) then Err (flaw 0 kinds.TooManyCommands) else (do
+    order ← order_at sizes line actor.0 actor.1
+    Ok (record s { commands = s.commands ++ record { actor = actor.0; order = order } ∷ [] }))
+
+-- a line behind the heap line
+unfoldable pub later_line : ReadSoFar → Sizes → List ℕ → Result ReadSoFar Flaw
+later_line s sizes line =
+    if bytes_eq (first_word line).0 (codes "layout") && (length s.commands == 0) && nat_lt (length s.layouts) MOST_LAYOUTS then layout_line s sizes line else
+    (if length s.layouts == 0 then Err (flaw 0 kinds.LayoutLineExpected) else
+    (if bytes_eq (first_word line).0 (codes "end") then Err (flaw 0 kinds.EndWithoutTimes) else command_line s sizes line))
+
+-- the first line that isn't idle is the heap line
+abbrev pub line_after : ReadSoFar → Option Sizes → List ℕ → Result ReadSoFar Flaw
+line_after s None line = heap_line s line
+line_after s (Some sizes) line = later_line s sizes line
+
+-- what a line adds
+unfoldable pub line_in : ReadSoFar → List ℕ → Result ReadSoFar Flaw
+line_in s line = if is_idle line then Ok s else line_after s s.sizes line
+
+-- a line's fault, with the line's number
+abbrev pub in_line : {A : Type 0} → ℕ → Result A Flaw → Result A LineFault
+in_line n (Ok x) = Ok x
+in_line n (Err f) = Err (record { line = n; column = f.column; kind = f.kind })
+
+-- the lines go on where the one before has no fault
+abbrev pub goes_on : {A B : Type 0} → Result A LineFault → (A → Result B LineFault) → Result B LineFault
+goes_on (Ok x) f = f x
+goes_on (Err e) f = Err e
+
+-- a fault at the start of a line
+abbrev pub fault_at_start : ℕ → FaultKind → LineFault
+fault_at_start n kind = record { line = n; column = 1; kind = kind }
+
+-- what was read, as a script: there has to be a layout line
+abbrev pub whole : ℕ → ReadSoFar → Option Sizes → Result ScriptValue LineFault
+whole n s None = Err (fault_at_start n kinds.HeapLineExpected)
+whole n s (Some sizes) = if length s.layouts == 0 then Err (fault_at_start n kinds.LayoutLineExpected) else Ok (script_of (config_of sizes s.layouts) s.commands)
+
+-- what was read, where line n would be the next
+unfoldable pub finished : ℕ → ReadSoFar → Result ScriptValue LineFault
+finished n s = whole n s s.sizes
+
+-- What stands behind the last newline has to be nothing.
+unfoldable pub last_line : ℕ → ReadSoFar → List ℕ → Result ScriptValue LineFault
+last_line n s rest = if length rest == 0 then finished n s else
+    goes_on (in_line n (line_in s rest)) (λ t. Err (record { line = n; column = length rest + 1; kind = kinds.NewlineExpected }))
+
+-- the lines from number n on, of which the last has no newline
+unfoldable pub lines_in : ℕ → ReadSoFar → List (List ℕ) → Result ScriptValue LineFault
+lines_in n s [] = finished n s
+lines_in n s (line ∷ []) = last_line n s line
+lines_in n s (line ∷ next ∷ lines) = goes_on (in_line n (line_in s line)) (λ t. lines_in (n + 1) t (next ∷ lines))
+
+-- the script that bytes are, or the first fault
+unfoldable pub script_in : List ℕ → Result ScriptValue LineFault
+script_in bytes = lines_in 1 nothing (slice_split newline bytes)
+
+-- an error of a call that read, where memory may have been refused
+abbrev pub Fails : {Y : Type 0} → ParseFault → Result Y LineFault → Type 0
+Fails faults.Memory read = Unit {0}
+Fails faults.TooLong read = ⊥
+Fails (faults.Line f) read = read ≡ Err f
+
+-- a call gave, as seen by view, what was to be read, unless memory was refused
+abbrev pub Gives : {X Y : Type 0} → (X → Y) → Result X ParseFault → Result Y LineFault → Type 0
+Gives view (Ok x) read = read ≡ Ok (view x)
+Gives view (Err e) read = Fails e read
+
+-- a call that took a line led on as it should, unless memory was refused
+abbrev pub Follows : Result Unit Stop → ReadSoFar → Result ReadSoFar Flaw → Type 0
+Follows (Ok u) new read = read ≡ Ok new
+Follows (Err stops.Memory) new read = Unit {0}
+Follows (Err (stops.Flaw f)) new read = read ≡ Err f
+
+-- a fault at the start of the line
+abbrev pub IsFlawAtStart : Stop → FaultKind → Type 0
+IsFlawAtStart stop kind = stop ≡ stops.Flaw (flaw 0 kind)
+
+-- the bytes begin with a line and a newline
+pub record CutsLine (bytes line after : List ℕ) : Type 0 where
+  pub line_is : line ≡ take (length line) bytes
+  pub after_is : after ≡ drop (length line + 1) bytes
+  pub newline_at : position newline bytes ≡ Some (length line)
+  pub less : length line + 1 + length after ≡ length bytes
+
+-- the bytes have no newline
+abbrev pub HasNoNewline : List ℕ → Type 0
+HasNoNewline bytes = position newline bytes ≡ None

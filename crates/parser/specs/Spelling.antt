@@ -1,0 +1,135 @@
+-- The grammar: which bytes spell a configuration and commands.
+use Rattle.std.specs.Prelude.{◌≡◌, ℕ, ◌+◌, ◌^◌, ◌<◌, ◌≤◌, ◌≢◌, Bool, not, List, [], ◌∷◌, ◌++◌, length, map, filter, codes, ◌⊎◌}
+use Rattle.std.specs.Fmt.{decimal}
+use Rattle.std.specs.List.{join_with_byte, flat_map, AllByRecursion}
+use Rattle.layout.specs.declared.shape.Layout.{Layout}
+use Rattle.model.specs.declared.config.Config.{Config}
+use Rattle.model.specs.declared.steps.Actor.{Actor}
+use Rattle.model.specs.declared.steps.Actor.TheVariants.{Thread, Worker}
+use Rattle.model.specs.Configs.{IsConfig}
+use Rattle.parser.specs.declared.heading.TheConstants.{MOST_FRAMES, MOST_PAGES, MOST_THREADS}
+use Rattle.parser.specs.declared.order.Order.{Order}
+use Rattle.parser.specs.declared.order.Order.TheVariants as orders
+use Rattle.parser.specs.declared.order.Command.{Command}
+use Rattle.parser.specs.declared.reading.TheConstants.{MOST_COMMANDS}
+use Rattle.parser.specs.Reading.{ScriptValue, is_idle, newline}
+
+-- the line of words, with one space between each two
+abbrev pub line_of : List (List ℕ) → List ℕ
+line_of words = join_with_byte 32 words
+
+-- an actor's word: a letter and its number
+abbrev pub actor_word : Actor → List ℕ
+actor_word (Thread t) = codes "t" ++ decimal t
+actor_word (Worker w) = codes "w" ++ decimal w
+
+-- a register's word
+abbrev pub register_word : ℕ → List ℕ
+register_word r = codes "r" ++ decimal r
+
+-- the words of an order: its name, then what it names
+abbrev pub order_words : Order → List (List ℕ)
+order_words (orders.Take n) = codes "take" ∷ decimal n ∷ []
+order_words orders.Give = codes "give" ∷ []
+order_words (orders.New target layout) = codes "new" ∷ register_word target ∷ decimal layout ∷ []
+order_words (orders.Datum object index) = codes "datum" ∷ register_word object ∷ decimal index ∷ []
+order_words (orders.Set object index value) = codes "set" ∷ register_word object ∷ decimal index ∷ decimal value ∷ []
+order_words (orders.Same left right) = codes "same" ∷ register_word left ∷ register_word right ∷ []
+order_words (orders.Null r) = codes "null" ∷ register_word r ∷ []
+order_words (orders.Move target source) = codes "mov" ∷ register_word target ∷ register_word source ∷ []
+order_words (orders.Clear r) = codes "clear" ∷ register_word r ∷ []
+
+-- the line of a command
+abbrev pub command_line_of : Command → List ℕ
+command_line_of c = line_of (actor_word c.actor ∷ order_words c.order)
+
+-- the line of a layout
+abbrev pub layout_line_of : Layout → List ℕ
+layout_line_of l = line_of (codes "layout" ∷ decimal l.refs ∷ decimal l.nums ∷ [])
+
+-- the words of the sizes, each behind its name
+abbrev pub size_words : Config → List (List ℕ)
+size_words c =
+    codes "words" ∷ decimal c.words ∷ codes "frames" ∷ decimal c.frames ∷ codes "pages" ∷ decimal c.pages ∷ codes "threads" ∷ decimal c.threads
+    ∷ codes "workers" ∷ decimal c.workers ∷ codes "registers" ∷ decimal c.registers ∷ codes "globals" ∷ decimal c.globals ∷ []
+
+-- a limit is spelled by its name and number, or left out where it is the greatest
+abbrev pub SpellsLimit : List ℕ → ℕ → ℕ → List (List ℕ) → Type 0
+SpellsLimit name most limit words = (words ≡ name ∷ decimal limit ∷ []) ⊎ ((words ≡ []) × (limit ≡ most))
+
+-- a line is a heap line of the configuration
+pub record SpellsHeap (line : List ℕ) (config : Config) : Type 0 where
+  pub births : List (List ℕ)
+  pub history : List (List ℕ)
+  pub births_spelled : SpellsLimit (codes "births") (2 ^ 32) config.births births
+  pub history_spelled : SpellsLimit (codes "history") 1000000 config.history history
+  pub line_is : line ≡ line_of (codes "heap" ∷ size_words config ++ births ++ history)
+
+-- a line that is neither empty nor a comment
+abbrev pub says_something : List ℕ → Bool
+says_something line = not (is_idle line)
+
+-- a line and its newline
+abbrev pub ended : List ℕ → List ℕ
+ended line = line ++ 10 ∷ []
+
+-- no newline stands in a line
+abbrev pub IsLine : List ℕ → Type 0
+IsLine line = AllByRecursion (λ b. b ≢ 10) line
+
+-- The bytes are lines that each end in a newline. Those that say something are a heap line of the
+-- configuration, then a line for each layout, then a line for each command.
+pub record Spells (bytes : List ℕ) (script : ScriptValue) : Type 0 where
+  pub lines : List (List ℕ)
+  pub each : AllByRecursion IsLine lines
+  pub bytes_are : bytes ≡ flat_map ended lines
+  pub heap : List ℕ
+  pub heap_spelled : SpellsHeap heap script.config
+  pub said : filter says_something lines ≡ heap ∷ map layout_line_of script.config.layouts ++ map command_line_of script.commands
+
+-- the configuration has as many frames, pages and threads as scripts may ask for
+pub record IsOffered (config : Config) : Type 0 where
+  pub frames : config.frames ≤ MOST_FRAMES
+  pub pages : config.pages ≤ MOST_PAGES
+  pub threads : config.threads ≤ MOST_THREADS
+
+-- the numbers of a layout fit
+pub record IsLayout (l : Layout) : Type 0 where
+  pub refs : l.refs < 2 ^ 8
+  pub nums : l.nums < 2 ^ 8
+
+-- an actor is there
+abbrev pub IsActor : Config → Actor → Type 0
+IsActor config (Thread t) = t < config.threads
+IsActor config (Worker w) = w < config.workers
+
+-- an order is one for the actor: each is a thread's
+abbrev pub IsFor : Actor → Order → Type 0
+IsFor (Thread t) order = Unit {0}
+IsFor (Worker w) order = ⊥
+
+-- an order's registers are there, and its other numbers fit
+abbrev pub IsOrder : ℕ → Order → Type 0
+IsOrder registers (orders.Take n) = n < 2 ^ 32
+IsOrder registers orders.Give = Unit {0}
+IsOrder registers (orders.New target layout) = (target < registers) × (layout < 2 ^ 32)
+IsOrder registers (orders.Datum object index) = (object < registers) × (index < 2 ^ 32)
+IsOrder registers (orders.Set object index value) = ((object < registers) × (index < 2 ^ 32)) × (value < 2 ^ 64)
+IsOrder registers (orders.Same left right) = (left < registers) × (right < registers)
+IsOrder registers (orders.Null r) = r < registers
+IsOrder registers (orders.Move target source) = (target < registers) × (source < registers)
+IsOrder registers (orders.Clear r) = r < registers
+
+-- a command is one of the configuration
+pub record IsCommand (config : Config) (c : Command) : Type 0 where
+  pub actor : IsActor config c.actor
+  pub own : IsFor c.actor c.order
+  pub order : IsOrder config.registers c.order
+
+-- a script that all limits allow
+pub record IsScript (script : ScriptValue) : Type 0 where
+  pub config : IsConfig script.config
+  pub offered : IsOffered script.config
+  pub layouts : AllByRecursion IsLayout script.config.layouts
+  pub commands : AllByRecursion (IsCommand script.config) script.commands
+  pub count : length script.commands ≤ MOST_COMMANDS

@@ -1,0 +1,12 @@
+-- A script, and what was read of one, as contracts see them.
+use Rattle.parser.specs.declared.reading.Reading.TheInside as reading
+use Rattle.parser.specs.declared.script.Script.TheInside as script
+use Rattle.parser.specs.Reading.{ReadSoFar, ScriptValue}
+
+-- what was read so far, by its fields
+abbrev pub read_so_far : reading.Inside → ReadSoFar
+read_so_far r = record { sizes = r.sizes; layouts = r.layouts.items; commands = r.commands.items }
+
+-- a script by its fields
+abbrev pub script_value : script.Inside → ScriptValue
+script_value s = record { config = s.config; commands = s.commands.items }

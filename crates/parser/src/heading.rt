@@ -1,0 +1,185 @@
+//! The heap line and the layout lines.
+
+ghost use Rattle.std.specs.Prelude.{◌≡◌, ◌==◌, ◌≤◌, IfOk};
+ghost use Rattle.model.specs.Configs.{is_page_size};
+ghost use Rattle.parser.specs.Headings.{field_at, page_size_at, limit_at, memory_at, actors_at, limits_at, heap_in, layout_in, config_of};
+
+use crate::fault::{FaultKind, Flaw};
+use crate::words::{end_at, fixed_at, number_at, word_at};
+use layout::{Layout, Layouts};
+use model::Config;
+
+/// The most frames that a heap line may ask for.
+pub const MOST_FRAMES: u64 = 1;
+
+/// The most pages that a heap line may ask for.
+pub const MOST_PAGES: u64 = 1;
+
+/// The most threads that a heap line may ask for.
+pub const MOST_THREADS: u64 = 1;
+
+/// The numbers of a heap line, those that are left out among them.
+#[derive(Clone, Copy, Debug, PartialEq, Eq)]
+pub struct Sizes {
+    /// The words of a page: 16 to 4,096, a power of two.
+    pub words: u32,
+    /// The frames, from 1.
+    pub frames: u32,
+    /// The pages, at least as many as frames.
+    pub pages: u32,
+    /// The threads, from 1.
+    pub threads: u32,
+    /// The workers: 1 to 16.
+    pub workers: u32,
+    /// The registers of each thread: 1 to 16.
+    pub registers: u32,
+    /// The globals: 0 to 64.
+    pub globals: u32,
+    /// How many objects may be born: 1 to 2^32.
+    pub births: u64,
+    /// How many entries a history may have: 1 to 1,000,000.
+    pub history: u64,
+}
+
+impl Sizes {
+    /// The configuration of these sizes, with layouts.
+    pub fn config(self, layouts: Vec<Layout>) -> Config
+        ensures { result ≡ config_of self layouts.items }
+    {
+        Config {
+            words: self.words,
+            frames: self.frames,
+            pages: self.pages,
+            threads: self.threads,
+            workers: self.workers,
+            registers: self.registers,
+            globals: self.globals,
+            layouts: Layouts::new(layouts),
+            births: self.births,
+            history: self.history,
+        }
+    }
+}
+
+fn is_page_size(words: u64) -> bool
+    ensures { result ≡ is_page_size words }
+{
+    matches!(words, 16 | 32 | 64 | 128 | 256 | 512 | 1024 | 2048 | 4096)
+}
+
+/// The number behind a name that has to stand at a place.
+#[tactic(auto, unfolding(crate::specs::Headings::field_at))]
+fn field_at(line: &[u8], at: usize, name: &[u8], low: u64, high: u64) -> Result<(u64, usize), Flaw>
+    ensures found { result ≡ field_at line.now at name.now low high }
+    ensures range { IfOk result (λ x. x.0 ≤ high) }
+{
+    let after = fixed_at(line, at, name, FaultKind::UnknownWord)?;
+    number_at(line, after, low, high)
+}
+
+/// The words of a page, behind their name.
+#[tactic(auto, unfolding(crate::specs::Headings::page_size_at))]
+fn page_size_at(line: &[u8], at: usize) -> Result<(u64, usize), Flaw>
+    ensures found { result ≡ page_size_at line.now at }
+    ensures range { IfOk result (λ x. x.0 ≤ 4096) }
+{
+    let after = fixed_at(line, at, b"words", FaultKind::UnknownWord)?;
+    let (words, end) = number_at(line, after, 16, 4096)?;
+    if !is_page_size(words) {
+        return Err(Flaw {
+            column: after + 1,
+            kind: FaultKind::NumberOutOfRange,
+        });
+    }
+    Ok((words, end))
+}
+
+/// A limit from 1 to `most` behind its name, or `most` where the name isn't there.
+#[tactic(auto, unfolding(crate::specs::Headings::limit_at))]
+fn limit_at(line: &[u8], at: usize, name: &[u8], most: u64) -> Result<(u64, usize), Flaw>
+    ensures { result ≡ limit_at line.now at name.now most }
+{
+    let Some((word, after)) = word_at(line, at) else {
+        return Ok((most, at));
+    };
+    if word == name {
+        number_at(line, after, 1, most)
+    } else {
+        Ok((most, at))
+    }
+}
+
+/// The words of a page, the frames and the pages, and the place after them.
+#[tactic(auto, unfolding(crate::specs::Headings::memory_at))]
+fn memory_at(line: &[u8], at: usize) -> Result<((u32, u32, u32), usize), Flaw>
+    ensures { result ≡ memory_at line.now at }
+{
+    let (words, at) = page_size_at(line, at)?;
+    let (frames, at) = field_at(line, at, b"frames", 1, MOST_FRAMES)?;
+    let (pages, at) = field_at(line, at, b"pages", frames, MOST_PAGES)?;
+    Ok(((words as u32, frames as u32, pages as u32), at))
+}
+
+/// The threads, the workers and the registers, and the place after them.
+#[tactic(auto, unfolding(crate::specs::Headings::actors_at))]
+fn actors_at(line: &[u8], at: usize) -> Result<((u32, u32, u32), usize), Flaw>
+    ensures { result ≡ actors_at line.now at }
+{
+    let (threads, at) = field_at(line, at, b"threads", 1, MOST_THREADS)?;
+    let (workers, at) = field_at(line, at, b"workers", 1, 16)?;
+    let (registers, at) = field_at(line, at, b"registers", 1, 16)?;
+    Ok(((threads as u32, workers as u32, registers as u32), at))
+}
+
+/// The globals, the births and the history, and the place after them.
+#[tactic(auto, unfolding(crate::specs::Headings::limits_at))]
+fn limits_at(line: &[u8], at: usize) -> Result<((u32, u64, u64), usize), Flaw>
+    ensures { result ≡ limits_at line.now at }
+{
+    let (globals, at) = field_at(line, at, b"globals", 0, 64)?;
+    let (births, at) = limit_at(line, at, b"births", 1 << 32)?;
+    let (history, at) = limit_at(line, at, b"history", 1_000_000)?;
+    Ok(((globals as u32, births, history), at))
+}
+
+/// What the heap line says behind its first word.
+#[tactic(auto, unfolding(crate::specs::Headings::heap_in))]
+pub fn heap_in(line: &[u8], at: usize) -> Result<Sizes, Flaw>
+    ensures { result ≡ heap_in line.now at }
+{
+    let ((words, frames, pages), at) = memory_at(line, at)?;
+    let ((threads, workers, registers), at) = actors_at(line, at)?;
+    let ((globals, births, history), at) = limits_at(line, at)?;
+    end_at(line, at)?;
+    Ok(Sizes {
+        words,
+        frames,
+        pages,
+        threads,
+        workers,
+        registers,
+        globals,
+        births,
+        history,
+    })
+}
+
+/// What a layout line says behind its first word.
+#[tactic(auto, unfolding(crate::specs::Headings::layout_in))]
+pub fn layout_in(sizes: &Sizes, line: &[u8], at: usize) -> Result<Layout, Flaw>
+    ensures { result ≡ layout_in sizes.now line.now at }
+{
+    let (refs, after) = number_at(line, at, 0, 255)?;
+    let (nums, end) = number_at(line, after, 0, 255)?;
+    if 1 + refs + nums > sizes.words as u64 {
+        return Err(Flaw {
+            column: after + 1,
+            kind: FaultKind::LayoutTooLarge,
+        });
+    }
+    end_at(line, end)?;
+    Ok(Layout {
+        refs: refs as u8,
+        nums: nums as u8,
+    })
+}

@@ -1,0 +1,13 @@
+//! Scripts: from bytes to a configuration and commands, or to the first fault.
+#![tactic(auto)]
+
+mod fault;
+mod heading;
+mod order;
+mod reading;
+mod script;
+mod words;
+
+pub use fault::{FaultKind, LineFault, ParseFault};
+pub use order::{Command, Order};
+pub use script::{Script, parse};

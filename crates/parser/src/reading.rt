@@ -1,0 +1,285 @@
+//! Reading a script line by line.
+
+ghost use Rattle.std.specs.Prelude.{◌≡◌, ◌<◌, ◌==◌, length, IfSome, IfNone, position};
+ghost use Rattle.parser.specs.Reading.{nothing, is_idle, first_word, heap_line, layout_line, command_line, later_line, line_in, in_line, finished, last_line, script_in, script_of, Gives, Follows, IsFlawAtStart, CutsLine, HasNoNewline};
+
+use crate::fault::{FaultKind, Flaw, LineFault, ParseFault};
+use crate::heading::{Sizes, heap_in, layout_in};
+use crate::order::{Command, actor_at, order_at};
+use crate::words::word_at;
+use layout::Layout;
+use model::Config;
+use std::alloc::{AllocError, AllocFailed, Global};
+use std::marker::Model;
+
+/// The most commands of a script.
+pub const MOST_COMMANDS: usize = 200_000;
+
+/// The most layouts of a script.
+pub const MOST_LAYOUTS: usize = 64;
+
+/// What was read so far.
+#[derive(Drop)]
+pub struct Reading {
+    sizes: Option<Sizes>,
+    layouts: Vec<Layout>,
+    commands: Vec<Command>,
+}
+
+impl Model for Reading {
+    ghost use Rattle.parser.specs.Reading.{ReadSoFar};
+    ghost use Rattle.parser.specs.Views.{read_so_far};
+
+    ghost Value = { ReadSoFar };
+
+    ghost view = { read_so_far };
+}
+
+/// Why a line isn't taken.
+#[derive(Drop)]
+pub enum Stop {
+    Memory,
+    Flaw(Flaw),
+}
+
+impl From<Flaw> for Stop {
+    ghost use Rattle.std.specs.Prelude.{◌≡◌};
+    ghost use Rattle.parser.specs.declared.reading.Stop.TheVariants as stops;
+
+    ghost from_gives = { λ f e. e ≡ stops.Flaw f };
+
+    fn from(flaw: Flaw) -> Stop {
+        Stop::Flaw(flaw)
+    }
+}
+
+impl From<AllocError> for Stop {
+    ghost use Rattle.std.specs.Prelude.{◌≡◌};
+    ghost use Rattle.parser.specs.declared.reading.Stop.TheVariants as stops;
+
+    ghost from_gives = { λ _ e. e ≡ stops.Memory };
+
+    fn from(_e: AllocError) -> Stop {
+        Stop::Memory
+    }
+}
+
+impl<T: Drop> From<AllocFailed<T>> for Stop {
+    ghost use Rattle.std.specs.Prelude.{◌≡◌};
+    ghost use Rattle.parser.specs.declared.reading.Stop.TheVariants as stops;
+
+    ghost from_gives = { λ _ e. e ≡ stops.Memory };
+
+    fn from(_e: AllocFailed<T>) -> Stop {
+        Stop::Memory
+    }
+}
+
+fn is_idle(line: &[u8]) -> bool
+    ensures { result ≡ is_idle line.now }
+{
+    match line {
+        [] => true,
+        [first, ..] => *first == b'#',
+    }
+}
+
+#[tactic(auto, unfolding(crate::specs::Reading::first_word))]
+fn first_word(line: &[u8]) -> (&[u8], usize)
+    ensures { (result.0.now, result.1) ≡ first_word line.now }
+{
+    match word_at(line, 0) {
+        None => (b"", 0),
+        Some(found) => found,
+    }
+}
+
+fn flaw(kind: FaultKind) -> Stop
+    ensures { IsFlawAtStart result kind }
+{
+    Stop::Flaw(Flaw { column: 1, kind })
+}
+
+impl Reading {
+    /// Nothing is read.
+    fn new(alloc: Global) -> Reading
+        ensures { result ≡ nothing }
+    {
+        Reading {
+            sizes: None,
+            layouts: Vec::new(alloc),
+            commands: Vec::new(alloc),
+        }
+    }
+
+    #[tactic(auto, unfolding(crate::specs::Reading::heap_line))]
+    fn heap_line(&mut self, line: &[u8]) -> Result<(), Stop>
+        ensures { Follows result self.new (heap_line self.old line.now) }
+    {
+        let (word, at) = first_word(line);
+        if word == b"heap".as_slice() {
+            let sizes = heap_in(line, at)?;
+            self.sizes = Some(sizes);
+            Ok(())
+        } else {
+            Err(flaw(FaultKind::HeapLineExpected))
+        }
+    }
+
+    #[tactic(auto, unfolding(crate::specs::Reading::layout_line))]
+    fn layout_line(&mut self, sizes: &Sizes, line: &[u8]) -> Result<(), Stop>
+        ensures { Follows result self.new (layout_line self.old sizes.now line.now) }
+    {
+        let (_, at) = first_word(line);
+        let layout = layout_in(sizes, line, at)?;
+        self.layouts.push(layout)?;
+        Ok(())
+    }
+
+    #[tactic(auto, unfolding(crate::specs::Reading::command_line))]
+    fn command_line(&mut self, sizes: &Sizes, line: &[u8]) -> Result<(), Stop>
+        ensures { Follows result self.new (command_line self.old sizes.now line.now) }
+    {
+        let (actor, at) = actor_at(sizes, line)?;
+        if self.commands.len() >= MOST_COMMANDS {
+            return Err(flaw(FaultKind::TooManyCommands));
+        }
+        let order = order_at(sizes, line, actor, at)?;
+        self.commands.push(Command { actor, order })?;
+        Ok(())
+    }
+
+    #[tactic(auto, unfolding(crate::specs::Reading::later_line))]
+    fn later_line(&mut self, sizes: &Sizes, line: &[u8]) -> Result<(), Stop>
+        ensures { Follows result self.new (later_line self.old sizes.now line.now) }
+    {
+        let (word, _) = first_word(line);
+        if word == b"layout".as_slice()
+            && self.commands.len() == 0
+            && self.layouts.len() < MOST_LAYOUTS
+        {
+            self.layout_line(sizes, line)
+        } else if self.layouts.len() == 0 {
+            Err(flaw(FaultKind::LayoutLineExpected))
+        } else if word == b"end".as_slice() {
+            Err(flaw(FaultKind::EndWithoutTimes))
+        } else {
+            self.command_line(sizes, line)
+        }
+    }
+
+    /// Takes the next line, without its newline. After an error nothing more is read.
+    #[tactic(auto, unfolding(crate::specs::Reading::line_in))]
+    fn line(&mut self, line: &[u8]) -> Result<(), Stop>
+        ensures { Follows result self.new (line_in self.old line.now) }
+    {
+        if is_idle(line) {
+            return Ok(());
+        }
+        match self.sizes {
+            None => self.heap_line(line),
+            Some(sizes) => self.later_line(&sizes, line),
+        }
+    }
+
+    /// What was read, where the lines are at their end.
+    #[tactic(auto, unfolding(crate::specs::Reading::finished))]
+    fn finished(self, number: usize) -> Result<(Config, Vec<Command>), ParseFault>
+        ensures { Gives (λ x. script_of x.0 x.1.items) result (finished number self) }
+    {
+        let Reading {
+            sizes,
+            layouts,
+            commands,
+        } = self;
+        let kind = match sizes {
+            None => FaultKind::HeapLineExpected,
+            Some(sizes) => {
+                if layouts.len() != 0 {
+                    return Ok((sizes.config(layouts), commands));
+                }
+                FaultKind::LayoutLineExpected
+            }
+        };
+        Err(ParseFault::Line(LineFault {
+            line: number,
+            column: 1,
+            kind,
+        }))
+    }
+
+    /// What was read, where `rest` stands behind the last newline.
+    #[tactic(auto, unfolding(crate::specs::Reading::last_line))]
+    fn last_line(mut self, number: usize, rest: &[u8]) -> Result<(Config, Vec<Command>), ParseFault>
+        ensures { Gives (λ x. script_of x.0 x.1.items) result (last_line number self rest.now) }
+    {
+        if rest.len() == 0 {
+            return self.finished(number);
+        }
+        match self.line(rest) {
+            Err(Stop::Memory) => Err(ParseFault::Memory),
+            Err(Stop::Flaw(flaw)) => Err(ParseFault::Line(LineFault {
+                line: number,
+                column: flaw.column,
+                kind: flaw.kind,
+            })),
+            Ok(()) => Err(ParseFault::Line(LineFault {
+                line: number,
+                column: rest.len() + 1,
+                kind: FaultKind::NewlineExpected,
+            })),
+        }
+    }
+}
+
+fn first_newline(rest: &[u8]) -> Option<usize>
+    ensures place { result ≡ position (λ b. b == 10) rest.now }
+    ensures bound { IfSome result (λ i. i < length rest.now) }
+{
+    rest.iter().position(|b| *b == b'\n')
+}
+
+/// The first line, and what stands behind its newline.
+fn cut_line(rest: &[u8]) -> Option<(&[u8], &[u8])>
+    ensures some { IfSome result (λ x. CutsLine rest.now x.0.now x.1.now) }
+    ensures none { IfNone result (HasNoNewline rest.now) }
+{
+    match first_newline(rest) {
+        None => None,
+        Some(end) => {
+            let (line, _) = rest.split_at(end);
+            let (_, after) = rest.split_at(end + 1);
+            Some((line, after))
+        }
+    }
+}
+
+fn read_line(reading: &mut Reading, number: usize, line: &[u8]) -> Result<(), ParseFault>
+    ensures { Gives (λ _. reading.new) result (in_line number (line_in reading.old line.now)) }
+{
+    match reading.line(line) {
+        Err(Stop::Memory) => Err(ParseFault::Memory),
+        Err(Stop::Flaw(flaw)) => Err(ParseFault::Line(LineFault {
+            line: number,
+            column: flaw.column,
+            kind: flaw.kind,
+        })),
+        Ok(()) => Ok(()),
+    }
+}
+
+/// The configuration and the commands of a script, or its first fault.
+#[tactic(auto, using(crate::proofs::Lines::step_ok, crate::proofs::Lines::step_err, crate::proofs::Lines::lines_last), unfolding(crate::specs::Reading::script_in))]
+pub fn read(alloc: Global, bytes: &[u8]) -> Result<(Config, Vec<Command>), ParseFault>
+    ensures { Gives (λ x. script_of x.0 x.1.items) result (script_in bytes.now) }
+{
+    let mut reading = Reading::new(alloc);
+    let mut rest = bytes;
+    let mut number = 1;
+    while let Some((line, after)) = cut_line(rest) {
+        read_line(&mut reading, number, line)?;
+        rest = after;
+        number += 1;
+    }
+    reading.last_line(number, rest)
+}

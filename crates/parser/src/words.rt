@@ -1,0 +1,172 @@
+//! The words of a line, from left to right. A place is the index of a word's first byte; it is one
+//! past the line's length where no word is left.
+
+ghost use Rattle.std.specs.Prelude.{◌==◌, position, ◌≡◌, ◌≤◌, ◌<◌, length, IfOk, IfSome};
+ghost use Rattle.std.specs.Option.{option_map};
+ghost use Rattle.std.specs.List.{list_all};
+ghost use Rattle.parser.specs.Words.{seen, word_at, word_or, is_digit, is_number, capped_from, number_at, small_at, named_at, end_at, fixed_at};
+
+use crate::fault::{FaultKind, Flaw};
+
+fn first_space(rest: &[u8]) -> Option<usize>
+    ensures place { result ≡ position (λ b. b == 32) rest.now }
+    ensures bound { IfSome result (λ i. i < length rest.now) }
+{
+    rest.iter().position(|b| *b == b' ')
+}
+
+/// The word at a place, and the place after it. It may be empty.
+#[tactic(auto, unfolding(crate::specs::Words::word_at))]
+pub fn word_at(line: &[u8], at: usize) -> Option<(&[u8], usize)>
+    ensures found { option_map (λ x. (x.0.now, x.1)) result ≡ word_at line.now at }
+    ensures within { IfSome result (λ _. at ≤ length line.now) }
+{
+    if at > line.len() {
+        return None;
+    }
+    let (_, rest) = line.split_at(at);
+    match first_space(rest) {
+        None => Some((rest, line.len() + 1)),
+        Some(i) => {
+            let (word, _) = rest.split_at(i);
+            Some((word, at + i + 1))
+        }
+    }
+}
+
+/// The word at a place, or this kind of fault where it is missing.
+#[tactic(auto, unfolding(crate::specs::Words::word_or))]
+pub fn word_or(line: &[u8], at: usize, kind: FaultKind) -> Result<(&[u8], usize), Flaw>
+    ensures found { seen (λ x. (x.0.now, x.1)) result ≡ word_or line.now at kind }
+    ensures within { IfOk result (λ _. at ≤ length line.now) }
+{
+    match word_at(line, at) {
+        None => Err(Flaw {
+            column: line.len() + 1,
+            kind,
+        }),
+        Some(found) => Ok(found),
+    }
+}
+
+/// The place after a word that has to stand at a place.
+#[tactic(auto, unfolding(crate::specs::Words::fixed_at))]
+pub fn fixed_at(line: &[u8], at: usize, text: &[u8], kind: FaultKind) -> Result<usize, Flaw>
+    ensures { result ≡ fixed_at line.now at text.now kind }
+{
+    let (word, after) = word_or(line, at, kind)?;
+    if word == text {
+        Ok(after)
+    } else {
+        Err(Flaw {
+            column: at + 1,
+            kind,
+        })
+    }
+}
+
+/// Whether a word is a number: digits, with no zero before others.
+#[tactic(auto, unfolding(crate::specs::Words::is_number))]
+fn is_number(word: &[u8]) -> bool
+    ensures { result ≡ is_number word.now }
+{
+    !word.is_empty() && all_digits(word) && (word.len() == 1 || word[0] != b'0')
+}
+
+fn all_digits(word: &[u8]) -> bool
+    ensures { result ≡ list_all is_digit word.now }
+{
+    word.iter().all(|b| *b >= b'0' && *b <= b'9')
+}
+
+/// The number that digits stand for, or 2^64 where that is less.
+#[tactic(auto, unfolding(crate::specs::Words::capped_from))]
+fn capped(digits: &[u8]) -> u128
+    ensures { result ≡ capped_from 0 digits.now }
+{
+    let mut value = 0u128;
+    for b in digits {
+        let digit = b.saturating_sub(b'0') as u128;
+        value = (value * 10 + digit).min(1 << 64);
+    }
+    value
+}
+
+/// A number from `low` to `high` at a place, and the place after it.
+#[tactic(auto, unfolding(crate::specs::Words::number_at))]
+pub fn number_at(line: &[u8], at: usize, low: u64, high: u64) -> Result<(u64, usize), Flaw>
+    ensures found { result ≡ number_at line.now at low high }
+    ensures range { IfOk result (λ x. x.0 ≤ high) }
+    ensures within { IfOk result (λ _. at ≤ length line.now) }
+{
+    let (word, after) = word_or(line, at, FaultKind::NumberExpected)?;
+    if !is_number(word) {
+        return Err(Flaw {
+            column: at + 1,
+            kind: FaultKind::NumberExpected,
+        });
+    }
+    let value = capped(word);
+    if value < low as u128 || value > high as u128 {
+        return Err(Flaw {
+            column: at + 1,
+            kind: FaultKind::NumberOutOfRange,
+        });
+    }
+    Ok((value as u64, after))
+}
+
+/// A number of 32 bits at a place, and the place after it.
+#[tactic(auto, unfolding(crate::specs::Words::small_at))]
+pub fn small_at(line: &[u8], at: usize) -> Result<(u32, usize), Flaw>
+    ensures { result ≡ small_at line.now at }
+{
+    let (value, after) = number_at(line, at, 0, u32::MAX as u64)?;
+    Ok((value as u32, after))
+}
+
+/// The number in a word that is a letter and a number below `count`, and the place after the word.
+#[tactic(auto, unfolding(crate::specs::Words::named_at))]
+pub fn named_at(
+    line: &[u8],
+    at: usize,
+    letter: u8,
+    count: u32,
+    missing: FaultKind,
+) -> Result<(u32, usize), Flaw>
+    ensures { result ≡ named_at line.now at letter count missing }
+{
+    let (word, after) = word_or(line, at, FaultKind::UnknownWord)?;
+    let wrong = Flaw {
+        column: at + 1,
+        kind: FaultKind::UnknownWord,
+    };
+    let Some((first, digits)) = word.split_first() else {
+        return Err(wrong);
+    };
+    if *first != letter || !is_number(digits) {
+        return Err(wrong);
+    }
+    let value = capped(digits);
+    if value >= count as u128 {
+        return Err(Flaw {
+            column: at + 1,
+            kind: missing,
+        });
+    }
+    Ok((value as u32, after))
+}
+
+/// Nothing at a place that is past the line's end, or the fault that the line goes on.
+#[tactic(auto, unfolding(crate::specs::Words::end_at))]
+pub fn end_at(line: &[u8], at: usize) -> Result<(), Flaw>
+    ensures { result ≡ end_at line.now at }
+{
+    if at <= line.len() {
+        return Err(Flaw {
+            column: at + 1,
+            kind: FaultKind::EndOfLineExpected,
+        });
+    }
+    Ok(())
+}

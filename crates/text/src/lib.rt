@@ -1,0 +1,10 @@
+//! What a run prints: the texts of actors, answers, refusals and the parts of a report.
+#![tactic(auto)]
+
+mod line;
+mod records;
+mod steps;
+
+pub use line::{put_line, write_line};
+pub use records::{BufferText, FrameText, PageStateText, PhaseText, WordText};
+pub use steps::{ActorText, AnswerText, RefusalText};
