@@ -1,7 +1,8 @@
 -- What a search for a page or a frame has found.
-use Rattle.std.proofs.Common.{◌≡◌, ℕ, ◌+◌, ◌-◌, ◌<◌, ◌≤◌, ◌&&◌, Bool, true, false, List, length, Option, Some, None, is_none, position, count_by, nat_le, refl, sym, ◌∙◌, ap, subst, arith}
+use Rattle.std.proofs.Common.{◌≡◌, ℕ, ◌+◌, ◌-◌, ◌<◌, ◌≤◌, ◌&&◌, Bool, true, false, cond, List, [], ◌∷◌, length, Option, Some, None, is_some, is_none, position, count_by, nat_le, refl, sym, ◌∙◌, ap, subst, arith}
 use Rattle.std.specs.List.{slice_get}
 use Rattle.std.proofs.lemmas.Bool.Decides.{nat_tests}
+use Rattle.std.proofs.lemmas.List.Sums.{sum_by-cons}
 use Rattle.std.proofs.lemmas.List.Quantifiers.{position-Some}
 use Rattle.model.specs.declared.records.Page.{Page}
 use Rattle.model.specs.Stores.{has_room, is_open, is_unused, top_in, page_with_room, free_frame}
@@ -51,3 +52,9 @@ room_within words n pages i e p = position_within (has_room words n) pages i e p
 pub room_passes : (words n : ℕ) (pages : List Page) (i : ℕ) → page_with_room words n pages ≡ Some i → (p : Page) → slice_get pages i ≡ Some p → has_room words n p ≡ true
 unfolding page_with_room
 room_passes words n pages i e p at = position_passes (has_room words n) pages i p e at
+
+-- each frame is owned or free
+pub count_owned : (owners : List (Option ℕ)) → count_by is_some owners + count_by is_none owners ≡ length owners
+count_owned [] = refl
+count_owned (None ∷ os) = omega (arith, sum_by-cons (λ x. cond (is_some x) 1 0) None os, sum_by-cons (λ x. cond (is_none x) 1 0) None os, count_owned os)
+count_owned (Some x ∷ os) = omega (arith, sum_by-cons (λ x. cond (is_some x) 1 0) (Some x) os, sum_by-cons (λ x. cond (is_none x) 1 0) (Some x) os, count_owned os)

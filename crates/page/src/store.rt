@@ -1,6 +1,6 @@
 //! Pages and their frames.
 
-ghost use Rattle.std.specs.Prelude.{◌≡◌, ◌≤◌, ◌<◌, ◌+◌, ◌-◌, ◌^◌, length, slice_get, slice_set, slice_range, replicate, IfOk, IfSome, count_by, is_none, Some, None, true};
+ghost use Rattle.std.specs.Prelude.{◌≡◌, ◌≤◌, ◌<◌, ◌+◌, ◌-◌, ◌^◌, length, slice_get, slice_set, slice_range, replicate, IfOk, IfSome, count_by, is_some, is_none, Some, None, true};
 ghost use Rattle.std.specs.Option.{option_map};
 ghost use Rattle.std.specs.Borrow.{sem};
 ghost use Rattle.model.specs.Stores.{first_store, page_at, state_at, state_in, spot_of, word_at, with_word, words_at, taken, Takes, given, opened, top_in, is_open, is_unused, unused_page, frame_in, record_count};
@@ -137,6 +137,13 @@ impl Store {
         ensures { result ≡ count_by is_none self.now.owners }
     {
         self.free
+    }
+
+    /// The number of frames that are the memory of a page.
+    pub fn used_frames(&self) -> usize
+        ensures { result ≡ count_by is_some self.now.owners }
+    {
+        self.frames.len() - self.free as usize
     }
 
     /// The record of a page, if it has one.

@@ -1,0 +1,92 @@
+-- What a run of a script prints.
+use Rattle.std.specs.Prelude.{◌≡◌, ℕ, ◌+◌, ◌-◌, Bool, true, false, List, [], ◌∷◌, ◌++◌, length, count_by, is_some, is_none, Result, Ok, Err, Option, Some, None, slice_get, codes, if◌then◌else◌}
+use Rattle.std.specs.Fmt.{decimal}
+use Rattle.model.specs.declared.steps.Answer.{Answer}
+use Rattle.model.specs.declared.steps.Answer.TheVariants as answers
+use Rattle.model.specs.declared.steps.Refusal.{Refusal}
+use Rattle.model.specs.declared.records.Global.{Global}
+use Rattle.model.specs.declared.records.Page.{Page}
+use Rattle.model.specs.Heaps.{HeapState, ThreadState, Reference}
+use Rattle.model.specs.Stores.{is_unused}
+use Rattle.cycle.specs.declared.book.Entry.{Entry}
+use Rattle.cycle.specs.Books.{BookState, BookOutcome, Reply, acted, first_book}
+use Rattle.parser.specs.declared.order.Command.{Command}
+use Rattle.parser.specs.Orders.{step_of}
+use Rattle.parser.specs.Reading.{ScriptValue}
+use Rattle.text.specs.Texts.{line_text, phase_text, bit_text, page_state_text, frame_text, buffer_text, word_text}
+
+-- the texts of a list's elements, one after another, the first being number i
+abbrev pub texts_from : {X : Type 0} → (ℕ → X → List ℕ) → ℕ → List X → List ℕ
+texts_from f i [] = []
+texts_from f i (x ∷ xs) = f i x ++ texts_from f (i + 1) xs
+
+-- the report
+
+-- frames that a page owns
+abbrev pub used_frames : HeapState → ℕ
+used_frames h = count_by is_some h.store.owners
+
+abbrev pub head_line : HeapState → List ℕ
+head_line h = codes "phase " ++ phase_text h.phase ++ codes " nmt " ++ bit_text h.nmt ++ codes " births " ++ decimal h.births ++ codes " frames " ++ decimal (used_frames h) ++ codes "/" ++ decimal (length h.store.frames) ++ 10 ∷ []
+
+abbrev pub bits_of_row : Option (List Bool) → ℕ
+bits_of_row None = 0
+bits_of_row (Some row) = count_by (λ b. b) row
+
+-- how many bits are set in a row
+abbrev pub bits_in : List (List Bool) → ℕ → ℕ
+bits_in rows i = bits_of_row (slice_get rows i)
+
+-- the line of the page whose record stands at i; an unused one has none
+abbrev pub page_line : HeapState → ℕ → Page → List ℕ
+page_line h i p = if is_unused p.state then [] else
+    (codes "page " ++ decimal (i + 1) ++ codes " " ++ page_state_text p.state ++ codes " frame " ++ frame_text p.frame ++ codes " top " ++ decimal p.top
+     ++ codes " objects " ++ decimal (bits_in h.starts i) ++ codes " live " ++ decimal (bits_in h.live i) ++ 10 ∷ [])
+
+abbrev pub register_text : ℕ → ℕ → Reference → List ℕ
+register_text page_words r w = codes " r" ++ decimal r ++ codes " " ++ word_text page_words w
+
+abbrev pub registers_text : ℕ → List Reference → List ℕ
+registers_text page_words ws = texts_from (register_text page_words) 0 ws
+
+abbrev pub state_text : ThreadState → List ℕ
+state_text t = if t.parked then codes "parked" else (if is_some t.barrier then codes "loading" else codes "running")
+
+abbrev pub thread_line : ℕ → ℕ → ThreadState → List ℕ
+thread_line page_words n t = codes "thread " ++ decimal n ++ codes " " ++ state_text t ++ codes " buffer " ++ buffer_text t.buffer ++ registers_text page_words t.registers ++ 10 ∷ []
+
+abbrev pub global_line : ℕ → ℕ → Global → List ℕ
+global_line page_words n g = codes "global " ++ decimal n ++ codes " " ++ word_text page_words g.word ++ 10 ∷ []
+
+-- the heap as it stands
+unfoldable pub report_text : HeapState → List ℕ
+report_text h =
+    head_line h ++ (texts_from (page_line h) 0 h.store.pages ++ (texts_from (thread_line h.store.words) 0 h.threads ++ texts_from (global_line h.store.words) 0 h.globals))
+
+-- the commands
+
+abbrev pub reply_of : BookOutcome → Reply
+reply_of (Ok x) = Ok x.1
+reply_of (Err e) = Err e
+
+abbrev pub book_of : BookState → BookOutcome → BookState
+book_of b (Ok x) = x.0
+book_of b (Err e) = b
+
+-- what a command does to a book
+abbrev pub done : BookState → Command → BookOutcome
+done b c = acted b c.actor (step_of c.order)
+
+-- the lines of commands, of which the first is number n
+unfoldable pub lines_text : ℕ → BookState → List Command → List ℕ
+lines_text n b [] = []
+lines_text n b (c ∷ cs) = line_text n c.actor (reply_of (done b c)) ++ lines_text (n + 1) (book_of b (done b c)) cs
+
+-- the book that commands leave
+unfoldable pub book_after : BookState → List Command → BookState
+book_after b [] = b
+book_after b (c ∷ cs) = book_after (book_of b (done b c)) cs
+
+-- the lines of a script's commands, then the report
+unfoldable pub output_text : ScriptValue → List ℕ
+output_text s = lines_text 1 (first_book s.config) s.commands ++ report_text (book_after (first_book s.config) s.commands).heap
