@@ -1,7 +1,7 @@
 //! The first word of an object.
 
 ghost use Rattle.std.specs.Prelude.{◌≡◌, ◌<◌, ◌^◌, IfSome};
-ghost use Rattle.layout.specs.Objects.{IsHeader, header_bits};
+ghost use Rattle.layout.specs.Objects.{IsHeader, header_bits, header_of};
 ghost use Rattle.layout.specs.declared.header.Header.{Header};
 
 /// Which object it is, and of what layout (ours).
@@ -26,6 +26,7 @@ impl Header {
 
     /// The header of these bits, or `None` where one of bits 40 to 63 is set.
     pub fn read(bits: u64) -> Option<Header>
+        ensures exact { result ≡ header_of bits }
         ensures value { IfSome result (λ h. header_bits h ≡ bits) }
         ensures range { IfSome result IsHeader }
         ensures all { (h : Header) → IsHeader h → header_bits h ≡ bits → result ≡ Some h }

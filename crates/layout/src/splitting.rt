@@ -35,7 +35,10 @@ pub fn split_header(part: &mut [u64]) -> Option<(&mut u64, &mut [u64])>
 
 /// The references and the data of the words behind a header; `None` exactly where there are
 /// fewer than the references. When the borrow ends, the words are the two, one behind the other.
-pub fn split_parts<'a>(body: &'a mut [u64], layout: Layout) -> Option<(&'a mut [u64], &'a mut [u64])>
+pub fn split_parts<'a>(
+    body: &'a mut [u64],
+    layout: Layout,
+) -> Option<(&'a mut [u64], &'a mut [u64])>
     ensures none { IsNone result ↔ (length body.old < layout.refs) }
     ensures whole { IfSome result (λ s. s.0.now ++ s.1.now ≡ body.old) }
     ensures refs { IfSome result (λ s. length s.0.now ≡ layout.refs) }

@@ -1,7 +1,7 @@
 //! Words that name an object or nothing.
 
 ghost use Rattle.std.specs.Prelude.{◌≡◌, IfSome, Option, ℕ, Bool, is_none};
-ghost use Rattle.refword.specs.Words.{IsWord, IsAddress, bits_of, address_in, mark_in, remarked};
+ghost use Rattle.refword.specs.Words.{IsWord, IsAddress, bits_of, address_in, mark_in, remarked, read_word};
 
 use crate::addr::Addr;
 use std::marker::Model;
@@ -95,6 +95,7 @@ impl Word {
 
     /// The word of these bits, or `None` where no word has them.
     pub fn read(bits: u64) -> Option<Word>
+        ensures exact { result ≡ read_word bits }
         ensures value { IfSome result (λ w. bits_of w ≡ bits) }
         ensures range { IfSome result IsWord }
         ensures all { (w : Option (ℕ × Bool)) → IsWord w → bits_of w ≡ bits → result ≡ Some w }
