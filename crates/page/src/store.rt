@@ -308,3 +308,6 @@ impl Store {
         self.frame(page).unwrap() as usize
     }
 }
+
+#[cfg(test)]
+mod tests;
