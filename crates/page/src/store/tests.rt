@@ -30,7 +30,12 @@ fn takes_in_the_lowest_page(rt: HostRuntime) -> Result<(), Fail> {
         store.give_back(buffer);
     }
     assert_eq!(rt; take(&rt, &mut store, 1), Err(Room::NoFrames));
-    for (page, state) in [(0, PageState::Unused), (2, PageState::Open), (3, PageState::Unused), (9, PageState::Unused)] {
+    for (page, state) in [
+        (0, PageState::Unused),
+        (2, PageState::Open),
+        (3, PageState::Unused),
+        (9, PageState::Unused),
+    ] {
         assert_eq!(rt; store.state(page), state, "of page {page}");
     }
     Ok(())
@@ -57,7 +62,10 @@ fn writes_where_a_buffer_is(rt: HostRuntime) -> Result<(), Fail> {
     let words = store.words(1).ok_or("no words")?;
     let written = [7, 8, 7, 9, 9, 0, 0, 0, 0, 0, 0, 0, 0, 0, 0, 0];
     assert_eq!(rt; words, written.as_slice());
-    assert_eq!(rt; (store.word(16 + 4), store.word(16 + 5)), (Some(9), Some(0)));
+    assert_eq!(rt;
+        (store.word(16 + 4), store.word(16 + 5)),
+        (Some(9), Some(0))
+    );
     assert_eq!(rt; (store.word(15), store.word(2 * 16)), (None, None));
     Ok(())
 }
