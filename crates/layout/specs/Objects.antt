@@ -1,5 +1,5 @@
 -- Objects in memory.
-use Rattle.std.specs.Prelude.{ℕ, ◌+◌, ◌*◌, ◌^◌, ◌<◌}
+use Rattle.std.specs.Prelude.{ℕ, ◌+◌, ◌*◌, ◌/◌, ◌%◌, ◌^◌, ◌<◌, Option, Some, None, nat_lt, if◌then◌else◌}
 use Rattle.layout.specs.declared.shape.Layout.{Layout}
 use Rattle.layout.specs.declared.header.Header.{Header}
 
@@ -15,3 +15,7 @@ pub record IsHeader (h : Header) : Type 0 where
 -- the bits of a header
 abbrev pub header_bits : Header → ℕ
 header_bits h = h.birth + h.layout * 2 ^ 32
+
+-- the header of bits, if they are of one
+abbrev pub header_of : ℕ → Option Header
+header_of n = if nat_lt (n / 2 ^ 32) (2 ^ 8) then Some (record { birth = n % 2 ^ 32; layout = n / 2 ^ 32 }) else None

@@ -1,7 +1,7 @@
 //! The first word of an object.
 
 ghost use Rattle.std.specs.Prelude.{◌≡◌, ◌<◌, ◌^◌, IfSome};
-ghost use Rattle.layout.specs.Objects.{IsHeader, header_bits};
+ghost use Rattle.layout.specs.Objects.{IsHeader, header_bits, header_of};
 ghost use Rattle.layout.specs.declared.header.Header.{Header};
 
 /// Which object it is, and of what layout (ours).
@@ -26,6 +26,7 @@ impl Header {
 
     /// The header of these bits, or `None` where one of bits 40 to 63 is set.
     pub fn read(bits: u64) -> Option<Header>
+        ensures exact { result ≡ header_of bits }
         ensures value { IfSome result (λ h. header_bits h ≡ bits) }
         ensures range { IfSome result IsHeader }
         ensures all { (h : Header) → IsHeader h → header_bits h ≡ bits → result ≡ Some h }
@@ -35,5 +36,21 @@ impl Header {
             birth: (bits & 0xffff_ffff) as u32,
             layout,
         })
+    }
+}
+
+#[cfg(test)]
+mod tests {
+    use super::*;
+
+    #[test]
+    fn bits_of_a_header(rt: HostRuntime) {
+        let header = Header {
+            birth: 5,
+            layout: 3,
+        };
+        assert_eq!(rt; header.write(), 0x0000_0003_0000_0005);
+        assert_eq!(rt; Header::read(0x0000_0003_0000_0005), Some(header));
+        assert_eq!(rt; Header::read(1 << 40), None);
     }
 }

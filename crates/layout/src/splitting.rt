@@ -35,11 +35,49 @@ pub fn split_header(part: &mut [u64]) -> Option<(&mut u64, &mut [u64])>
 
 /// The references and the data of the words behind a header; `None` exactly where there are
 /// fewer than the references. When the borrow ends, the words are the two, one behind the other.
-pub fn split_parts<'a>(body: &'a mut [u64], layout: Layout) -> Option<(&'a mut [u64], &'a mut [u64])>
+pub fn split_parts<'a>(
+    body: &'a mut [u64],
+    layout: Layout,
+) -> Option<(&'a mut [u64], &'a mut [u64])>
     ensures none { IsNone result ↔ (length body.old < layout.refs) }
     ensures whole { IfSome result (λ s. s.0.now ++ s.1.now ≡ body.old) }
     ensures refs { IfSome result (λ s. length s.0.now ≡ layout.refs) }
     ensures* after { sem 𝓛 (LendsBothIf (Array u64 0) (Array u64 0) (Array u64 0) body.entry result ◌++◌ body.old) }
 {
     body.split_at_mut_checked(usize::from(layout.refs))
+}
+
+#[cfg(test)]
+mod tests {
+    use super::*;
+    use crate::header::Header;
+    use std::test::Fail;
+
+    #[test]
+    fn writes_through_the_parts(rt: HostRuntime) -> Result<(), Fail> {
+        let mut words = [1, 2, 3, 4, 5, 6];
+        let parts = split(&mut words, &Layout { refs: 2, nums: 3 }).ok_or("not split")?;
+        assert_eq!(rt; parts.refs.len(), 2);
+        *parts.header = Header {
+            birth: 7,
+            layout: 0,
+        }
+        .write();
+        parts.refs.fill(8);
+        parts.data.fill(9);
+        assert_eq!(rt; words, [7, 8, 8, 9, 9, 9]);
+        Ok(())
+    }
+
+    #[test]
+    fn writes_through_two_splits(rt: HostRuntime) -> Result<(), Fail> {
+        let mut words = [1, 2, 3, 4];
+        let (header, body) = split_header(&mut words).ok_or("no header")?;
+        *header = 5;
+        let (refs, data) = split_parts(body, Layout { refs: 1, nums: 2 }).ok_or("no references")?;
+        refs.fill(6);
+        data.fill(7);
+        assert_eq!(rt; words, [5, 6, 7, 7]);
+        Ok(())
+    }
 }

@@ -7,7 +7,5 @@ mod records;
 mod steps;
 
 pub use config::{Config, ConfigFault};
-pub use records::{
-    Barrier, Buffer, Forwarding, Global, Page, PageState, Phase, Place, Room, Scan,
-};
+pub use records::{Barrier, Buffer, Forwarding, Global, Page, PageState, Phase, Place, Room, Scan};
 pub use steps::{Actor, Answer, PageList, Refusal, Step};

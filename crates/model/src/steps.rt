@@ -59,11 +59,21 @@ pub enum Step {
     /// The buffer is given back.
     GiveBack,
     /// An object is born.
-    New { target: u32, layout: u32 },
+    New {
+        target: u32,
+        layout: u32,
+    },
     /// A reference field is loaded: a barrier opens.
-    Load { target: u32, object: u32, field: u32 },
+    Load {
+        target: u32,
+        object: u32,
+        field: u32,
+    },
     /// A global is loaded: a barrier opens.
-    LoadGlobal { target: u32, global: u32 },
+    LoadGlobal {
+        target: u32,
+        global: u32,
+    },
     /// The word in the barrier is corrected or marked.
     Trap,
     /// The place of the load gets the word in the barrier.
@@ -71,19 +81,39 @@ pub enum Step {
     /// The register gets the word in the barrier, which closes.
     Finish,
     /// A reference field gets a register's word.
-    Store { object: u32, field: u32, source: u32 },
+    Store {
+        object: u32,
+        field: u32,
+        source: u32,
+    },
     /// A global gets a register's word.
-    StoreGlobal { global: u32, source: u32 },
+    StoreGlobal {
+        global: u32,
+        source: u32,
+    },
     /// A data word is read.
-    Datum { object: u32, index: u32 },
+    Datum {
+        object: u32,
+        index: u32,
+    },
     /// A data word is written.
-    SetDatum { object: u32, index: u32, value: u64 },
+    SetDatum {
+        object: u32,
+        index: u32,
+        value: u64,
+    },
     /// Two registers are compared.
-    Same { left: u32, right: u32 },
+    Same {
+        left: u32,
+        right: u32,
+    },
     /// A register is tested.
     IsNull(u32),
     /// A register gets another one's word.
-    CopyReg { target: u32, source: u32 },
+    CopyReg {
+        target: u32,
+        source: u32,
+    },
     /// A register becomes null.
     ClearReg(u32),
     /// The thread crosses the open checkpoint.
@@ -97,7 +127,10 @@ pub enum Step {
     /// A mark starts.
     StartMark,
     /// The worker takes an object to scan.
-    Pick { page: u32, offset: u32 },
+    Pick {
+        page: u32,
+        offset: u32,
+    },
     /// The worker scans the next field of its object.
     ScanField,
     /// A global is marked.
@@ -107,7 +140,10 @@ pub enum Step {
     /// Pages are protected.
     Protect(PageList),
     /// An object of a protected page is copied.
-    Copy { page: u32, entry: u32 },
+    Copy {
+        page: u32,
+        entry: u32,
+    },
     /// A protected page gives its frame back.
     Release(u32),
     /// A parked thread is crossed.
@@ -212,4 +248,18 @@ pub enum Refusal {
     HistoryFull,
     /// Memory was refused.
     Memory,
+}
+
+#[cfg(test)]
+mod tests {
+    use super::*;
+    use std::test::Fail;
+
+    #[test]
+    fn pages_stay_in_order(rt: HostRuntime) -> Result<(), Fail> {
+        let pages = PageList::new(vec![in rt.alloc(); 3, 1]?);
+        assert_eq!(rt; pages.as_slice(), [3, 1].as_slice());
+        assert_eq!(rt; pages.into_vec().as_slice(), [3, 1].as_slice());
+        Ok(())
+    }
 }

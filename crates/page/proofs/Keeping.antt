@@ -1,5 +1,5 @@
 -- What is done to a store keeps its invariant.
-use Rattle.std.proofs.Common.{◌≡◌, ◌≢◌, ◌⊎◌, inl, inr, ℕ, zero, suc, ◌+◌, ◌*◌, ◌-◌, ◌<◌, ◌≤◌, Bool, true, false, ◌||◌, List, ◌++◌, take, drop, length, length-drop, length-append, Option, Some, None, is_some, is_none, replicate, set, count_by, cond, position, ne_eqb, nat_le, nat_lt, refl, sym, ◌∙◌, ap, subst, arith, rules}
+use Rattle.std.proofs.Common.{◌≡◌, ◌≢◌, ◌⊎◌, inl, inr, ℕ, zero, ◌+◌, ◌*◌, ◌-◌, ◌<◌, ◌≤◌, true, false, ◌||◌, List, ◌++◌, take, drop, length, length-drop, length-append, Option, Some, None, is_some, is_none, replicate, set, count_by, cond, position, ne_eqb, nat_lt, refl, sym, ◌∙◌, ap, arith, rules}
 use Rattle.std.specs.List.{slice_get}
 use Rattle.std.specs.Prelude.{IsSome}
 use Rattle.std.proofs.Math.ListN.{length-set, length-replicate}
@@ -10,7 +10,7 @@ use Rattle.model.specs.declared.records.Page.{Page}
 use Rattle.model.specs.declared.records.PageState.{PageState}
 use Rattle.model.specs.declared.records.PageState.TheVariants.{Unused, Open, Closed, From, Gone}
 use Rattle.model.specs.Stores.{StoreState, has_memory, is_protected, is_open, is_unused, page_at, state_in, frame_in, record_count, fresh_page, opened, first_store, blank_page, unused_page, unused_in, given, buffer_of, with_words, overlaid, top_in, words_at}
-use Rattle.model.specs.Owning.{Each, IsPage, OwnsAlike, IsBalanced, IsStoreSized, IsStore}
+use Rattle.model.specs.Owning.{IsPage, IsStore}
 use Rattle.model.proofs.Lists.{get_set, get_set_same, get_set_other, each_set, each_replicate, get_replicate, count_set, count_replicate, position_none, length_counted, same_or_not, get_within, as_number}
 use Rattle.page.specs.Records.{is_unused_in}
 
@@ -49,19 +49,19 @@ pub frame_keeps : (s : StoreState) (f : ℕ) (ws : List ℕ) → IsStore s → l
 frame_keeps s f ws h e =
     let same : length (set s.frames f ws) ≡ length s.frames = simp length-set in
     record {
-  sized = record {
-    words_low = h.sized.words_low;
-    words = h.sized.words;
-    frame_count = rw same h.sized.frame_count;
-    count = h.sized.count;
-    owners = h.sized.owners ∙ sym same;
-    pages = h.sized.pages ∙ ap (λ n. record_count n s.count) (sym same);
-    frames = each_set (λ xs. length xs ≡ s.words) s.frames f ws h.sized.frames e;
-  };
-  pages = h.pages;
-  owning = record { owned = h.owning.owned; owner = h.owning.owner };
-  balanced = record { frames = h.balanced.frames ∙ sym same; leaving = rw same h.balanced.leaving };
-}
+      sized = record {
+        words_low = h.sized.words_low;
+        words = h.sized.words;
+        frame_count = rw same h.sized.frame_count;
+        count = h.sized.count;
+        owners = h.sized.owners ∙ sym same;
+        pages = h.sized.pages ∙ ap (λ n. record_count n s.count) (sym same);
+        frames = each_set (λ xs. length xs ≡ s.words) s.frames f ws h.sized.frames e;
+      };
+      pages = h.pages;
+      owning = record { owned = h.owning.owned; owner = h.owning.owner };
+      balanced = record { frames = h.balanced.frames ∙ sym same; leaving = rw same h.balanced.leaving };
+    }
 
 -- a page gives out more of its words
 pub raise_keeps : (s : StoreState) (i : ℕ) (p : Page) (top : ℕ) → IsStore s → slice_get s.pages i ≡ Some p → top ≤ s.words → IsStore (record s { pages = set s.pages i (record p { top = top }) })
@@ -69,29 +69,30 @@ raise_keeps s i p top h e le =
     let q : Page = record p { top = top } in
     let same : length (set s.pages i q) ≡ length s.pages = simp length-set in
     record {
-  sized = record {
-    words_low = h.sized.words_low;
-    words = h.sized.words;
-    frame_count = h.sized.frame_count;
-    count = h.sized.count;
-    owners = h.sized.owners;
-    pages = same ∙ h.sized.pages;
-    frames = h.sized.frames;
-  };
-  pages = each_set (IsPage s.words) s.pages i q h.pages (record { memory = (h.pages i p e).memory; top = le });
-  owning = record {
-    owned = λ j f x a b. owned j f x b (get_set s.pages i j q x a);
-    owner = λ f n a. owner f n a (h.owning.owner f n a);
-  };
-  balanced = record {
-    frames = omega (arith, h.balanced.frames, count_set (λ x. has_memory x.state) s.pages i p q e);
-    leaving = omega (arith, h.balanced.leaving, count_set (λ x. is_protected x.state) s.pages i p q e);
-  };
-}
+      sized = record {
+        words_low = h.sized.words_low;
+        words = h.sized.words;
+        frame_count = h.sized.frame_count;
+        count = h.sized.count;
+        owners = h.sized.owners;
+        pages = same ∙ h.sized.pages;
+        frames = h.sized.frames;
+      };
+      pages = each_set (IsPage s.words) s.pages i q h.pages (record { memory = (h.pages i p e).memory; top = le });
+      owning = record {
+        owned = λ j f x a b. owned j f x b (get_set s.pages i j q x a);
+        owner = λ f n a. owner f n a (h.owning.owner f n a);
+      };
+      balanced = record {
+        frames = omega (arith, h.balanced.frames, count_set (λ x. has_memory x.state) s.pages i p q e);
+        leaving = omega (arith, h.balanced.leaving, count_set (λ x. is_protected x.state) s.pages i p q e);
+      };
+    }
   where
     owned : (j f : ℕ) (x : Page) → x.frame ≡ Some f → ((j ≡ i) × (record p { top = top } ≡ x)) ⊎ ((j ≢ i) × (slice_get s.pages j ≡ Some x)) → slice_get s.owners f ≡ Some (Some (j + 1))
     owned j f x b (inl a) = rw a.0 (h.owning.owned i f p e (ap (λ (z : Page). z.frame) a.1 ∙ b))
     owned j f x b (inr a) = h.owning.owned j f x a.1 b
+
     owner : (f n : ℕ) → slice_get s.owners f ≡ Some (Some n) → (j : ℕ) × (x : Page) × (n ≡ j + 1) × (slice_get s.pages j ≡ Some x) × (x.frame ≡ Some f) → (j : ℕ) × (x : Page) × (n ≡ j + 1) × (slice_get (set s.pages i (record p { top = top })) j ≡ Some x) × (x.frame ≡ Some f)
     owner f n a (j, x, b, c, d) = by_place (same_or_not j i)
       where
@@ -110,28 +111,29 @@ open_keeps s i f p h e u g =
     let memory : has_memory p.state ≡ false = ap has_memory state in
     let open_before : is_protected p.state ≡ false = ap is_protected state in
     record {
-  sized = record {
-    words_low = h.sized.words_low;
-    words = h.sized.words;
-    frame_count = rw frames_same h.sized.frame_count;
-    count = h.sized.count;
-    owners = owners_same ∙ h.sized.owners ∙ sym frames_same;
-    pages = pages_same ∙ h.sized.pages ∙ ap (λ n. record_count n s.count) (sym frames_same);
-    frames = each_set (λ xs. length xs ≡ s.words) s.frames f (replicate s.words 0) h.sized.frames (simp length-replicate);
-  };
-  pages = each_set (IsPage s.words) s.pages i (fresh_page f) h.pages (record { memory = refl; top = omega arith });
-  owning = record {
-    owned = λ j k x a b. owned j k x b (get_set s.pages i j (fresh_page f) x a);
-    owner = λ k n a. owner k n (get_set s.owners f k (Some (i + 1)) (Some n) a);
-  };
-  balanced = record {
-    frames = rw frames_same (counts memory);
-    leaving = rw frames_same (leaving open_before);
-  };
-}
+      sized = record {
+        words_low = h.sized.words_low;
+        words = h.sized.words;
+        frame_count = rw frames_same h.sized.frame_count;
+        count = h.sized.count;
+        owners = owners_same ∙ h.sized.owners ∙ sym frames_same;
+        pages = pages_same ∙ h.sized.pages ∙ ap (λ n. record_count n s.count) (sym frames_same);
+        frames = each_set (λ xs. length xs ≡ s.words) s.frames f (replicate s.words 0) h.sized.frames (simp length-replicate);
+      };
+      pages = each_set (IsPage s.words) s.pages i (fresh_page f) h.pages (record { memory = refl; top = omega arith });
+      owning = record {
+        owned = λ j k x a b. owned j k x b (get_set s.pages i j (fresh_page f) x a);
+        owner = λ k n a. owner k n (get_set s.owners f k (Some (i + 1)) (Some n) a);
+      };
+      balanced = record {
+        frames = rw frames_same (counts memory);
+        leaving = rw frames_same (leaving open_before);
+      };
+    }
   where
     no_frame : p.frame ≡ None
     no_frame = no_some p.frame ((h.pages i p e).memory ∙ ap has_memory (unused_is p.state u))
+
     owned : (j k : ℕ) (x : Page) → x.frame ≡ Some k → ((j ≡ i) × (fresh_page f ≡ x)) ⊎ ((j ≢ i) × (slice_get s.pages j ≡ Some x)) → slice_get (set s.owners f (Some (i + 1))) k ≡ Some (Some (j + 1))
     owned j k x b (inl a) =
         let here : f ≡ k = same_inside (ap (λ (z : Page). z.frame) a.1 ∙ b) in
@@ -140,6 +142,7 @@ open_keeps s i f p h e u g =
         let before = h.owning.owned j k x a.1 b in
         let other : k ≢ f = λ z. none_or_some (sym g ∙ ap (slice_get s.owners) (sym z) ∙ before) in
         get_set_other s.owners f k (Some (i + 1)) other ∙ before
+
     owner : (k n : ℕ) → ((k ≡ f) × (Some (i + 1) ≡ Some n)) ⊎ ((k ≢ f) × (slice_get s.owners k ≡ Some (Some n))) → (j : ℕ) × (x : Page) × (n ≡ j + 1) × (slice_get (set s.pages i (fresh_page f)) j ≡ Some x) × (x.frame ≡ Some k)
     owner k n (inl a) = (i, fresh_page f, sym (same_inside a.1), get_set_same s.pages i p (fresh_page f) e, ap Some (sym a.0))
     owner k n (inr a) = moved k n (h.owning.owner k n a.1)
@@ -148,12 +151,14 @@ open_keeps s i f p h e u g =
         moved k n (j, x, b, c, d) =
             let other : j ≢ i = λ z. none_some (sym no_frame ∙ ap (λ (y : Page). y.frame) (same_inside (sym e ∙ ap (slice_get s.pages) (sym z) ∙ c)) ∙ d) in
             (j, x, b, get_set_other s.pages i j (fresh_page f) other ∙ c, d)
+
     counts : has_memory p.state ≡ false → count_by (λ x. has_memory x.state) (set s.pages i (fresh_page f)) + count_by is_none (set s.owners f (Some (i + 1))) ≡ length s.frames
     counts m =
         let more = count_set (λ x. has_memory x.state) s.pages i p (fresh_page f) e in
         let less = count_set is_none s.owners f None (Some (i + 1)) g in
         let zero_before : as_number (has_memory p.state) ≡ as_number false = ap as_number m in
         omega (arith, more, less, zero_before, h.balanced.frames)
+
     leaving : is_protected p.state ≡ false → count_by (λ x. is_protected x.state) (set s.pages i (fresh_page f)) ≤ length s.frames
     leaving m =
         let same = count_set (λ x. is_protected x.state) s.pages i p (fresh_page f) e in
@@ -167,25 +172,25 @@ first_is_store words frames pages low high frames_high pages_high =
     let frame_count : length (replicate {A = List ℕ} frames (replicate words 0)) ≡ frames = simp length-replicate in
     let n = record_count frames pages in
     record {
-  sized = record {
-    words_low = low;
-    words = high;
-    frame_count = rw frame_count frames_high;
-    count = pages_high;
-    owners = simp length-replicate;
-    pages = simp length-replicate;
-    frames = each_replicate (λ xs. length xs ≡ words) frames (replicate words 0) (simp length-replicate);
-  };
-  pages = each_replicate (IsPage words) n blank_page (record { memory = refl; top = omega arith });
-  owning = record {
-    owned = λ i f p a b. absurd (none_some (ap (λ (z : Page). z.frame) (get_replicate n blank_page i p a) ∙ b));
-    owner = λ f k a. absurd (none_some (get_replicate frames None f (Some k) a));
-  };
-  balanced = record {
-    frames = rw frame_count (omega (arith, count_replicate (λ (x : Page). has_memory x.state) n blank_page, count_replicate {X = Option ℕ} is_none frames None));
-    leaving = rw frame_count (omega (arith, count_replicate (λ (x : Page). is_protected x.state) n blank_page));
-  };
-}
+      sized = record {
+        words_low = low;
+        words = high;
+        frame_count = rw frame_count frames_high;
+        count = pages_high;
+        owners = simp length-replicate;
+        pages = simp length-replicate;
+        frames = each_replicate (λ xs. length xs ≡ words) frames (replicate words 0) (simp length-replicate);
+      };
+      pages = each_replicate (IsPage words) n blank_page (record { memory = refl; top = omega arith });
+      owning = record {
+        owned = λ i f p a b. absurd (none_some (ap (λ (z : Page). z.frame) (get_replicate n blank_page i p a) ∙ b));
+        owner = λ f k a. absurd (none_some (get_replicate frames None f (Some k) a));
+      };
+      balanced = record {
+        frames = rw frame_count (omega (arith, count_replicate (λ (x : Page). has_memory x.state) n blank_page, count_replicate {X = Option ℕ} is_none frames None));
+        leaving = rw frame_count (omega (arith, count_replicate (λ (x : Page). is_protected x.state) n blank_page));
+      };
+    }
 
 -- where a frame is free and no page with a record is unused, all pages have records
 pub all_have_records : (s : StoreState) → IsStore s → 0 < count_by is_none s.owners → position (λ p. is_unused p.state) s.pages ≡ None → unused_page s.count s.pages ≡ None
@@ -230,6 +235,7 @@ open_has_frame s n h e = by_number (same_or_not n 0)
       is = ap frame_in a ∙ b;
       there = let owned = h.owning.owned (n - 1) f p r b in let in_owners = slice_get_within s.owners f _ owned in rw (← h.sized.owners) in_owners;
     }
+
     by_record : n ≢ 0 → (o : Option Page) → page_at s n ≡ o → HasFrame s n
     by_record z None a = absurd (closed (sym (ap (λ o. is_open (state_in o)) a) ∙ e))
       where
@@ -239,6 +245,7 @@ open_has_frame s n h e = by_number (same_or_not n 0)
         let r : slice_get s.pages (n - 1) ≡ Some p = sym (page_at_record s n z) ∙ a in
         let is_so : is_open p.state ≡ true = sym (ap (λ o. is_open (state_in o)) a) ∙ e in
         by_frame p a r p.frame refl ((h.pages (n - 1) p r).memory ∙ open_has_memory p.state is_so)
+
     by_number : (n ≡ 0) ⊎ (n ≢ 0) → HasFrame s n
     by_number (inl z) = absurd (closed (sym (ap (λ o. is_open (state_in o)) (page_at_zero s n z)) ∙ e))
       where
@@ -262,6 +269,7 @@ length-overlaid ws o xs = length_overlaid ws (take o ws) xs (drop o ws) (by_take
   where
     by_take : (o : ℕ) (ws : List ℕ) → length ws ≤ length (take o ws) + length (drop o ws)
     by_take o ws = omega (arith, length-take o ws, length-drop o ws)
+
     length_overlaid : (ws front xs back : List ℕ) → length ws ≤ length front + length back → length (take (length ws) (front ++ (xs ++ drop (length xs) back))) ≡ length ws
     length_overlaid ws front xs back h =
         length-take-le (length ws) (front ++ (xs ++ drop (length xs) back)) (omega (arith, length-append front (xs ++ drop (length xs) back), length-append xs (drop (length xs) back), length-drop (length xs) back, h))

@@ -2,7 +2,6 @@
 use Rattle.std.specs.Prelude.{ℕ, List}
 use Rattle.std.specs.Borrow.{Lends, MutBor, Fml, Array, u64}
 use Rattle.model.specs.Stores.{StoreState, overlaid, with_words}
-use Rattle.model.specs.declared.records.Buffer.{Buffer}
 use Rattle.page.specs.contracts.frame.Frame as frame
 use Rattle.page.specs.contracts.store.Store as store
 

@@ -1,5 +1,5 @@
 -- Records of pages that may be there.
-use Rattle.std.specs.Prelude.{Bool, true, false, Option, Some, None}
+use Rattle.std.specs.Prelude.{Bool, false, Option, Some, None}
 use Rattle.model.specs.declared.records.Page.{Page}
 use Rattle.model.specs.Stores.{is_unused}
 

@@ -1,7 +1,7 @@
 //! Words that name an object or nothing.
 
 ghost use Rattle.std.specs.Prelude.{◌≡◌, IfSome, Option, ℕ, Bool, is_none};
-ghost use Rattle.refword.specs.Words.{IsWord, IsAddress, bits_of, address_in, mark_in, remarked};
+ghost use Rattle.refword.specs.Words.{IsWord, IsAddress, bits_of, address_in, mark_in, remarked, read_word};
 
 use crate::addr::Addr;
 use std::marker::Model;
@@ -95,6 +95,7 @@ impl Word {
 
     /// The word of these bits, or `None` where no word has them.
     pub fn read(bits: u64) -> Option<Word>
+        ensures exact { result ≡ read_word bits }
         ensures value { IfSome result (λ w. bits_of w ≡ bits) }
         ensures range { IfSome result IsWord }
         ensures all { (w : Option (ℕ × Bool)) → IsWord w → bits_of w ≡ bits → result ≡ Some w }
@@ -104,5 +105,32 @@ impl Word {
         }
         let addr = Addr::new(bits % MARK)?;
         Some(Word::of(addr, bits >= MARK))
+    }
+}
+
+#[cfg(test)]
+mod tests {
+    use super::*;
+    use std::test::Fail;
+
+    /// With 16 words a page: the words of page 1 at offset 0 and of page 2 at offset 3.
+    #[test]
+    fn bits_of_words(rt: HostRuntime) -> Result<(), Fail> {
+        for (number, nmt, bits) in [(16, true, 0x8000_0000_0000_0010), (2 * 16 + 3, false, 0x23)] {
+            let addr = Addr::new(number).ok_or("no address")?;
+            let word = Word::of(addr, nmt);
+            assert_eq!(rt; word.bits(), bits, "of {number}");
+            assert_eq!(rt; Word::read(bits), Some(word), "of {number}");
+            assert_eq!(rt; word.with_nmt(!nmt).nmt(), !nmt, "of {number}");
+        }
+        assert_eq!(rt; Word::read(0), Some(Word::null()));
+        Ok(())
+    }
+
+    #[test]
+    fn bits_of_no_word(rt: HostRuntime) {
+        for bits in [1 << 63, 1 << 28, (1 << 63) + (1 << 28), 1 << 62, u64::MAX] {
+            assert_eq!(rt; Word::read(bits), None, "of {bits}");
+        }
     }
 }

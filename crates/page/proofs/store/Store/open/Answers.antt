@@ -1,7 +1,6 @@
-use Rattle.std.proofs.Common.{◌≡◌, ◌≤◌, ◌<◌, ◌+◌, ◌∙◌, length, List, ℕ, is_none, None, Some, replicate, sym, subst, ap, refl, arith, set, rules, true}
+use Rattle.std.proofs.Common.{◌≡◌, ◌<◌, ◌+◌, ◌∙◌, length, is_none, None, Some, replicate, sym, subst, ap, refl, arith, true}
 use Rattle.std.specs.List.{slice_get}
 use Rattle.model.specs.Stores.{StoreState, opened}
-use Rattle.model.specs.Owning.{IsStore}
 use Rattle.model.proofs.Lists.{get_read, count_positive, count_set}
 use Rattle.page.specs.Views.{store_of}
 use Rattle.page.specs.Records.{is_unused_in}
@@ -24,9 +23,9 @@ invariant_of-self c =
     let words = get_read s.frames c.args.frame c.index_mut-words.result.now frame c.index_mut-words.ensures.value in
     let zeros : c.clear.new.self ≡ replicate s.words 0 = c.clear.ensures ∙ ap (λ n. replicate n 0) (c.self.invariant.store.sized.frames c.args.frame _ words) in
     record {
-  store = opened_with s c.args.index c.args.frame c.clear.new.self c.self.invariant.store page unused free zeros;
-  free = omega (arith, c.self.invariant.free, count_set is_none s.owners c.args.frame None (Some (c.args.index + 1)) free);
-}
+      store = opened_with s c.args.index c.args.frame c.clear.new.self c.self.invariant.store page unused free zeros;
+      free = omega (arith, c.self.invariant.free, count_set is_none s.owners c.args.frame None (Some (c.args.index + 1)) free);
+    }
 
 pub returns : goal.returns
 returns c =

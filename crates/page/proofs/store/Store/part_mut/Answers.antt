@@ -1,6 +1,4 @@
-use Rattle.std.proofs.Common.{◌≡◌, ◌≤◌, ◌-◌, ◌∙◌, List, ℕ, length, refl, sym, ap, subst, set, Some}
-use Rattle.std.specs.List.{slice_get, slice_range}
-use Rattle.std.specs.Option.{IfSome}
+use Rattle.std.proofs.Common.{◌≤◌, ◌∙◌, length, refl, sym, ap, subst}
 use Rattle.model.specs.Stores.{StoreState, overlaid, with_words, words_at}
 use Rattle.model.proofs.Lists.{get_read}
 use Rattle.page.specs.Views.{store_of}
@@ -13,9 +11,9 @@ invariant_of-self-lent c = λ w.
     let words = get_read s.frames c.open_frame-frame.result c.index_mut-words.result.now c.open_frame-frame.ensures.there c.index_mut-words.ensures.value in
     let sized = c.self.invariant.store.sized.frames c.open_frame-frame.result _ words in
     record {
-  store = frame_keeps s c.open_frame-frame.result _ c.self.invariant.store (length-overlaid c.index_mut-words.result.now c.args.buffer.now.next w ∙ sized);
-  free = c.self.invariant.free;
-}
+      store = frame_keeps s c.open_frame-frame.result _ c.self.invariant.store (length-overlaid c.index_mut-words.result.now c.args.buffer.now.next w ∙ sized);
+      free = c.self.invariant.free;
+    }
 
 pub returns : goal.returns
 returns c =
@@ -23,11 +21,15 @@ returns c =
     let words = get_read s.frames c.open_frame-frame.result c.index_mut-words.result.now c.open_frame-frame.ensures.there c.index_mut-words.ensures.value in
     let sized = c.self.invariant.store.sized.frames c.open_frame-frame.result _ words in
     let end : c.args.buffer.now.end ≤ length c.index_mut-words.result.now = rw sized (subst (λ (t : StoreState). c.args.buffer.now.end ≤ t.words) (sym c.self.view_is) c.requires.end) in
-    let part = ap (λ t. words_at t c.args.buffer.now.page) (sym c.self.view_is) ∙ part_there s c.args.buffer.now.page c.open_frame-frame.result _ c.open_frame-frame.ensures.value words in
-    ((refl, λ w. sym (words_changed s c.args.buffer.now.page c.open_frame-frame.result c.index_mut-words.result.now (λ ws. overlaid ws c.args.buffer.now.next w) c.open_frame-frame.ensures.value words)
-    ∙ ap (λ t. with_words t c.args.buffer.now.page (λ ws. overlaid ws c.args.buffer.now.next w)) c.self.view_is),
-    record {
-  value = rw part c.run_mut.ensures.value;
-  len = ap length c.run_mut.ensures.value ∙ length_part c.index_mut-words.result.now c.args.buffer.now.next c.args.buffer.now.end c.requires.order end;
-  after = tt;
-})
+    let part = ap (λ t. words_at t c.args.buffer.now.page) (sym c.self.view_is) ∙ part_there s c.args.buffer.now.page c.open_frame-frame.result _ c.open_frame-frame.ensures.value words in (
+      (
+        refl,
+        λ w. sym (words_changed s c.args.buffer.now.page c.open_frame-frame.result c.index_mut-words.result.now (λ ws. overlaid ws c.args.buffer.now.next w) c.open_frame-frame.ensures.value words)
+            ∙ ap (λ t. with_words t c.args.buffer.now.page (λ ws. overlaid ws c.args.buffer.now.next w)) c.self.view_is,
+      ),
+      record {
+        value = rw part c.run_mut.ensures.value;
+        len = ap length c.run_mut.ensures.value ∙ length_part c.index_mut-words.result.now c.args.buffer.now.next c.args.buffer.now.end c.requires.order end;
+        after = tt;
+      },
+    )

@@ -1,4 +1,4 @@
-use Rattle.std.proofs.Common.{◌≡◌, ◌<◌, ◌∙◌, count_by, is_none, position, sym, subst, ap, ℕ}
+use Rattle.std.proofs.Common.{◌<◌, ◌∙◌, count_by, is_none, position, sym, subst, ap}
 use Rattle.model.specs.Stores.{StoreState, unused_page, is_unused}
 use Rattle.model.specs.declared.records.Page.{Page}
 use Rattle.page.specs.Views.{store_of}
