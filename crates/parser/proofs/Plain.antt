@@ -1,11 +1,10 @@
 -- Words without spaces, and lines made of them.
-use Rattle.std.proofs.Common.{◌≡◌, ◌≢◌, ℕ, zero, suc, ◌+◌, ◌^◌, ◌<◌, ◌≤◌, Bool, true, false, cond, List, [], ◌∷◌, ◌++◌, length, get_or, refl, sym, ap, ◌∙◌, arith, inl, inr, append_assoc}
-use Rattle.std.specs.Prelude.{◌&&◌, not, ◌==◌, codes, ◌⊎◌}
+use Rattle.std.proofs.Common.{◌≡◌, ℕ, zero, suc, ◌^◌, ◌<◌, ◌≤◌, Bool, true, false, List, [], ◌∷◌, ◌++◌, refl, ap, ◌∙◌, arith, inl, inr, append_assoc}
+use Rattle.std.specs.Prelude.{◌&&◌, not, codes}
 use Rattle.std.specs.Fmt.{decimal}
 use Rattle.std.specs.List.{All, AllByRecursion, list_all, slice_split, join_with_byte, flat_map}
 use Rattle.std.proofs.lemmas.Bool.Decides.{nat_tests}
 use Rattle.std.proofs.lemmas.List.Splits.{slice_split_none, slice_split_at}
-use Rattle.model.specs.declared.config.Config.{Config}
 use Rattle.model.specs.declared.steps.Actor.{Actor}
 use Rattle.model.specs.declared.steps.Actor.TheVariants.{Thread, Worker}
 use Rattle.parser.specs.declared.heading.Sizes.{Sizes}
@@ -103,5 +102,5 @@ pub heap_plain : (s : Sizes) (births history : List (List ℕ)) → IsSizes s �
     AllByRecursion IsPlain (size_words (config_of s []) ++ births ++ history)
 heap_plain s births history r words b y =
     let tail : AllByRecursion IsPlain (births ++ history) =
-        all_append births history (limit_plain (codes "births") (2 ^ 32) s.births births refl (omega (arith, r.births_most)) b) (limit_plain (codes "history") 1000000 s.history history refl (omega (arith, r.history_most)) y) in
+    all_append births history (limit_plain (codes "births") (2 ^ 32) s.births births refl (omega (arith, r.births_most)) b) (limit_plain (codes "history") 1000000 s.history history refl (omega (arith, r.history_most)) y) in
     (refl, (small_plain s.words (omega arith), (refl, (small_plain s.frames (omega (arith, r.frames_most)), (refl, (small_plain s.pages (omega (arith, r.pages_most)), (refl, (small_plain s.threads (omega (arith, r.threads_most)), (refl, (small_plain s.workers (omega (arith, r.workers_most)), (refl, (small_plain s.registers (omega (arith, r.registers_most)), (refl, (small_plain s.globals (omega (arith, r.globals_most)), tail))))))))))))))

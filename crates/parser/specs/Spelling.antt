@@ -1,5 +1,5 @@
 -- The grammar: which bytes spell a configuration and commands.
-use Rattle.std.specs.Prelude.{◌≡◌, ℕ, ◌+◌, ◌^◌, ◌<◌, ◌≤◌, ◌≢◌, Bool, not, List, [], ◌∷◌, ◌++◌, length, map, filter, codes, ◌⊎◌}
+use Rattle.std.specs.Prelude.{◌≡◌, ℕ, ◌^◌, ◌<◌, ◌≤◌, ◌≢◌, Bool, not, List, [], ◌∷◌, ◌++◌, length, map, filter, codes, ◌⊎◌}
 use Rattle.std.specs.Fmt.{decimal}
 use Rattle.std.specs.List.{join_with_byte, flat_map, AllByRecursion}
 use Rattle.layout.specs.declared.shape.Layout.{Layout}
@@ -12,7 +12,7 @@ use Rattle.parser.specs.declared.order.Order.{Order}
 use Rattle.parser.specs.declared.order.Order.TheVariants as orders
 use Rattle.parser.specs.declared.order.Command.{Command}
 use Rattle.parser.specs.declared.reading.TheConstants.{MOST_COMMANDS}
-use Rattle.parser.specs.Reading.{ScriptValue, is_idle, newline}
+use Rattle.parser.specs.Reading.{ScriptValue, is_idle}
 
 -- the line of words, with one space between each two
 abbrev pub line_of : List (List ℕ) → List ℕ

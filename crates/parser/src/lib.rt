@@ -11,3 +11,6 @@ mod words;
 pub use fault::{FaultKind, LineFault, ParseFault};
 pub use order::{Command, Order};
 pub use script::{Script, parse};
+
+#[cfg(test)]
+mod tests;
