@@ -13,7 +13,8 @@ use Rattle.parser.specs.declared.order.Order.TheVariants as orders
 use Rattle.parser.specs.Words.{is_digit}
 use Rattle.parser.specs.Headings.{config_of}
 use Rattle.parser.specs.Reading.{newline}
-use Rattle.parser.specs.Spelling.{actor_word, register_word, order_words, size_words, SpellsLimit, ended, IsLine, IsActor, IsOrder}
+use Rattle.parser.specs.Spelling.{actor_word, register_word, order_words, size_words, SpellsLimit, ended, IsActor, IsOrder}
+use Rattle.parser.proofs.Lists.{HasNoNewlines}
 use Rattle.parser.proofs.Numbers.{decimal_digits}
 use Rattle.parser.proofs.Places.{space}
 use Rattle.parser.proofs.Operands.{AreFew}
@@ -47,12 +48,12 @@ words_split w (v ∷ vs) first h =
     slice_split_at space w 32 (join_with_byte 32 (v ∷ vs)) (by_index (λ b. space b ≡ false) w (no_spaces w first)) refl
     ∙ ap (λ (t : List (List ℕ)). w ∷ t) (words_split v vs h.0 h.1)
 
-no_newlines : (line : List ℕ) → IsLine line → AllByRecursion (λ b. newline b ≡ false) line
+no_newlines : (line : List ℕ) → HasNoNewlines line → AllByRecursion (λ b. newline b ≡ false) line
 no_newlines [] h = tt
 no_newlines (b ∷ bs) h = let ne = h.0 in let first : newline b ≡ false = grind (arith, nat_tests) in (first, no_newlines bs h.1)
 
 -- lines that each end in a newline are the parts of their bytes, with an empty one behind them
-pub lines_split : (lines : List (List ℕ)) → AllByRecursion IsLine lines → slice_split newline (flat_map ended lines) ≡ lines ++ [] ∷ []
+pub lines_split : (lines : List (List ℕ)) → AllByRecursion HasNoNewlines lines → slice_split newline (flat_map ended lines) ≡ lines ++ [] ∷ []
 lines_split [] h = refl
 lines_split (line ∷ lines) h =
     ap (slice_split newline) (append_assoc line (10 ∷ []) (flat_map ended lines))

@@ -21,14 +21,14 @@ use Rattle.parser.specs.Words.{word_at}
 use Rattle.parser.specs.Headings.{config_of, heap_in, layout_in}
 use Rattle.parser.specs.Orders.{actor_at, order_at}
 use Rattle.parser.specs.Reading.{ScriptValue, script_of, ReadSoFar, nothing, newline, is_idle, first_word_in, first_word, heap_line, layout_line, command_line, later_line, line_after, line_in, in_line, goes_on, fault_at_start, whole, finished, last_line, lines_in, script_in}
-use Rattle.parser.specs.Spelling.{line_of, actor_word, order_words, command_line_of, layout_line_of, SpellsHeap, says_something, IsLine, Spells, IsLayout, IsCommand, IsScript}
+use Rattle.parser.specs.Spelling.{line_of, actor_word, order_words, command_line_of, layout_line_of, SpellsHeap, says_something, Spells, IsLayout, IsCommand, IsScript}
 use Rattle.parser.proofs.Splitting.{split_cons}
 use Rattle.parser.proofs.Places.{words_from, word_is, no_word_is, words_whole}
 use Rattle.parser.proofs.Pieces.{bind_ok, guard_ok, test_ok, ok_is}
 use Rattle.parser.proofs.Operands.{AreFew, order_ok, actor_ok, line_is}
 use Rattle.parser.proofs.HeapLines.{IsSizes, heap_ok, layout_ok}
 use Rattle.parser.proofs.Ranges.{AreLayouts, config_in_range}
-use Rattle.parser.proofs.Lists.{all_push, all_front, told, filter_told, joined_lines, split_lines}
+use Rattle.parser.proofs.Lists.{all_push, all_front, told, filter_told, joined_lines, split_lines, all_from, lines_from, HasNoNewlines}
 
 -- ---- the first word
 
@@ -231,8 +231,8 @@ finished_ok n said r s (inr b) h =
       script = record {
         config = config_in_range b.sizes r.layouts b.range layouts;
         offered = record { frames = b.range.frames_most; pages = b.range.pages_most; threads = b.range.threads_most };
-        layouts = b.layouts;
-        commands = commands_with b.sizes r.layouts r.commands b.commands;
+        layouts = all_from IsLayout r.layouts b.layouts;
+        commands = all_from (IsCommand (config_of b.sizes r.layouts)) r.commands (commands_with b.sizes r.layouts r.commands b.commands);
         count = b.count;
       };
       heap = b.heap;
@@ -289,7 +289,7 @@ parts_ok bytes parts s e h =
       script = h.all_told.script;
       spelled = record {
         lines = h.lines;
-        each = all_front IsLine h.lines ([] ∷ []) (subst (λ (x : List (List ℕ)). AllByRecursion IsLine x) whole_split (split_lines bytes));
+        each = lines_from h.lines (all_front HasNoNewlines h.lines ([] ∷ []) (subst (λ (x : List (List ℕ)). AllByRecursion HasNoNewlines x) whole_split (split_lines bytes)));
         bytes_are = sym (join_with_byte-slice_split 10 bytes) ∙ ap (join_with_byte 10) whole_split ∙ joined_lines h.lines;
         heap = h.all_told.heap;
         heap_spelled = h.all_told.heap_spelled;

@@ -23,6 +23,7 @@ use Rattle.parser.proofs.Operands.{AreFew, order_again, actor_again}
 use Rattle.parser.proofs.HeapLines.{IsSizes, heap_again, layout_again, page_size_range}
 use Rattle.parser.proofs.Ranges.{sizes_in, config_tells}
 use Rattle.parser.proofs.Lines.{lines_cons}
+use Rattle.parser.proofs.Lists.{all_to, lines_to}
 use Rattle.parser.proofs.ReadIsSpelled.{first_words}
 use Rattle.parser.proofs.Plain.{IsPlain, words_split, lines_split, small_plain, actor_plain, order_plain, heap_plain}
 
@@ -238,7 +239,7 @@ spelled_is_read bytes s h spells =
     record { births = spells.heap_spelled.births; history = spells.heap_spelled.history; births_spelled = spells.heap_spelled.births_spelled; history_spelled = spells.heap_spelled.history_spelled; line_is = spells.heap_spelled.line_is } in
     let some = told.layouts.some in
     let few = told.layouts.few in
-    let next : AreNext z nothing c.layouts = record { some = omega arith; few = omega arith; each = h.layouts; room = told.layouts.room } in
-    let all : AreAll z s.commands = record { each = commands_of c s.commands h.commands; count = h.count } in
-    let cut : slice_split newline bytes ≡ spells.lines ++ [] ∷ [] = ap (slice_split newline) spells.bytes_are ∙ lines_split spells.lines spells.each in
+    let next : AreNext z nothing c.layouts = record { some = omega arith; few = omega arith; each = all_to IsLayout c.layouts h.layouts; room = told.layouts.room } in
+    let all : AreAll z s.commands = record { each = commands_of c s.commands (all_to (IsCommand c) s.commands h.commands); count = h.count } in
+    let cut : slice_split newline bytes ≡ spells.lines ++ [] ∷ [] = ap (slice_split newline) spells.bytes_are ∙ lines_split spells.lines (lines_to spells.lines spells.each) in
     ap (lines_in 1 nothing) cut ∙ heap_read 1 z spells.heap spells.lines c.layouts s.commands told.sizes heap next all spells.said

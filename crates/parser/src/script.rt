@@ -1,7 +1,7 @@
 //! A script as a whole.
 
 ghost use Rattle.std.specs.Prelude.{◌≡◌, ◌↔◌, IfOk};
-ghost use Rattle.std.specs.List.{AllByRecursion};
+ghost use Rattle.std.specs.List.{All};
 ghost use Rattle.model.specs.Configs.{IsConfig};
 ghost use Rattle.parser.specs.Reading.{ScriptValue, script_of, script_in};
 ghost use Rattle.parser.specs.Spelling.{IsCommand, IsScript, Spells};
@@ -50,7 +50,7 @@ impl Script {
     /// Its commands in order.
     pub fn commands(&self) -> &[Command]
         ensures value { result.now ≡ self.now.commands }
-        ensures valid { AllByRecursion (IsCommand self.now.config) result.now }
+        ensures valid { All (IsCommand self.now.config) result.now }
     {
         &self.commands
     }
