@@ -1,6 +1,6 @@
 -- The heap line and the layout lines: what is read is written so, and what is written so is read.
-use Rattle.std.proofs.Common.{◌≡◌, ℕ, ◌+◌, ◌-◌, ◌^◌, ◌<◌, ◌≤◌, Bool, true, false, cond, nat_lt, List, [], ◌∷◌, ◌++◌, length, Option, Some, None, refl, sym, ap, subst, ◌∙◌, arith, inl, inr, lit<, lit≤, append-nil}
-use Rattle.std.specs.Prelude.{Result, Ok, Err, not, codes, ◌⊎◌}
+use Rattle.std.proofs.Common.{◌≡◌, ℕ, ◌+◌, ◌^◌, ◌<◌, ◌≤◌, Bool, true, false, cond, nat_lt, List, [], ◌∷◌, ◌++◌, Option, Some, None, refl, sym, ap, subst, ◌∙◌, arith, inl, inr, lit<, lit≤, append-nil}
+use Rattle.std.specs.Prelude.{Ok, not, codes, ◌⊎◌}
 use Rattle.std.specs.Str.{bytes_eq}
 use Rattle.std.specs.Fmt.{decimal}
 use Rattle.std.proofs.lemmas.Slice.Eq.{bytes_eq-Decides}
@@ -9,14 +9,13 @@ use Rattle.std.proofs.lemmas.Bool.Decides.{nat_tests}
 use Rattle.layout.specs.declared.shape.Layout.{Layout}
 use Rattle.model.specs.Configs.{is_page_size}
 use Rattle.parser.specs.declared.fault.FaultKind.TheVariants as kinds
-use Rattle.parser.specs.declared.fault.Flaw.{Flaw}
 use Rattle.parser.specs.declared.heading.Sizes.{Sizes}
 use Rattle.parser.specs.declared.heading.TheConstants.{MOST_FRAMES, MOST_PAGES, MOST_THREADS}
-use Rattle.parser.specs.Words.{◌>>=◌, flaw, word_at, fixed_at, number_at, end_at}
+use Rattle.parser.specs.Words.{word_at, fixed_at, number_at, end_at}
 use Rattle.parser.specs.Headings.{config_of, field_at, page_size_at, limit_in, limit_at, memory_at, actors_at, limits_at, heap_in, layout_in}
 use Rattle.parser.specs.Spelling.{size_words, SpellsLimit, IsLayout}
-use Rattle.parser.proofs.Places.{words_from, word_is, no_word_is, found_word, Reads}
-use Rattle.parser.proofs.Pieces.{bind_ok, guard_ok, ok_is, fixed_ok, fixed_again, IsNumberAt, number_ok, number_again, end_ok, end_again}
+use Rattle.parser.proofs.Places.{words_from, word_is, found_word, Reads}
+use Rattle.parser.proofs.Pieces.{bind_ok, guard_ok, ok_is, fixed_ok, fixed_again, number_ok, number_again, end_ok, end_again}
 
 -- a number from low to high stands behind its name
 record IsFieldAt (line : List ℕ) (at : ℕ) (name : List ℕ) (low high : ℕ) (v : ℕ × ℕ) : Type 0 where
@@ -58,7 +57,7 @@ page_size_ok line at v h =
     let n = number_ok line a.0 16 4096 b.0 (lit< tt) b.1 in
     let g = guard_ok (not (is_page_size b.0.0)) _ _ v b.2 in
     subst (λ (x : ℕ × ℕ). IsPageSizeAt line at x) (ok_is b.0 v g.1)
-        (record { spelled = fixed_ok line at (codes "words") kinds.UnknownWord a.0 a.1 ∙ ap (λ (t : List (List ℕ)). codes "words" ∷ t) n.spelled; is = not_false (is_page_size b.0.0) g.0; below = n.below })
+    (record { spelled = fixed_ok line at (codes "words") kinds.UnknownWord a.0 a.1 ∙ ap (λ (t : List (List ℕ)). codes "words" ∷ t) n.spelled; is = not_false (is_page_size b.0.0) g.0; below = n.below })
 
 pub page_size_range : (n : ℕ) → is_page_size n ≡ true → (16 ≤ n) × (n ≤ 4096)
 page_size_range n h = grind (arith, nat_tests)
@@ -93,9 +92,9 @@ limit_in_ok line at name most v None low fits e h = left_out line at name most v
 limit_in_ok line at name most v (Some w) low fits e h =
     elim (chosen (bytes_eq w.0 name) (number_at line w.1 1 most) (Ok (most, at)) (Ok v) h) [
       | inl p ↦
-        let n = number_ok line w.1 1 most v fits p.1 in
-        let same : w.0 ≡ name = (bytes_eq-Decides w.0 name).0 p.0 in
-        record { words = name ∷ decimal v.0 ∷ []; is = inl refl; spelled = word_is line at w e ∙ ap (λ (t : List ℕ). t ∷ words_from line w.1) same ∙ ap (λ (t : List (List ℕ)). name ∷ t) n.spelled; above = n.above; below = n.below }
+          let n = number_ok line w.1 1 most v fits p.1 in
+          let same : w.0 ≡ name = (bytes_eq-Decides w.0 name).0 p.0 in
+          record { words = name ∷ decimal v.0 ∷ []; is = inl refl; spelled = word_is line at w e ∙ ap (λ (t : List ℕ). t ∷ words_from line w.1) same ∙ ap (λ (t : List (List ℕ)). name ∷ t) n.spelled; above = n.above; below = n.below }
       | inr p ↦ left_out line at name most v low (ok_is (most, at) v p.1)
     ]
 
@@ -192,7 +191,11 @@ memory_ok line at v h =
     let pages = field_ok line f.0.1 (codes "pages") f.0.0 MOST_PAGES p.0 (lit< tt) p.1 in
     subst (λ (x : (ℕ × ℕ × ℕ) × ℕ). IsMemoryAt line at x) (ok_is ((w.0.0, f.0.0, p.0.0), p.0.1) v p.2) (record {
       spelled = third (words_from line at) (codes "words") (decimal w.0.0) (codes "frames") (decimal f.0.0) (codes "pages") (decimal p.0.0) (words_from line w.0.1) (words_from line f.0.1) (words_from line p.0.1) words.spelled frames.spelled pages.spelled;
-      words = words.is; frames = frames.above; frames_most = frames.below; pages = pages.above; pages_most = pages.below;
+      words = words.is;
+      frames = frames.above;
+      frames_most = frames.below;
+      pages = pages.above;
+      pages_most = pages.below;
     })
 
 record IsActorsAt (line : List ℕ) (at : ℕ) (v : (ℕ × ℕ × ℕ) × ℕ) : Type 0 where
@@ -215,7 +218,12 @@ actors_ok line at v h =
     let registers = field_ok line k.0.1 (codes "registers") 1 16 r.0 (lit< tt) r.1 in
     subst (λ (x : (ℕ × ℕ × ℕ) × ℕ). IsActorsAt line at x) (ok_is ((t.0.0, k.0.0, r.0.0), r.0.1) v r.2) (record {
       spelled = third (words_from line at) (codes "threads") (decimal t.0.0) (codes "workers") (decimal k.0.0) (codes "registers") (decimal r.0.0) (words_from line t.0.1) (words_from line k.0.1) (words_from line r.0.1) threads.spelled workers.spelled registers.spelled;
-      threads = threads.above; threads_most = threads.below; workers = workers.above; workers_most = workers.below; registers = registers.above; registers_most = registers.below;
+      threads = threads.above;
+      threads_most = threads.below;
+      workers = workers.above;
+      workers_most = workers.below;
+      registers = registers.above;
+      registers_most = registers.below;
     })
 
 record IsLimitsAt (line : List ℕ) (at : ℕ) (v : (ℕ × ℕ × ℕ) × ℕ) : Type 0 where
@@ -240,9 +248,16 @@ limits_ok line at v h =
     let births = limit_ok line g.0.1 (codes "births") 4294967296 b.0 (lit≤ tt) (lit< tt) b.1 in
     let history = limit_ok line b.0.1 (codes "history") 1000000 y.0 (lit≤ tt) (lit< tt) y.1 in
     subst (λ (x : (ℕ × ℕ × ℕ) × ℕ). IsLimitsAt line at x) (ok_is ((g.0.0, b.0.0, y.0.0), y.0.1) v y.2) (record {
-      birth_words = births.words; history_words = history.words; births_spelled = births.is; history_spelled = history.is;
+      birth_words = births.words;
+      history_words = history.words;
+      births_spelled = births.is;
+      history_spelled = history.is;
       spelled = globals.spelled ∙ two (codes "globals") (decimal g.0.0) (words_from line g.0.1) (births.words ++ (history.words ++ words_from line y.0.1)) (behind (words_from line g.0.1) births.words (words_from line b.0.1) (history.words ++ words_from line y.0.1) births.spelled history.spelled);
-      globals_most = globals.below; births = births.above; births_most = births.below; history = history.above; history_most = history.below;
+      globals_most = globals.below;
+      births = births.above;
+      births_most = births.below;
+      history = history.above;
+      history_most = history.below;
     })
   where
     behind : (x front y z : List (List ℕ)) → x ≡ front ++ y → y ≡ z → x ≡ front ++ z
@@ -259,12 +274,28 @@ last_words a b c e = ap (λ (t : List (List ℕ)). a ++ (b ++ t)) e ∙ ap (λ (
 
 from_parts : (line : List ℕ) (at : ℕ) (m a l : (ℕ × ℕ × ℕ) × ℕ) → IsMemoryAt line at m → IsActorsAt line m.1 a → IsLimitsAt line a.1 l → words_from line l.1 ≡ [] → IsHeapAt line at (sizes_of m a l)
 from_parts line at m a l memory actors limits last = record {
-  births = limits.birth_words; history = limits.history_words; births_spelled = limits.births_spelled; history_spelled = limits.history_spelled;
+  births = limits.birth_words;
+  history = limits.history_words;
+  births_spelled = limits.births_spelled;
+  history_spelled = limits.history_spelled;
   spelled = memory.spelled ∙ six _ _ _ _ _ _ _ _ (actors.spelled ∙ six _ _ _ _ _ _ _ _ (limits.spelled ∙ two _ _ _ _ (last_words limits.birth_words limits.history_words (words_from line l.1) last)));
   range = record {
-    words = memory.words; frames = memory.frames; frames_most = memory.frames_most; pages = memory.pages; pages_most = memory.pages_most;
-    threads = actors.threads; threads_most = actors.threads_most; workers = actors.workers; workers_most = actors.workers_most; registers = actors.registers; registers_most = actors.registers_most;
-    globals_most = limits.globals_most; births = limits.births; births_most = limits.births_most; history = limits.history; history_most = limits.history_most;
+    words = memory.words;
+    frames = memory.frames;
+    frames_most = memory.frames_most;
+    pages = memory.pages;
+    pages_most = memory.pages_most;
+    threads = actors.threads;
+    threads_most = actors.threads_most;
+    workers = actors.workers;
+    workers_most = actors.workers_most;
+    registers = actors.registers;
+    registers_most = actors.registers_most;
+    globals_most = limits.globals_most;
+    births = limits.births;
+    births_most = limits.births_most;
+    history = limits.history;
+    history_most = limits.history_most;
   };
 }
 
@@ -276,7 +307,7 @@ heap_ok line at s h =
     let l = bind_ok (limits_at line a.0.1) _ s a.2 in
     let e = bind_ok (end_at line l.0.1) _ s l.2 in
     subst (λ (x : Sizes). IsHeapAt line at x) (ok_is (sizes_of m.0 a.0 l.0) s e.2)
-        (from_parts line at m.0 a.0 l.0 (memory_ok line at m.0 m.1) (actors_ok line m.0.1 a.0 a.1) (limits_ok line a.0.1 l.0 l.1) (end_ok line l.0.1 e.0 e.1))
+    (from_parts line at m.0 a.0 l.0 (memory_ok line at m.0 m.1) (actors_ok line m.0.1 a.0 a.1) (limits_ok line a.0.1 l.0 l.1) (end_ok line l.0.1 e.0 e.1))
 
 not_births : (n : ℕ) (words : List (List ℕ)) → SpellsLimit (codes "history") 1000000 n words → IsNotHeaded (codes "births") words
 not_births n words (inl e) = rw e refl

@@ -1,10 +1,35 @@
 -- Lists of lines.
-use Rattle.std.proofs.Common.{◌≡◌, ◌≢◌, ℕ, Bool, true, false, cond, List, [], ◌∷◌, ◌++◌, length, refl, sym, ap, ◌∙◌, arith, append_assoc, append-nil}
-use Rattle.std.specs.Prelude.{filter, map}
-use Rattle.std.specs.List.{AllByRecursion, join_with_byte, flat_map, slice_split, onto_first}
+use Rattle.std.proofs.Common.{◌≡◌, ◌≢◌, ℕ, zero, suc, Bool, true, false, cond, List, [], ◌∷◌, ◌++◌, refl, sym, ap, ◌∙◌, arith, append_assoc, append-nil}
+use Rattle.std.specs.Prelude.{filter}
+use Rattle.std.specs.List.{All, AllByRecursion, join_with_byte, flat_map, slice_split, onto_first}
 use Rattle.std.proofs.lemmas.Bool.Decides.{nat_tests}
 use Rattle.parser.specs.Reading.{newline}
 use Rattle.parser.specs.Spelling.{ended, IsLine}
+
+-- what holds by recursion holds at each index
+pub all_from : {A : Type 0} (P : A → Type 0) (xs : List A) → AllByRecursion P xs → All P xs
+all_from P [] h k d lt = absurd (omega arith)
+all_from P (x ∷ xs) h zero d lt = h.0
+all_from P (x ∷ xs) h (suc k) d lt = all_from P xs h.1 k d (omega arith)
+
+-- what holds at each index holds by recursion
+pub all_to : {A : Type 0} (P : A → Type 0) (xs : List A) → All P xs → AllByRecursion P xs
+all_to P [] h = tt
+all_to P (x ∷ xs) h = (h 0 x (omega arith), all_to P xs (λ k d lt. h (suc k) d (omega arith)))
+
+all_weaker : {A : Type 0} (P Q : A → Type 0) → ((x : A) → P x → Q x) → (xs : List A) → AllByRecursion P xs → AllByRecursion Q xs
+all_weaker P Q f [] h = tt
+all_weaker P Q f (x ∷ xs) h = (f x h.0, all_weaker P Q f xs h.1)
+
+-- no newline stands in a line, by recursion
+abbrev pub HasNoNewlines : List ℕ → Type 0
+HasNoNewlines line = AllByRecursion (λ b. b ≢ 10) line
+
+pub lines_from : (lines : List (List ℕ)) → AllByRecursion HasNoNewlines lines → All IsLine lines
+lines_from lines h = all_from IsLine lines (all_weaker HasNoNewlines IsLine (λ line. all_from (λ b. b ≢ 10) line) lines h)
+
+pub lines_to : (lines : List (List ℕ)) → All IsLine lines → AllByRecursion HasNoNewlines lines
+lines_to lines h = all_weaker IsLine HasNoNewlines (λ line. all_to (λ b. b ≢ 10) line) lines (all_to IsLine lines h)
 
 pub all_push : {A : Type 0} (P : A → Type 0) (xs : List A) (x : A) → AllByRecursion P xs → P x → AllByRecursion P (xs ++ x ∷ [])
 all_push P [] x h p = (p, tt)
@@ -27,15 +52,15 @@ joined_lines [] = refl
 joined_lines (line ∷ []) = sym (append-nil (line ++ 10 ∷ []))
 joined_lines (line ∷ next ∷ lines) = ap (λ (t : List ℕ). line ++ (10 ∷ t)) (joined_lines (next ∷ lines)) ∙ sym (append_assoc line (10 ∷ []) (flat_map ended (next ∷ lines)))
 
-first_line : (x : ℕ) (parts : List (List ℕ)) → x ≢ 10 → AllByRecursion IsLine parts → AllByRecursion IsLine (onto_first x parts)
+first_line : (x : ℕ) (parts : List (List ℕ)) → x ≢ 10 → AllByRecursion HasNoNewlines parts → AllByRecursion HasNoNewlines (onto_first x parts)
 first_line x [] ne h = ((ne, tt), tt)
 first_line x (part ∷ parts) ne h = ((ne, h.0), h.1)
 
-part_lines : (x : ℕ) (xs : List ℕ) (b : Bool) → newline x ≡ b → AllByRecursion IsLine (slice_split newline xs) → AllByRecursion IsLine (slice_split newline (x ∷ xs))
+part_lines : (x : ℕ) (xs : List ℕ) (b : Bool) → newline x ≡ b → AllByRecursion HasNoNewlines (slice_split newline xs) → AllByRecursion HasNoNewlines (slice_split newline (x ∷ xs))
 part_lines x xs true e h = rw e (tt, h)
 part_lines x xs false e h = let ne : x ≢ 10 = grind (arith, nat_tests) in rw e (first_line x (slice_split newline xs) ne h)
 
 -- no newline stands in a part
-pub split_lines : (bytes : List ℕ) → AllByRecursion IsLine (slice_split newline bytes)
+pub split_lines : (bytes : List ℕ) → AllByRecursion HasNoNewlines (slice_split newline bytes)
 split_lines [] = (tt, tt)
 split_lines (x ∷ xs) = part_lines x xs (newline x) refl (split_lines xs)

@@ -1,6 +1,6 @@
 -- Numbers in words are read as they are written.
-use Rattle.std.proofs.Common.{◌≡◌, ℕ, ◌+◌, ◌-◌, ◌*◌, ◌^◌, ◌<◌, ◌≤◌, Bool, true, false, cond, List, [], ◌∷◌, length, get_or, refl, sym, ap, ◌∙◌, arith, rules, inl, inr}
-use Rattle.std.specs.Prelude.{◌⊎◌, ◌&&◌, ◌||◌, not, min, nat_lt, nat_le, ◌==◌}
+use Rattle.std.proofs.Common.{◌≡◌, ℕ, ◌+◌, ◌-◌, ◌*◌, ◌^◌, ◌<◌, Bool, true, false, List, [], ◌∷◌, length, get_or, refl, ap, ◌∙◌, arith, rules, inl, inr}
+use Rattle.std.specs.Prelude.{◌⊎◌, ◌&&◌, ◌||◌, not, min, ◌==◌}
 use Rattle.std.specs.List.{list_all}
 use Rattle.std.specs.Fmt.{decimal}
 use Rattle.std.proofs.lemmas.Bool.Decides.{nat_tests}
@@ -85,9 +85,9 @@ and_all a b c p q r = rw (p, q, r) refl
 
 canonical_decimal : (n : ℕ) → n < 2 ^ 64 → ((length (decimal n) == 1) || not (starts_with_zero (decimal n))) ≡ true
 canonical_decimal n h = elim (cases_lt 0 n) [
-    | inl above ↦ or_right (length (decimal n) == 1) (not (starts_with_zero (decimal n))) (ap not (no_zero (decimal n) (first_decimal n above h)))
-    | inr none ↦ let e : n ≡ 0 = omega arith in let d : decimal 0 ≡ 48 ∷ [] = decimal_digit 0 (omega arith) in rw (e, d) refl
-  ]
+  | inl above ↦ or_right (length (decimal n) == 1) (not (starts_with_zero (decimal n))) (ap not (no_zero (decimal n) (first_decimal n above h)))
+  | inr none ↦ let e : n ≡ 0 = omega arith in let d : decimal 0 ≡ 48 ∷ [] = decimal_digit 0 (omega arith) in rw (e, d) refl
+]
 
 -- a number is written in digits
 pub decimal_digits : (n : ℕ) → n < 2 ^ 64 → list_all is_digit (decimal n) ≡ true
@@ -99,6 +99,7 @@ unfolding is_number
 number_read n h =
     let some = decimal_nonempty n h in
     let nonempty : not (length (decimal n) == 0) ≡ true = grind (arith, nat_tests) in
-    let value : value_from 0 (decimal n) ≡ n = digits_value-decimal own n h in
-    (and_all (not (length (decimal n) == 0)) (list_all is_digit (decimal n)) ((length (decimal n) == 1) || not (starts_with_zero (decimal n))) nonempty (digits_decimal own n h) (canonical_decimal n h),
-        omega (arith, capped_whole (decimal n), value))
+    let value : value_from 0 (decimal n) ≡ n = digits_value-decimal own n h in (
+      and_all (not (length (decimal n) == 0)) (list_all is_digit (decimal n)) ((length (decimal n) == 1) || not (starts_with_zero (decimal n))) nonempty (digits_decimal own n h) (canonical_decimal n h),
+      omega (arith, capped_whole (decimal n), value),
+    )

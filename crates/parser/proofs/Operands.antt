@@ -1,13 +1,11 @@
 -- Commands: what is read is written so, and what is written so is read.
-use Rattle.std.proofs.Common.{◌≡◌, ℕ, ◌+◌, ◌^◌, ◌<◌, ◌≤◌, Bool, true, false, cond, List, [], ◌∷◌, ◌++◌, length, Option, Some, None, refl, sym, ap, subst, ◌∙◌, arith, inl, inr, lit<, append-nil}
-use Rattle.std.specs.Prelude.{Result, Ok, Err, ◌==◌, codes, ◌⊎◌}
+use Rattle.std.proofs.Common.{◌≡◌, ℕ, ◌^◌, ◌<◌, Bool, true, false, cond, List, [], ◌∷◌, ◌++◌, Option, Some, refl, sym, ap, subst, ◌∙◌, arith, inl, inr, lit<, append-nil}
+use Rattle.std.specs.Prelude.{Result, Ok, ◌==◌, codes, ◌⊎◌}
 use Rattle.std.specs.Str.{bytes_eq}
 use Rattle.std.specs.Fmt.{decimal}
 use Rattle.std.specs.List.{join_with_byte}
 use Rattle.std.proofs.lemmas.List.Splits.{join_with_byte-slice_split}
 use Rattle.std.proofs.lemmas.Slice.Eq.{bytes_eq-Decides}
-use Rattle.std.proofs.lemmas.Bool.Decides.{nat_tests, Decides-eqb}
-use Rattle.model.specs.declared.config.Config.{Config}
 use Rattle.model.specs.declared.steps.Actor.{Actor}
 use Rattle.model.specs.declared.steps.Actor.TheVariants.{Thread, Worker}
 use Rattle.parser.specs.declared.fault.FaultKind.TheVariants as kinds
@@ -17,12 +15,12 @@ use Rattle.parser.specs.declared.order.Order.{Order}
 use Rattle.parser.specs.declared.order.Order.TheVariants as orders
 use Rattle.parser.specs.declared.order.Keyword.{Keyword}
 use Rattle.parser.specs.declared.order.Keyword.TheVariants as keywords
-use Rattle.parser.specs.Words.{◌>>=◌, or_flaw, flaw, word_or, number_at, small_at, named_at, end_at}
+use Rattle.parser.specs.Words.{or_flaw, flaw, word_or, number_at, small_at, named_at, end_at}
 use Rattle.parser.specs.Orders.{thread_keyword, keyword_in, register_at, slot_at, pair_at, first_byte, actor_at, operands_at, order_at}
 use Rattle.parser.specs.Headings.{config_of}
 use Rattle.parser.specs.Spelling.{actor_word, register_word, order_words, IsActor, IsFor, IsOrder}
 use Rattle.parser.proofs.Places.{words_from, words_whole, Reads}
-use Rattle.parser.proofs.Pieces.{bind_ok, guard_ok, test_ok, ok_is, or_flaw_ok, word_ok, word_again, IsNumberAt, number_ok, number_again, small_ok, small_again, IsNameAt, named_ok, named_again, end_ok, end_again}
+use Rattle.parser.proofs.Pieces.{bind_ok, ok_is, or_flaw_ok, word_ok, word_again, number_ok, number_again, small_ok, small_again, named_ok, named_again, end_ok, end_again}
 
 -- a register that is there is the word at a place
 record IsRegisterAt (sizes : Sizes) (line : List ℕ) (at : ℕ) (v : ℕ × ℕ) : Type 0 where
@@ -51,7 +49,7 @@ slot_ok sizes line at v fits h =
     let r = register_ok sizes line at a.0 fits a.1 in
     let n = small_ok line a.0.1 b.0 b.1 in
     subst (λ (x : (ℕ × ℕ) × ℕ). IsSlotAt sizes line at x) (ok_is ((a.0.0, b.0.0), b.0.1) v b.2)
-        (record { spelled = r.spelled ∙ ap (λ (t : List (List ℕ)). register_word a.0.0 ∷ t) n.spelled; below = r.below; small = omega (arith, n.below) })
+    (record { spelled = r.spelled ∙ ap (λ (t : List (List ℕ)). register_word a.0.0 ∷ t) n.spelled; below = r.below; small = omega (arith, n.below) })
 
 slot_again : (sizes : Sizes) (line : List ℕ) (at r n : ℕ) (ws : List (List ℕ)) → sizes.registers < 2 ^ 64 → r < sizes.registers → n < 2 ^ 32 → words_from line at ≡ register_word r ∷ decimal n ∷ ws → Reads line (slot_at sizes line at) (r, n) ws
 unfolding slot_at
@@ -74,7 +72,7 @@ pair_ok sizes line at v fits h =
     let r = register_ok sizes line at a.0 fits a.1 in
     let n = register_ok sizes line a.0.1 b.0 fits b.1 in
     subst (λ (x : (ℕ × ℕ) × ℕ). IsPairAt sizes line at x) (ok_is ((a.0.0, b.0.0), b.0.1) v b.2)
-        (record { spelled = r.spelled ∙ ap (λ (t : List (List ℕ)). register_word a.0.0 ∷ t) n.spelled; left = r.below; right = n.below })
+    (record { spelled = r.spelled ∙ ap (λ (t : List (List ℕ)). register_word a.0.0 ∷ t) n.spelled; left = r.below; right = n.below })
 
 pair_again : (sizes : Sizes) (line : List ℕ) (at r n : ℕ) (ws : List (List ℕ)) → sizes.registers < 2 ^ 64 → r < sizes.registers → n < sizes.registers → words_from line at ≡ register_word r ∷ register_word n ∷ ws → Reads line (pair_at sizes line at) (r, n) ws
 unfolding pair_at
@@ -160,7 +158,7 @@ operands_ok sizes line at keywords.Set v fits h =
     let b = bind_ok (number_at line a.0.1 0 18446744073709551615) _ v a.2 in
     let n = number_ok line a.0.1 0 18446744073709551615 b.0 (lit< tt) b.1 in
     subst (λ (x : Order × ℕ). IsOrderAt sizes line at keywords.Set x) (ok_is (orders.Set a.0.0.0 a.0.0.1 b.0.0, b.0.1) v b.2)
-        (record { keyword = refl; spelled = s.spelled ∙ ap (λ (t : List (List ℕ)). register_word a.0.0.0 ∷ decimal a.0.0.1 ∷ t) n.spelled; fits = ((s.below, s.small), omega (arith, n.below)) })
+    (record { keyword = refl; spelled = s.spelled ∙ ap (λ (t : List (List ℕ)). register_word a.0.0.0 ∷ decimal a.0.0.1 ∷ t) n.spelled; fits = ((s.below, s.small), omega (arith, n.below)) })
 operands_ok sizes line at keywords.Same v fits h =
     let a = bind_ok (pair_at sizes line at) _ v h in
     let p = pair_ok sizes line at a.0 fits a.1 in
@@ -207,15 +205,39 @@ named_by w text this k e p = p.0 ∙ sym e ∙ ap keyword_text p.1
 keyword_ok : (w : List ℕ) (k : Keyword) → thread_keyword w ≡ Some k → w ≡ keyword_text k
 unfolding thread_keyword
 keyword_ok w k h =
-    elim (key_ok w (codes "take") keywords.Take k _ h) [ inl p ↦ named_by w _ _ k refl p | inr h2 ↦
-    elim (key_ok w (codes "give") keywords.Give k _ h2) [ inl p ↦ named_by w _ _ k refl p | inr h3 ↦
-    elim (key_ok w (codes "new") keywords.New k _ h3) [ inl p ↦ named_by w _ _ k refl p | inr h4 ↦
-    elim (key_ok w (codes "datum") keywords.Datum k _ h4) [ inl p ↦ named_by w _ _ k refl p | inr h5 ↦
-    elim (key_ok w (codes "set") keywords.Set k _ h5) [ inl p ↦ named_by w _ _ k refl p | inr h6 ↦
-    elim (key_ok w (codes "same") keywords.Same k _ h6) [ inl p ↦ named_by w _ _ k refl p | inr h7 ↦
-    elim (key_ok w (codes "null") keywords.Null k _ h7) [ inl p ↦ named_by w _ _ k refl p | inr h8 ↦
-    elim (key_ok w (codes "mov") keywords.Move k _ h8) [ inl p ↦ named_by w _ _ k refl p | inr h9 ↦
-    elim (key_ok w (codes "clear") keywords.Clear k _ h9) [ inl p ↦ named_by w _ _ k refl p | inr h10 ↦ absurd cc ] ] ] ] ] ] ] ] ]
+    elim (key_ok w (codes "take") keywords.Take k _ h) [
+      | inl p ↦ named_by w _ _ k refl p
+      | inr h2 ↦
+          elim (key_ok w (codes "give") keywords.Give k _ h2) [
+            | inl p ↦ named_by w _ _ k refl p
+            | inr h3 ↦
+                elim (key_ok w (codes "new") keywords.New k _ h3) [
+                  | inl p ↦ named_by w _ _ k refl p
+                  | inr h4 ↦
+                      elim (key_ok w (codes "datum") keywords.Datum k _ h4) [
+                        | inl p ↦ named_by w _ _ k refl p
+                        | inr h5 ↦
+                            elim (key_ok w (codes "set") keywords.Set k _ h5) [
+                              | inl p ↦ named_by w _ _ k refl p
+                              | inr h6 ↦
+                                  elim (key_ok w (codes "same") keywords.Same k _ h6) [
+                                    | inl p ↦ named_by w _ _ k refl p
+                                    | inr h7 ↦
+                                        elim (key_ok w (codes "null") keywords.Null k _ h7) [
+                                          | inl p ↦ named_by w _ _ k refl p
+                                          | inr h8 ↦
+                                              elim (key_ok w (codes "mov") keywords.Move k _ h8) [
+                                                | inl p ↦ named_by w _ _ k refl p
+                                                | inr h9 ↦
+                                                    elim (key_ok w (codes "clear") keywords.Clear k _ h9) [ inl p ↦ named_by w _ _ k refl p | inr h10 ↦ absurd cc ]
+                                              ]
+                                        ]
+                                  ]
+                            ]
+                      ]
+                ]
+          ]
+    ]
 
 keyword_again : (k : Keyword) → thread_keyword (keyword_text k) ≡ Some k
 unfolding thread_keyword
@@ -252,9 +274,9 @@ order_ok sizes line actor at o fits h =
     let operands = operands_ok sizes line w.0.1 k.0 v.0 fits v.1 in
     let last = end_ok line v.0.1 e.0 e.1 in
     let all : words_from line at ≡ order_words v.0.0 =
-        first ∙ ap (λ (t : List ℕ). t ∷ words_from line w.0.1) (key.1 ∙ sym (ap keyword_text operands.keyword))
-        ∙ ap (λ (t : List (List ℕ)). keyword_text (keyword_of v.0.0) ∷ t) (operands.spelled ∙ ap (λ (t : List (List ℕ)). operand_words v.0.0 ++ t) last ∙ append-nil (operand_words v.0.0))
-        ∙ sym (words_are v.0.0) in
+    first ∙ ap (λ (t : List ℕ). t ∷ words_from line w.0.1) (key.1 ∙ sym (ap keyword_text operands.keyword))
+    ∙ ap (λ (t : List (List ℕ)). keyword_text (keyword_of v.0.0) ∷ t) (operands.spelled ∙ ap (λ (t : List (List ℕ)). operand_words v.0.0 ++ t) last ∙ append-nil (operand_words v.0.0))
+    ∙ sym (words_are v.0.0) in
     subst (λ (x : Order). IsOrderFrom sizes line actor at x) (ok_is v.0.0 o e.2) (record { spelled = all; own = key.0; fits = operands.fits })
 
 in_keyword : (actor : Actor) (o : Order) (k : Keyword) → IsFor actor o → keyword_in actor (keyword_text k) ≡ Some k
@@ -292,13 +314,13 @@ unfolding actor_at
 actor_ok sizes line a few h =
     elim (one_of (first_byte line == 119) _ _ a h) [
       | inl worker ↦
-        let w = bind_ok (named_at line 0 119 sizes.workers kinds.NoSuchActor) _ a worker in
-        let n = named_ok line 0 119 sizes.workers kinds.NoSuchActor w.0 few.workers w.1 in
-        subst (λ (x : Actor × ℕ). IsActorAt sizes line x) (ok_is (Worker w.0.0, w.0.1) a w.2) (record { spelled = n.spelled; there = n.below })
+          let w = bind_ok (named_at line 0 119 sizes.workers kinds.NoSuchActor) _ a worker in
+          let n = named_ok line 0 119 sizes.workers kinds.NoSuchActor w.0 few.workers w.1 in
+          subst (λ (x : Actor × ℕ). IsActorAt sizes line x) (ok_is (Worker w.0.0, w.0.1) a w.2) (record { spelled = n.spelled; there = n.below })
       | inr thread ↦
-        let t = bind_ok (named_at line 0 116 sizes.threads kinds.NoSuchActor) _ a thread in
-        let n = named_ok line 0 116 sizes.threads kinds.NoSuchActor t.0 few.threads t.1 in
-        subst (λ (x : Actor × ℕ). IsActorAt sizes line x) (ok_is (Thread t.0.0, t.0.1) a t.2) (record { spelled = n.spelled; there = n.below })
+          let t = bind_ok (named_at line 0 116 sizes.threads kinds.NoSuchActor) _ a thread in
+          let n = named_ok line 0 116 sizes.threads kinds.NoSuchActor t.0 few.threads t.1 in
+          subst (λ (x : Actor × ℕ). IsActorAt sizes line x) (ok_is (Thread t.0.0, t.0.1) a t.2) (record { spelled = n.spelled; there = n.below })
     ]
 
 first_joined : (b : ℕ) (w : List ℕ) (ws : List (List ℕ)) → first_byte (join_with_byte 32 ((b ∷ w) ∷ ws)) ≡ b

@@ -1,11 +1,10 @@
 -- Words without spaces, and lines made of them.
-use Rattle.std.proofs.Common.{◌≡◌, ◌≢◌, ℕ, zero, suc, ◌+◌, ◌^◌, ◌<◌, ◌≤◌, Bool, true, false, cond, List, [], ◌∷◌, ◌++◌, length, get_or, refl, sym, ap, ◌∙◌, arith, inl, inr, append_assoc}
-use Rattle.std.specs.Prelude.{◌&&◌, not, ◌==◌, codes, ◌⊎◌}
+use Rattle.std.proofs.Common.{◌≡◌, ℕ, zero, suc, ◌^◌, ◌<◌, ◌≤◌, Bool, true, false, List, [], ◌∷◌, ◌++◌, refl, ap, ◌∙◌, arith, inl, inr, append_assoc}
+use Rattle.std.specs.Prelude.{◌&&◌, not, codes}
 use Rattle.std.specs.Fmt.{decimal}
 use Rattle.std.specs.List.{All, AllByRecursion, list_all, slice_split, join_with_byte, flat_map}
 use Rattle.std.proofs.lemmas.Bool.Decides.{nat_tests}
 use Rattle.std.proofs.lemmas.List.Splits.{slice_split_none, slice_split_at}
-use Rattle.model.specs.declared.config.Config.{Config}
 use Rattle.model.specs.declared.steps.Actor.{Actor}
 use Rattle.model.specs.declared.steps.Actor.TheVariants.{Thread, Worker}
 use Rattle.parser.specs.declared.heading.Sizes.{Sizes}
@@ -14,7 +13,8 @@ use Rattle.parser.specs.declared.order.Order.TheVariants as orders
 use Rattle.parser.specs.Words.{is_digit}
 use Rattle.parser.specs.Headings.{config_of}
 use Rattle.parser.specs.Reading.{newline}
-use Rattle.parser.specs.Spelling.{actor_word, register_word, order_words, size_words, SpellsLimit, ended, IsLine, IsActor, IsOrder}
+use Rattle.parser.specs.Spelling.{actor_word, register_word, order_words, size_words, SpellsLimit, ended, IsActor, IsOrder}
+use Rattle.parser.proofs.Lists.{HasNoNewlines}
 use Rattle.parser.proofs.Numbers.{decimal_digits}
 use Rattle.parser.proofs.Places.{space}
 use Rattle.parser.proofs.Operands.{AreFew}
@@ -48,12 +48,12 @@ words_split w (v ∷ vs) first h =
     slice_split_at space w 32 (join_with_byte 32 (v ∷ vs)) (by_index (λ b. space b ≡ false) w (no_spaces w first)) refl
     ∙ ap (λ (t : List (List ℕ)). w ∷ t) (words_split v vs h.0 h.1)
 
-no_newlines : (line : List ℕ) → IsLine line → AllByRecursion (λ b. newline b ≡ false) line
+no_newlines : (line : List ℕ) → HasNoNewlines line → AllByRecursion (λ b. newline b ≡ false) line
 no_newlines [] h = tt
 no_newlines (b ∷ bs) h = let ne = h.0 in let first : newline b ≡ false = grind (arith, nat_tests) in (first, no_newlines bs h.1)
 
 -- lines that each end in a newline are the parts of their bytes, with an empty one behind them
-pub lines_split : (lines : List (List ℕ)) → AllByRecursion IsLine lines → slice_split newline (flat_map ended lines) ≡ lines ++ [] ∷ []
+pub lines_split : (lines : List (List ℕ)) → AllByRecursion HasNoNewlines lines → slice_split newline (flat_map ended lines) ≡ lines ++ [] ∷ []
 lines_split [] h = refl
 lines_split (line ∷ lines) h =
     ap (slice_split newline) (append_assoc line (10 ∷ []) (flat_map ended lines))
@@ -103,5 +103,5 @@ pub heap_plain : (s : Sizes) (births history : List (List ℕ)) → IsSizes s �
     AllByRecursion IsPlain (size_words (config_of s []) ++ births ++ history)
 heap_plain s births history r words b y =
     let tail : AllByRecursion IsPlain (births ++ history) =
-        all_append births history (limit_plain (codes "births") (2 ^ 32) s.births births refl (omega (arith, r.births_most)) b) (limit_plain (codes "history") 1000000 s.history history refl (omega (arith, r.history_most)) y) in
+    all_append births history (limit_plain (codes "births") (2 ^ 32) s.births births refl (omega (arith, r.births_most)) b) (limit_plain (codes "history") 1000000 s.history history refl (omega (arith, r.history_most)) y) in
     (refl, (small_plain s.words (omega arith), (refl, (small_plain s.frames (omega (arith, r.frames_most)), (refl, (small_plain s.pages (omega (arith, r.pages_most)), (refl, (small_plain s.threads (omega (arith, r.threads_most)), (refl, (small_plain s.workers (omega (arith, r.workers_most)), (refl, (small_plain s.registers (omega (arith, r.registers_most)), (refl, (small_plain s.globals (omega (arith, r.globals_most)), tail))))))))))))))

@@ -1,6 +1,6 @@
 -- The sizes of a heap line and the layouts make a configuration that is in range, and the other way.
-use Rattle.std.proofs.Common.{◌≡◌, ℕ, ◌+◌, ◌^◌, ◌<◌, ◌≤◌, Bool, true, false, cond, nat_lt, List, [], ◌∷◌, length, Option, Some, None, refl, sym, ap, subst, ◌∙◌, arith}
-use Rattle.std.specs.Prelude.{◌||◌, not, nat_le}
+use Rattle.std.proofs.Common.{◌≡◌, ℕ, ◌^◌, ◌≤◌, Bool, true, false, cond, nat_lt, List, length, Option, Some, None, refl, arith}
+use Rattle.std.specs.Prelude.{◌||◌, not}
 use Rattle.std.specs.List.{list_all}
 use Rattle.std.proofs.lemmas.Bool.Decides.{nat_tests}
 use Rattle.layout.specs.declared.shape.Layout.{Layout}
@@ -84,9 +84,22 @@ config_tells c h o =
     let history = within c.history 1 1000000 y.0 in
     record {
       sizes = record {
-        words = not_false (is_page_size c.words) w.0; frames = frames.0; frames_most = o.frames; pages = pages.0; pages_most = o.pages; threads = threads.0; threads_most = o.threads;
-        workers = workers.0; workers_most = workers.1; registers = registers.0; registers_most = registers.1; globals_most = globals.1;
-        births = births.0; births_most = births.1; history = history.0; history_most = history.1;
+        words = not_false (is_page_size c.words) w.0;
+        frames = frames.0;
+        frames_most = o.frames;
+        pages = pages.0;
+        pages_most = o.pages;
+        threads = threads.0;
+        threads_most = o.threads;
+        workers = workers.0;
+        workers_most = workers.1;
+        registers = registers.0;
+        registers_most = registers.1;
+        globals_most = globals.1;
+        births = births.0;
+        births_most = births.1;
+        history = history.0;
+        history_most = history.1;
       };
       layouts = record { some = count.0; few = count.1; room = not_false (list_all (fits_page c.words) c.layouts) both.1 };
     }

@@ -1,9 +1,8 @@
 -- What is read is a script that all limits allow, and is spelled by the bytes.
-use Rattle.std.proofs.Common.{◌≡◌, ℕ, zero, suc, ◌+◌, ◌^◌, ◌<◌, ◌≤◌, Bool, true, false, cond, nat_lt, List, [], ◌∷◌, ◌++◌, length, Option, Some, None, refl, sym, ap, subst, ◌∙◌, arith, inl, inr, append-nil, append_assoc, length-append}
-use Rattle.std.specs.Prelude.{Result, Ok, Err, ◌==◌, ◌&&◌, not, nat_le, codes, ◌⊎◌, map, filter}
+use Rattle.std.proofs.Common.{◌≡◌, ℕ, ◌+◌, ◌<◌, ◌≤◌, Bool, true, false, cond, nat_lt, List, [], ◌∷◌, ◌++◌, length, Option, Some, None, refl, sym, ap, subst, ◌∙◌, arith, inl, inr, append-nil, append_assoc, length-append}
+use Rattle.std.specs.Prelude.{Result, Ok, Err, ◌==◌, ◌&&◌, nat_le, codes, ◌⊎◌, map, filter}
 use Rattle.std.specs.Str.{bytes_eq}
-use Rattle.std.specs.Fmt.{decimal}
-use Rattle.std.specs.List.{AllByRecursion, list_all, slice_split, flat_map, join_with_byte}
+use Rattle.std.specs.List.{AllByRecursion, list_all, slice_split, join_with_byte}
 use Rattle.std.proofs.lemmas.List.{map-append}
 use Rattle.std.proofs.lemmas.List.Folds.{list_all-append}
 use Rattle.std.proofs.lemmas.List.Splits.{join_with_byte-slice_split}
@@ -11,7 +10,6 @@ use Rattle.std.proofs.lemmas.Slice.Eq.{bytes_eq-Decides}
 use Rattle.std.proofs.lemmas.Bool.{ltb-true}
 use Rattle.std.proofs.lemmas.Bool.Decides.{nat_tests}
 use Rattle.layout.specs.declared.shape.Layout.{Layout}
-use Rattle.model.specs.declared.config.Config.{Config}
 use Rattle.model.specs.Configs.{fits_page}
 use Rattle.parser.specs.declared.fault.FaultKind.TheVariants as kinds
 use Rattle.parser.specs.declared.fault.Flaw.{Flaw}
@@ -19,18 +17,18 @@ use Rattle.parser.specs.declared.fault.LineFault.{LineFault}
 use Rattle.parser.specs.declared.heading.Sizes.{Sizes}
 use Rattle.parser.specs.declared.order.Command.{Command}
 use Rattle.parser.specs.declared.reading.TheConstants.{MOST_COMMANDS, MOST_LAYOUTS}
-use Rattle.parser.specs.Words.{◌>>=◌, flaw, word_at}
+use Rattle.parser.specs.Words.{word_at}
 use Rattle.parser.specs.Headings.{config_of, heap_in, layout_in}
 use Rattle.parser.specs.Orders.{actor_at, order_at}
 use Rattle.parser.specs.Reading.{ScriptValue, script_of, ReadSoFar, nothing, newline, is_idle, first_word_in, first_word, heap_line, layout_line, command_line, later_line, line_after, line_in, in_line, goes_on, fault_at_start, whole, finished, last_line, lines_in, script_in}
-use Rattle.parser.specs.Spelling.{line_of, actor_word, order_words, command_line_of, layout_line_of, size_words, SpellsHeap, says_something, ended, IsLine, Spells, IsOffered, IsLayout, IsCommand, IsScript}
+use Rattle.parser.specs.Spelling.{line_of, actor_word, order_words, command_line_of, layout_line_of, SpellsHeap, says_something, Spells, IsLayout, IsCommand, IsScript}
 use Rattle.parser.proofs.Splitting.{split_cons}
 use Rattle.parser.proofs.Places.{words_from, word_is, no_word_is, words_whole}
 use Rattle.parser.proofs.Pieces.{bind_ok, guard_ok, test_ok, ok_is}
-use Rattle.parser.proofs.Operands.{AreFew, IsOrderFrom, order_ok, IsActorAt, actor_ok, line_is}
-use Rattle.parser.proofs.HeapLines.{IsSizes, IsHeapAt, heap_ok, IsLayoutAt, layout_ok}
+use Rattle.parser.proofs.Operands.{AreFew, order_ok, actor_ok, line_is}
+use Rattle.parser.proofs.HeapLines.{IsSizes, heap_ok, layout_ok}
 use Rattle.parser.proofs.Ranges.{AreLayouts, config_in_range}
-use Rattle.parser.proofs.Lists.{all_push, all_front, told, filter_told, joined_lines, split_lines}
+use Rattle.parser.proofs.Lists.{all_push, all_front, told, filter_told, joined_lines, split_lines, all_from, lines_from, HasNoNewlines}
 
 -- ---- the first word
 
@@ -83,9 +81,17 @@ heap_step line t h =
     let first : (first_word line).0 ≡ codes "heap" = (bytes_eq-Decides (first_word line).0 (codes "heap")).0 g.0 in
     let sizes = heap_ok line (first_word line).1 s.0 s.1 in
     subst (λ (x : ReadSoFar). IsBehind (line ∷ []) x) (ok_is (record nothing { sizes = Some s.0 }) t s.2) (record {
-      sizes = s.0; sizes_is = refl; heap = line;
+      sizes = s.0;
+      sizes_is = refl;
+      heap = line;
       heap_spelled = record { births = sizes.births; history = sizes.history; births_spelled = sizes.births_spelled; history_spelled = sizes.history_spelled; line_is = line_by_words line (codes "heap") _ first sizes.spelled };
-      said_is = refl; range = sizes.range; layouts = tt; room = refl; few = omega arith; commands = tt; count = omega arith;
+      said_is = refl;
+      range = sizes.range;
+      layouts = tt;
+      room = refl;
+      few = omega arith;
+      commands = tt;
+      count = omega arith;
     })
 
 add_layout : (heap : List ℕ) (ls : List Layout) (l : Layout) (said : List (List ℕ)) (line : List ℕ) (cs : List Command) → cs ≡ [] → line ≡ layout_line_of l → said ≡ heap ∷ map layout_line_of ls ++ map command_line_of cs →
@@ -113,10 +119,17 @@ layout_step said r t b line first none few h =
     let layout = layout_ok b.sizes line (first_word line).1 l.0 l.1 in
     let line_is_layout : line ≡ layout_line_of l.0 = line_by_words line (codes "layout") _ first layout.spelled in
     subst (λ (x : ReadSoFar). IsBehind (said ++ line ∷ []) x) (ok_is (record r { layouts = r.layouts ++ l.0 ∷ [] }) t l.2) (record {
-      sizes = b.sizes; sizes_is = b.sizes_is; heap = b.heap; heap_spelled = b.heap_spelled;
+      sizes = b.sizes;
+      sizes_is = b.sizes_is;
+      heap = b.heap;
+      heap_spelled = b.heap_spelled;
       said_is = add_layout b.heap r.layouts l.0 said line r.commands none line_is_layout b.said_is;
-      range = b.range; layouts = all_push IsLayout r.layouts l.0 b.layouts layout.is; room = room_more b.sizes.words r.layouts l.0 b.room layout.room;
-      few = omega (arith, length-append r.layouts (l.0 ∷ [])); commands = b.commands; count = b.count;
+      range = b.range;
+      layouts = all_push IsLayout r.layouts l.0 b.layouts layout.is;
+      room = room_more b.sizes.words r.layouts l.0 b.room layout.room;
+      few = omega (arith, length-append r.layouts (l.0 ∷ []));
+      commands = b.commands;
+      count = b.count;
     })
 
 command_step : (said : List (List ℕ)) (r t : ReadSoFar) (b : IsBehind said r) (line : List ℕ) → command_line r b.sizes line ≡ Ok t → IsBehind (said ++ line ∷ []) t
@@ -133,9 +146,15 @@ command_step said r t b line h =
     let below = g.0 in
     let room : length r.commands < MOST_COMMANDS = grind (arith, nat_tests) in
     subst (λ (x : ReadSoFar). IsBehind (said ++ line ∷ []) x) (ok_is (record r { commands = r.commands ++ command ∷ [] }) t o.2) (record {
-      sizes = b.sizes; sizes_is = b.sizes_is; heap = b.heap; heap_spelled = b.heap_spelled;
+      sizes = b.sizes;
+      sizes_is = b.sizes_is;
+      heap = b.heap;
+      heap_spelled = b.heap_spelled;
       said_is = add_command (b.heap ∷ map layout_line_of r.layouts) command said line r.commands line_is_command b.said_is;
-      range = b.range; layouts = b.layouts; room = b.room; few = b.few;
+      range = b.range;
+      layouts = b.layouts;
+      room = b.room;
+      few = b.few;
       commands = all_push (IsCommand (config_of b.sizes [])) r.commands command b.commands (record { actor = actor.there; own = order.own; order = order.fits });
       count = omega (arith, length-append r.commands (command ∷ []));
     })
@@ -153,15 +172,15 @@ unfolding later_line
 later_step said r t b line h =
     elim (one_of (bytes_eq (first_word line).0 (codes "layout") && (length r.commands == 0) && nat_lt (length r.layouts) MOST_LAYOUTS) _ _ t h) [
       | inl p ↦
-        let most = both_true (bytes_eq (first_word line).0 (codes "layout") && (length r.commands == 0)) (nat_lt (length r.layouts) MOST_LAYOUTS) p.0 in
-        let first = both_true (bytes_eq (first_word line).0 (codes "layout")) (length r.commands == 0) most.0 in
-        let below = most.1 in
-        let few : length r.layouts < MOST_LAYOUTS = ltb-true (length r.layouts) MOST_LAYOUTS below in
-        layout_step said r t b line ((bytes_eq-Decides (first_word line).0 (codes "layout")).0 first.0) (no_length r.commands first.1) few p.1
+          let most = both_true (bytes_eq (first_word line).0 (codes "layout") && (length r.commands == 0)) (nat_lt (length r.layouts) MOST_LAYOUTS) p.0 in
+          let first = both_true (bytes_eq (first_word line).0 (codes "layout")) (length r.commands == 0) most.0 in
+          let below = most.1 in
+          let few : length r.layouts < MOST_LAYOUTS = ltb-true (length r.layouts) MOST_LAYOUTS below in
+          layout_step said r t b line ((bytes_eq-Decides (first_word line).0 (codes "layout")).0 first.0) (no_length r.commands first.1) few p.1
       | inr p ↦
-        let g = guard_ok (length r.layouts == 0) _ _ t p.1 in
-        let e = guard_ok (bytes_eq (first_word line).0 (codes "end")) _ _ t g.1 in
-        command_step said r t b line e.1
+          let g = guard_ok (length r.layouts == 0) _ _ t p.1 in
+          let e = guard_ok (bytes_eq (first_word line).0 (codes "end")) _ _ t g.1 in
+          command_step said r t b line e.1
     ]
 
 -- ---- a line, and the lines
@@ -212,7 +231,9 @@ finished_ok n said r s (inr b) h =
       script = record {
         config = config_in_range b.sizes r.layouts b.range layouts;
         offered = record { frames = b.range.frames_most; pages = b.range.pages_most; threads = b.range.threads_most };
-        layouts = b.layouts; commands = commands_with b.sizes r.layouts r.commands b.commands; count = b.count;
+        layouts = all_from IsLayout r.layouts b.layouts;
+        commands = all_from (IsCommand (config_of b.sizes r.layouts)) r.commands (commands_with b.sizes r.layouts r.commands b.commands);
+        count = b.count;
       };
       heap = b.heap;
       heap_spelled = record { births = b.heap_spelled.births; history = b.heap_spelled.history; births_spelled = b.heap_spelled.births_spelled; history_spelled = b.heap_spelled.history_spelled; line_is = b.heap_spelled.line_is };
@@ -268,7 +289,7 @@ parts_ok bytes parts s e h =
       script = h.all_told.script;
       spelled = record {
         lines = h.lines;
-        each = all_front IsLine h.lines ([] ∷ []) (subst (λ (x : List (List ℕ)). AllByRecursion IsLine x) whole_split (split_lines bytes));
+        each = lines_from h.lines (all_front HasNoNewlines h.lines ([] ∷ []) (subst (λ (x : List (List ℕ)). AllByRecursion HasNoNewlines x) whole_split (split_lines bytes)));
         bytes_are = sym (join_with_byte-slice_split 10 bytes) ∙ ap (join_with_byte 10) whole_split ∙ joined_lines h.lines;
         heap = h.all_told.heap;
         heap_spelled = h.all_told.heap_spelled;

@@ -1,32 +1,29 @@
 -- What is spelled by the bytes, and within all limits, is read.
-use Rattle.std.proofs.Common.{◌≡◌, ℕ, ◌+◌, ◌^◌, ◌<◌, ◌≤◌, Bool, true, false, cond, nat_lt, List, [], ◌∷◌, ◌++◌, length, Option, Some, None, refl, sym, ap, subst, ◌∙◌, arith, inl, inr, append-nil, append_assoc, length-append}
-use Rattle.std.specs.Prelude.{Result, Ok, Err, ◌==◌, ◌&&◌, not, nat_le, codes, ◌⊎◌, map, filter}
+use Rattle.std.proofs.Common.{◌≡◌, ℕ, ◌+◌, ◌<◌, ◌≤◌, Bool, true, false, nat_lt, List, [], ◌∷◌, ◌++◌, length, Option, Some, refl, sym, ap, subst, ◌∙◌, arith, inl, inr, append-nil, append_assoc, length-append}
+use Rattle.std.specs.Prelude.{Ok, ◌==◌, ◌&&◌, nat_le, codes, ◌⊎◌, map, filter}
 use Rattle.std.specs.Str.{bytes_eq}
 use Rattle.std.specs.Fmt.{decimal}
-use Rattle.std.specs.List.{AllByRecursion, list_all, slice_split, flat_map, join_with_byte}
-use Rattle.std.proofs.lemmas.Bool.{le-ltb, lt-ltb}
+use Rattle.std.specs.List.{AllByRecursion, list_all, slice_split}
+use Rattle.std.proofs.lemmas.Bool.{lt-ltb}
 use Rattle.std.proofs.lemmas.Bool.Decides.{nat_tests}
 use Rattle.layout.specs.declared.shape.Layout.{Layout}
 use Rattle.model.specs.declared.config.Config.{Config}
 use Rattle.model.specs.declared.steps.Actor.{Actor}
 use Rattle.model.specs.declared.steps.Actor.TheVariants.{Thread, Worker}
 use Rattle.model.specs.Configs.{fits_page}
-use Rattle.parser.specs.declared.fault.FaultKind.TheVariants as kinds
-use Rattle.parser.specs.declared.fault.Flaw.{Flaw}
 use Rattle.parser.specs.declared.heading.Sizes.{Sizes}
 use Rattle.parser.specs.declared.order.Command.{Command}
 use Rattle.parser.specs.declared.reading.TheConstants.{MOST_COMMANDS, MOST_LAYOUTS}
-use Rattle.parser.specs.Words.{◌>>=◌, flaw, word_at}
-use Rattle.parser.specs.Headings.{config_of, heap_in, layout_in}
-use Rattle.parser.specs.Orders.{actor_at, order_at}
-use Rattle.parser.specs.Reading.{ScriptValue, script_of, ReadSoFar, nothing, newline, is_idle, first_word, heap_line, layout_line, command_line, later_line, line_after, line_in, in_line, goes_on, whole, finished, last_line, lines_in, script_in}
-use Rattle.parser.specs.Spelling.{line_of, actor_word, order_words, command_line_of, layout_line_of, size_words, SpellsHeap, says_something, ended, IsLine, Spells, IsOffered, IsLayout, IsActor, IsCommand, IsScript}
+use Rattle.parser.specs.Headings.{config_of}
+use Rattle.parser.specs.Reading.{ScriptValue, script_of, ReadSoFar, nothing, newline, is_idle, first_word, heap_line, layout_line, command_line, later_line, line_after, line_in, whole, finished, last_line, lines_in, script_in}
+use Rattle.parser.specs.Spelling.{line_of, actor_word, order_words, command_line_of, layout_line_of, size_words, SpellsHeap, says_something, Spells, IsLayout, IsActor, IsCommand, IsScript}
 use Rattle.parser.proofs.Splitting.{IsCons}
 use Rattle.parser.proofs.Places.{words_from, words_whole, space}
 use Rattle.parser.proofs.Operands.{AreFew, order_again, actor_again}
-use Rattle.parser.proofs.HeapLines.{IsSizes, IsHeapAt, heap_again, IsLayoutAt, layout_again, page_size_range}
-use Rattle.parser.proofs.Ranges.{AreLayouts, sizes_in, IsInRange, config_tells}
+use Rattle.parser.proofs.HeapLines.{IsSizes, heap_again, layout_again, page_size_range}
+use Rattle.parser.proofs.Ranges.{sizes_in, config_tells}
 use Rattle.parser.proofs.Lines.{lines_cons}
+use Rattle.parser.proofs.Lists.{all_to, lines_to}
 use Rattle.parser.proofs.ReadIsSpelled.{first_words}
 use Rattle.parser.proofs.Plain.{IsPlain, words_split, lines_split, small_plain, actor_plain, order_plain, heap_plain}
 
@@ -151,11 +148,11 @@ commands_read n z (line ∷ lines) r (c ∷ cs) ready some each count said =
     elim (told_first line lines (map command_line_of (c ∷ cs)) said) [
       | inl idle ↦ goes n r r line lines (idle_taken r line idle.0) ∙ commands_read (n + 1) z lines r (c ∷ cs) ready some each count idle.1
       | inr told ↦
-        let parts = cons_is line (command_line_of c) (filter says_something lines) (map command_line_of cs) told.1 in
-        let t : ReadSoFar = record r { commands = r.commands ++ c ∷ [] } in
-        let taken = command_taken z r c line ready some (omega arith) each.0 told.0 parts.0 in
-        let rest = commands_read (n + 1) z lines t cs (record { sizes_is = ready.sizes_is; range = ready.range }) some each.1 (omega (arith, length-append r.commands (c ∷ []))) parts.1 in
-        goes n r t line lines taken ∙ rest ∙ ap (λ (x : List Command). Ok (script_of (config_of z r.layouts) x)) (append_assoc r.commands (c ∷ []) cs)
+          let parts = cons_is line (command_line_of c) (filter says_something lines) (map command_line_of cs) told.1 in
+          let t : ReadSoFar = record r { commands = r.commands ++ c ∷ [] } in
+          let taken = command_taken z r c line ready some (omega arith) each.0 told.0 parts.0 in
+          let rest = commands_read (n + 1) z lines t cs (record { sizes_is = ready.sizes_is; range = ready.range }) some each.1 (omega (arith, length-append r.commands (c ∷ []))) parts.1 in
+          goes n r t line lines taken ∙ rest ∙ ap (λ (x : List Command). Ok (script_of (config_of z r.layouts) x)) (append_assoc r.commands (c ∷ []) cs)
     ]
 
 none_said : (ls : List Layout) (cs : List Command) → [] ≡ map layout_line_of ls ++ map command_line_of cs → ls ≡ []
@@ -198,16 +195,16 @@ layouts_read n z (line ∷ lines) r (l ∷ ls) cs ready none next all said =
     elim (told_first line lines (map layout_line_of (l ∷ ls) ++ map command_line_of cs) said) [
       | inl idle ↦ goes n r r line lines (idle_taken r line idle.0) ∙ layouts_read (n + 1) z lines r (l ∷ ls) cs ready none next all idle.1
       | inr told ↦
-        let parts = cons_is line (layout_line_of l) (filter says_something lines) (map layout_line_of ls ++ map command_line_of cs) told.1 in
-        let t : ReadSoFar = record r { layouts = r.layouts ++ l ∷ [] } in
-        let few = next.few in
-        let some = next.some in
-        let longer = length-append r.layouts (l ∷ []) in
-        let room = both (fits_page z.words l) (list_all (fits_page z.words) ls) next.room in
-        let taken = layout_taken z r l line ready none (omega arith) next.each.0 room.0 told.0 parts.0 in
-        let after : AreNext z t ls = record { some = omega arith; few = omega arith; each = next.each.1; room = room.1 } in
-        let rest = layouts_read (n + 1) z lines t ls cs (record { sizes_is = ready.sizes_is; range = ready.range }) none after all parts.1 in
-        goes n r t line lines taken ∙ rest ∙ ap (λ (x : List Layout). Ok (script_of (config_of z x) cs)) (append_assoc r.layouts (l ∷ []) ls)
+          let parts = cons_is line (layout_line_of l) (filter says_something lines) (map layout_line_of ls ++ map command_line_of cs) told.1 in
+          let t : ReadSoFar = record r { layouts = r.layouts ++ l ∷ [] } in
+          let few = next.few in
+          let some = next.some in
+          let longer = length-append r.layouts (l ∷ []) in
+          let room = both (fits_page z.words l) (list_all (fits_page z.words) ls) next.room in
+          let taken = layout_taken z r l line ready none (omega arith) next.each.0 room.0 told.0 parts.0 in
+          let after : AreNext z t ls = record { some = omega arith; few = omega arith; each = next.each.1; room = room.1 } in
+          let rest = layouts_read (n + 1) z lines t ls cs (record { sizes_is = ready.sizes_is; range = ready.range }) none after all parts.1 in
+          goes n r t line lines taken ∙ rest ∙ ap (λ (x : List Layout). Ok (script_of (config_of z x) cs)) (append_assoc r.layouts (l ∷ []) ls)
     ]
 
 heap_read : (n : ℕ) (z : Sizes) (heap : List ℕ) (lines : List (List ℕ)) (ls : List Layout) (cs : List Command) → IsSizes z → SpellsHeap heap (config_of z []) → AreNext z nothing ls → AreAll z cs →
@@ -217,11 +214,11 @@ heap_read n z heap (line ∷ lines) ls cs range h next all said =
     elim (told_first line lines (heap ∷ (map layout_line_of ls ++ map command_line_of cs)) said) [
       | inl idle ↦ goes n nothing nothing line lines (idle_taken nothing line idle.0) ∙ heap_read (n + 1) z heap lines ls cs range h next all idle.1
       | inr told ↦
-        let parts = cons_is line heap (filter says_something lines) (map layout_line_of ls ++ map command_line_of cs) told.1 in
-        let t : ReadSoFar = record nothing { sizes = Some z } in
-        let spelled = subst (λ (x : List ℕ). SpellsHeap x (config_of z [])) (sym parts.0) h in
-        let after : AreNext z t ls = record { some = next.some; few = next.few; each = next.each; room = next.room } in
-        goes n nothing t line lines (heap_taken z line range spelled told.0) ∙ layouts_read (n + 1) z lines t ls cs (record { sizes_is = refl; range = range }) refl after all parts.1
+          let parts = cons_is line heap (filter says_something lines) (map layout_line_of ls ++ map command_line_of cs) told.1 in
+          let t : ReadSoFar = record nothing { sizes = Some z } in
+          let spelled = subst (λ (x : List ℕ). SpellsHeap x (config_of z [])) (sym parts.0) h in
+          let after : AreNext z t ls = record { some = next.some; few = next.few; each = next.each; room = next.room } in
+          goes n nothing t line lines (heap_taken z line range spelled told.0) ∙ layouts_read (n + 1) z lines t ls cs (record { sizes_is = refl; range = range }) refl after all parts.1
     ]
 
 commands_of : (c : Config) (cs : List Command) → AllByRecursion (IsCommand c) cs → AllByRecursion (IsCommand (config_of (sizes_in c) [])) cs
@@ -239,10 +236,10 @@ spelled_is_read bytes s h spells =
     let z = sizes_in c in
     let told = config_tells c h.config h.offered in
     let heap : SpellsHeap spells.heap (config_of z []) =
-        record { births = spells.heap_spelled.births; history = spells.heap_spelled.history; births_spelled = spells.heap_spelled.births_spelled; history_spelled = spells.heap_spelled.history_spelled; line_is = spells.heap_spelled.line_is } in
+    record { births = spells.heap_spelled.births; history = spells.heap_spelled.history; births_spelled = spells.heap_spelled.births_spelled; history_spelled = spells.heap_spelled.history_spelled; line_is = spells.heap_spelled.line_is } in
     let some = told.layouts.some in
     let few = told.layouts.few in
-    let next : AreNext z nothing c.layouts = record { some = omega arith; few = omega arith; each = h.layouts; room = told.layouts.room } in
-    let all : AreAll z s.commands = record { each = commands_of c s.commands h.commands; count = h.count } in
-    let cut : slice_split newline bytes ≡ spells.lines ++ [] ∷ [] = ap (slice_split newline) spells.bytes_are ∙ lines_split spells.lines spells.each in
+    let next : AreNext z nothing c.layouts = record { some = omega arith; few = omega arith; each = all_to IsLayout c.layouts h.layouts; room = told.layouts.room } in
+    let all : AreAll z s.commands = record { each = commands_of c s.commands (all_to (IsCommand c) s.commands h.commands); count = h.count } in
+    let cut : slice_split newline bytes ≡ spells.lines ++ [] ∷ [] = ap (slice_split newline) spells.bytes_are ∙ lines_split spells.lines (lines_to spells.lines spells.each) in
     ap (lines_in 1 nothing) cut ∙ heap_read 1 z spells.heap spells.lines c.layouts s.commands told.sizes heap next all spells.said

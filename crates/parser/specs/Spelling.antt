@@ -1,7 +1,7 @@
 -- The grammar: which bytes spell a configuration and commands.
-use Rattle.std.specs.Prelude.{◌≡◌, ℕ, ◌+◌, ◌^◌, ◌<◌, ◌≤◌, ◌≢◌, Bool, not, List, [], ◌∷◌, ◌++◌, length, map, filter, codes, ◌⊎◌}
+use Rattle.std.specs.Prelude.{◌≡◌, ℕ, ◌^◌, ◌<◌, ◌≤◌, ◌≢◌, Bool, not, List, [], ◌∷◌, ◌++◌, length, map, filter, codes, ◌⊎◌}
 use Rattle.std.specs.Fmt.{decimal}
-use Rattle.std.specs.List.{join_with_byte, flat_map, AllByRecursion}
+use Rattle.std.specs.List.{join_with_byte, flat_map, All}
 use Rattle.layout.specs.declared.shape.Layout.{Layout}
 use Rattle.model.specs.declared.config.Config.{Config}
 use Rattle.model.specs.declared.steps.Actor.{Actor}
@@ -12,7 +12,7 @@ use Rattle.parser.specs.declared.order.Order.{Order}
 use Rattle.parser.specs.declared.order.Order.TheVariants as orders
 use Rattle.parser.specs.declared.order.Command.{Command}
 use Rattle.parser.specs.declared.reading.TheConstants.{MOST_COMMANDS}
-use Rattle.parser.specs.Reading.{ScriptValue, is_idle, newline}
+use Rattle.parser.specs.Reading.{ScriptValue, is_idle}
 
 -- the line of words, with one space between each two
 abbrev pub line_of : List (List ℕ) → List ℕ
@@ -75,13 +75,13 @@ ended line = line ++ 10 ∷ []
 
 -- no newline stands in a line
 abbrev pub IsLine : List ℕ → Type 0
-IsLine line = AllByRecursion (λ b. b ≢ 10) line
+IsLine line = All (λ b. b ≢ 10) line
 
 -- The bytes are lines that each end in a newline. Those that say something are a heap line of the
 -- configuration, then a line for each layout, then a line for each command.
 pub record Spells (bytes : List ℕ) (script : ScriptValue) : Type 0 where
   pub lines : List (List ℕ)
-  pub each : AllByRecursion IsLine lines
+  pub each : All IsLine lines
   pub bytes_are : bytes ≡ flat_map ended lines
   pub heap : List ℕ
   pub heap_spelled : SpellsHeap heap script.config
@@ -130,6 +130,6 @@ pub record IsCommand (config : Config) (c : Command) : Type 0 where
 pub record IsScript (script : ScriptValue) : Type 0 where
   pub config : IsConfig script.config
   pub offered : IsOffered script.config
-  pub layouts : AllByRecursion IsLayout script.config.layouts
-  pub commands : AllByRecursion (IsCommand script.config) script.commands
+  pub layouts : All IsLayout script.config.layouts
+  pub commands : All (IsCommand script.config) script.commands
   pub count : length script.commands ≤ MOST_COMMANDS

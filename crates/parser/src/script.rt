@@ -1,7 +1,10 @@
 //! A script as a whole.
 
-ghost use Rattle.std.specs.Prelude.{◌≡◌, ◌<◌, ◌↔◌, Ok, Err, length, IfOk};
-ghost use Rattle.parser.specs.Reading.{script_in};
+ghost use Rattle.std.specs.Prelude.{◌≡◌, ◌↔◌, IfOk};
+ghost use Rattle.std.specs.List.{All};
+ghost use Rattle.model.specs.Configs.{IsConfig};
+ghost use Rattle.parser.specs.Reading.{ScriptValue, script_of, script_in};
+ghost use Rattle.parser.specs.Spelling.{IsCommand, IsScript, Spells};
 ghost use Rattle.parser.specs.Scripts.{IsReadOf, IsTooLong};
 
 use crate::fault::ParseFault;
@@ -14,7 +17,8 @@ use std::marker::Model;
 /// The most bytes of a script.
 pub const MOST_BYTES: usize = 4_194_304;
 
-/// A script: the configuration of its heap, and its commands in order.
+/// A script: the configuration of its heap, and its commands in order. All its numbers are in
+/// their ranges, and its actors and registers are there.
 #[derive(Drop)]
 pub struct Script {
     config: Config,
@@ -28,19 +32,25 @@ impl Model for Script {
     ghost Value = { ScriptValue };
 
     ghost view = { script_value };
+
+    ghost use Rattle.parser.specs.Spelling.{IsScript};
+
+    ghost invariant = { λ s. IsScript (script_value s) };
 }
 
 impl Script {
     /// The configuration of its heap.
     pub fn config(&self) -> &Config
-        ensures { result.now ≡ self.now.config }
+        ensures value { result.now ≡ self.now.config }
+        ensures valid { IsConfig result.now }
     {
         &self.config
     }
 
     /// Its commands in order.
     pub fn commands(&self) -> &[Command]
-        ensures { result.now ≡ self.now.commands }
+        ensures value { result.now ≡ self.now.commands }
+        ensures valid { All (IsCommand self.now.config) result.now }
     {
         &self.commands
     }
@@ -49,18 +59,27 @@ impl Script {
     pub fn into_parts(self) -> (Config, Vec<Command>)
         ensures config { result.0 ≡ self.config }
         ensures commands { result.1.items ≡ self.commands }
+        ensures valid { IsScript (script_of result.0 result.1.items) }
     {
         let Script { config, commands } = self;
         (config, commands)
     }
 }
 
-/// The script that the bytes are, or why they are none: too many bytes, the first fault, or want of
-/// memory.
+/// The script that the bytes spell, or why they spell none: they are too many, there is a first
+/// fault, or memory was refused.
+#[tactic(auto, using(crate::proofs::Promises::read_spelled))]
 pub fn parse(alloc: Global, bytes: &[u8]) -> Result<Script, ParseFault>
-    // It is the script that reading gives, or the first fault.
+    // It is the script that reading gives, or its first fault.
     ensures read { IsReadOf result (script_in bytes.now) }
     ensures too_long { (result ≡ Err ParseFault.TooLong) ↔ IsTooLong bytes.now }
+
+    // What is read keeps to all limits, and the bytes spell it.
+    ensures valid { IfOk result IsScript }
+    ensures spelled { IfOk result (λ s. Spells bytes.now s) }
+
+    // What the bytes spell within all limits is read, unless they are too many or memory is refused.
+    ensures only { (s : ScriptValue) → IsScript s → Spells bytes.now s → IsReadOf result (Ok s) }
 {
     if bytes.len() > MOST_BYTES {
         return Err(ParseFault::TooLong);

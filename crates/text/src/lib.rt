@@ -8,3 +8,6 @@ mod steps;
 pub use line::{put_line, write_line};
 pub use records::{BufferText, FrameText, PageStateText, PhaseText, WordText};
 pub use steps::{ActorText, AnswerText, RefusalText};
+
+#[cfg(test)]
+mod tests;

@@ -1,0 +1,19 @@
+use Rattle.std.proofs.Common.{rules, sym, ◌∙◌}
+use Rattle.parser.specs.Reading.{script_in}
+use Rattle.parser.specs.Scripts.{IsReadOf}
+use Rattle.parser.proofs.SpelledIsRead.{spelled_is_read}
+use Rattle.parser.proofs.Promises.{read_valid, spelled_read}
+use Rattle.parser.proofs.script.parse.Goals as goal
+
+pub returns-in_err-config-clause-only : goal.returns-in_err-config-clause-only
+returns-in_err-config-clause-only c =
+    λ s valid spells. let h : IsReadOf c.from_residual.result (script_in c.args.bytes.now) = search rules in spelled_read c.args.bytes.now c.from_residual.result s h valid spells
+
+pub invariant_of-result : goal.invariant_of-result
+invariant_of-result c = read_valid c.args.bytes.now _ c.in_ok-config.ensures
+
+pub returns-clause-valid : goal.returns-clause-valid
+returns-clause-valid c = read_valid c.args.bytes.now _ c.in_ok-config.ensures
+
+pub returns-clause-only : goal.returns-clause-only
+returns-clause-only c = λ s valid spells. sym (spelled_is_read c.args.bytes.now s valid spells) ∙ c.in_ok-config.ensures

@@ -1,0 +1,172 @@
+//! The texts as a user reads them.
+
+use crate::{
+    BufferText, FrameText, PageStateText, PhaseText, RefusalText, WordText, put_line, write_line,
+};
+use model::{Actor, Answer, Buffer, PageState, Phase, Refusal};
+use refword::{Addr, Word};
+use std::test::Fail;
+
+#[test]
+fn answers(rt: HostRuntime) -> Result<(), Fail> {
+    let mut text = String::new(rt.alloc());
+    let worker = Actor::Worker(3);
+    for (actor, answer, line) in [
+        (
+            Actor::Thread(0),
+            Answer::Lent { page: 1, offset: 4 },
+            "7 t0 lent 1.4\n",
+        ),
+        (Actor::Thread(12), Answer::Birth(5), "7 t12 birth 5\n"),
+        (Actor::Thread(0), Answer::Loaded, "7 t0 loaded\n"),
+        (Actor::Thread(0), Answer::Moved, "7 t0 moved\n"),
+        (Actor::Thread(0), Answer::Marked, "7 t0 marked\n"),
+        (Actor::Thread(0), Answer::Clear, "7 t0 clear\n"),
+        (Actor::Thread(0), Answer::Healed, "7 t0 healed\n"),
+        (Actor::Thread(0), Answer::Changed, "7 t0 changed\n"),
+        (Actor::Thread(0), Answer::Clean, "7 t0 clean\n"),
+        (
+            Actor::Thread(0),
+            Answer::Datum(u64::MAX),
+            "7 t0 datum 18446744073709551615\n",
+        ),
+        (Actor::Thread(0), Answer::Truth(true), "7 t0 true\n"),
+        (Actor::Thread(0), Answer::Truth(false), "7 t0 false\n"),
+        (worker, Answer::Scanned, "7 w3 scanned\n"),
+        (worker, Answer::Finished, "7 w3 done\n"),
+        (worker, Answer::Done, "7 w3 ok\n"),
+        (
+            worker,
+            Answer::MovedTo { page: 2, offset: 0 },
+            "7 w3 copied 2.0\n",
+        ),
+        (
+            worker,
+            Answer::Ended {
+                live: 2,
+                retired: 1,
+            },
+            "7 w3 ended live 2 retired 1\n",
+        ),
+        (
+            worker,
+            Answer::Protected {
+                objects: 5,
+                targets: 1,
+            },
+            "7 w3 protected objects 5 targets 1\n",
+        ),
+        (
+            worker,
+            Answer::Released { free: 2 },
+            "7 w3 released free 2\n",
+        ),
+    ] {
+        text.clear();
+        put_line(&mut text, 7, actor, Ok(answer))?;
+        assert_eq!(rt; text.as_str(), line);
+    }
+    Ok(())
+}
+
+#[test]
+fn refusals(rt: HostRuntime) -> Result<(), Fail> {
+    for (refusal, name) in [
+        (Refusal::NoActor, "NoActor"),
+        (Refusal::BadIndex, "BadIndex"),
+        (Refusal::Parked, "Parked"),
+        (Refusal::NotParked, "NotParked"),
+        (Refusal::Busy, "Busy"),
+        (Refusal::NotBusy, "NotBusy"),
+        (Refusal::Null, "Null"),
+        (Refusal::Stall, "Stall"),
+        (Refusal::Stale, "Stale"),
+        (Refusal::NoRoom, "NoRoom"),
+        (Refusal::HasBuffer, "HasBuffer"),
+        (Refusal::NoFrames { need: 1, free: 0 }, "NoFrames 1 0"),
+        (Refusal::NoPages, "NoPages"),
+        (Refusal::Phase, "Phase"),
+        (Refusal::AlreadyCrossed, "AlreadyCrossed"),
+        (Refusal::NotCrossed { thread: 1 }, "NotCrossed 1"),
+        (Refusal::NotTodo, "NotTodo"),
+        (Refusal::Taken, "Taken"),
+        (Refusal::TodoLeft, "TodoLeft"),
+        (Refusal::Pending { thread: 0 }, "Pending 0"),
+        (Refusal::Unripe { page: 2 }, "Unripe 2"),
+        (Refusal::Uncopied { page: 1 }, "Uncopied 1"),
+        (Refusal::Copied, "Copied"),
+        (Refusal::Lent { page: 2 }, "Lent 2"),
+        (Refusal::Births, "Births"),
+        (Refusal::HistoryFull, "HistoryFull"),
+        (Refusal::Memory, "Memory"),
+    ] {
+        let refusal = RefusalText(refusal);
+        assert_eq!(rt; format!(in rt.alloc(); "{refusal}")?.as_str(), name);
+    }
+    Ok(())
+}
+
+#[test]
+fn parts(rt: HostRuntime) -> Result<(), Fail> {
+    let word = Addr::new(28).map_or(Word::null(), |addr| Word::of(addr, true));
+    let marked = WordText::new(word, 16);
+    let clear = WordText::new(word.with_nmt(false), 16);
+    let null = WordText::new(Word::null(), 16);
+    let words = format!(in rt.alloc(); "{marked} {clear} {null}")?;
+    assert_eq!(rt; words.as_str(), "1.12/1 1.12/0 -");
+    let buffer = BufferText(Some(Buffer {
+        page: 1,
+        next: 15,
+        end: 16,
+    }));
+    let none = BufferText(None);
+    let frame = FrameText(Some(0));
+    let no_frame = FrameText(None);
+    let buffers = format!(in rt.alloc(); "{buffer} {none} {frame} {no_frame}")?;
+    assert_eq!(rt; buffers.as_str(), "1.15-16 - 0 -");
+    Ok(())
+}
+
+#[test]
+fn names(rt: HostRuntime) -> Result<(), Fail> {
+    for (phase, name) in [
+        (Phase::Idle, "idle"),
+        (Phase::MarkCrossing, "mark-crossing"),
+        (Phase::Scanning, "scanning"),
+        (Phase::ProtectCrossing, "protect-crossing"),
+        (Phase::Relocating, "relocating"),
+    ] {
+        let phase = PhaseText(phase);
+        assert_eq!(rt; format!(in rt.alloc(); "{phase}")?.as_str(), name);
+    }
+    for (state, name) in [
+        (PageState::Unused, "unused"),
+        (PageState::Open, "open"),
+        (PageState::Closed, "closed"),
+        (PageState::From, "from"),
+        (PageState::Gone, "gone"),
+    ] {
+        let state = PageStateText(state);
+        assert_eq!(rt; format!(in rt.alloc(); "{state}")?.as_str(), name);
+    }
+    Ok(())
+}
+
+#[test]
+fn written(rt: HostRuntime) -> Result<(), Fail> {
+    let mut text = String::from_str(rt.alloc(), "old")?;
+    let mut out: Vec<u8> = Vec::new(rt.alloc());
+    write_line(
+        &mut out,
+        &mut text,
+        5,
+        Actor::Thread(0),
+        Err(Refusal::NoRoom),
+    )?;
+    write_line(&mut out, &mut text, 6, Actor::Thread(0), Ok(Answer::Done))?;
+    assert_eq!(rt;
+        out.as_slice(),
+        b"5 t0 refused NoRoom\n6 t0 ok\n".as_slice()
+    );
+    Ok(())
+}
