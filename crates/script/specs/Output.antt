@@ -16,7 +16,7 @@ use Rattle.parser.specs.Reading.{ScriptValue}
 use Rattle.text.specs.Texts.{line_text, phase_text, bit_text, page_state_text, frame_text, buffer_text, word_text}
 
 -- the texts of a list's elements, one after another, the first being number i
-abbrev pub texts_from : {X : Type 0} → (ℕ → X → List ℕ) → ℕ → List X → List ℕ
+unfoldable pub texts_from : {X : Type 0} → (ℕ → X → List ℕ) → ℕ → List X → List ℕ
 texts_from f i [] = []
 texts_from f i (x ∷ xs) = f i x ++ texts_from f (i + 1) xs
 
@@ -37,11 +37,15 @@ bits_of_row (Some row) = count_by (λ b. b) row
 abbrev pub bits_in : List (List Bool) → ℕ → ℕ
 bits_in rows i = bits_of_row (slice_get rows i)
 
+-- the line of a page in use
+abbrev pub used_page_line : ℕ → Page → ℕ → ℕ → List ℕ
+used_page_line number p objects live =
+    codes "page " ++ decimal number ++ codes " " ++ page_state_text p.state ++ codes " frame " ++ frame_text p.frame ++ codes " top " ++ decimal p.top
+    ++ codes " objects " ++ decimal objects ++ codes " live " ++ decimal live ++ 10 ∷ []
+
 -- the line of the page whose record stands at i; an unused one has none
-abbrev pub page_line : HeapState → ℕ → Page → List ℕ
-page_line h i p = if is_unused p.state then [] else
-    (codes "page " ++ decimal (i + 1) ++ codes " " ++ page_state_text p.state ++ codes " frame " ++ frame_text p.frame ++ codes " top " ++ decimal p.top
-     ++ codes " objects " ++ decimal (bits_in h.starts i) ++ codes " live " ++ decimal (bits_in h.live i) ++ 10 ∷ [])
+unfoldable pub page_line : HeapState → ℕ → Page → List ℕ
+page_line h i p = if is_unused p.state then [] else used_page_line (i + 1) p (bits_in h.starts i) (bits_in h.live i)
 
 abbrev pub register_text : ℕ → ℕ → Reference → List ℕ
 register_text page_words r w = codes " r" ++ decimal r ++ codes " " ++ word_text page_words w
@@ -58,10 +62,27 @@ thread_line page_words n t = codes "thread " ++ decimal n ++ codes " " ++ state_
 abbrev pub global_line : ℕ → ℕ → Global → List ℕ
 global_line page_words n g = codes "global " ++ decimal n ++ codes " " ++ word_text page_words g.word ++ 10 ∷ []
 
--- the heap as it stands
-unfoldable pub report_text : HeapState → List ℕ
-report_text h =
-    head_line h ++ (texts_from (page_line h) 0 h.store.pages ++ (texts_from (thread_line h.store.words) 0 h.threads ++ texts_from (global_line h.store.words) 0 h.globals))
+-- the line of mark number k, if the answer ended it
+abbrev pub cycle_line : ℕ → Answer → List ℕ
+cycle_line k (answers.Ended live retired) = codes "cycle " ++ decimal k ++ codes " live " ++ decimal live ++ codes " retired " ++ decimal retired ++ 10 ∷ []
+cycle_line k _ = []
+
+-- the number of the next mark to end
+abbrev pub next_cycle : ℕ → Answer → ℕ
+next_cycle k (answers.Ended live retired) = k + 1
+next_cycle k _ = k
+
+-- the lines of the marks that ended, of which the first is number k
+unfoldable pub cycles_from : ℕ → List Entry → List ℕ
+cycles_from k [] = []
+cycles_from k (e ∷ es) = cycle_line k e.answer ++ cycles_from (next_cycle k e.answer) es
+
+-- the heap as it stands, and what each mark has found
+unfoldable pub report_text : HeapState → List Entry → List ℕ
+report_text h history =
+    head_line h
+    ++ (texts_from (page_line h) 0 h.store.pages
+        ++ (texts_from (thread_line h.store.words) 0 h.threads ++ (texts_from (global_line h.store.words) 0 h.globals ++ cycles_from 1 history)))
 
 -- the commands
 
@@ -87,6 +108,9 @@ unfoldable pub book_after : BookState → List Command → BookState
 book_after b [] = b
 book_after b (c ∷ cs) = book_after (book_of b (done b c)) cs
 
+abbrev pub report_of : BookState → List ℕ
+report_of b = report_text b.heap b.history
+
 -- the lines of a script's commands, then the report
 unfoldable pub output_text : ScriptValue → List ℕ
-output_text s = lines_text 1 (first_book s.config) s.commands ++ report_text (book_after (first_book s.config) s.commands).heap
+output_text s = lines_text 1 (first_book s.config) s.commands ++ report_of (book_after (first_book s.config) s.commands)

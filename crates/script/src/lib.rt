@@ -3,6 +3,10 @@
 
 mod fault;
 mod lines;
+mod reporting;
+mod schedule;
 
 pub use fault::RunFault;
 pub use parser::{Command, FaultKind, LineFault, Order, ParseFault, Script, parse};
+pub use reporting::report;
+pub use schedule::by_schedule;

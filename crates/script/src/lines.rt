@@ -1,21 +1,29 @@
 //! The lines of a report, each put at the end of a text.
 
-ghost use Rattle.std.specs.Prelude.{◌≡◌, ◌++◌, ◌<◌, OnOk, string_bytes, count_by, not, length, slice_get};
-ghost use Rattle.script.specs.Output.{head_line, page_line, thread_line, global_line, registers_text, state_text, bits_in};
+ghost use Rattle.std.specs.Prelude.{◌≡◌, ◌++◌, ◌<◌, ◌^◌, ◌+◌, OnOk, string_bytes, count_by, not, length, slice_get};
+ghost use Rattle.script.specs.Output.{head_line, page_line, used_page_line, thread_line, global_line, cycle_line, register_text, registers_text, state_text, bits_in};
+ghost use Rattle.text.specs.Texts.{bit_text};
+ghost use Rattle.model.specs.Stores.{is_unused};
 
 use heap::{Heap, Rows, Thread};
-use model::{Global, Page, PageState};
+use model::{Answer, Global, Page, PageState};
 use refword::Word;
 use std::alloc::AllocError;
 use std::fmt::Write as _;
 use text::{BufferText, FrameText, PageStateText, PhaseText, WordText};
+
+fn bit(bit: bool) -> &'static str
+    ensures { result.now ≡ bit_text bit }
+{
+    if bit { "1" } else { "0" }
+}
 
 /// The first line: the collector's state, and how many frames are used.
 pub fn put_head(text: &mut String, heap: &Heap) -> Result<(), AllocError>
     ensures { OnOk result (string_bytes text.new ≡ string_bytes text.old ++ head_line heap.now) }
 {
     let phase = PhaseText(heap.phase());
-    let nmt = u8::from(heap.nmt());
+    let nmt = bit(heap.nmt());
     let births = heap.births();
     let all = heap.store().frame_count();
     let used = heap.store().used_frames();
@@ -31,24 +39,53 @@ fn bits_in(rows: &Rows, index: usize) -> usize
     }
 }
 
-/// The line of the page of an index; nothing where it is unused.
-pub fn put_page(text: &mut String, heap: &Heap, index: usize, page: Page) -> Result<(), AllocError>
-    requires { index < 2 ^ 32 }
-    ensures { OnOk result (string_bytes text.new ≡ string_bytes text.old ++ page_line heap.now index page) }
+fn is_unused(page: Page) -> bool
+    ensures { result ≡ is_unused page.state }
 {
-    if matches!(page.state, PageState::Unused) {
-        return Ok(());
-    }
-    let number = index + 1;
+    matches!(page.state, PageState::Unused)
+}
+
+fn put_used_page(
+    text: &mut String,
+    number: usize,
+    page: Page,
+    objects: usize,
+    live: usize,
+) -> Result<(), AllocError>
+    ensures { OnOk result (string_bytes text.new ≡ string_bytes text.old ++ used_page_line number page objects live) }
+{
     let state = PageStateText(page.state);
     let frame = FrameText(page.frame);
     let top = page.top;
+    write!(text, "page {number} {state} frame {frame} top {top}")?;
+    writeln!(text, " objects {objects} live {live}")
+}
+
+/// The line of the page of an index; nothing where it is unused.
+#[tactic(auto, unfolding(crate::specs::Output::page_line))]
+pub fn put_page(text: &mut String, heap: &Heap, index: usize, page: Page) -> Result<(), AllocError>
+    requires { index + 1 < 2 ^ 64 }
+    ensures { OnOk result (string_bytes text.new ≡ string_bytes text.old ++ page_line heap.now index page) }
+{
+    if is_unused(page) {
+        return Ok(());
+    }
     let objects = bits_in(heap.starts(), index);
     let live = bits_in(heap.live(), index);
-    writeln!(
-        text,
-        "page {number} {state} frame {frame} top {top} objects {objects} live {live}"
-    )
+    put_used_page(text, index + 1, page, objects, live)
+}
+
+fn put_register(
+    text: &mut String,
+    page_words: u32,
+    number: usize,
+    word: Word,
+) -> Result<(), AllocError>
+    requires { 0 < page_words }
+    ensures { OnOk result (string_bytes text.new ≡ string_bytes text.old ++ register_text page_words number word) }
+{
+    let word = WordText::new(word, page_words);
+    write!(text, " r{number} {word}")
 }
 
 fn put_registers(text: &mut String, words: &[Word], page_words: u32) -> Result<(), AllocError>
@@ -56,8 +93,7 @@ fn put_registers(text: &mut String, words: &[Word], page_words: u32) -> Result<(
     ensures { OnOk result (string_bytes text.new ≡ string_bytes text.old ++ registers_text page_words words.now) }
 {
     for (number, word) in words.iter().enumerate() {
-        let word = WordText::new(*word, page_words);
-        write!(text, " r{number} {word}")?;
+        put_register(text, page_words, number, *word)?;
     }
     Ok(())
 }
@@ -103,4 +139,16 @@ pub fn put_global(
 {
     let word = WordText::new(global.word, page_words);
     writeln!(text, "global {number} {word}")
+}
+
+/// The line of a mark that ended; nothing for another answer.
+pub fn put_cycle(text: &mut String, number: u64, answer: Answer) -> Result<(), AllocError>
+    ensures { OnOk result (string_bytes text.new ≡ string_bytes text.old ++ cycle_line number answer) }
+{
+    match answer {
+        Answer::Ended { live, retired } => {
+            writeln!(text, "cycle {number} live {live} retired {retired}")
+        }
+        _ => Ok(()),
+    }
 }
