@@ -256,6 +256,11 @@ actor_keyword : (actor : Actor) (w : List ℕ) (k : Keyword) (o : Order) → key
 actor_keyword (Thread t) w k o h = (tt, keyword_ok w k h)
 actor_keyword (Worker t) w k o h = absurd cc
 
+-- an order's name, its operands, and no more words
+whole_order : (x : List (List ℕ)) (w text : List ℕ) (y rest operands : List (List ℕ)) → x ≡ w ∷ y → w ≡ text → y ≡ operands ++ rest → rest ≡ [] → x ≡ text ∷ operands
+whole_order x w text y rest operands p q r s =
+    p ∙ ap (λ (t : List ℕ). t ∷ y) q ∙ ap (λ (t : List (List ℕ)). text ∷ t) (r ∙ ap (λ (t : List (List ℕ)). operands ++ t) s ∙ append-nil operands)
+
 -- an order is spelled from a place to the end
 pub record IsOrderFrom (sizes : Sizes) (line : List ℕ) (actor : Actor) (at : ℕ) (o : Order) : Type 0 where
   pub spelled : words_from line at ≡ order_words o
@@ -273,11 +278,9 @@ order_ok sizes line actor at o fits h =
     let key = actor_keyword actor w.0.0 k.0 v.0.0 (or_flaw_ok (keyword_in actor w.0.0) (flaw at kinds.UnknownWord) k.0 k.1) in
     let operands = operands_ok sizes line w.0.1 k.0 v.0 fits v.1 in
     let last = end_ok line v.0.1 e.0 e.1 in
-    let all : words_from line at ≡ order_words v.0.0 =
-    first ∙ ap (λ (t : List ℕ). t ∷ words_from line w.0.1) (key.1 ∙ sym (ap keyword_text operands.keyword))
-    ∙ ap (λ (t : List (List ℕ)). keyword_text (keyword_of v.0.0) ∷ t) (operands.spelled ∙ ap (λ (t : List (List ℕ)). operand_words v.0.0 ++ t) last ∙ append-nil (operand_words v.0.0))
-    ∙ sym (words_are v.0.0) in
-    subst (λ (x : Order). IsOrderFrom sizes line actor at x) (ok_is v.0.0 o e.2) (record { spelled = all; own = key.0; fits = operands.fits })
+    let all : words_from line at ≡ keyword_text (keyword_of v.0.0) ∷ operand_words v.0.0 =
+    whole_order (words_from line at) w.0.0 (keyword_text (keyword_of v.0.0)) (words_from line w.0.1) (words_from line v.0.1) (operand_words v.0.0) first (key.1 ∙ sym (ap keyword_text operands.keyword)) operands.spelled last in
+    subst (λ (x : Order). IsOrderFrom sizes line actor at x) (ok_is v.0.0 o e.2) (record { spelled = all ∙ sym (words_are v.0.0); own = key.0; fits = operands.fits })
 
 in_keyword : (actor : Actor) (o : Order) (k : Keyword) → IsFor actor o → keyword_in actor (keyword_text k) ≡ Some k
 in_keyword (Thread t) o k own = keyword_again k

@@ -10,7 +10,7 @@ mod words;
 
 pub use fault::{FaultKind, LineFault, ParseFault};
 pub use order::{Command, Order};
-pub use script::{MOST_BYTES, Script, parse};
+pub use script::{MOST_BYTES, Script, one_reading, parse};
 
 #[cfg(test)]
 mod tests;

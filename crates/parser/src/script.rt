@@ -1,6 +1,6 @@
 //! A script as a whole.
 
-ghost use Rattle.std.specs.Prelude.{◌≡◌, ◌↔◌, IfOk};
+ghost use Rattle.std.specs.Prelude.{◌≡◌, ◌↔◌, ℕ, List, IfOk};
 ghost use Rattle.std.specs.List.{All};
 ghost use Rattle.model.specs.Configs.{IsConfig};
 ghost use Rattle.parser.specs.Reading.{ScriptValue, script_of, script_in};
@@ -87,3 +87,8 @@ pub fn parse(alloc: Global, bytes: &[u8]) -> Result<Script, ParseFault>
     let (config, commands) = read(alloc, bytes)?;
     Ok(Script { config, commands })
 }
+
+/// No bytes spell two scripts within the limits. It does nothing: its contract is the law.
+pub fn one_reading()
+    ensures { (bytes : List ℕ) (s t : ScriptValue) → IsScript s → IsScript t → Spells bytes s → Spells bytes t → s ≡ t }
+{}
