@@ -1,0 +1,134 @@
+//! Serving what was asked for.
+
+ghost use Rattle.std.specs.Prelude.{◌≡◌, ◌<◌, IfSome, OnOk, IfOk};
+ghost use Rattle.std.specs.Io.KnownBytes.{Appends, Keeps};
+ghost use Rattle.script.specs.Output.{output_text};
+ghost use Rattle.report.specs.Serving.{Prints, ReadsUpTo};
+
+use crate::asking::{Asked, Mode};
+use script::{ParseFault, RunFault, Script, by_schedule, parse};
+use std::alloc::Global;
+use std::io;
+use std::io::Read as _;
+
+/// Why a script wasn't run to its end.
+#[derive(Clone, Copy, Debug, PartialEq, Eq)]
+enum ServeFault {
+    /// The file can't be read.
+    Read,
+    /// The bytes are no script.
+    Parse(ParseFault),
+    /// The run ended before its end.
+    Run(RunFault),
+}
+
+/// Writes the line of a file that can't be read, and gives the exit status.
+pub fn cannot_read<E: io::Write>(asked: &Asked, errors: &mut E) -> u8
+    ensures { result ≡ 3 }
+{
+    let file = asked.file();
+    let _ = writeln!(errors, "pauseless: cannot read {file}");
+    3
+}
+
+/// The bytes of a script: at most one more than it may have.
+fn read_bytes<R: io::Read>(alloc: Global, reader: &mut R) -> Result<Vec<u8>, ServeFault>
+    ensures { IfOk result (λ bytes. ReadsUpTo (R.remaining reader.old) bytes.items) }
+{
+    let mut bytes = Vec::new(alloc);
+    let limit = script::MOST_BYTES as u64 + 1;
+    match reader.by_ref().take(limit).read_to_end(&mut bytes) {
+        Ok(_) => Ok(bytes),
+        Err(error) => Err(match error.kind() {
+            io::ErrorKind::OutOfMemory => ServeFault::Run(RunFault::Memory),
+            _ => ServeFault::Read,
+        }),
+    }
+}
+
+/// Runs the script that the bytes spell.
+fn run_bytes<O: io::Write>(alloc: Global, bytes: &[u8], output: &mut O) -> Result<(), ServeFault>
+    ensures { OnOk result (Prints bytes.now (O.contents output.old) (O.contents output.new)) }
+{
+    let script = match parse(alloc, bytes) {
+        Ok(script) => script,
+        Err(fault) => return Err(ServeFault::Parse(fault)),
+    };
+    run_script(alloc, &script, output)
+}
+
+fn run_script<O: io::Write>(
+    alloc: Global,
+    script: &Script,
+    output: &mut O,
+) -> Result<(), ServeFault>
+    ensures { OnOk result (Appends (O.contents output.old) (O.contents output.new) (output_text script.now)) }
+{
+    match by_schedule(alloc, script, output) {
+        Ok(()) => flushed(output),
+        Err(fault) => Err(ServeFault::Run(fault)),
+    }
+}
+
+fn flushed<O: io::Write>(output: &mut O) -> Result<(), ServeFault>
+    ensures { OnOk result (Keeps (O.contents output.old) (O.contents output.new)) }
+{
+    match output.flush() {
+        Ok(()) => Ok(()),
+        Err(_) => Err(ServeFault::Run(RunFault::Write)),
+    }
+}
+
+impl ServeFault {
+    /// Writes its line to standard error, and gives the exit status.
+    fn tell<E: io::Write>(self, asked: &Asked, errors: &mut E) -> u8
+        ensures { 0 < result }
+    {
+        match self {
+            ServeFault::Read => return cannot_read(asked, errors),
+            ServeFault::Parse(fault) => {
+                let _ = writeln!(errors, "pauseless: {fault}");
+            }
+            ServeFault::Run(fault) => {
+                let _ = writeln!(errors, "pauseless: {fault}");
+            }
+        }
+        match self {
+            ServeFault::Parse(ParseFault::Line(_) | ParseFault::TooLong) => 2,
+            _ => 3,
+        }
+    }
+}
+
+fn run<R: io::Read, O: io::Write>(
+    alloc: Global,
+    reader: &mut R,
+    output: &mut O,
+) -> Result<(), ServeFault>
+    ensures { OnOk result (IfSome (R.remaining reader.old) (λ bytes. Prints bytes (O.contents output.old) (O.contents output.new))) }
+{
+    let bytes = read_bytes(alloc, reader)?;
+    run_bytes(alloc, &bytes, output)
+}
+
+/// Reads the script and does what was asked for; writes to `output` and `errors` as to standard
+/// output and standard error, and gives the exit status.
+///
+/// 0: it is done. 2: the script has a fault. 3: memory was refused, or the file can't be read,
+/// or the output can't be written. A fault is one line of `errors`.
+pub fn serve<R: io::Read, O: io::Write, E: io::Write>(
+    alloc: Global,
+    asked: &Asked,
+    reader: &mut R,
+    output: &mut O,
+    errors: &mut E,
+) -> u8
+    ensures { result ≡ 0 → IfSome (R.remaining reader.old) (λ bytes. Prints bytes (O.contents output.old) (O.contents output.new)) }
+{
+    match asked.mode() {
+        Mode::Run => match run(alloc, reader, output) {
+            Ok(()) => 0,
+            Err(fault) => fault.tell(asked, errors),
+        },
+    }
+}
