@@ -5,7 +5,7 @@ mod asking;
 mod serving;
 
 use crate::asking::{AskFault, ask};
-use crate::serving::{cannot_read, serve};
+use crate::serving::{not_opened, serve};
 use std::io;
 use std::process::ExitCode;
 use std::rt::Files;
@@ -20,18 +20,26 @@ fn words(rt: &HostRuntime) -> io::Result<Vec<String>> {
     Ok(words)
 }
 
-fn main(rt: HostRuntime) -> io::Result<ExitCode> {
-    let words = words(&rt)?;
-    let mut errors = rt.stderr();
-    let status = match ask(rt.alloc(), &words) {
-        Err(fault) => fault.tell(&mut errors),
-        Ok(asked) => match fs::open(&rt, asked.file()) {
-            Err(_) => cannot_read(&asked, &mut errors),
-            Ok(mut file) => {
-                let mut output = io::BufWriter::new(rt.alloc(), io::writer(&rt))?;
-                serve(rt.alloc(), &asked, &mut file, &mut output, &mut errors)
-            }
-        },
+/// Does what the words ask for, and gives the exit status. The errors are want of memory.
+fn served<E: io::Write>(rt: &HostRuntime, errors: &mut E) -> io::Result<u8> {
+    let words = words(rt)?;
+    let asked = match ask(rt.alloc(), &words) {
+        Ok(asked) => asked,
+        Err(fault) => return Ok(fault.tell(errors)),
     };
-    Ok(ExitCode::from(status))
+    let mut file = match fs::open(rt, asked.file()) {
+        Ok(file) => file,
+        Err(error) => return Ok(not_opened(&asked, &error, errors)),
+    };
+    let mut output = io::BufWriter::new(rt.alloc(), io::writer(rt))?;
+    Ok(serve(rt.alloc(), &asked, &mut file, &mut output, errors))
+}
+
+fn main(rt: HostRuntime) -> ExitCode {
+    let mut errors = rt.stderr();
+    let status = match served(&rt, &mut errors) {
+        Ok(status) => status,
+        Err(_) => AskFault::Memory.tell(&mut errors),
+    };
+    ExitCode::from(status)
 }

@@ -1,12 +1,12 @@
 //! Serving what was asked for.
 
-ghost use Rattle.std.specs.Prelude.{◌≡◌, ◌<◌, IfSome, OnOk, IfOk};
+ghost use Rattle.std.specs.Prelude.{◌≡◌, ◌<◌, ◌≤◌, length, IfSome, OnOk, IfOk};
 ghost use Rattle.std.specs.Io.KnownBytes.{Appends, Keeps};
 ghost use Rattle.script.specs.Output.{output_text};
 ghost use Rattle.report.specs.Serving.{Prints, ReadsUpTo};
 
 use crate::asking::{Asked, Mode};
-use script::{ParseFault, RunFault, Script, by_schedule, parse};
+use script::{MOST_BYTES, ParseFault, RunFault, Script, by_schedule, parse};
 use std::alloc::Global;
 use std::io;
 use std::io::Read as _;
@@ -22,8 +22,19 @@ enum ServeFault {
     Run(RunFault),
 }
 
+/// Writes the line of a file that can't be opened, and gives the exit status.
+pub fn not_opened<E: io::Write>(asked: &Asked, error: &io::Error, errors: &mut E) -> u8
+    ensures { result ≡ 3 }
+{
+    if matches!(error.kind(), io::ErrorKind::OutOfMemory) {
+        let _ = writeln!(errors, "pauseless: out of memory");
+        return 3;
+    }
+    cannot_read(asked, errors)
+}
+
 /// Writes the line of a file that can't be read, and gives the exit status.
-pub fn cannot_read<E: io::Write>(asked: &Asked, errors: &mut E) -> u8
+fn cannot_read<E: io::Write>(asked: &Asked, errors: &mut E) -> u8
     ensures { result ≡ 3 }
 {
     let file = asked.file();
@@ -36,7 +47,7 @@ fn read_bytes<R: io::Read>(alloc: Global, reader: &mut R) -> Result<Vec<u8>, Ser
     ensures { IfOk result (λ bytes. ReadsUpTo (R.remaining reader.old) bytes.items) }
 {
     let mut bytes = Vec::new(alloc);
-    let limit = script::MOST_BYTES as u64 + 1;
+    let limit = MOST_BYTES as u64 + 1;
     match reader.by_ref().take(limit).read_to_end(&mut bytes) {
         Ok(_) => Ok(bytes),
         Err(error) => Err(match error.kind() {
@@ -48,8 +59,12 @@ fn read_bytes<R: io::Read>(alloc: Global, reader: &mut R) -> Result<Vec<u8>, Ser
 
 /// Runs the script that the bytes spell.
 fn run_bytes<O: io::Write>(alloc: Global, bytes: &[u8], output: &mut O) -> Result<(), ServeFault>
-    ensures { OnOk result (Prints bytes.now (O.contents output.old) (O.contents output.new)) }
+    ensures prints { OnOk result (Prints bytes.now (O.contents output.old) (O.contents output.new)) }
+    ensures fits { OnOk result (length bytes.now ≤ MOST_BYTES) }
 {
+    if bytes.len() > MOST_BYTES {
+        return Err(ServeFault::Parse(ParseFault::TooLong));
+    }
     let script = match parse(alloc, bytes) {
         Ok(script) => script,
         Err(fault) => return Err(ServeFault::Parse(fault)),

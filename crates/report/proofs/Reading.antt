@@ -1,0 +1,23 @@
+-- Reading a reader to its end, or to one byte more than a script may have.
+use Rattle.std.proofs.Common.{◌≡◌, ℕ, ◌+◌, ◌<◌, ◌≤◌, List, [], ◌++◌, length, take, Option, Some, None, IfSome, refl, sym, ◌∙◌, ap, subst, arith, rules}
+use Rattle.std.specs.Option.{option_map}
+use Rattle.std.specs.Prelude.{Result, Ok, Err, OnOk}
+use Rattle.std.proofs.lemmas.List.{length-take, take_all, length-take-le}
+use Rattle.report.specs.Serving.{ReadsUpTo, Prints}
+
+-- what is shorter than what was asked for is all
+pub whole : (limit : ℕ) (all bytes : List ℕ) → bytes ≡ take (limit + 1) all → length bytes ≤ limit → bytes ≡ all
+whole limit all bytes e h =
+    let size : length (take (limit + 1) all) ≤ limit = subst (λ (b : List ℕ). length b ≤ limit) e h in
+    e ∙ take_all (limit + 1) all (omega (arith, size, length-take (limit + 1) all))
+
+-- what was printed of the bytes that were read was printed of all
+pub prints_all : {E : Type 0} (r : Result Unit E) (limit : ℕ) (known : Option (List ℕ)) (bytes : List ℕ) (old new : Option (List ℕ)) →
+    IfSome known (λ all. bytes ≡ take (limit + 1) all) → OnOk r (length bytes ≤ limit) → OnOk r (Prints bytes old new) → OnOk r (IfSome known (λ all. Prints all old new))
+prints_all (Err e) limit known bytes old new h k p = search rules
+prints_all (Ok u) limit None bytes old new h k p = search rules
+prints_all (Ok u) limit (Some all) bytes old new h k p = subst (λ (b : List ℕ). Prints b old new) (whole limit all bytes h k) p
+
+pub read_up_to : (limit n : ℕ) (known : Option (List ℕ)) (bytes : List ℕ) → n ≡ limit → IfSome (option_map (take n) known) (λ xs. bytes ≡ [] ++ xs) → IfSome known (λ all. bytes ≡ take limit all)
+read_up_to limit n None bytes e h = search rules
+read_up_to limit n (Some all) bytes e h = h ∙ ap (λ k. take k all) e
