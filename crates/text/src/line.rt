@@ -34,7 +34,8 @@ pub fn put_line(
 }
 
 /// Writes the line of a command. `text` is room that is used again: what it holds is lost. The
-/// error is the writer's, or want of memory.
+/// error is the writer's, or want of memory; when a writer fails no clause can say, so a test shows
+/// that a line is written.
 pub fn write_line<W: io::Write>(
     w: &mut W,
     text: &mut String,
