@@ -18,6 +18,9 @@ prints_all (Err e) limit known bytes old new h k p = search rules
 prints_all (Ok u) limit None bytes old new h k p = search rules
 prints_all (Ok u) limit (Some all) bytes old new h k p = subst (λ (b : List ℕ). Prints b old new) (whole limit all bytes h k) p
 
-pub read_up_to : (limit n : ℕ) (known : Option (List ℕ)) (bytes : List ℕ) → n ≡ limit → IfSome (option_map (take n) known) (λ xs. bytes ≡ [] ++ xs) → IfSome known (λ all. bytes ≡ take limit all)
-read_up_to limit n None bytes e h = search rules
-read_up_to limit n (Some all) bytes e h = h ∙ ap (λ k. take k all) e
+-- what a reader with a limit gives
+pub read_up_to : (limit n : ℕ) (known inner : Option (List ℕ)) (old bytes : List ℕ) → n ≡ limit → inner ≡ known → old ≡ [] → IfSome (option_map (take n) inner) (λ xs. bytes ≡ old ++ xs) → IfSome known (λ all. bytes ≡ take limit all)
+read_up_to limit n None inner old bytes e i o h = search rules
+read_up_to limit n (Some all) inner old bytes e i o h =
+    let there : IfSome (option_map (take n) (Some all)) (λ xs. bytes ≡ old ++ xs) = subst (λ k. IfSome (option_map (take n) k) (λ xs. bytes ≡ old ++ xs)) i h in
+    there ∙ ap (λ xs. xs ++ take n all) o ∙ ap (λ k. take k all) e

@@ -72,7 +72,7 @@ impl Asked {
     }
 }
 
-fn command(alloc: Global) -> Result<Command<'static>, AllocError> {
+fn command<'a>(alloc: Global) -> Result<Command<'a>, AllocError> {
     let mode = Arg::new(alloc, "mode")
         .required(true)
         .action(ArgAction::Set);

@@ -48,7 +48,8 @@ fn read_bytes<R: io::Read>(alloc: Global, reader: &mut R) -> Result<Vec<u8>, Ser
 {
     let mut bytes = Vec::new(alloc);
     let limit = MOST_BYTES as u64 + 1;
-    match reader.by_ref().take(limit).read_to_end(&mut bytes) {
+    let lent = &mut *reader;
+    match lent.take(limit).read_to_end(&mut bytes) {
         Ok(_) => Ok(bytes),
         Err(error) => Err(match error.kind() {
             io::ErrorKind::OutOfMemory => ServeFault::Run(RunFault::Memory),
