@@ -3,6 +3,8 @@
 
 mod asking;
 mod serving;
+#[cfg(test)]
+mod tests;
 
 use crate::asking::{AskFault, ask};
 use crate::serving::{not_opened, serve};

@@ -1,0 +1,94 @@
+//! What runs of scripts write, and what a report says of a history that no script of today has.
+
+use crate::{by_schedule, parse, report};
+use cycle::{Actor, Answer, Book, Entry, Step};
+use heap::Config;
+use layout::{Layout, Layouts};
+use std::alloc::Global;
+use std::test::Fail;
+
+const HEAD: &str = "heap words 16 frames 1 pages 1 threads 1 workers 1 registers 2 globals 1\n";
+
+/// What a run of a script writes.
+fn output(alloc: Global, layout: &str, commands: &str) -> Result<Vec<u8>, Fail> {
+    let text = format!(in alloc; "{HEAD}layout {layout}\n{commands}")?;
+    let script = parse(alloc, text.as_bytes())?;
+    let mut written = Vec::new(alloc);
+    by_schedule(alloc, &script, &mut written)?;
+    Ok(written)
+}
+
+#[test]
+fn runs(rt: HostRuntime) -> Result<(), Fail> {
+    for (layout, commands, wanted) in [
+        (
+            "0 2",
+            "",
+            "phase idle nmt 0 births 0 frames 0/1\nthread 0 running buffer - r0 - r1 -\nglobal 0 -\n",
+        ),
+        (
+            "1 1",
+            "t0 take 16\nt0 new r0 0\nt0 new r0 0\nt0 new r0 0\nt0 new r0 0\nt0 new r0 0\nt0 new r0 0\n",
+            "1 t0 lent 1.0\n2 t0 birth 0\n3 t0 birth 1\n4 t0 birth 2\n5 t0 birth 3\n6 t0 birth 4\n7 t0 refused NoRoom\nphase idle nmt 0 births 5 frames 1/1\npage 1 open frame 0 top 16 objects 5 live 0\nthread 0 running buffer 1.15-16 r0 1.12/0 r1 -\nglobal 0 -\n",
+        ),
+        (
+            "1 14",
+            "t0 take 16\nt0 new r0 0\nt0 new r0 0\n",
+            "1 t0 lent 1.0\n2 t0 birth 0\n3 t0 refused NoRoom\nphase idle nmt 0 births 1 frames 1/1\npage 1 open frame 0 top 16 objects 1 live 0\nthread 0 running buffer 1.16-16 r0 1.0/0 r1 -\nglobal 0 -\n",
+        ),
+    ] {
+        let written = output(rt.alloc(), layout, commands)?;
+        assert_eq!(rt; written.as_slice(), wanted.as_bytes());
+    }
+    Ok(())
+}
+
+/// A heap of one page.
+fn small(alloc: Global) -> Result<Config, Fail> {
+    let mut layouts = Vec::new(alloc);
+    layouts.push(Layout { refs: 1, nums: 1 })?;
+    Ok(Config {
+        words: 16,
+        frames: 1,
+        pages: 1,
+        threads: 1,
+        workers: 1,
+        registers: 1,
+        globals: 0,
+        layouts: Layouts::new(layouts),
+        births: 1,
+        history: 3,
+    })
+}
+
+#[test]
+fn cycles(rt: HostRuntime) -> Result<(), Fail> {
+    let alloc = rt.alloc();
+    let book = match Book::new(alloc, small(alloc)?) {
+        Ok(book) => book,
+        Err(fault) => return Err(Fail::from(fault)),
+    };
+    let mut history = Vec::new(alloc);
+    for answer in [
+        Answer::Ended {
+            live: 4,
+            retired: 0,
+        },
+        Answer::Done,
+        Answer::Ended {
+            live: 2,
+            retired: 1,
+        },
+    ] {
+        history.push(Entry {
+            actor: Actor::Worker(0),
+            step: Step::EndMark,
+            answer,
+        })?;
+    }
+    let mut written = Vec::new(alloc);
+    report(alloc, book.heap(), &history, &mut written)?;
+    let wanted = "phase idle nmt 0 births 0 frames 0/1\nthread 0 running buffer - r0 -\ncycle 1 live 4 retired 0\ncycle 2 live 2 retired 1\n";
+    assert_eq!(rt; written.as_slice(), wanted.as_bytes());
+    Ok(())
+}
