@@ -1,11 +1,10 @@
 -- A configuration without a fault is in range.
-use Rattle.std.proofs.Common.{◌≡◌, ℕ, ◌<◌, ◌≤◌, ◌^◌, ◌==◌, ◌||◌, not, Bool, true, false, cond, length, Option, Some, None, nat_le, nat_lt, refl, sym, arith, rules, lit≤}
+use Rattle.std.proofs.Common.{◌≡◌, ℕ, ◌≤◌, ◌==◌, ◌||◌, not, Bool, true, false, cond, Option, Some, None, nat_lt, refl, sym, arith, rules, lit≤}
 use Rattle.std.specs.Option.{IfNone}
-use Rattle.std.specs.List.{list_all}
 use Rattle.std.proofs.lemmas.Bool.Decides.{nat_tests}
 use Rattle.model.specs.declared.config.Config.{Config}
 use Rattle.model.specs.declared.config.ConfigFault.{ConfigFault}
-use Rattle.model.specs.Configs.{first_fault, is_page_size, is_outside, fits_page, IsRanged}
+use Rattle.model.specs.Configs.{first_fault, is_page_size, is_outside, IsRanged}
 
 record Passes (b : Bool) (rest : Option ConfigFault) : Type 0 where
   here : b ≡ false
@@ -64,21 +63,21 @@ in_range c e =
     let words = page_size_range c.words (not_false _ a.here) in
     let layouts = no_or _ _ j.here in
     record {
-  words_low = words.0;
-  words_high = words.1;
-  frames_low = (inside _ _ _ b.here).0;
-  frames_high = (inside _ _ _ b.here).1;
-  pages_low = (inside _ _ _ d.here).0;
-  pages_high = (inside _ _ _ d.here).1;
-  threads = (inside _ _ _ f.here).1;
-  workers = (inside _ _ _ g.here).1;
-  registers = (inside _ _ _ h.here).1;
-  globals = (inside _ _ _ i.here).1;
-  layouts = (inside _ _ _ layouts.0).1;
-  fitting = not_false _ layouts.1;
-  births = (inside _ _ _ k.here).1;
-  history = (inside _ _ _ l.here).1;
-}
+      words_low = words.0;
+      words_high = words.1;
+      frames_low = (inside _ _ _ b.here).0;
+      frames_high = (inside _ _ _ b.here).1;
+      pages_low = (inside _ _ _ d.here).0;
+      pages_high = (inside _ _ _ d.here).1;
+      threads = (inside _ _ _ f.here).1;
+      workers = (inside _ _ _ g.here).1;
+      registers = (inside _ _ _ h.here).1;
+      globals = (inside _ _ _ i.here).1;
+      layouts = (inside _ _ _ layouts.0).1;
+      fitting = not_false _ layouts.1;
+      births = (inside _ _ _ k.here).1;
+      history = (inside _ _ _ l.here).1;
+    }
 
 pub none_in_range : (c : Config) (o : Option ConfigFault) → o ≡ first_fault c → IfNone o (IsRanged c)
 none_in_range c None e = in_range c (sym e)

@@ -1,7 +1,7 @@
 -- The state of a heap, as plain data, and the edits that steps are made of.
-use Rattle.std.specs.Prelude.{◌≡◌, ℕ, ◌+◌, ◌-◌, ◌*◌, ◌/◌, ◌^◌, ◌==◌, Bool, true, false, List, [], ◌∷◌, length, replicate, Option, Some, None, option_and_then, slice_get, slice_set, if◌then◌else◌}
+use Rattle.std.specs.Prelude.{ℕ, ◌+◌, ◌-◌, ◌/◌, ◌^◌, ◌==◌, Bool, true, false, List, [], ◌∷◌, length, replicate, Option, Some, None, slice_get, slice_set, if◌then◌else◌}
 use Rattle.layout.specs.declared.shape.Layout.{Layout}
-use Rattle.layout.specs.Objects.{size_of, header_bits}
+use Rattle.layout.specs.Objects.{header_bits}
 use Rattle.model.specs.declared.config.Config.{Config}
 use Rattle.model.specs.declared.records.Buffer.{Buffer}
 use Rattle.model.specs.declared.records.Barrier.{Barrier}
@@ -10,7 +10,7 @@ use Rattle.model.specs.declared.records.Forwarding.{Forwarding}
 use Rattle.model.specs.declared.records.Global.{Global}
 use Rattle.model.specs.declared.records.Phase.{Phase}
 use Rattle.model.specs.declared.records.Phase.TheVariants.{Idle}
-use Rattle.model.specs.Stores.{StoreState, first_store, word_at, with_word, with_words, overlaid, record_count}
+use Rattle.model.specs.Stores.{StoreState, first_store, word_at, record_count}
 
 -- null, or an address with its not-marked-through bit
 abbrev pub Reference : Type 0

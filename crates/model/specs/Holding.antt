@@ -1,6 +1,5 @@
 -- What the code of a heap keeps at all times.
-use Rattle.std.specs.Prelude.{◌≡◌, ℕ, ◌≤◌, Option, Some, None, IfSome}
-use Rattle.model.specs.declared.records.Buffer.{Buffer}
+use Rattle.std.specs.Prelude.{◌≤◌, IfSome}
 use Rattle.model.specs.Configs.{IsRanged}
 use Rattle.model.specs.Owning.{Each, LiesIn}
 use Rattle.model.specs.Stores.{StoreState}

@@ -1,7 +1,6 @@
 -- What holds of every store: each frame is the memory of one page, or free.
-use Rattle.std.specs.Prelude.{◌≡◌, ℕ, ◌+◌, ◌*◌, ◌≤◌, ◌<◌, Bool, true, false, List, length, count_by, is_some, is_none, Option, Some, None, slice_get}
+use Rattle.std.specs.Prelude.{◌≡◌, ℕ, ◌+◌, ◌≤◌, ◌<◌, true, List, length, count_by, is_some, is_none, Some, slice_get}
 use Rattle.model.specs.declared.records.Page.{Page}
-use Rattle.model.specs.declared.records.PageState.{PageState}
 use Rattle.model.specs.declared.records.Buffer.{Buffer}
 use Rattle.model.specs.Stores.{StoreState, has_memory, is_protected, is_open, page_at, state_in, record_count}
 

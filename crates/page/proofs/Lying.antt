@@ -1,17 +1,16 @@
 -- Buffers lie in open pages, whatever is done to the store.
-use Rattle.std.proofs.Common.{◌≡◌, ◌≢◌, ◌⊎◌, inl, inr, ℕ, ◌+◌, ◌-◌, ◌/◌, ◌<◌, ◌≤◌, Bool, true, false, ◌&&◌, List, length, position, Option, Some, None, set, refl, sym, ◌∙◌, ap, subst, arith, rules}
+use Rattle.std.proofs.Common.{◌≡◌, ◌≢◌, ◌⊎◌, inl, inr, ℕ, ◌+◌, ◌-◌, ◌/◌, ◌<◌, ◌≤◌, Bool, true, false, ◌&&◌, List, position, Option, Some, None, set, refl, sym, ◌∙◌, ap, subst, arith, rules}
 use Rattle.std.specs.List.{slice_get}
 use Rattle.std.specs.Prelude.{Ok, Err, Result, IfOk}
-use Rattle.std.proofs.lemmas.Option.{slice_get_within}
 use Rattle.model.specs.declared.records.Page.{Page}
 use Rattle.model.specs.declared.records.Room.{Room}
 use Rattle.model.specs.declared.records.Room.TheVariants.{NoFrames, NoPages}
 use Rattle.model.specs.declared.records.Buffer.{Buffer}
-use Rattle.model.specs.Stores.{StoreState, is_open, is_unused, page_at, state_in, opened, given, buffer_of, Takes, with_words, with_word, fresh_page, taken, page_with_room, free_frame, unused_page}
+use Rattle.model.specs.Stores.{StoreState, is_open, is_unused, state_in, opened, given, buffer_of, Takes, with_words, with_word, fresh_page, taken, page_with_room, free_frame, unused_page}
 use Rattle.model.specs.Owning.{IsStore, LiesIn, TakesWell}
-use Rattle.model.proofs.Lists.{get_set, get_set_same, get_set_other, same_or_not, get_within}
+use Rattle.model.proofs.Lists.{get_set_same, get_set_other, same_or_not, get_within}
 use Rattle.page.proofs.Found.{position_within, room_left, free_counts, free_within, room_within, room_passes}
-use Rattle.page.proofs.Keeping.{unused_as, page_at_record, page_at_zero, opened_words, opened_at, given_at, same_inside}
+use Rattle.page.proofs.Keeping.{unused_as, page_at_record, page_at_zero, opened_words, opened_at, given_at}
 
 false_true : false ≡ true → ⊥
 false_true e = cc
@@ -23,6 +22,7 @@ lies_at s b h = by_number (same_or_not b.page 0)
     by_record : b.page ≢ 0 → (o : Option Page) → slice_get s.pages (b.page - 1) ≡ o → (b.page ≢ 0) × (p : Page) × (slice_get s.pages (b.page - 1) ≡ Some p) × (is_open p.state ≡ true)
     by_record z None e = absurd (false_true (sym (ap (λ o. is_open (state_in o)) (page_at_record s b.page z ∙ e)) ∙ h.page))
     by_record z (Some p) e = (z, p, e, sym (ap (λ o. is_open (state_in o)) (page_at_record s b.page z ∙ e)) ∙ h.page)
+
     by_number : (b.page ≡ 0) ⊎ (b.page ≢ 0) → (b.page ≢ 0) × (p : Page) × (slice_get s.pages (b.page - 1) ≡ Some p) × (is_open p.state ≡ true)
     by_number (inl z) = absurd (false_true (sym (ap (λ o. is_open (state_in o)) (page_at_zero s b.page z)) ∙ h.page))
     by_number (inr z) = by_record z (slice_get s.pages (b.page - 1)) refl
@@ -69,9 +69,9 @@ well_opened s i f n p e room =
     let at = opened_at s i f p e in
     let words = opened_words s i f in
     record {
-  lies = given_lies (opened s i f) i n (fresh_page f) at refl (rw words (omega arith));
-  stays = λ c h. given_stays (opened s i f) i n (fresh_page f) c at refl (opened_stays s i f p c e h);
-}
+      lies = given_lies (opened s i f) i n (fresh_page f) at refl (rw words (omega arith));
+      stays = λ c h. given_stays (opened s i f) i n (fresh_page f) c at refl (opened_stays s i f p c e h);
+    }
 
 abbrev Taken : Type 0
 Taken = Result (StoreState × Buffer) Room
@@ -107,6 +107,7 @@ takes_well s t n b h low high e = by_room (page_with_room s.words n s.pages) ref
   where
     as_taken : (x : StoreState × Buffer) → taken s n ≡ Ok x → TakesWell s x.0 x.1 → TakesWell s t b
     as_taken x k w = let same : x ≡ (t, b) = same_ok x (t, b) (sym k ∙ e) in subst (λ (y : StoreState × Buffer). TakesWell s y.0 y.1) same w
+
     by_fresh : page_with_room s.words n s.pages ≡ None → (f : Option ℕ) → free_frame s.owners ≡ f → (o : Option ℕ) → unused_page s.count s.pages ≡ o → TakesWell s t b
     by_fresh r None a o c = absurd (err_ok NoFrames (t, b) (sym (taken_no_frame s n r a) ∙ e))
     by_fresh r (Some f) a None c = absurd (err_ok NoPages (t, b) (sym (taken_no_page s n f r a c) ∙ e))
@@ -116,6 +117,7 @@ takes_well s t n b h low high e = by_room (page_with_room s.words n s.pages) ref
         let at = unused_as s h counts (position (λ (p : Page). is_unused p.state) s.pages) refl ∙ c in
         let p = get_within s.pages i (position_within (λ (p : Page). is_unused p.state) s.pages i at (fresh_page f)) in
         as_taken (given (opened s i f) i n) (taken_opened s n f i r a c) (well_opened s i f n p.0 p.1 high)
+
     by_room : (o : Option ℕ) → page_with_room s.words n s.pages ≡ o → TakesWell s t b
     by_room None a = by_fresh a (free_frame s.owners) refl (unused_page s.count s.pages) refl
     by_room (Some i) a =

@@ -1,4 +1,4 @@
-use Rattle.std.proofs.Common.{◌≡◌, ◌<◌, ◌≤◌, ◌+◌, ◌∙◌, length, sym, subst, ap, arith, ℕ}
+use Rattle.std.proofs.Common.{◌∙◌, length, ap, arith}
 use Rattle.std.specs.List.{slice_get}
 use Rattle.model.specs.Stores.{StoreState, top_in}
 use Rattle.page.proofs.Keeping.{opened_pages, opened_top, opened_words}
