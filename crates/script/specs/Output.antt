@@ -1,9 +1,8 @@
 -- What a run of a script prints.
-use Rattle.std.specs.Prelude.{◌≡◌, ℕ, ◌+◌, ◌-◌, Bool, true, false, List, [], ◌∷◌, ◌++◌, length, count_by, is_some, is_none, Result, Ok, Err, Option, Some, None, slice_get, codes, if◌then◌else◌}
+use Rattle.std.specs.Prelude.{ℕ, ◌+◌, Bool, List, [], ◌∷◌, ◌++◌, length, count_by, is_some, Ok, Err, Option, Some, None, slice_get, codes, if◌then◌else◌}
 use Rattle.std.specs.Fmt.{decimal}
 use Rattle.model.specs.declared.steps.Answer.{Answer}
 use Rattle.model.specs.declared.steps.Answer.TheVariants as answers
-use Rattle.model.specs.declared.steps.Refusal.{Refusal}
 use Rattle.model.specs.declared.records.Global.{Global}
 use Rattle.model.specs.declared.records.Page.{Page}
 use Rattle.model.specs.Heaps.{HeapState, ThreadState, Reference}
@@ -82,7 +81,7 @@ unfoldable pub report_text : HeapState → List Entry → List ℕ
 report_text h history =
     head_line h
     ++ (texts_from (page_line h) 0 h.store.pages
-        ++ (texts_from (thread_line h.store.words) 0 h.threads ++ (texts_from (global_line h.store.words) 0 h.globals ++ cycles_from 1 history)))
+    ++ (texts_from (thread_line h.store.words) 0 h.threads ++ (texts_from (global_line h.store.words) 0 h.globals ++ cycles_from 1 history)))
 
 -- the commands
 

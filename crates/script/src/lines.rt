@@ -27,7 +27,10 @@ pub fn put_head(text: &mut String, heap: &Heap) -> Result<(), AllocError>
     let births = heap.births();
     let all = heap.store().frame_count();
     let used = heap.store().used_frames();
-    writeln!(text, "phase {phase} nmt {nmt} births {births} frames {used}/{all}")
+    writeln!(
+        text,
+        "phase {phase} nmt {nmt} births {births} frames {used}/{all}"
+    )
 }
 
 fn bits_in(rows: &Rows, index: usize) -> usize

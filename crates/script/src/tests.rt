@@ -88,7 +88,8 @@ fn cycles(rt: HostRuntime) -> Result<(), Fail> {
     }
     let mut written = Vec::new(alloc);
     report(alloc, book.heap(), &history, &mut written)?;
-    let wanted = "phase idle nmt 0 births 0 frames 0/1\nthread 0 running buffer - r0 -\ncycle 1 live 4 retired 0\ncycle 2 live 2 retired 1\n";
+    let wanted =
+        "phase idle nmt 0 births 0 frames 0/1\nthread 0 running buffer - r0 -\ncycle 1 live 4 retired 0\ncycle 2 live 2 retired 1\n";
     assert_eq!(rt; written.as_slice(), wanted.as_bytes());
     Ok(())
 }
