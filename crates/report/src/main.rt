@@ -8,10 +8,9 @@ mod tests;
 
 use crate::asking::{AskFault, ask};
 use crate::serving::{not_opened, serve};
-use std::io;
 use std::process::ExitCode;
 use std::rt::Files;
-use std::{env, fs};
+use std::{env, fs, io};
 
 /// The words of the command line, without the program's name.
 fn words(rt: &HostRuntime) -> io::Result<Vec<String>> {

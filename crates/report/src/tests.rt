@@ -8,40 +8,45 @@ use std::io;
 use std::io::{Read, Write};
 use std::test::Fail;
 
-const SCRIPT: &str = "heap words 16 frames 1 pages 1 threads 1 workers 1 registers 2 globals 0\nlayout 0 2\nt0 take 4\nt0 datum r1 0\n";
+const SCRIPT: &str =
+    "heap words 16 frames 1 pages 1 threads 1 workers 1 registers 2 globals 0\nlayout 0 2\nt0 take 4\nt0 datum r1 0\n";
 
-const OUTPUT: &str = "1 t0 lent 1.0\n2 t0 refused Null\nphase idle nmt 0 births 0 frames 1/1\npage 1 open frame 0 top 4 objects 0 live 0\nthread 0 running buffer 1.0-4 r0 - r1 -\n";
+const OUTPUT: &str =
+    "1 t0 lent 1.0\n2 t0 refused Null\nphase idle nmt 0 births 0 frames 1/1\npage 1 open frame 0 top 4 objects 0 live 0\nthread 0 running buffer 1.0-4 r0 - r1 -\n";
 
-fn words_asked(alloc: Global, words: &[&str]) -> Result<Asked, AskFault> {
-    let mut texts = Vec::new(alloc);
-    for word in words {
-        texts.push(String::from_str(alloc, word)?)?;
+fn words_asked(alloc: Global, line: &str) -> Result<Asked, AskFault> {
+    let mut words = Vec::new(alloc);
+    for word in line.split_whitespace() {
+        words.push(String::from_str(alloc, word)?)?;
     }
-    ask(alloc, &texts)
+    ask(alloc, &words)
 }
 
 #[test]
 fn words(rt: HostRuntime) -> Result<(), Fail> {
     let alloc = rt.alloc();
-    let asked = words_asked(alloc, &["run", "a.script"])?;
+    let asked = words_asked(alloc, "run a.script")?;
     assert_eq!(rt; asked.file(), "a.script");
-    for words in [
-        [].as_slice(),
-        ["run"].as_slice(),
-        ["a.script"].as_slice(),
-        ["walk", "a.script"].as_slice(),
-        ["threads", "a.script"].as_slice(),
-        ["check", "a.script"].as_slice(),
-        ["run", "a.script", "b.script"].as_slice(),
-        ["run", "--help"].as_slice(),
-        ["--version"].as_slice(),
+    for line in [
+        "",
+        "run",
+        "a.script",
+        "walk a.script",
+        "threads a.script",
+        "check a.script",
+        "run a.script b.script",
+        "run --help",
+        "--version",
     ] {
-        match words_asked(alloc, words) {
-            Ok(_) => assert!(rt; false, "{words:?}"),
+        match words_asked(alloc, line) {
+            Ok(_) => assert!(rt; false, "{line}"),
             Err(fault) => {
                 let mut errors = Vec::new(alloc);
                 assert_eq!(rt; fault.tell(&mut errors), 2);
-                assert_eq!(rt; errors.as_slice(), b"usage: pauseless run|threads|check FILE\n".as_slice());
+                assert_eq!(rt;
+                    errors.as_slice(),
+                    b"usage: pauseless run|threads|check FILE\n".as_slice()
+                );
             }
         }
     }
@@ -50,7 +55,7 @@ fn words(rt: HostRuntime) -> Result<(), Fail> {
 
 /// What serving a script gives: the status, the output and the errors.
 fn served(alloc: Global, script: &str) -> Result<(u8, Vec<u8>, Vec<u8>), Fail> {
-    let asked = words_asked(alloc, &["run", "a.script"])?;
+    let asked = words_asked(alloc, "run a.script")?;
     let mut reader = script.as_bytes();
     let mut output = Vec::new(alloc);
     let mut errors = Vec::new(alloc);
@@ -62,7 +67,12 @@ fn served(alloc: Global, script: &str) -> Result<(u8, Vec<u8>, Vec<u8>), Fail> {
 fn scripts(rt: HostRuntime) -> Result<(), Fail> {
     for (script, wanted, output, errors) in [
         (SCRIPT, 0, OUTPUT, ""),
-        ("", 2, "", "pauseless: line 1 column 1: heap line expected\n"),
+        (
+            "",
+            2,
+            "",
+            "pauseless: line 1 column 1: heap line expected\n",
+        ),
         (
             "heap words 17\n",
             2,
@@ -98,13 +108,16 @@ impl Read for Endless {
 #[test]
 fn long_scripts(rt: HostRuntime) -> Result<(), Fail> {
     let alloc = rt.alloc();
-    let asked = words_asked(alloc, &["run", "a.script"])?;
+    let asked = words_asked(alloc, "run a.script")?;
     let mut output = Vec::new(alloc);
     let mut errors = Vec::new(alloc);
     let status = serve(alloc, &asked, &mut Endless, &mut output, &mut errors);
     assert_eq!(rt; status, 2);
     assert_eq!(rt; output.len(), 0);
-    assert_eq!(rt; errors.as_slice(), b"pauseless: script too long\n".as_slice());
+    assert_eq!(rt;
+        errors.as_slice(),
+        b"pauseless: script too long\n".as_slice()
+    );
     Ok(())
 }
 
@@ -121,13 +134,16 @@ impl Read for Broken {
 #[test]
 fn files_that_fail(rt: HostRuntime) -> Result<(), Fail> {
     let alloc = rt.alloc();
-    let asked = words_asked(alloc, &["run", "a.script"])?;
+    let asked = words_asked(alloc, "run a.script")?;
     let mut output = Vec::new(alloc);
     let mut errors = Vec::new(alloc);
     let status = serve(alloc, &asked, &mut Broken, &mut output, &mut errors);
     assert_eq!(rt; status, 3);
     assert_eq!(rt; output.len(), 0);
-    assert_eq!(rt; errors.as_slice(), b"pauseless: cannot read a.script\n".as_slice());
+    assert_eq!(rt;
+        errors.as_slice(),
+        b"pauseless: cannot read a.script\n".as_slice()
+    );
     Ok(())
 }
 
@@ -156,7 +172,7 @@ impl Write for Failing {
 #[test]
 fn writers_that_fail(rt: HostRuntime) -> Result<(), Fail> {
     let alloc = rt.alloc();
-    let asked = words_asked(alloc, &["run", "a.script"])?;
+    let asked = words_asked(alloc, "run a.script")?;
     for writes in 0..6u32 {
         let mut reader = SCRIPT.as_bytes();
         let mut output = Failing {
