@@ -1,9 +1,9 @@
 -- Reading a reader to its end, or to one byte more than a script may have.
-use Rattle.std.proofs.Common.{◌≡◌, ℕ, ◌+◌, ◌<◌, ◌≤◌, List, [], ◌++◌, length, take, Option, Some, None, IfSome, refl, sym, ◌∙◌, ap, subst, arith, rules}
+use Rattle.std.proofs.Common.{◌≡◌, ℕ, ◌+◌, ◌≤◌, List, [], ◌++◌, length, take, Option, Some, None, IfSome, ◌∙◌, ap, subst, arith, rules}
 use Rattle.std.specs.Option.{option_map}
 use Rattle.std.specs.Prelude.{Result, Ok, Err, OnOk}
-use Rattle.std.proofs.lemmas.List.{length-take, take_all, length-take-le}
-use Rattle.report.specs.Serving.{ReadsUpTo, Prints}
+use Rattle.std.proofs.lemmas.List.{length-take, take_all}
+use Rattle.report.specs.Serving.{Prints}
 
 -- what is shorter than what was asked for is all
 pub whole : (limit : ℕ) (all bytes : List ℕ) → bytes ≡ take (limit + 1) all → length bytes ≤ limit → bytes ≡ all

@@ -1,5 +1,5 @@
 -- What serving a script promises.
-use Rattle.std.specs.Prelude.{◌≡◌, ℕ, ◌+◌, List, take, Option, Result, Ok, IfSome}
+use Rattle.std.specs.Prelude.{◌≡◌, ℕ, ◌+◌, List, take, Option, Ok, IfSome}
 use Rattle.std.specs.Io.KnownBytes.{Appends}
 use Rattle.parser.specs.Reading.{ScriptValue, script_in}
 use Rattle.parser.specs.declared.script.TheConstants.{MOST_BYTES}

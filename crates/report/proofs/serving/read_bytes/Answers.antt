@@ -1,5 +1,4 @@
 use Rattle.std.proofs.Common.{ap}
-use denote.MutBor.{MutBor}
 use Rattle.report.proofs.Reading.{read_up_to}
 use Rattle.report.proofs.serving.read_bytes.Goals as goal
 

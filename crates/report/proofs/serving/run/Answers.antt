@@ -1,4 +1,4 @@
-use Rattle.std.proofs.Common.{◌≡◌, ◌≤◌, List, ℕ, length, subst}
+use Rattle.std.proofs.Common.{◌≤◌, List, ℕ, length, subst}
 use Rattle.std.specs.Result.{OnOk}
 use Rattle.report.specs.Serving.{Prints}
 use Rattle.report.proofs.Reading.{prints_all}
