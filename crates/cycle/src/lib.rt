@@ -10,3 +10,6 @@ pub use book::{Book, Entry};
 pub use model::{Actor, Answer, PageList, Step};
 pub use running::run;
 pub use stepping::Stepping;
+
+#[cfg(test)]
+mod tests;

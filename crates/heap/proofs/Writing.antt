@@ -26,6 +26,7 @@ same_words s n f g h = ap (λ fs. record s { frames = fs }) (by_frame (frame_in 
     by_words : (x : ℕ) → frame_in (page_at s n) ≡ Some x → (o : Option (List ℕ)) → slice_get s.frames x ≡ o → changed_frame s.frames x o f ≡ changed_frame s.frames x o g
     by_words x e None a = refl
     by_words x e (Some ws) a = let there : words_at_of s.frames (Some x) ≡ Some ws = a in let k : IfSome (words_at_of s.frames (frame_in (page_at s n))) (λ v. f v ≡ g v) = h in ap (set s.frames x) (rw (e, a) at k)
+
     by_frame : (o : Option ℕ) → frame_in (page_at s n) ≡ o → changed_in s.frames o f ≡ changed_in s.frames o g
     by_frame None e = refl
     by_frame (Some x) e = by_words x e (slice_get s.frames x) refl

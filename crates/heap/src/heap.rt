@@ -5,7 +5,6 @@ mod data;
 mod making;
 mod registers;
 
-
 ghost use Rattle.std.specs.Prelude.{◌≡◌};
 
 use crate::rows::Rows;

@@ -78,8 +78,7 @@ impl Heap {
         let size = layout.size();
         let word = Word::of(self.buffer_address(buffer), self.nmt);
         write_new(&mut self.store, buffer, header.write(), size - 1);
-        self.starts
-            .set(buffer.page.saturating_sub(1) as usize, buffer.next as usize);
+        self.starts.set(buffer.page.saturating_sub(1) as usize, buffer.next as usize);
         self.births += 1;
         let rest = Buffer {
             page: buffer.page,

@@ -52,7 +52,13 @@ impl Heap {
 
     /// Writes a data word. Refused as `datum` is.
     #[tactic(auto, unfolding(model::specs::Outcome::set_datum_outcome))]
-    pub fn set_datum(&mut self, thread: u32, object: u32, index: u32, value: u64) -> Result<Answer, Refusal>
+    pub fn set_datum(
+        &mut self,
+        thread: u32,
+        object: u32,
+        index: u32,
+        value: u64,
+    ) -> Result<Answer, Refusal>
         ensures { Does self.old result self.new (set_datum_outcome self.old thread object index value) }
     {
         let address = self.usable(thread, object)?;

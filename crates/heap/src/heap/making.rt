@@ -39,7 +39,11 @@ fn record_count(frames: u32, pages: u32) -> u32
     requires { frames ≤ 4096 }
     ensures { result ≡ record_count frames pages }
 {
-    if pages <= 2 * frames { pages } else { 2 * frames }
+    if pages <= 2 * frames {
+        pages
+    } else {
+        2 * frames
+    }
 }
 
 impl Heap {

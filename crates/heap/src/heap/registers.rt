@@ -110,7 +110,12 @@ impl Heap {
 
     /// A register gets another one's word.
     #[tactic(auto, unfolding(model::specs::Outcome::copy_register_outcome))]
-    pub fn copy_register(&mut self, thread: u32, target: u32, source: u32) -> Result<Answer, Refusal>
+    pub fn copy_register(
+        &mut self,
+        thread: u32,
+        target: u32,
+        source: u32,
+    ) -> Result<Answer, Refusal>
         ensures { Does self.old result self.new (copy_register_outcome self.old thread target source) }
     {
         let word = self.register(thread, source);

@@ -1,0 +1,468 @@
+use super::*;
+use heap::{Config, NewFault, Refusal};
+use layout::{Layout, Layouts};
+use std::alloc::{AllocError, Global};
+use std::process::Abort;
+use std::test::Fail;
+
+/// A step of a thread, and the reply that it has to have.
+#[derive(Drop)]
+struct Row {
+    thread: u32,
+    step: Step,
+    reply: Result<Answer, Refusal>,
+}
+
+fn act(thread: u32, step: Step, reply: Result<Answer, Refusal>) -> Row {
+    Row {
+        thread,
+        step,
+        reply,
+    }
+}
+
+/// One page of 16 words, one thread with two registers, and one layout.
+fn small(alloc: Global, refs: u8, nums: u8) -> Result<Config, AllocError> {
+    Ok(Config {
+        words: 16,
+        frames: 1,
+        pages: 1,
+        threads: 1,
+        workers: 1,
+        registers: 2,
+        globals: 0,
+        layouts: Layouts::new(vec![in alloc; Layout { refs, nums }]?),
+        births: 1 << 32,
+        history: 1_000_000,
+    })
+}
+
+/// Does the step of each row, and compares the reply.
+fn play(rt: &impl Abort, book: &mut Book, rows: Vec<Row>) {
+    let mut number = 0_u64;
+    for Row {
+        thread,
+        step,
+        reply,
+    } in rows {
+        number = number.saturating_add(1);
+        assert_eq!(rt;
+            book.act(Actor::Thread(thread), step),
+            reply,
+            "row {number}"
+        );
+    }
+}
+
+fn page_of_objects(alloc: Global) -> Result<Vec<Row>, AllocError> {
+    Ok(vec![in alloc;
+        act(0, Step::Take(4), Ok(Answer::Lent { page: 1, offset: 0 })),
+        act(
+            0,
+            Step::New {
+                target: 0,
+                layout: 0
+            },
+            Ok(Answer::Birth(0))
+        ),
+        act(
+            0,
+            Step::SetDatum {
+                object: 0,
+                index: 1,
+                value: 9
+            },
+            Ok(Answer::Done)
+        ),
+        act(
+            0,
+            Step::Datum {
+                object: 0,
+                index: 1
+            },
+            Ok(Answer::Datum(9))
+        ),
+        act(
+            0,
+            Step::New {
+                target: 1,
+                layout: 0
+            },
+            Err(Refusal::NoRoom)
+        ),
+        act(0, Step::GiveBack, Ok(Answer::Done)),
+        act(
+            0,
+            Step::Take(13),
+            Err(Refusal::NoFrames { need: 1, free: 0 })
+        ),
+        act(0, Step::Take(12), Ok(Answer::Lent { page: 1, offset: 4 })),
+    ]?)
+}
+
+#[test]
+fn a_page_is_filled(rt: HostRuntime) -> Result<(), Fail> {
+    let mut book = Book::new(rt.alloc(), small(rt.alloc(), 0, 2)?)?;
+    play(&rt, &mut book, page_of_objects(rt.alloc())?);
+    assert_eq!(rt; book.history().len(), 6);
+    assert_eq!(rt; book.heap().births(), 1);
+    let last = book.history().last().ok_or("no entry")?;
+    assert_eq!(rt; last.actor, Actor::Thread(0));
+    assert!(rt; matches!(&last.step, Step::Take(12)));
+    assert_eq!(rt; last.answer, Answer::Lent { page: 1, offset: 4 });
+    Ok(())
+}
+
+#[test]
+fn a_run_replies_in_order(rt: HostRuntime) -> Result<(), Fail> {
+    let mut book = Book::new(rt.alloc(), small(rt.alloc(), 0, 2)?)?;
+    let mut steps = Vec::new(rt.alloc());
+    let mut wanted = Vec::new(rt.alloc());
+    for Row {
+        thread,
+        step,
+        reply,
+    } in page_of_objects(rt.alloc())? {
+        steps.push((Actor::Thread(thread), step))?;
+        wanted.push(reply)?;
+    }
+    let replies = run(rt.alloc(), &mut book, steps)?;
+    assert_eq!(rt; replies.as_slice(), wanted.as_slice());
+    assert_eq!(rt; book.history().len(), 6);
+    Ok(())
+}
+
+#[test]
+fn objects_and_registers(rt: HostRuntime) -> Result<(), Fail> {
+    let alloc = rt.alloc();
+    let mut book = Book::new(alloc, small(alloc, 1, 1)?)?;
+    let rows = vec![in alloc;
+        act(0, Step::Same { left: 0, right: 1 }, Ok(Answer::Truth(true))),
+        act(0, Step::IsNull(0), Ok(Answer::Truth(true))),
+        act(
+            0,
+            Step::Datum {
+                object: 0,
+                index: 0
+            },
+            Err(Refusal::Null)
+        ),
+        act(0, Step::GiveBack, Err(Refusal::NoRoom)),
+        act(
+            0,
+            Step::New {
+                target: 0,
+                layout: 0
+            },
+            Err(Refusal::NoRoom)
+        ),
+        act(0, Step::Take(16), Ok(Answer::Lent { page: 1, offset: 0 })),
+        act(0, Step::Take(16), Err(Refusal::HasBuffer)),
+        act(
+            0,
+            Step::New {
+                target: 0,
+                layout: 0
+            },
+            Ok(Answer::Birth(0))
+        ),
+        act(
+            0,
+            Step::New {
+                target: 1,
+                layout: 0
+            },
+            Ok(Answer::Birth(1))
+        ),
+        act(
+            0,
+            Step::Same { left: 0, right: 1 },
+            Ok(Answer::Truth(false))
+        ),
+        act(
+            0,
+            Step::SetDatum {
+                object: 1,
+                index: 0,
+                value: 7
+            },
+            Ok(Answer::Done)
+        ),
+        act(
+            0,
+            Step::Datum {
+                object: 0,
+                index: 0
+            },
+            Ok(Answer::Datum(0))
+        ),
+        act(
+            0,
+            Step::Datum {
+                object: 1,
+                index: 1
+            },
+            Err(Refusal::BadIndex)
+        ),
+        act(
+            0,
+            Step::CopyReg {
+                target: 0,
+                source: 1
+            },
+            Ok(Answer::Done)
+        ),
+        act(0, Step::Same { left: 0, right: 1 }, Ok(Answer::Truth(true))),
+        act(
+            0,
+            Step::Datum {
+                object: 0,
+                index: 0
+            },
+            Ok(Answer::Datum(7))
+        ),
+        act(0, Step::ClearReg(1), Ok(Answer::Done)),
+        act(0, Step::IsNull(1), Ok(Answer::Truth(true))),
+        act(
+            0,
+            Step::Same { left: 0, right: 1 },
+            Ok(Answer::Truth(false))
+        ),
+        act(
+            0,
+            Step::New {
+                target: 1,
+                layout: 0
+            },
+            Ok(Answer::Birth(2))
+        ),
+        act(
+            0,
+            Step::New {
+                target: 1,
+                layout: 0
+            },
+            Ok(Answer::Birth(3))
+        ),
+        act(
+            0,
+            Step::New {
+                target: 1,
+                layout: 0
+            },
+            Ok(Answer::Birth(4))
+        ),
+        act(
+            0,
+            Step::New {
+                target: 1,
+                layout: 0
+            },
+            Err(Refusal::NoRoom)
+        ),
+    ]?;
+    play(&rt, &mut book, rows);
+    Ok(())
+}
+
+#[test]
+fn numbers_that_name_nothing(rt: HostRuntime) -> Result<(), Fail> {
+    let alloc = rt.alloc();
+    let mut book = Book::new(alloc, small(alloc, 0, 2)?)?;
+    let rows = vec![in alloc;
+        act(1, Step::Take(0), Err(Refusal::NoActor)),
+        act(0, Step::Park, Err(Refusal::NoActor)),
+        act(0, Step::Take(0), Err(Refusal::BadIndex)),
+        act(0, Step::Take(17), Err(Refusal::BadIndex)),
+        act(
+            0,
+            Step::New {
+                target: 0,
+                layout: 1
+            },
+            Err(Refusal::BadIndex)
+        ),
+        act(
+            0,
+            Step::New {
+                target: 2,
+                layout: 0
+            },
+            Err(Refusal::BadIndex)
+        ),
+        act(
+            0,
+            Step::Datum {
+                object: 2,
+                index: 0
+            },
+            Err(Refusal::BadIndex)
+        ),
+        act(
+            0,
+            Step::SetDatum {
+                object: 2,
+                index: 0,
+                value: 1
+            },
+            Err(Refusal::BadIndex)
+        ),
+        act(0, Step::Same { left: 0, right: 2 }, Err(Refusal::BadIndex)),
+        act(0, Step::IsNull(2), Err(Refusal::BadIndex)),
+        act(
+            0,
+            Step::CopyReg {
+                target: 0,
+                source: 2
+            },
+            Err(Refusal::BadIndex)
+        ),
+        act(0, Step::ClearReg(2), Err(Refusal::BadIndex)),
+        act(0, Step::Take(16), Ok(Answer::Lent { page: 1, offset: 0 })),
+        act(
+            0,
+            Step::New {
+                target: 0,
+                layout: 0
+            },
+            Ok(Answer::Birth(0))
+        ),
+        act(
+            0,
+            Step::Datum {
+                object: 0,
+                index: 2
+            },
+            Err(Refusal::BadIndex)
+        ),
+        act(
+            0,
+            Step::SetDatum {
+                object: 0,
+                index: 2,
+                value: 1
+            },
+            Err(Refusal::BadIndex)
+        ),
+    ]?;
+    play(&rt, &mut book, rows);
+    assert_eq!(rt;
+        book.act(Actor::Worker(0), Step::GiveBack),
+        Err(Refusal::NoActor)
+    );
+    assert_eq!(rt; book.history().len(), 2);
+    Ok(())
+}
+
+#[test]
+fn limits_are_kept(rt: HostRuntime) -> Result<(), Fail> {
+    let alloc = rt.alloc();
+    let mut config = small(alloc, 0, 2)?;
+    config.births = 1;
+    config.history = 3;
+    let mut book = Book::new(alloc, config)?;
+    let rows = vec![in alloc;
+        act(0, Step::Take(16), Ok(Answer::Lent { page: 1, offset: 0 })),
+        act(
+            0,
+            Step::New {
+                target: 0,
+                layout: 0
+            },
+            Ok(Answer::Birth(0))
+        ),
+        act(
+            0,
+            Step::New {
+                target: 1,
+                layout: 0
+            },
+            Err(Refusal::Births)
+        ),
+        act(0, Step::IsNull(1), Ok(Answer::Truth(true))),
+        act(0, Step::IsNull(1), Err(Refusal::HistoryFull)),
+        act(1, Step::IsNull(1), Err(Refusal::HistoryFull)),
+    ]?;
+    play(&rt, &mut book, rows);
+    assert_eq!(rt; book.history().len(), 3);
+    assert!(rt; book.heap().threads().len() == 1);
+    Ok(())
+}
+
+#[test]
+fn threads_share_pages(rt: HostRuntime) -> Result<(), Fail> {
+    let alloc = rt.alloc();
+    let mut config = small(alloc, 1, 1)?;
+    config.frames = 2;
+    config.pages = 2;
+    config.threads = 2;
+    let mut book = Book::new(alloc, config)?;
+    let rows = vec![in alloc;
+        act(0, Step::Take(9), Ok(Answer::Lent { page: 1, offset: 0 })),
+        act(1, Step::Take(7), Ok(Answer::Lent { page: 1, offset: 9 })),
+        act(
+            0,
+            Step::New {
+                target: 0,
+                layout: 0
+            },
+            Ok(Answer::Birth(0))
+        ),
+        act(
+            1,
+            Step::New {
+                target: 0,
+                layout: 0
+            },
+            Ok(Answer::Birth(1))
+        ),
+        act(
+            1,
+            Step::SetDatum {
+                object: 0,
+                index: 0,
+                value: 5
+            },
+            Ok(Answer::Done)
+        ),
+        act(
+            0,
+            Step::Datum {
+                object: 0,
+                index: 0
+            },
+            Ok(Answer::Datum(0))
+        ),
+        act(
+            1,
+            Step::Datum {
+                object: 0,
+                index: 0
+            },
+            Ok(Answer::Datum(5))
+        ),
+        act(1, Step::GiveBack, Ok(Answer::Done)),
+        act(1, Step::Take(1), Ok(Answer::Lent { page: 2, offset: 0 })),
+        act(0, Step::GiveBack, Ok(Answer::Done)),
+        act(
+            0,
+            Step::Take(16),
+            Err(Refusal::NoFrames { need: 1, free: 0 })
+        ),
+        act(0, Step::Take(15), Ok(Answer::Lent { page: 2, offset: 1 })),
+    ]?;
+    play(&rt, &mut book, rows);
+    Ok(())
+}
+
+#[test]
+fn a_fault_is_told(rt: HostRuntime) -> Result<(), Fail> {
+    let mut config = small(rt.alloc(), 0, 2)?;
+    config.registers = 17;
+    let told = match Book::new(rt.alloc(), config) {
+        Err(NewFault::Config(fault)) => Some(fault),
+        _ => None,
+    };
+    assert_eq!(rt; told, Some(heap::ConfigFault::Registers));
+    Ok(())
+}
