@@ -66,8 +66,8 @@ module _ (w : World) (p p0 : Plain) (i : Inv w p p0) (a n : ℕ) (o : Obj) (m : 
 
       go : (s.address ≡ a) ⊎ (s.address ≢ a) → Stands (copy a n o w) p b
       go (inl h) = let q : s.object ≡ o = (let x = s.here in let y = current_was in let z = ap (current w) h in cc) in let k = i.objects.planned_open a n m.entry in
-          record { address = n; object = s.object; here = current_new ∙ ap (λ o. Some o) (sym q); birth = s.birth; live = λ e. cc; entry = λ e. cc; data_words = s.data_words; size = s.size; refs = refs }
-      go (inr h) = record { address = s.address; object = s.object; here = current_old s.address s.object s.here h; birth = s.birth; live = s.live; entry = λ e. ((s.entry e).0, planned s.address (s.entry e).0 h (s.entry e).1); data_words = s.data_words; size = s.size; refs = refs }
+          record { address = n; object = s.object; here = current_new ∙ ap (λ o. Some o) (sym q); birth = s.birth; live = λ e. cc; entry = λ e. cc; layout = s.layout; data_words = s.data_words; size = s.size; refs = refs }
+      go (inr h) = record { address = s.address; object = s.object; here = current_old s.address s.object s.here h; birth = s.birth; live = s.live; entry = λ e. ((s.entry e).0, planned s.address (s.entry e).0 h (s.entry e).1); layout = s.layout; data_words = s.data_words; size = s.size; refs = refs }
         where
           planned : (x y : ℕ) → x ≢ a → w.forward x ≡ Planned y → (copy a n o w).forward x ≡ Planned y
           planned x y h e = grind arith

@@ -42,6 +42,7 @@ module _ (w : World) (p p0 : Plain) (i : Inv w p p0) (a : ℕ) (o : Obj) (m : Ma
     birth = s.birth;
     live = s.live;
     entry = s.entry;
+    layout = s.layout;
     data_words = s.data_words;
     size = s.size;
     refs = λ j. good (field s.object j) (ref p b j) (s.refs j);

@@ -43,6 +43,7 @@ global_kept w p g b e = Start b (inl (InGlobal g e))
 pub record At (w : World) (p : Plain) (a : ℕ) (o : Obj) : Type 0 where
   pub live : w.kind a ≡ Closed → w.live a ≡ true
   pub entry : w.kind a ≡ From → (n : ℕ) × (w.forward a ≡ Planned n)
+  pub layout : o.layout ≡ p.layout o.birth
   pub data_words : o.data_words ≡ p.data_words o.birth
   pub size : length o.refs ≡ length (p.refs o.birth)
   pub refs : (j : ℕ) → Good w (field o j) (ref p o.birth j)
@@ -57,6 +58,7 @@ at w p p0 i a o h k =
     record {
       live = λ x. ap w.live (sym e) ∙ s.live (ap w.kind e ∙ x);
       entry = λ x. (let n = s.entry (ap w.kind e ∙ x) in (n.0, ap w.forward (sym e) ∙ n.1));
+      layout = ap (λ o. o.layout) (sym f) ∙ s.layout;
       data_words = ap (λ o. o.data_words) (sym f) ∙ s.data_words;
       size = ap (λ o. length o.refs) (sym f) ∙ s.size;
       refs = λ j. subst (λ q. Good w (field q j) (ref p o.birth j)) f (s.refs j);

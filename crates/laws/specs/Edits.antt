@@ -124,9 +124,10 @@ born a o t r w = record w {
   todo = put w.todo a (begun w.phase);
 }
 
-abbrev pub plain_born : List (Option ℕ) → List ℕ → ℕ → ℕ → Plain → Plain
-plain_born xs ds t r p = record p {
+abbrev pub plain_born : ℕ → List (Option ℕ) → List ℕ → ℕ → ℕ → Plain → Plain
+plain_born l xs ds t r p = record p {
   births = suc p.births;
+  layout = put p.layout p.births l;
   refs = put p.refs p.births xs;
   data_words = put p.data_words p.births ds;
   reg = put2 p.reg t r (Some p.births);
