@@ -1,6 +1,9 @@
 -- To copy a planned object keeps the invariant.
 use Rattle.std.proofs.Common.{◌≡◌, ◌≢◌, ◌⊎◌, ◌≤◌, ◌<◌, inl, inr, ℕ, Bool, true, false, Option, Some, None, sym, ◌∙◌, ap, arith}
-use Rattle.laws.specs.World.{Closed, World, Obj, Word, Null, To, field, current, names, marking, protected, framed, Open, From, ProtectCrossing, Planned, Copied, Scan, Place, AtField, AtGlobal}
+use Rattle.model.specs.declared.records.Phase.TheVariants.{ProtectCrossing}
+use Rattle.model.specs.declared.records.PageState.TheVariants.{Closed, Open, From}
+use Rattle.model.specs.Stores.{is_protected, has_memory}
+use Rattle.laws.specs.World.{World, Obj, Word, Null, To, field, current, names, marking, Planned, Copied, Scan, Place, AtField, AtGlobal}
 use Rattle.laws.specs.Plain.{Plain, ref, IsRoot, Reach, Start, Next}
 use Rattle.laws.specs.Inv.{Inv, Good, Clean, CleanBelow, Kept, Stands, Seed, IsPlace, IsBarrier}
 use Rattle.laws.specs.Edits.{copy}
@@ -92,7 +95,7 @@ module _ (w : World) (p p0 : Plain) (i : Inv w p p0) (a n : ℕ) (o : Obj) (m : 
   globals : (g : ℕ) → Good (copy a n o w) (w.global g) (p.global g)
   globals g = good (w.global g) (p.global g) (i.words.globals g)
 
-  pages : (x : ℕ) (q : Obj) → (copy a n o w).obj x ≡ Some q → framed (w.kind x) ≡ true
+  pages : (x : ℕ) (q : Obj) → (copy a n o w).obj x ≡ Some q → has_memory (w.kind x) ≡ true
   pages x q e = grind (arith, i.objects.pages, i.objects.planned_open, m.entry)
 
   births : (x : ℕ) (q : Obj) → (copy a n o w).obj x ≡ Some q → q.birth < w.births
@@ -119,7 +122,7 @@ module _ (w : World) (p p0 : Plain) (i : Inv w p p0) (a n : ℕ) (o : Obj) (m : 
   planned_once : (x y z : ℕ) → (copy a n o w).forward x ≡ Planned z → (copy a n o w).forward y ≡ Planned z → x ≡ y
   planned_once x y z e f = grind (arith, i.objects.planned_once x y z)
 
-  copied_from : (x y : ℕ) → (copy a n o w).forward x ≡ Copied y → protected (w.kind x) ≡ true
+  copied_from : (x y : ℕ) → (copy a n o w).forward x ≡ Copied y → is_protected (w.kind x) ≡ true
   copied_from x y e = grind (arith, i.objects.copied_from, i.objects.planned_from, m.entry)
 
   copied_open : (x y : ℕ) → (copy a n o w).forward x ≡ Copied y → w.kind y ≡ Open

@@ -1,6 +1,8 @@
--- A mark may copy what it meets on a protected page and mark the copy. No step does so yet.
+-- A mark may copy what it meets on a is_protected page and mark the copy. No step does so yet.
 use Rattle.std.proofs.Common.{◌≡◌, ◌≢◌, ℕ, Bool, true, Option, Some, refl, sym, ◌∙◌, ap}
-use Rattle.laws.specs.World.{World, Obj, To, put, current, resolve, resolve_by, names, birth_of, ProtectCrossing, marking, protected, Planned}
+use Rattle.model.specs.declared.records.Phase.TheVariants.{ProtectCrossing}
+use Rattle.model.specs.Stores.{is_protected}
+use Rattle.laws.specs.World.{World, Obj, To, put, current, resolve, resolve_by, names, birth_of, marking, Planned}
 use Rattle.laws.specs.Plain.{Plain}
 use Rattle.laws.specs.Inv.{Kept, Clean, Good, Inv}
 use Rattle.laws.specs.Edits.{copy, mark_at}
@@ -26,8 +28,8 @@ mark_by_copy w p p0 i m a n b o x e k f h =
     let y : d.object ≡ o = (let z = current_obj w (resolve w a) d.object d.here in let u = ap w.obj r in cc) in
     let q : x ≡ Some o.birth = d.birth ∙ ap (λ z. Some z.birth) y in
     let op = i.objects.planned_open a n f in
-    let v = mark_keeps w1 p p0 j n o (record { running = m; here = current_new w p p0 i a n o c; kept = kept_back w p p0 i a n o c o.birth (k o.birth q); page = ap protected op }) in
-    let s : resolve w1 n ≡ n = unmoved w1 j.objects n (ap protected op) (w1.forward n) refl in
+    let v = mark_keeps w1 p p0 j n o (record { running = m; here = current_new w p p0 i a n o c; kept = kept_back w p p0 i a n o c o.birth (k o.birth q); page = ap is_protected op }) in
+    let s : resolve w1 n ≡ n = unmoved w1 j.objects n (ap is_protected op) (w1.forward n) refl in
     record {
       inv = v;
       good = record {

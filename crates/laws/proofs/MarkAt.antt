@@ -1,6 +1,7 @@
 -- To mark an object keeps the invariant.
 use Rattle.std.proofs.Common.{◌≡◌, ◌≢◌, ◌⊎◌, inl, inr, ℕ, true, false, cond, Option, Some, refl, sym, ◌∙◌, ap, subst}
-use Rattle.laws.specs.World.{World, Obj, Word, put, current, field, Place, AtField, AtGlobal, marking, protected}
+use Rattle.model.specs.Stores.{is_protected}
+use Rattle.laws.specs.World.{World, Obj, Word, put, current, field, Place, AtField, AtGlobal, marking}
 use Rattle.laws.specs.Plain.{Plain, ref, Start, Next}
 use Rattle.laws.specs.Inv.{Seed, Kept, Stands, Good, Clean, Inv, IsPlace}
 use Rattle.laws.specs.Edits.{mark_at, mark_with}
@@ -10,7 +11,7 @@ pub record MayMark (w : World) (p : Plain) (a : ℕ) (o : Obj) : Type 0 where
   pub running : marking w.phase ≡ true
   pub here : current w a ≡ Some o
   pub kept : Kept w p o.birth
-  pub page : protected (w.kind a) ≡ false
+  pub page : is_protected (w.kind a) ≡ false
 
 module _ (w : World) (p p0 : Plain) (i : Inv w p p0) (a : ℕ) (o : Obj) (m : MayMark w p a o) where
   more : (x : ℕ) → w.mark x ≡ true → put w.mark a true x ≡ true
@@ -60,7 +61,7 @@ module _ (w : World) (p p0 : Plain) (i : Inv w p p0) (a : ℕ) (o : Obj) (m : Ma
     marks = record {
       running = λ x _. m.running;
       object = put_all (λ x b. b ≡ true → (q : Obj) × (w.obj x ≡ Some q)) w.mark a true (λ _. (o, current_obj w a o m.here)) (λ x _. i.marks.object x);
-      unprotected = put_all (λ x b. b ≡ true → protected (w.kind x) ≡ false) w.mark a true (λ _. m.page) (λ x _. i.marks.unprotected x);
+      unprotected = put_all (λ x b. b ≡ true → is_protected (w.kind x) ≡ false) w.mark a true (λ _. m.page) (λ x _. i.marks.unprotected x);
       todo = put_both (λ x b c. b ≡ true → c ≡ true) w.todo w.mark a true true (λ _. refl) (λ x _. i.marks.todo x);
       scanned = λ x q j. put_both (λ x b c. b ≡ true → c ≡ false → w.obj x ≡ Some q → Clean w (field q j)) w.mark w.todo a true true (λ _ e. cc) (λ x _. i.marks.scanned x q j) x;
       scanning = λ k s e. put_all (λ x b. w.todo x ≡ true → b ≡ true) w.todo a true (λ _. refl) (λ x _ h. h) s.address (i.marks.scanning k s e);

@@ -1,7 +1,12 @@
 -- The steps of a barrier keep the invariant.
 use Rattle.std.proofs.Common.{◌≡◌, ◌≢◌, ◌⊎◌, ◌<◌, inl, inr, ℕ, Bool, true, false, not, cond, Option, Some, None, length, set, refl, sym, ◌∙◌, ap, subst}
 use Rattle.std.proofs.lemmas.List.{set-get_or}
-use Rattle.laws.specs.World.{World, Obj, Word, Null, To, put, field, current, resolve, resolve_by, names, birth_of, Barrier, AtField, Phase, MarkCrossing, Scanning, ProtectCrossing, marking, crossing, protected, framed, Page, From, Gone, Forward, NoEntry, Planned, Copied}
+use Rattle.model.specs.declared.records.Phase.{Phase}
+use Rattle.model.specs.declared.records.Phase.TheVariants.{MarkCrossing, Scanning, ProtectCrossing}
+use Rattle.model.specs.declared.records.PageState.{PageState}
+use Rattle.model.specs.declared.records.PageState.TheVariants.{From, Gone}
+use Rattle.model.specs.Stores.{is_protected, has_memory}
+use Rattle.laws.specs.World.{World, Obj, Word, Null, To, put, field, current, resolve, resolve_by, names, birth_of, Barrier, AtField, marking, crossing, Forward, NoEntry, Planned, Copied}
 use Rattle.laws.specs.Plain.{Plain, ref, InPending, Start, Next}
 use Rattle.laws.specs.Inv.{Kept, Clean, Good, Inv, IsBarrier, IsPlace}
 use Rattle.laws.specs.Edits.{write, give, plain_give, load, set_global, copy, mark_word, marked_word}
@@ -56,14 +61,14 @@ clean_now w t (To a n) d m c b l e = let x : n ≡ l = cc in sym x ∙ go (w.pha
 pub clean_scan : (w : World) (p p0 : Plain) → Inv w p p0 → (t : ℕ) (v : Word) → nmt_due w t v ≡ false → w.phase ≡ Scanning → Clean w v
 clean_scan w p p0 i t v d e = clean_now w t v d (ap marking e) (i.phases.crossed (ap crossing e) t)
 
--- the entry of a protected address that a kept birth's word names
-pub entry_of : (w : World) (p p0 : Plain) → Inv w p p0 → (a : ℕ) (n : Bool) (x : Option ℕ) → names w (To a n) ≡ Some x → ((b : ℕ) → x ≡ Some b → Kept w p b) → protected (w.kind a) ≡ true → ((z : ℕ) × (w.forward a ≡ Planned z)) ⊎ ((z : ℕ) × (w.forward a ≡ Copied z))
+-- the entry of a is_protected address that a kept birth's word names
+pub entry_of : (w : World) (p p0 : Plain) → Inv w p p0 → (a : ℕ) (n : Bool) (x : Option ℕ) → names w (To a n) ≡ Some x → ((b : ℕ) → x ≡ Some b → Kept w p b) → is_protected (w.kind a) ≡ true → ((z : ℕ) × (w.forward a ≡ Planned z)) ⊎ ((z : ℕ) × (w.forward a ≡ Copied z))
 entry_of w p p0 i a n x e k h = go (w.forward a) refl
   where
-    at_page : (f : Forward) → w.forward a ≡ f → resolve_by f a ≡ a → (g : Page) → w.kind a ≡ g → protected g ≡ true → (z : ℕ) × (w.forward a ≡ Planned z)
+    at_page : (f : Forward) → w.forward a ≡ f → resolve_by f a ≡ a → (g : PageState) → w.kind a ≡ g → is_protected g ≡ true → (z : ℕ) × (w.forward a ≡ Planned z)
     at_page f c r From g _ = let d = named w a n x e in
         (at w p p0 i a d.object (ap (current w) (sym (ap (λ f. resolve_by f a) c ∙ r)) ∙ d.here) (k d.object.birth d.birth)).entry g
-    at_page f c r Gone g _ = let d = named w a n x e in let o = i.objects.pages a d.object (current_obj w a d.object (ap (current w) (sym (ap (λ f. resolve_by f a) c ∙ r)) ∙ d.here)) in let z = ap framed g in cc
+    at_page f c r Gone g _ = let d = named w a n x e in let o = i.objects.pages a d.object (current_obj w a d.object (ap (current w) (sym (ap (λ f. resolve_by f a) c ∙ r)) ∙ d.here)) in let z = ap has_memory g in cc
     at_page f c r _ g u = cc
 
     go : (f : Forward) → w.forward a ≡ f → ((z : ℕ) × (w.forward a ≡ Planned z)) ⊎ ((z : ℕ) × (w.forward a ≡ Copied z))
@@ -75,7 +80,7 @@ entry_of w p p0 i a n x e k h = go (w.forward a) refl
 pub moved_good : (w : World) (p p0 : Plain) → Inv w p p0 → (a n : ℕ) (b : Bool) (x : Option ℕ) → w.forward a ≡ Copied n → Good w (To a b) x → Good w (To n b) x
 moved_good w p p0 i a n b x f g =
     let k = i.objects.copied_open a n f in
-    let r : resolve w n ≡ n = unmoved w i.objects n (ap protected k) (w.forward n) refl in
+    let r : resolve w n ≡ n = unmoved w i.objects n (ap is_protected k) (w.forward n) refl in
     record {
       names = ap (λ z. birth_of (current w z)) (r ∙ ap (λ f. resolve_by f a) (sym f)) ∙ g.names;
       coloured = record {

@@ -1,6 +1,10 @@
 -- What the steps need of the invariant: what a usable word names, what a kept object holds, and how a word is marked.
 use Rattle.std.proofs.Common.{◌≡◌, ◌≢◌, ◌⊎◌, ◌<◌, inl, inr, ℕ, Bool, true, false, Option, Some, None, List, length, get_or, set, refl, sym, ◌∙◌, ap, subst, get_or-set_same, get_or-set_other}
-use Rattle.laws.specs.World.{World, Obj, Word, Null, To, field, current, resolve, resolve_by, names, birth_of, Scanning, marking, crossing, protected, framed, Page, Unused, Open, Closed, From, Gone, Forward, NoEntry, Planned, Copied}
+use Rattle.model.specs.declared.records.Phase.TheVariants.{Scanning}
+use Rattle.model.specs.declared.records.PageState.{PageState}
+use Rattle.model.specs.declared.records.PageState.TheVariants.{Unused, Open, Closed, From, Gone}
+use Rattle.model.specs.Stores.{is_protected, has_memory}
+use Rattle.laws.specs.World.{World, Obj, Word, Null, To, field, current, resolve, resolve_by, names, birth_of, marking, crossing, Forward, NoEntry, Planned, Copied}
 use Rattle.laws.specs.Plain.{Plain, ref, InRegister, InGlobal, Start}
 use Rattle.laws.specs.Inv.{Kept, Clean, Good, Inv}
 use Rattle.laws.specs.Does.{Usable}
@@ -64,16 +68,16 @@ at w p p0 i a o h k =
       refs = λ j. subst (λ q. Good w (field q j) (ref p o.birth j)) f (s.refs j);
     }
 
--- a kept object is on no protected page while a mark runs
-pub kept_unprotected : (w : World) (p p0 : Plain) → Inv w p p0 → marking w.phase ≡ true → (a : ℕ) (o : Obj) → current w a ≡ Some o → Kept w p o.birth → protected (w.kind a) ≡ false
+-- a kept object is on no is_protected page while a mark runs
+pub kept_unprotected : (w : World) (p p0 : Plain) → Inv w p p0 → marking w.phase ≡ true → (a : ℕ) (o : Obj) → current w a ≡ Some o → Kept w p o.birth → is_protected (w.kind a) ≡ false
 kept_unprotected w p p0 i m a o h k = go (w.kind a) refl
   where
-    go : (k : Page) → w.kind a ≡ k → protected k ≡ false
+    go : (k : PageState) → w.kind a ≡ k → is_protected k ≡ false
     go Unused e = refl
     go Open e = refl
     go Closed e = refl
     go From e = let n = (at w p p0 i a o h k).entry e in absurd (i.phases.all_copied a n.0 m n.1)
-    go Gone e = let z = i.objects.pages a o (current_obj w a o h) in let y = ap framed e in cc
+    go Gone e = let z = i.objects.pages a o (current_obj w a o h) in let y = ap has_memory e in cc
 
 -- in a scan every register is clean
 pub clean_reg : (w : World) (p p0 : Plain) → Inv w p p0 → w.phase ≡ Scanning → (t r : ℕ) → Clean w (w.regs t r)

@@ -1,7 +1,9 @@
 -- The steps of a worker, and the crossing of a mark, keep the invariant.
 use Rattle.std.proofs.Common.{◌≡◌, ◌≢◌, ◌⊎◌, ◌<◌, ◌≤◌, ◌+◌, inl, inr, ℕ, zero, suc, Bool, true, false, cond, Some, None, length, get_or, set, refl, sym, ◌∙◌, ap, subst, arith}
 use Rattle.std.proofs.lemmas.List.{set-get_or, get_or_past}
-use Rattle.laws.specs.World.{World, Obj, Word, Null, To, put, put2, field, current, resolve, Phase, MarkCrossing, Scanning, ProtectCrossing, Relocating, marking, crossing, Planned, Scan}
+use Rattle.model.specs.declared.records.Phase.{Phase}
+use Rattle.model.specs.declared.records.Phase.TheVariants.{MarkCrossing, Scanning, ProtectCrossing, Relocating}
+use Rattle.laws.specs.World.{World, Obj, Word, Null, To, put, put2, field, current, resolve, marking, crossing, Planned, Scan}
 use Rattle.laws.specs.Plain.{Plain, ref, Start, Next}
 use Rattle.laws.specs.Inv.{Kept, Clean, Inv}
 use Rattle.laws.specs.Edits.{write, set_global, done_global, set_scan, done_object, mark_word, todo_after, marked_word, copy, cross, next_phase}

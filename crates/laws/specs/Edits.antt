@@ -1,10 +1,15 @@
 -- The edits of the heap of which the steps are made.
 use Rattle.std.specs.Prelude.{ℕ, suc, not, Bool, true, false, cond, Option, Some, None, List}
-use Rattle.laws.specs.World.{World, Obj, Word, Null, To, Forward, NoEntry, Copied, Page, Unused, Open, Closed, Gone, Phase, Idle, MarkCrossing, Scanning, ProtectCrossing, Relocating, marking, begun, Barrier, Scan, put, put2, protected, resolve}
+use Rattle.model.specs.declared.records.Phase.{Phase}
+use Rattle.model.specs.declared.records.Phase.TheVariants.{Idle, MarkCrossing, Scanning, ProtectCrossing, Relocating}
+use Rattle.model.specs.declared.records.PageState.{PageState}
+use Rattle.model.specs.declared.records.PageState.TheVariants.{Unused, Open, Closed, Gone}
+use Rattle.model.specs.Stores.{is_protected}
+use Rattle.laws.specs.World.{World, Obj, Word, Null, To, Forward, NoEntry, Copied, marking, begun, Barrier, Scan, put, put2, resolve}
 use Rattle.laws.specs.Plain.{Plain}
 
--- the mark's end: what it marked is live, protected pages are unused, and open ones that aren't lent close
-abbrev pub ended : Bool → Page → Page
+-- the mark's end: what it marked is live, is_protected pages are unused, and open ones that aren't lent close
+abbrev pub ended : Bool → PageState → PageState
 ended lent Open = cond lent Open Closed
 ended lent Closed = Closed
 ended lent _ = Unused
@@ -12,7 +17,7 @@ ended lent _ = Unused
 abbrev pub end_mark : (ℕ → Bool) → World → World
 end_mark lent w = record w {
   kind = λ a. ended (lent a) (w.kind a);
-  obj = λ a. cond (protected (w.kind a)) None (w.obj a);
+  obj = λ a. cond (is_protected (w.kind a)) None (w.obj a);
   forward = λ a. NoEntry;
   live = w.mark;
   mark = λ a. false;
@@ -103,8 +108,8 @@ cross t f w = record w { crossed = put w.crossed t true; phase = f }
 abbrev pub release : (ℕ → Bool) → World → World
 release inside w = record w { kind = λ a. cond (inside a) Gone (w.kind a); obj = λ a. cond (inside a) None (w.obj a) }
 
--- some pages are protected, with these states and entries, and nobody has crossed
-abbrev pub protect : (ℕ → Page) → (ℕ → Forward) → (ℕ → Bool) → World → World
+-- some pages are is_protected, with these states and entries, and nobody has crossed
+abbrev pub protect : (ℕ → PageState) → (ℕ → Forward) → (ℕ → Bool) → World → World
 protect kinds entries c w = record w { kind = kinds; forward = entries; crossed = c; phase = ProtectCrossing }
 
 -- a fresh page
