@@ -5,93 +5,93 @@ use Rattle.model.specs.declared.records.Phase.TheVariants.{Idle, MarkCrossing, S
 use Rattle.model.specs.declared.records.PageState.{PageState}
 use Rattle.model.specs.declared.records.PageState.TheVariants.{Unused, Open, Closed, Gone}
 use Rattle.model.specs.Stores.{is_protected}
-use Rattle.laws.specs.World.{World, Obj, Word, Null, To, Forward, NoEntry, Copied, marking, begun, Barrier, Scan, put, put2, resolve}
-use Rattle.laws.specs.Plain.{Plain}
+use Rattle.laws.specs.AddressHeap.{AddressHeap, HeapObject, Word, Null, To, SideEntry, NoEntry, Copied, is_marking, is_mark_crossing, OpenBarrier, WorkerScan, put, put_at, resolve}
+use Rattle.laws.specs.BirthHeap.{BirthHeap}
 
--- the mark's end: what it marked is live, is_protected pages are unused, and open ones that aren't lent close
-abbrev pub ended : Bool → PageState → PageState
-ended lent Open = cond lent Open Closed
-ended lent Closed = Closed
-ended lent _ = Unused
+-- the mark's end: what it marked is live, protected pages are unused, and open ones that aren't lent close
+abbrev pub state_after_mark : Bool → PageState → PageState
+state_after_mark lent Open = cond lent Open Closed
+state_after_mark lent Closed = Closed
+state_after_mark lent _ = Unused
 
-abbrev pub end_mark : (ℕ → Bool) → World → World
+abbrev pub end_mark : (ℕ → Bool) → AddressHeap → AddressHeap
 end_mark lent w = record w {
-  kind = λ a. ended (lent a) (w.kind a);
-  obj = λ a. cond (is_protected (w.kind a)) None (w.obj a);
-  forward = λ a. NoEntry;
-  live = w.mark;
-  mark = λ a. false;
+  page_state = λ a. state_after_mark (lent a) (w.page_state a);
+  object_at = λ a. cond (is_protected (w.page_state a)) None (w.object_at a);
+  side_entry = λ a. NoEntry;
+  live = w.marked;
+  marked = λ a. false;
   todo = λ a. false;
   phase = Idle;
 }
 
 -- the object at a is copied to n
-abbrev pub copy : ℕ → ℕ → Obj → World → World
-copy a n o w = record w { obj = put w.obj n (Some o); forward = put w.forward a (Copied n) }
+abbrev pub copy_object : ℕ → ℕ → HeapObject → AddressHeap → AddressHeap
+copy_object a n o w = record w { object_at = put w.object_at n (Some o); side_entry = put w.side_entry a (Copied n) }
 
 -- an object is marked: where the mark bit is clear, it and the todo bit are set
-abbrev pub mark_with : ℕ → Bool → World → World
-mark_with a b w = record w { mark = put w.mark a true; todo = put w.todo a b }
+abbrev pub mark_with_todo : ℕ → Bool → AddressHeap → AddressHeap
+mark_with_todo a b w = record w { marked = put w.marked a true; todo = put w.todo a b }
 
-abbrev pub mark_at : ℕ → World → World
-mark_at a w = mark_with a (cond (w.mark a) (w.todo a) true) w
+abbrev pub mark_at : ℕ → AddressHeap → AddressHeap
+mark_at a w = mark_with_todo a (cond (w.marked a) (w.todo a) true) w
 
 -- the object that a word names is marked, and the word that is left
-abbrev pub mark_after : Word → World → ℕ → Bool
-mark_after Null w = w.mark
-mark_after (To a n) w = put w.mark (resolve w a) true
+abbrev pub marked_after : Word → AddressHeap → ℕ → Bool
+marked_after Null w = w.marked
+marked_after (To a n) w = put w.marked (resolve w a) true
 
-abbrev pub todo_after : Word → World → ℕ → Bool
+abbrev pub todo_after : Word → AddressHeap → ℕ → Bool
 todo_after Null w = w.todo
-todo_after (To a n) w = put w.todo (resolve w a) (cond (w.mark (resolve w a)) (w.todo (resolve w a)) true)
+todo_after (To a n) w = put w.todo (resolve w a) (cond (w.marked (resolve w a)) (w.todo (resolve w a)) true)
 
-abbrev pub mark_word : Word → World → World
-mark_word v w = record w { mark = mark_after v w; todo = todo_after v w }
+abbrev pub mark_word : Word → AddressHeap → AddressHeap
+mark_word v w = record w { marked = marked_after v w; todo = todo_after v w }
 
-abbrev pub marked_word : World → Word → Word
+abbrev pub marked_word : AddressHeap → Word → Word
 marked_word w Null = Null
 marked_word w (To a n) = To (resolve w a) w.nmt
 
 -- register r of t becomes v, and t has no barrier
-abbrev pub give : ℕ → ℕ → Word → World → World
-give t r v w = record w { regs = put2 w.regs t r v; barrier = put w.barrier t None }
+abbrev pub give_register : ℕ → ℕ → Word → AddressHeap → AddressHeap
+give_register t r v w = record w { register = put_at w.register t r v; barrier = put w.barrier t None }
 
-abbrev pub plain_give : ℕ → ℕ → Option ℕ → Plain → Plain
-plain_give t r x p = record p { reg = put2 p.reg t r x; pending = put p.pending t None }
+abbrev pub plain_give_register : ℕ → ℕ → Option ℕ → BirthHeap → BirthHeap
+plain_give_register t r x p = record p { register = put_at p.register t r x; pending = put p.pending t None }
 
 -- t has this barrier
-abbrev pub load : ℕ → Barrier → World → World
-load t k w = record w { barrier = put w.barrier t (Some k) }
+abbrev pub set_barrier : ℕ → OpenBarrier → AddressHeap → AddressHeap
+set_barrier t k w = record w { barrier = put w.barrier t (Some k) }
 
-abbrev pub plain_load : ℕ → ℕ × Option ℕ → Plain → Plain
-plain_load t q p = record p { pending = put p.pending t (Some q) }
+abbrev pub plain_set_pending : ℕ → ℕ × Option ℕ → BirthHeap → BirthHeap
+plain_set_pending t q p = record p { pending = put p.pending t (Some q) }
 
 -- the object at a becomes o
-abbrev pub write : ℕ → Obj → World → World
-write a o w = record w { obj = put w.obj a (Some o) }
+abbrev pub set_object : ℕ → HeapObject → AddressHeap → AddressHeap
+set_object a o w = record w { object_at = put w.object_at a (Some o) }
 
-abbrev pub plain_write : ℕ → List (Option ℕ) → List ℕ → Plain → Plain
-plain_write b xs ds p = record p { refs = put p.refs b xs; data_words = put p.data_words b ds }
+abbrev pub plain_set_object : ℕ → List (Option ℕ) → List ℕ → BirthHeap → BirthHeap
+plain_set_object b xs ds p = record p { refs = put p.refs b xs; data_words = put p.data_words b ds }
 
-abbrev pub set_global : ℕ → Word → World → World
+abbrev pub set_global : ℕ → Word → AddressHeap → AddressHeap
 set_global g v w = record w { global = put w.global g v }
 
-abbrev pub plain_global : ℕ → Option ℕ → Plain → Plain
-plain_global g x p = record p { global = put p.global g x }
+abbrev pub plain_set_global : ℕ → Option ℕ → BirthHeap → BirthHeap
+plain_set_global g x p = record p { global = put p.global g x }
 
 -- global g is scanned
-abbrev pub done_global : ℕ → World → World
-done_global g w = record w { global_todo = put w.global_todo g false }
+abbrev pub end_global_scan : ℕ → AddressHeap → AddressHeap
+end_global_scan g w = record w { global_todo = put w.global_todo g false }
 
-abbrev pub set_scan : ℕ → Option Scan → World → World
+abbrev pub set_scan : ℕ → Option WorkerScan → AddressHeap → AddressHeap
 set_scan k s w = record w { scan = put w.scan k s }
 
 -- worker k is done with the object at a
-abbrev pub done_object : ℕ → ℕ → World → World
-done_object k a w = record w { scan = put w.scan k None; todo = put w.todo a false }
+abbrev pub end_scan : ℕ → ℕ → AddressHeap → AddressHeap
+end_scan k a w = record w { scan = put w.scan k None; todo = put w.todo a false }
 
 -- a mark begins: the collector's value flips, and nobody has crossed but who is no thread
-abbrev pub start_mark : (ℕ → Bool) → World → World
+abbrev pub start_mark : (ℕ → Bool) → AddressHeap → AddressHeap
 start_mark c w = record w { nmt = not w.nmt; crossed = c; global_todo = λ g. true; phase = MarkCrossing }
 
 -- the phase after a checkpoint that all have crossed
@@ -101,39 +101,39 @@ next_phase ProtectCrossing = Relocating
 next_phase f = f
 
 -- t crosses, and the phase is f
-abbrev pub cross : ℕ → Phase → World → World
-cross t f w = record w { crossed = put w.crossed t true; phase = f }
+abbrev pub cross_checkpoint : ℕ → Phase → AddressHeap → AddressHeap
+cross_checkpoint t f w = record w { crossed = put w.crossed t true; phase = f }
 
 -- the page of these addresses gives its frame up
-abbrev pub release : (ℕ → Bool) → World → World
-release inside w = record w { kind = λ a. cond (inside a) Gone (w.kind a); obj = λ a. cond (inside a) None (w.obj a) }
+abbrev pub release_page : (ℕ → Bool) → AddressHeap → AddressHeap
+release_page inside w = record w { page_state = λ a. cond (inside a) Gone (w.page_state a); object_at = λ a. cond (inside a) None (w.object_at a) }
 
--- some pages are is_protected, with these states and entries, and nobody has crossed
-abbrev pub protect : (ℕ → PageState) → (ℕ → Forward) → (ℕ → Bool) → World → World
-protect kinds entries c w = record w { kind = kinds; forward = entries; crossed = c; phase = ProtectCrossing }
+-- some pages are protected, with these states and entries, and nobody has crossed
+abbrev pub protect_pages : (ℕ → PageState) → (ℕ → SideEntry) → (ℕ → Bool) → AddressHeap → AddressHeap
+protect_pages states entries c w = record w { page_state = states; side_entry = entries; crossed = c; phase = ProtectCrossing }
 
 -- a fresh page
-abbrev pub open_page : (ℕ → Bool) → World → World
-open_page inside w = record w { kind = λ a. cond (inside a) Open (w.kind a) }
+abbrev pub open_page : (ℕ → Bool) → AddressHeap → AddressHeap
+open_page inside w = record w { page_state = λ a. cond (inside a) Open (w.page_state a) }
 
-abbrev pub set_parked : ℕ → Bool → World → World
+abbrev pub set_parked : ℕ → Bool → AddressHeap → AddressHeap
 set_parked t b w = record w { parked = put w.parked t b }
 
 -- the object o is born at a, for register r of t
-abbrev pub born : ℕ → Obj → ℕ → ℕ → World → World
+abbrev pub born : ℕ → HeapObject → ℕ → ℕ → AddressHeap → AddressHeap
 born a o t r w = record w {
-  obj = put w.obj a (Some o);
+  object_at = put w.object_at a (Some o);
   births = suc w.births;
-  regs = put2 w.regs t r (To a w.nmt);
-  mark = put w.mark a (marking w.phase);
-  todo = put w.todo a (begun w.phase);
+  register = put_at w.register t r (To a w.nmt);
+  marked = put w.marked a (is_marking w.phase);
+  todo = put w.todo a (is_mark_crossing w.phase);
 }
 
-abbrev pub plain_born : ℕ → List (Option ℕ) → List ℕ → ℕ → ℕ → Plain → Plain
+abbrev pub plain_born : ℕ → List (Option ℕ) → List ℕ → ℕ → ℕ → BirthHeap → BirthHeap
 plain_born l xs ds t r p = record p {
   births = suc p.births;
   layout = put p.layout p.births l;
   refs = put p.refs p.births xs;
   data_words = put p.data_words p.births ds;
-  reg = put2 p.reg t r (Some p.births);
+  register = put_at p.register t r (Some p.births);
 }

@@ -1,8 +1,8 @@
-pub mod World
-pub mod Plain
-pub mod Inv
+pub mod AddressHeap
+pub mod BirthHeap
+pub mod Invariant
 pub mod Edits
-pub mod Steps
-pub mod Does
+pub mod Effects
+pub mod Transitions
 pub mod First
-pub mod Headline
+pub mod Promises

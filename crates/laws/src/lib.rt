@@ -1,12 +1,12 @@
 //! The laws of the collector, without code: what every list of allowed transitions keeps.
 #![tactic(auto)]
 
-ghost use Rattle.laws.specs.Headline.{Kept_by_steps, Promises, Answers, Marks_end};
+ghost use Rattle.laws.specs.Promises.{RunsKeepInvariant, RunsStandForPlain, RunsAnswerPlain, MarksEndLive};
 
 /// What holds of the heap and the plain heap after every list of accepted steps.
 pub fn law()
-    ensures kept { Kept_by_steps }
-    ensures stands { Promises }
-    ensures reads { Answers }
-    ensures ended { Marks_end }
+    ensures kept { RunsKeepInvariant }
+    ensures stands { RunsStandForPlain }
+    ensures reads { RunsAnswerPlain }
+    ensures ended { MarksEndLive }
 {}
