@@ -53,11 +53,11 @@ marked_word w Null = Null
 marked_word w (To a n) = To (resolve w a) w.nmt
 
 -- register r of t becomes v, and t has no barrier
-abbrev pub give_register : ℕ → ℕ → Word → AddressHeap → AddressHeap
-give_register t r v w = record w { register = put_at w.register t r v; barrier = put w.barrier t None }
+abbrev pub end_load : ℕ → ℕ → Word → AddressHeap → AddressHeap
+end_load t r v w = record w { register = put_at w.register t r v; barrier = put w.barrier t None }
 
-abbrev pub plain_give_register : ℕ → ℕ → Option ℕ → BirthHeap → BirthHeap
-plain_give_register t r x p = record p { register = put_at p.register t r x; pending = put p.pending t None }
+abbrev pub plain_end_load : ℕ → ℕ → Option ℕ → BirthHeap → BirthHeap
+plain_end_load t r x p = record p { register = put_at p.register t r x; pending = put p.pending t None }
 
 -- t has this barrier
 abbrev pub set_barrier : ℕ → OpenBarrier → AddressHeap → AddressHeap

@@ -1,11 +1,10 @@
 -- The steps of the plain heap that change it, and what the steps do to the heap.
 use Rattle.std.specs.Prelude.{ℕ, ◌+◌, zero, suc, Bool, true, false, not, cond, Option, Some, None, set}
 use Rattle.model.specs.declared.records.Phase.{Phase}
-use Rattle.model.specs.declared.records.Phase.TheVariants.{MarkCrossing, Scanning, ProtectCrossing}
-use Rattle.model.specs.Stores.{is_protected}
+use Rattle.model.specs.declared.records.Phase.TheVariants.{MarkCrossing, Scanning}
 use Rattle.laws.specs.AddressHeap.{AddressHeap, HeapObject, Word, Null, To, put_at, OpenBarrier, WorkerScan, LoadPlace, field}
 use Rattle.laws.specs.BirthHeap.{BirthHeap, ref}
-use Rattle.laws.specs.Edits.{plain_set_object, plain_set_pending, plain_give_register, set_object, mark_word, marked_word, set_scan}
+use Rattle.laws.specs.Edits.{plain_set_object, plain_set_pending, plain_end_load, set_object, mark_word, marked_word, set_scan}
 
 -- field j of the birth in r becomes x
 abbrev pub store_at : Option ℕ → ℕ → Option ℕ → BirthHeap → BirthHeap
@@ -31,7 +30,7 @@ plain_load_field t d r j p = load_at t d (p.register t r) j p
 
 abbrev pub finish_at : ℕ → Option (ℕ × Option ℕ) → BirthHeap → BirthHeap
 finish_at t None p = p
-finish_at t (Some q) p = plain_give_register t q.0 q.1 p
+finish_at t (Some q) p = plain_end_load t q.0 q.1 p
 
 abbrev pub plain_finish : ℕ → BirthHeap → BirthHeap
 plain_finish t p = finish_at t (p.pending t) p
@@ -52,16 +51,6 @@ with_datum o j v = record o { data_words = set o.data_words j v }
 -- a load has read v at a place
 abbrev pub new_barrier : ℕ → LoadPlace → Word → OpenBarrier
 new_barrier d place v = record { target = d; place = place; raw = v; now = v; healed = false }
-
--- the thread may still use words that name protected pages
-abbrev pub excused : Phase → Bool → Bool
-excused ProtectCrossing crossed = not crossed
-excused _ crossed = false
-
--- a GC trap is due
-abbrev pub gc_due : AddressHeap → ℕ → Word → Bool
-gc_due w t Null = false
-gc_due w t (To a n) = cond (excused w.phase (w.crossed t)) false (is_protected (w.page_state a))
 
 abbrev pub may_nmt_trap : Phase → Bool → Bool
 may_nmt_trap Scanning crossed = true

@@ -7,7 +7,7 @@ use Rattle.model.specs.declared.records.PageState.TheVariants.{Unused, Open, Clo
 use Rattle.model.specs.Stores.{is_protected}
 use Rattle.laws.specs.AddressHeap.{AddressHeap, HeapObject, Null, To, SideEntry, Planned, Copied, OpenBarrier, AtField, AtGlobal, WorkerScan, field, is_marking}
 use Rattle.laws.specs.BirthHeap.{BirthHeap}
-use Rattle.laws.specs.Edits.{set_object, set_barrier, plain_set_pending, give_register, set_global, plain_set_global, copy_object, mark_word, marked_word, end_global_scan, set_scan, end_scan, start_mark, cross_checkpoint, release_page, protect_pages, open_page, set_parked, born, plain_born, end_mark}
+use Rattle.laws.specs.Edits.{set_object, set_barrier, plain_set_pending, end_load, set_global, plain_set_global, copy_object, mark_word, marked_word, end_global_scan, set_scan, end_scan, start_mark, cross_checkpoint, release_page, protect_pages, open_page, set_parked, born, plain_born, end_mark}
 use Rattle.laws.specs.Effects.{plain_store, plain_datum, plain_load_field, plain_finish, plain_set_register, set_register, with_field, with_datum, new_barrier, nmt_trap_due, mark_registers, scan_field}
 
 -- a word that names a page that is being emptied can be used before its thread has crossed
@@ -60,7 +60,7 @@ pub record MayRelease (w : AddressHeap) (inside : ℕ → Bool) : Type 0 where
   pub crossed : w.phase ≡ ProtectCrossing → (t : ℕ) → w.crossed t ≡ true
   pub busy : w.phase ≢ Idle
 
-pub record MayBeBorn (w : AddressHeap) (p : BirthHeap) (a : ℕ) (o : HeapObject) (t l : ℕ) (xs : List (Option ℕ)) (ds : List ℕ) : Type 0 where
+pub record MayBeBorn (w : AddressHeap) (a : ℕ) (o : HeapObject) (t l : ℕ) (xs : List (Option ℕ)) (ds : List ℕ) : Type 0 where
   pub free : w.object_at a ≡ None
   pub page_open : w.page_state a ≡ Open
   pub unplanned : (x : ℕ) → w.side_entry x ≢ Planned a
@@ -74,7 +74,7 @@ pub record MayBeBorn (w : AddressHeap) (p : BirthHeap) (a : ℕ) (o : HeapObject
 
 pub data Transition (w : AddressHeap) (p p0 : BirthHeap) : AddressHeap → BirthHeap → BirthHeap → Type 0 where
   TakeFresh : (inside : ℕ → Bool) → ((a : ℕ) → inside a ≡ true → w.page_state a ≡ Unused) → Transition w p p0 (open_page inside w) p p0
-  New : (a : ℕ) (o : HeapObject) (t r l : ℕ) (xs : List (Option ℕ)) (ds : List ℕ) → MayBeBorn w p a o t l xs ds → Transition w p p0 (born a o t r w) (plain_born l xs ds t r p) p0
+  New : (a : ℕ) (o : HeapObject) (t r l : ℕ) (xs : List (Option ℕ)) (ds : List ℕ) → MayBeBorn w a o t l xs ds → Transition w p p0 (born a o t r w) (plain_born l xs ds t r p) p0
   Load : (t d r a : ℕ) (o : HeapObject) (j : ℕ) → Uses w t r a o → j < length o.refs → w.parked t ≡ false → Transition w p p0 (set_barrier t (new_barrier d (AtField a j) (field o j)) w) (plain_load_field t d r j p) p0
   LoadGlobal : (t d g : ℕ) → w.parked t ≡ false → Transition w p p0 (set_barrier t (new_barrier d (AtGlobal g) (w.global g)) w) (plain_set_pending t (d, p.global g) p) p0
   TrapMoved : (t : ℕ) (k : OpenBarrier) (a n : ℕ) (b : Bool) → w.barrier t ≡ Some k → k.now ≡ To a b → w.side_entry a ≡ Copied n → Transition w p p0 (set_barrier t (record k { now = To n b }) w) p p0
@@ -83,7 +83,7 @@ pub data Transition (w : AddressHeap) (p p0 : BirthHeap) : AddressHeap → Birth
   HealGlobal : (t : ℕ) (k : OpenBarrier) (g : ℕ) → w.barrier t ≡ Some k → w.global g ≡ k.raw → nmt_trap_due w t k.now ≡ false → Transition w p p0 (set_barrier t (record k { healed = true }) (set_global g k.now w)) p p0
   HealField : (t : ℕ) (k : OpenBarrier) (a j : ℕ) (o : HeapObject) → w.barrier t ≡ Some k → k.place ≡ AtField a j → w.object_at a ≡ Some o → field o j ≡ k.raw → nmt_trap_due w t k.now ≡ false → Transition w p p0 (set_barrier t (record k { healed = true }) (set_object a (with_field o j k.now) w)) p p0
   HealChanged : (t : ℕ) (k : OpenBarrier) → w.barrier t ≡ Some k → Transition w p p0 (set_barrier t (record k { healed = true }) w) p p0
-  Finish : (t : ℕ) (k : OpenBarrier) → w.barrier t ≡ Some k → nmt_trap_due w t k.now ≡ false → Transition w p p0 (give_register t k.target k.now w) (plain_finish t p) p0
+  Finish : (t : ℕ) (k : OpenBarrier) → w.barrier t ≡ Some k → nmt_trap_due w t k.now ≡ false → Transition w p p0 (end_load t k.target k.now w) (plain_finish t p) p0
   Store : (t r a : ℕ) (o : HeapObject) (j s : ℕ) → Uses w t r a o → j < length o.refs → Transition w p p0 (set_object a (with_field o j (w.register t s)) w) (plain_store t r j s p) p0
   StoreGlobal : (t g s : ℕ) → Transition w p p0 (set_global g (w.register t s) w) (plain_set_global g (p.register t s) p) p0
   SetDatum : (t r a : ℕ) (o : HeapObject) (j v : ℕ) → Uses w t r a o → Transition w p p0 (set_object a (with_datum o j v) w) (plain_datum t r j v p) p0

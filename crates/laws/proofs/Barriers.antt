@@ -9,15 +9,15 @@ use Rattle.model.specs.Stores.{is_protected, has_memory}
 use Rattle.laws.specs.AddressHeap.{AddressHeap, HeapObject, Word, Null, To, put, field, current, resolve, resolve_by, names, birth_of, OpenBarrier, AtField, is_marking, is_crossing, SideEntry, NoEntry, Planned, Copied}
 use Rattle.laws.specs.BirthHeap.{BirthHeap, ref, InPending, Start, Next}
 use Rattle.laws.specs.Invariant.{IsKept, IsClean, StandsFor, Invariant, IsBarrierFor, IsPlace}
-use Rattle.laws.specs.Edits.{set_object, give_register, plain_give_register, set_barrier, set_global, copy_object, mark_word, marked_word}
+use Rattle.laws.specs.Edits.{set_object, end_load, plain_end_load, set_barrier, set_global, copy_object, mark_word, marked_word}
 use Rattle.laws.specs.Effects.{finish_at, plain_finish, set_register, with_field, nmt_trap_due, may_nmt_trap, same_bit}
-use Rattle.laws.proofs.Basics.{put_id, put_at_id, current_obj, unmoved, put_same}
-use Rattle.laws.proofs.Use.{named, reg_kept, global_kept, at, mark_word_keeps}
-use Rattle.laws.proofs.Copy.{copy_keeps}
-use Rattle.laws.proofs.Give.{give_keeps}
-use Rattle.laws.proofs.Barrier.{load_keeps}
-use Rattle.laws.proofs.Global.{set_global_keeps}
-use Rattle.laws.proofs.Mutator.{write_field, set_reg_keeps}
+use Rattle.laws.proofs.Basics.{put_id, put_at_id, current_there, unmoved, put_same}
+use Rattle.laws.proofs.Reading.{named, register_kept, global_kept, at, mark_word_keeps}
+use Rattle.laws.proofs.CopyObject.{copy_object_keeps}
+use Rattle.laws.proofs.EndLoad.{end_load_keeps}
+use Rattle.laws.proofs.SetBarrier.{set_barrier_keeps}
+use Rattle.laws.proofs.Globals.{set_global_keeps}
+use Rattle.laws.proofs.Mutators.{write_field, set_register_keeps}
 
 -- the pending load of an open barrier
 pub record OpenLoad (w : AddressHeap) (p : BirthHeap) (t : ℕ) (k : OpenBarrier) : Type 0 where
@@ -40,7 +40,7 @@ pending_kept w p t k h b e = Start b (inl (InPending t h.pending.0 (h.is ∙ ap 
 pub change_keeps : (w : AddressHeap) (p p0 : BirthHeap) → Invariant w p p0 → (t : ℕ) (k l : OpenBarrier) (h : OpenLoad w p t k) → IsBarrierFor w p t (Some l) (Some h.pending) → Invariant (set_barrier t l w) p p0
 change_keeps w p p0 i t k l h b =
     subst (λ y. Invariant (set_barrier t l w) (record p { pending = y }) p0) (put_id p.pending t (Some h.pending) h.is)
-    (load_keeps w p p0 i t l h.pending (record { barrier = b; kept = pending_kept w p t k h }))
+    (set_barrier_keeps w p p0 i t l h.pending (record { barrier = b; kept = pending_kept w p t k h }))
 
 -- without an NMT trap a crossed thread's word is clean
 pub clean_now : (w : AddressHeap) (t : ℕ) (v : Word) → nmt_trap_due w t v ≡ false → is_marking w.phase ≡ true → w.crossed t ≡ true → IsClean w v
@@ -68,7 +68,7 @@ entry_of w p p0 i a n x e k h = go (w.side_entry a) refl
     at_page : (f : SideEntry) → w.side_entry a ≡ f → resolve_by f a ≡ a → (g : PageState) → w.page_state a ≡ g → is_protected g ≡ true → (z : ℕ) × (w.side_entry a ≡ Planned z)
     at_page f c r From g _ = let d = named w a n x e in
         (at w p p0 i a d.object (ap (current w) (sym (ap (λ f. resolve_by f a) c ∙ r)) ∙ d.here) (k d.object.birth d.birth)).entry g
-    at_page f c r Gone g _ = let d = named w a n x e in let o = i.objects.with_memory a d.object (current_obj w a d.object (ap (current w) (sym (ap (λ f. resolve_by f a) c ∙ r)) ∙ d.here)) in let z = ap has_memory g in cc
+    at_page f c r Gone g _ = let d = named w a n x e in let o = i.objects.with_memory a d.object (current_there w a d.object (ap (current w) (sym (ap (λ f. resolve_by f a) c ∙ r)) ∙ d.here)) in let z = ap has_memory g in cc
     at_page f c r _ g u = cc
 
     go : (f : SideEntry) → w.side_entry a ≡ f → ((z : ℕ) × (w.side_entry a ≡ Planned z)) ⊎ ((z : ℕ) × (w.side_entry a ≡ Copied z))
@@ -104,7 +104,7 @@ trap_moved_keeps w p p0 i t k a n b e v f =
 -- Trap, at a GC trap whose object wasn't
 pub trap_copied_keeps : (w : AddressHeap) (p p0 : BirthHeap) → Invariant w p p0 → (t : ℕ) (k : OpenBarrier) (a n : ℕ) (b : Bool) (o : HeapObject) → w.barrier t ≡ Some k → k.now ≡ To a b → w.side_entry a ≡ Planned n → w.object_at a ≡ Some o → w.phase ≢ ProtectCrossing → Invariant (set_barrier t (record k { now = To n b }) (copy_object a n o w)) p p0
 trap_copied_keeps w p p0 i t k a n b o e v f h g =
-    trap_moved_keeps (copy_object a n o w) p p0 (copy_keeps w p p0 i a n o (record { entry = f; here = h; phase = g })) t k a n b e v (put_same w.side_entry a (Copied n))
+    trap_moved_keeps (copy_object a n o w) p p0 (copy_object_keeps w p p0 i a n o (record { entry = f; here = h; phase = g })) t k a n b e v (put_same w.side_entry a (Copied n))
 
 -- Trap, at an NMT trap
 pub trap_marked_keeps : (w : AddressHeap) (p p0 : BirthHeap) → Invariant w p p0 → (t : ℕ) (k : OpenBarrier) → w.barrier t ≡ Some k → is_marking w.phase ≡ true → Invariant (set_barrier t (record k { now = marked_word w k.now }) (mark_word k.now w)) p p0
@@ -136,9 +136,9 @@ pub heal_field_keeps : (w : AddressHeap) (p p0 : BirthHeap) → Invariant w p p0
 heal_field_keeps w p p0 i t k a j o e l f r d =
     let h = opened_of w p p0 i t k e in
     let y : IsPlace w p t (AtField a j) = subst (IsPlace w p t) l h.barrier.place in
-    let q : y.object ≡ o = (let z = current_obj w a y.object y.here in cc) in
+    let q : y.object ≡ o = (let z = current_there w a y.object y.here in cc) in
     let c : current w a ≡ Some o = y.here ∙ ap (λ z. Some z) q in
-    let b = reg_kept w p t y.register o.birth (y.held ∙ ap (λ z. Some z.birth) q) in
+    let b = register_kept w p t y.register o.birth (y.held ∙ ap (λ z. Some z.birth) q) in
     let s = at w p p0 i a o c b in
     let same : ref p o.birth j ≡ h.pending.1 = (let x = (s.refs j).names in let y = h.barrier.raw in let z = ap (names w) r in cc) in
     let u : Invariant (set_object a (with_field o j k.now) w) p p0 =
@@ -155,21 +155,21 @@ heal_changed_keeps w p p0 i t k e =
     change_keeps w p p0 i t k (record k { healed = true }) h (record { target = h.barrier.target; raw = h.barrier.raw; now = h.barrier.now; place = h.barrier.place; running = h.barrier.running })
 
 -- Finish
-pub finish_keeps : (w : AddressHeap) (p p0 : BirthHeap) → Invariant w p p0 → (t : ℕ) (k : OpenBarrier) → w.barrier t ≡ Some k → nmt_trap_due w t k.now ≡ false → Invariant (give_register t k.target k.now w) (plain_finish t p) p0
+pub finish_keeps : (w : AddressHeap) (p p0 : BirthHeap) → Invariant w p p0 → (t : ℕ) (k : OpenBarrier) → w.barrier t ≡ Some k → nmt_trap_due w t k.now ≡ false → Invariant (end_load t k.target k.now w) (plain_finish t p) p0
 finish_keeps w p p0 i t k e d =
     let h = opened_of w p p0 i t k e in
-    subst (λ y. Invariant (give_register t k.target k.now w) (finish_at t y p) p0) (sym h.is)
-    (subst (λ r. Invariant (give_register t k.target k.now w) (plain_give_register t r h.pending.1 p) p0) h.barrier.target
-    (give_keeps w p p0 i t k.target k.now h.pending.1 (record { good = h.barrier.now; kept = pending_kept w p t k h; clean = clean_now w t k.now d })))
+    subst (λ y. Invariant (end_load t k.target k.now w) (finish_at t y p) p0) (sym h.is)
+    (subst (λ r. Invariant (end_load t k.target k.now w) (plain_end_load t r h.pending.1 p) p0) h.barrier.target
+    (end_load_keeps w p p0 i t k.target k.now h.pending.1 (record { good = h.barrier.now; kept = pending_kept w p t k h; clean = clean_now w t k.now d })))
 
 -- Scrub, where the object was copied
 pub scrub_moved_keeps : (w : AddressHeap) (p p0 : BirthHeap) → Invariant w p p0 → (t r a n : ℕ) (b : Bool) → w.barrier t ≡ None → w.register t r ≡ To a b → w.side_entry a ≡ Copied n → Invariant (set_register t r (To n b) w) p p0
 scrub_moved_keeps w p p0 i t r a n b e v f =
     subst (λ y. Invariant (set_register t r (To n b) w) (record p { register = y }) p0) (put_at_id p.register t r (p.register t r) refl)
-    (set_reg_keeps w p p0 i t r (To n b) (p.register t r) e (moved_good w p p0 i a n b (p.register t r) f (subst (λ v. StandsFor w v (p.register t r)) v (i.words.registers t r))) (reg_kept w p t r)
+    (set_register_keeps w p p0 i t r (To n b) (p.register t r) e (moved_good w p p0 i a n b (p.register t r) f (subst (λ v. StandsFor w v (p.register t r)) v (i.words.registers t r))) (register_kept w p t r)
     (λ m c y l h. i.marks.registers t r m c a l (v ∙ (let z = h in cc))))
 
 -- and where it wasn't
 pub scrub_copied_keeps : (w : AddressHeap) (p p0 : BirthHeap) → Invariant w p p0 → (t r a n : ℕ) (b : Bool) (o : HeapObject) → w.barrier t ≡ None → w.register t r ≡ To a b → w.side_entry a ≡ Planned n → w.object_at a ≡ Some o → w.phase ≢ ProtectCrossing → Invariant (set_register t r (To n b) (copy_object a n o w)) p p0
 scrub_copied_keeps w p p0 i t r a n b o e v f h g =
-    scrub_moved_keeps (copy_object a n o w) p p0 (copy_keeps w p p0 i a n o (record { entry = f; here = h; phase = g })) t r a n b e v (put_same w.side_entry a (Copied n))
+    scrub_moved_keeps (copy_object a n o w) p p0 (copy_object_keeps w p p0 i a n o (record { entry = f; here = h; phase = g })) t r a n b e v (put_same w.side_entry a (Copied n))

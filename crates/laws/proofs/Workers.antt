@@ -8,13 +8,13 @@ use Rattle.laws.specs.BirthHeap.{BirthHeap, ref, Start, Next}
 use Rattle.laws.specs.Invariant.{IsKept, IsClean, Invariant}
 use Rattle.laws.specs.Edits.{set_object, set_global, end_global_scan, set_scan, end_scan, mark_word, todo_after, marked_word, copy_object, cross_checkpoint, next_phase}
 use Rattle.laws.specs.Effects.{with_field, mark_register, mark_registers, scan_field}
-use Rattle.laws.proofs.Basics.{put_id, put_at_id, put_all, put_same, put_other, same_or_not, marked_obj}
-use Rattle.laws.proofs.Use.{at, mark_word_keeps, global_kept, reg_kept, set_at}
-use Rattle.laws.proofs.Copy.{copy_keeps}
-use Rattle.laws.proofs.Global.{set_global_keeps, done_global_keeps}
-use Rattle.laws.proofs.Mutator.{write_field, set_reg_keeps}
-use Rattle.laws.proofs.Scan.{set_scan_keeps, done_object_keeps}
-use Rattle.laws.proofs.Cross.{cross_keeps}
+use Rattle.laws.proofs.Basics.{put_id, put_at_id, put_all, put_same, put_other, same_or_not, marked_current}
+use Rattle.laws.proofs.Reading.{at, mark_word_keeps, global_kept, register_kept, set_at}
+use Rattle.laws.proofs.CopyObject.{copy_object_keeps}
+use Rattle.laws.proofs.Globals.{set_global_keeps, end_global_scan_keeps}
+use Rattle.laws.proofs.Mutators.{write_field, set_register_keeps}
+use Rattle.laws.proofs.Scans.{set_scan_keeps, end_scan_keeps}
+use Rattle.laws.proofs.Crossings.{cross_keeps}
 
 -- Pick
 pub pick_keeps : (w : AddressHeap) (p p0 : BirthHeap) → Invariant w p p0 → (k a : ℕ) → w.phase ≡ Scanning → w.todo a ≡ true → ((l : ℕ) (z : WorkerScan) → w.scan l ≡ Some z → z.address ≢ a) → Invariant (set_scan k (Some (record { address = a; next = 0 })) w) p p0
@@ -41,7 +41,7 @@ scan_field_keeps w p p0 i k s o e f h l =
     let v = field o j in
     let v' = marked_word w v in
     let m : w.marked a ≡ true = i.marks.todo a (i.marks.scanning k s f) in
-    let c : current w a ≡ Some o = marked_obj w p p0 i a m ∙ h in
+    let c : current w a ≡ Some o = marked_current w p p0 i a m ∙ h in
     let g : IsKept w p b = Start b (inr (record { address = a; object = o; is_marked = m; here = h; birth = refl })) in
     let x = at w p p0 i a o c g in
     let r = mark_word_keeps w p p0 i (ap is_marking e) v (ref p b j) (x.refs j).names (λ d. Next b d j g) in
@@ -64,7 +64,7 @@ scan_field_keeps w p p0 i k s o e f h l =
 
 -- ScanField, where no field is left
 pub scan_end_keeps : (w : AddressHeap) (p p0 : BirthHeap) → Invariant w p p0 → (k : ℕ) (s : WorkerScan) (o : HeapObject) → w.phase ≡ Scanning → w.scan k ≡ Some s → w.object_at s.address ≡ Some o → length o.refs ≤ s.next → Invariant (end_scan k s.address w) p p0
-scan_end_keeps w p p0 i k s o e f h l = done_object_keeps w p p0 i k s (record { phase = e; scan = f; state_after_mark = λ q j y z. subst (λ q. field q j ≡ Null) (let t : o ≡ q = cc in t) (get_or_past o.refs j Null (let a = l in let b = z in omega arith)) })
+scan_end_keeps w p p0 i k s o e f h l = end_scan_keeps w p p0 i k s (record { phase = e; scan = f; past_end = λ q j y z. subst (λ q. field q j ≡ Null) (let t : o ≡ q = cc in t) (get_or_past o.refs j Null (let a = l in let b = z in omega arith)) })
 
 -- ScanGlobal
 pub scan_global_keeps : (w : AddressHeap) (p p0 : BirthHeap) → Invariant w p p0 → (g : ℕ) → w.phase ≡ Scanning → Invariant (end_global_scan g (set_global g (marked_word w (w.global g)) (mark_word (w.global g) w))) p p0
@@ -75,19 +75,19 @@ scan_global_keeps w p p0 i g e =
     let w2 = set_global g (marked_word w v) w1 in
     let j : Invariant w2 p p0 = subst (λ y. Invariant w2 (record p { global = y }) p0) (put_id p.global g (p.global g) refl)
     (set_global_keeps w1 p p0 r.inv g (marked_word w v) (p.global g) (record { good = r.good; kept = global_kept w1 p g; clean = λ _. r.clean })) in
-    done_global_keeps w2 p p0 j g e (subst (IsClean w) (sym (put_same w.global g (marked_word w v))) r.clean)
+    end_global_scan_keeps w2 p p0 j g e (subst (IsClean w) (sym (put_same w.global g (marked_word w v))) r.clean)
 
 -- Copy, once all have crossed
 pub copy_step_keeps : (w : AddressHeap) (p p0 : BirthHeap) → Invariant w p p0 → (a n : ℕ) (o : HeapObject) → ((t : ℕ) → w.crossed t ≡ true) → w.side_entry a ≡ Planned n → w.object_at a ≡ Some o → Invariant (copy_object a n o w) p p0
-copy_step_keeps w p p0 i a n o c e h = copy_keeps w p p0 i a n o (record { entry = e; here = h; phase = λ f. (let t = i.phases.waits (ap is_crossing f) in let y = t.1 in let z = c t.0 in cc) })
+copy_step_keeps w p p0 i a n o c e h = copy_object_keeps w p p0 i a n o (record { entry = e; here = h; phase = λ f. (let t = i.phases.waits (ap is_crossing f) in let y = t.1 in let z = c t.0 in cc) })
 
 -- the mark checkpoint marks a register
-mark_reg_keeps : (w : AddressHeap) (p p0 : BirthHeap) → Invariant w p p0 → (t r : ℕ) → is_marking w.phase ≡ true → w.barrier t ≡ None → Invariant (mark_register t r w) p p0
-mark_reg_keeps w p p0 i t r m e =
+mark_register_keeps : (w : AddressHeap) (p p0 : BirthHeap) → Invariant w p p0 → (t r : ℕ) → is_marking w.phase ≡ true → w.barrier t ≡ None → Invariant (mark_register t r w) p p0
+mark_register_keeps w p p0 i t r m e =
     let v = w.register t r in
-    let q = mark_word_keeps w p p0 i m v (p.register t r) (i.words.registers t r).names (reg_kept w p t r) in
+    let q = mark_word_keeps w p p0 i m v (p.register t r) (i.words.registers t r).names (register_kept w p t r) in
     subst (λ y. Invariant (mark_register t r w) (record p { register = y }) p0) (put_at_id p.register t r (p.register t r) refl)
-    (set_reg_keeps (mark_word v w) p p0 q.inv t r (marked_word w v) (p.register t r) e q.good (reg_kept (mark_word v w) p t r) (λ _ _. q.clean))
+    (set_register_keeps (mark_word v w) p p0 q.inv t r (marked_word w v) (p.register t r) e q.good (register_kept (mark_word v w) p t r) (λ _ _. q.clean))
 
 -- what is so after the registers below n are marked
 pub record CrossedBelow (w : AddressHeap) (p p0 : BirthHeap) (t n : ℕ) (w' : AddressHeap) : Type 0 where
@@ -103,14 +103,14 @@ marked_clean : (w : AddressHeap) (v : Word) → IsClean w (marked_word w v)
 marked_clean w Null a n e = cc
 marked_clean w (To y b) a n e = let z = e in cc
 
-pub mark_regs_keeps : (w : AddressHeap) (p p0 : BirthHeap) → Invariant w p p0 → (t : ℕ) → is_marking w.phase ≡ true → w.barrier t ≡ None → (n : ℕ) → CrossedBelow w p p0 t n (mark_registers t n w)
-mark_regs_keeps w p p0 i t m e zero = record { inv = i; phase = refl; nmt = refl; barrier = refl; crossed = refl; clean = λ r l. absurd (omega arith); rest = λ r l. refl }
-mark_regs_keeps w p p0 i t m e (suc n) =
-    let h = mark_regs_keeps w p p0 i t m e n in
+pub mark_registers_keeps : (w : AddressHeap) (p p0 : BirthHeap) → Invariant w p p0 → (t : ℕ) → is_marking w.phase ≡ true → w.barrier t ≡ None → (n : ℕ) → CrossedBelow w p p0 t n (mark_registers t n w)
+mark_registers_keeps w p p0 i t m e zero = record { inv = i; phase = refl; nmt = refl; barrier = refl; crossed = refl; clean = λ r l. absurd (omega arith); rest = λ r l. refl }
+mark_registers_keeps w p p0 i t m e (suc n) =
+    let h = mark_registers_keeps w p p0 i t m e n in
     let u = mark_registers t n w in
     let v = u.register t n in
     record {
-      inv = mark_reg_keeps u p p0 h.inv t n (ap is_marking h.phase ∙ m) (ap (λ f. f t) h.barrier ∙ e);
+      inv = mark_register_keeps u p p0 h.inv t n (ap is_marking h.phase ∙ m) (ap (λ f. f t) h.barrier ∙ e);
       phase = h.phase;
       nmt = h.nmt;
       barrier = h.barrier;
@@ -127,7 +127,7 @@ mark_regs_keeps w p p0 i t m e (suc n) =
 pub cross_mark_keeps : (w : AddressHeap) (p p0 : BirthHeap) → Invariant w p p0 → (t n : ℕ) (f : Phase) → w.phase ≡ MarkCrossing → w.barrier t ≡ None → ((r : ℕ) → n ≤ r → w.register t r ≡ Null)
     → ((f ≡ MarkCrossing) × (u : ℕ) × (u ≢ t) × (w.crossed u ≡ false)) ⊎ ((f ≡ Scanning) × ((u : ℕ) → u ≢ t → w.crossed u ≡ true)) → Invariant (cross_checkpoint t f (mark_registers t n w)) p p0
 cross_mark_keeps w p p0 i t n f e b z x =
-    let h = mark_regs_keeps w p p0 i t (ap is_marking e) b n in
+    let h = mark_registers_keeps w p p0 i t (ap is_marking e) b n in
     let u = mark_registers t n w in
     cross_keeps u p p0 h.inv t f (record {
       opened = ap is_crossing (h.phase ∙ e);

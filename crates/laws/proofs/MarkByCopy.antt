@@ -6,10 +6,10 @@ use Rattle.laws.specs.AddressHeap.{AddressHeap, HeapObject, To, put, current, re
 use Rattle.laws.specs.BirthHeap.{BirthHeap}
 use Rattle.laws.specs.Invariant.{IsKept, IsClean, StandsFor, Invariant}
 use Rattle.laws.specs.Edits.{copy_object, mark_at}
-use Rattle.laws.proofs.Basics.{put_same, current_obj, unmoved}
-use Rattle.laws.proofs.Use.{named}
-use Rattle.laws.proofs.MarkAt.{mark_keeps}
-use Rattle.laws.proofs.Copy.{MayCopy, copy_keeps, current_new, kept_back}
+use Rattle.laws.proofs.Basics.{put_same, current_there, unmoved}
+use Rattle.laws.proofs.Reading.{named}
+use Rattle.laws.proofs.MarkObject.{mark_keeps}
+use Rattle.laws.proofs.CopyObject.{MayCopy, copy_object_keeps, current_new, kept_back}
 
 -- a word is marked whose object has an entry that isn't copied: the object is copied to n, and n is marked
 pub record MarkedByCopy (w : AddressHeap) (p p0 : BirthHeap) (a n : ℕ) (o : HeapObject) (x : Option ℕ) : Type 0 where
@@ -21,11 +21,11 @@ pub mark_by_copy : (w : AddressHeap) (p p0 : BirthHeap) → Invariant w p p0 →
 mark_by_copy w p p0 i m a n b o x e k f h =
     let held : w.phase ≢ ProtectCrossing = λ y. (let z = ap is_marking y in cc) in
     let c : MayCopy w a n o = record { entry = f; here = h; phase = held } in
-    let j = copy_keeps w p p0 i a n o c in
+    let j = copy_object_keeps w p p0 i a n o c in
     let w1 = copy_object a n o w in
     let d = named w a b x e in
     let r : resolve w a ≡ a = ap (λ f. resolve_by f a) f in
-    let y : d.object ≡ o = (let z = current_obj w (resolve w a) d.object d.here in let u = ap w.object_at r in cc) in
+    let y : d.object ≡ o = (let z = current_there w (resolve w a) d.object d.here in let u = ap w.object_at r in cc) in
     let q : x ≡ Some o.birth = d.birth ∙ ap (λ z. Some z.birth) y in
     let op = i.objects.planned_open a n f in
     let v = mark_keeps w1 p p0 j n o (record { running = m; here = current_new w p p0 i a n o c; kept = kept_back w p p0 i a n o c o.birth (k o.birth q); page = ap is_protected op }) in

@@ -9,8 +9,8 @@ use Rattle.laws.specs.BirthHeap.{BirthHeap, ref, InRegister, InGlobal, Start}
 use Rattle.laws.specs.Invariant.{IsKept, IsClean, StandsFor, Invariant}
 use Rattle.laws.specs.Transitions.{IsUsable}
 use Rattle.laws.specs.Edits.{mark_word, marked_word, marked_after}
-use Rattle.laws.proofs.Basics.{put_all, put_same, same_or_not, current_obj, marked_here}
-use Rattle.laws.proofs.MarkAt.{mark_keeps}
+use Rattle.laws.proofs.Basics.{put_all, put_same, same_or_not, current_there, marked_here}
+use Rattle.laws.proofs.MarkObject.{mark_keeps}
 
 -- what a word that isn't null names
 pub record NamedObject (w : AddressHeap) (a : ℕ) (x : Option ℕ) : Type 0 where
@@ -37,8 +37,8 @@ usable_here w p p0 i t a u = go (w.side_entry a) refl
 pub used : (w : AddressHeap) (p p0 : BirthHeap) → Invariant w p p0 → (t r a : ℕ) (n : Bool) → w.register t r ≡ To a n → IsUsable w t a → NamedObject w a (p.register t r)
 used w p p0 i t r a n e u = subst (λ y. NamedObject w y (p.register t r)) (usable_here w p p0 i t a u) (named w a n (p.register t r) (ap (names w) (sym e) ∙ (i.words.registers t r).names))
 
-pub reg_kept : (w : AddressHeap) (p : BirthHeap) (t r b : ℕ) → p.register t r ≡ Some b → IsKept w p b
-reg_kept w p t r b e = Start b (inl (InRegister t r e))
+pub register_kept : (w : AddressHeap) (p : BirthHeap) (t r b : ℕ) → p.register t r ≡ Some b → IsKept w p b
+register_kept w p t r b e = Start b (inl (InRegister t r e))
 
 pub global_kept : (w : AddressHeap) (p : BirthHeap) (g b : ℕ) → p.global g ≡ Some b → IsKept w p b
 global_kept w p g b e = Start b (inl (InGlobal g e))
@@ -77,11 +77,11 @@ kept_unprotected w p p0 i m a o h k = go (w.page_state a) refl
     go Open e = refl
     go Closed e = refl
     go From e = let n = (at w p p0 i a o h k).entry e in absurd (i.phases.all_copied a n.0 m n.1)
-    go Gone e = let z = i.objects.with_memory a o (current_obj w a o h) in let y = ap has_memory e in cc
+    go Gone e = let z = i.objects.with_memory a o (current_there w a o h) in let y = ap has_memory e in cc
 
 -- in a scan every register is clean
-pub clean_reg : (w : AddressHeap) (p p0 : BirthHeap) → Invariant w p p0 → w.phase ≡ Scanning → (t r : ℕ) → IsClean w (w.register t r)
-clean_reg w p p0 i e t r = i.marks.registers t r (ap is_marking e) (i.phases.crossed (ap is_crossing e) t)
+pub clean_register : (w : AddressHeap) (p p0 : BirthHeap) → Invariant w p p0 → w.phase ≡ Scanning → (t r : ℕ) → IsClean w (w.register t r)
+clean_register w p p0 i e t r = i.marks.registers t r (ap is_marking e) (i.phases.crossed (ap is_crossing e) t)
 
 pub mark_good : (w : AddressHeap) (u v : Word) (x : Option ℕ) → StandsFor w v x → StandsFor (mark_word u w) v x
 mark_good w u v x g = record { names = g.names; coloured = record { outside = g.coloured.outside; inside = λ y e h. more u y (g.coloured.inside y e h) } }

@@ -152,5 +152,5 @@ module _ (w : AddressHeap) (p p0 : BirthHeap) (i : Invariant w p p0) (a n : ℕ)
   since : is_marking w.phase ≡ true → (b : ℕ) → IsKept (copy_object a n o w) p b → IsReached p0.refs (IsRoot p0) b ⊎ (p0.births ≤ b)
   since e b k = i.since e b (kept b k)
 
-  pub copy_keeps : Invariant (copy_object a n o w) p p0
-  copy_keeps = assumption (registers, globals, barriers, stands, once, pages, births, planned_from, planned_object, planned_open, planned_free, planned_once, copied_from, copied_open, live_object, mark_object, scanned, passed, uncopied, all_copied, since, i)
+  pub copy_object_keeps : Invariant (copy_object a n o w) p p0
+  copy_object_keeps = assumption (registers, globals, barriers, stands, once, pages, births, planned_from, planned_object, planned_open, planned_free, planned_once, copied_from, copied_open, live_object, mark_object, scanned, passed, uncopied, all_copied, since, i)

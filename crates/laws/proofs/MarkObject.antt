@@ -5,7 +5,7 @@ use Rattle.laws.specs.AddressHeap.{AddressHeap, HeapObject, Word, put, current, 
 use Rattle.laws.specs.BirthHeap.{BirthHeap, ref, Start, Next}
 use Rattle.laws.specs.Invariant.{IsSeed, IsKept, HasCurrent, StandsFor, IsClean, Invariant, IsPlace}
 use Rattle.laws.specs.Edits.{mark_at, mark_with_todo}
-use Rattle.laws.proofs.Basics.{reached, put_all, put_both, put_after, put_id, true_or_false, barrier_map, current_obj}
+use Rattle.laws.proofs.Basics.{reached, put_all, put_both, put_after, put_id, true_or_false, barrier_map, current_there}
 
 pub record MayMark (w : AddressHeap) (p : BirthHeap) (a : ℕ) (o : HeapObject) : Type 0 where
   pub running : is_marking w.phase ≡ true
@@ -28,7 +28,7 @@ module _ (w : AddressHeap) (p p0 : BirthHeap) (i : Invariant w p p0) (a : ℕ) (
       seed b (inr h) = go (put_after w.marked a true h.address true h.is_marked)
         where
           go : ((h.address ≡ a) × (true ≡ true)) ⊎ ((h.address ≢ a) × (w.marked h.address ≡ true)) → IsKept w p b
-          go (inl k) = let y = current_obj w a o m.here in let x = h.here in let z = ap w.object_at k.0 in let u : o ≡ h.object = cc in subst (IsKept w p) (ap (λ q. q.birth) u ∙ h.birth) m.kept
+          go (inl k) = let y = current_there w a o m.here in let x = h.here in let z = ap w.object_at k.0 in let u : o ≡ h.object = cc in subst (IsKept w p) (ap (λ q. q.birth) u ∙ h.birth) m.kept
           go (inr k) = Start b (inr (record { address = h.address; object = h.object; is_marked = k.1; here = h.here; birth = h.birth }))
 
   place : (t : ℕ) (d : LoadPlace) → IsPlace w p t d → IsPlace (mark_with_todo a true w) p t d
@@ -60,7 +60,7 @@ module _ (w : AddressHeap) (p p0 : BirthHeap) (i : Invariant w p p0) (a : ℕ) (
     objects = i.objects;
     marks = record {
       running = λ x _. m.running;
-      object = put_all (λ x b. b ≡ true → (q : HeapObject) × (w.object_at x ≡ Some q)) w.marked a true (λ _. (o, current_obj w a o m.here)) (λ x _. i.marks.object x);
+      object = put_all (λ x b. b ≡ true → (q : HeapObject) × (w.object_at x ≡ Some q)) w.marked a true (λ _. (o, current_there w a o m.here)) (λ x _. i.marks.object x);
       unprotected = put_all (λ x b. b ≡ true → is_protected (w.page_state x) ≡ false) w.marked a true (λ _. m.page) (λ x _. i.marks.unprotected x);
       todo = put_both (λ x b c. b ≡ true → c ≡ true) w.todo w.marked a true true (λ _. refl) (λ x _. i.marks.todo x);
       scanned = λ x q j. put_both (λ x b c. b ≡ true → c ≡ false → w.object_at x ≡ Some q → IsClean w (field q j)) w.marked w.todo a true true (λ _ e. cc) (λ x _. i.marks.scanned x q j) x;
