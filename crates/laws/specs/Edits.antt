@@ -8,7 +8,7 @@ use Rattle.model.specs.Stores.{is_protected}
 use Rattle.laws.specs.AddressHeap.{AddressHeap, HeapObject, Word, Null, To, SideEntry, NoEntry, Copied, is_marking, is_mark_crossing, OpenBarrier, WorkerScan, put, put_at, resolve}
 use Rattle.laws.specs.BirthHeap.{BirthHeap}
 
--- a page's state after a mark: a page without a lent buffer closes, and a protected page is unused again (the paper's
+-- a page's state after a mark: an open page without a lent buffer closes, and a protected page is unused again (the paper's
 -- Remap phase: no word names the old place any more)
 abbrev pub state_after_mark : Bool → PageState → PageState
 state_after_mark lent Open = cond lent Open Closed
