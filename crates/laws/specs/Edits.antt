@@ -1,0 +1,155 @@
+-- The edits of the heap by addresses of which the transitions are made, each beside its edit of the plain heap.
+use Rattle.std.specs.Prelude.{ℕ, suc, not, Bool, true, false, cond, Option, Some, None, List}
+use Rattle.model.specs.declared.records.Phase.{Phase}
+use Rattle.model.specs.declared.records.Phase.TheVariants.{Idle, MarkCrossing, Scanning, ProtectCrossing, Relocating}
+use Rattle.model.specs.declared.records.PageState.{PageState}
+use Rattle.model.specs.declared.records.PageState.TheVariants.{Unused, Open, Closed, Gone}
+use Rattle.model.specs.Stores.{is_protected}
+use Rattle.laws.specs.AddressHeap.{AddressHeap, HeapObject, Word, Null, To, SideEntry, NoEntry, Copied, is_marking, is_mark_crossing, OpenBarrier, WorkerScan, put, put_at, resolve}
+use Rattle.laws.specs.BirthHeap.{BirthHeap}
+
+-- a page's state after a mark: an open page without a lent buffer closes, and a protected page is unused again (the paper's
+-- Remap phase: no word names the old place any more)
+abbrev pub state_after_mark : Bool → PageState → PageState
+state_after_mark lent Open = cond lent Open Closed
+state_after_mark lent Closed = Closed
+state_after_mark lent _ = Unused
+
+-- a mark ends: what it marked is live, the objects of protected pages and all side arrays are given up (the end of the
+-- paper's Mark phase, with which its Remap phase ends too)
+abbrev pub end_mark : (ℕ → Bool) → AddressHeap → AddressHeap
+end_mark lent w = record w {
+  page_state = λ a. state_after_mark (lent a) (w.page_state a);
+  object_at = λ a. cond (is_protected (w.page_state a)) None (w.object_at a);
+  side_entry = λ a. NoEntry;
+  live = w.marked;
+  marked = λ a. false;
+  todo = λ a. false;
+  phase = Idle;
+}
+
+-- object o, which is at a, is copied to n, and the side array says so (the paper's Relocate phase)
+abbrev pub copy_object : ℕ → ℕ → HeapObject → AddressHeap → AddressHeap
+copy_object a n o w = record w { object_at = put w.object_at n (Some o); side_entry = put w.side_entry a (Copied n) }
+
+-- the object at an address is marked, and its todo bit becomes b
+abbrev pub mark_with_todo : ℕ → Bool → AddressHeap → AddressHeap
+mark_with_todo a b w = record w { marked = put w.marked a true; todo = put w.todo a b }
+
+-- the object at an address is marked: where it wasn't, it has still to be scanned (the paper's Mark phase)
+abbrev pub mark_at : ℕ → AddressHeap → AddressHeap
+mark_at a w = mark_with_todo a (cond (w.marked a) (w.todo a) true) w
+
+-- the mark bits after the object that a word names is marked
+abbrev pub marked_after : Word → AddressHeap → ℕ → Bool
+marked_after Null w = w.marked
+marked_after (To a n) w = put w.marked (resolve w a) true
+
+-- the todo bits after the object that a word names is marked
+abbrev pub todo_after : Word → AddressHeap → ℕ → Bool
+todo_after Null w = w.todo
+todo_after (To a n) w = put w.todo (resolve w a) (cond (w.marked (resolve w a)) (w.todo (resolve w a)) true)
+
+-- the object that a word names is marked (the paper's Mark phase)
+abbrev pub mark_word : Word → AddressHeap → AddressHeap
+mark_word v w = record w { marked = marked_after v w; todo = todo_after v w }
+
+-- the word that marking leaves: it names the object where it is now, and is clean (the paper's Remap phase)
+abbrev pub marked_word : AddressHeap → Word → Word
+marked_word w Null = Null
+marked_word w (To a n) = To (resolve w a) w.nmt
+
+-- thread t's load ends: register r becomes v, and its barrier is closed (the paper's read barrier)
+abbrev pub end_load : ℕ → ℕ → Word → AddressHeap → AddressHeap
+end_load t r v w = record w { register = put_at w.register t r v; barrier = put w.barrier t None }
+
+-- thread t's pending load ends: register r becomes x
+abbrev pub plain_end_load : ℕ → ℕ → Option ℕ → BirthHeap → BirthHeap
+plain_end_load t r x p = record p { register = put_at p.register t r x; pending = put p.pending t None }
+
+-- thread t's barrier becomes k
+abbrev pub set_barrier : ℕ → OpenBarrier → AddressHeap → AddressHeap
+set_barrier t k w = record w { barrier = put w.barrier t (Some k) }
+
+-- thread t's pending load becomes q
+abbrev pub plain_set_pending : ℕ → ℕ × Option ℕ → BirthHeap → BirthHeap
+plain_set_pending t q p = record p { pending = put p.pending t (Some q) }
+
+-- the object at a becomes o
+abbrev pub set_object : ℕ → HeapObject → AddressHeap → AddressHeap
+set_object a o w = record w { object_at = put w.object_at a (Some o) }
+
+-- the references and data of birth b become xs and ds
+abbrev pub plain_set_object : ℕ → List (Option ℕ) → List ℕ → BirthHeap → BirthHeap
+plain_set_object b xs ds p = record p { refs = put p.refs b xs; data_words = put p.data_words b ds }
+
+-- global g becomes v
+abbrev pub set_global : ℕ → Word → AddressHeap → AddressHeap
+set_global g v w = record w { global = put w.global g v }
+
+-- global g of the plain heap becomes x
+abbrev pub plain_set_global : ℕ → Option ℕ → BirthHeap → BirthHeap
+plain_set_global g x p = record p { global = put p.global g x }
+
+-- global g is marked
+abbrev pub end_global_scan : ℕ → AddressHeap → AddressHeap
+end_global_scan g w = record w { global_todo = put w.global_todo g false }
+
+-- worker k has the object and field s, or none
+abbrev pub set_scan : ℕ → Option WorkerScan → AddressHeap → AddressHeap
+set_scan k s w = record w { scan = put w.scan k s }
+
+-- worker k has scanned the object at a, and has none
+abbrev pub end_scan : ℕ → ℕ → AddressHeap → AddressHeap
+end_scan k a w = record w { scan = put w.scan k None; todo = put w.todo a false }
+
+-- a mark begins: the clean value flips, all threads have to cross, and all globals have to be marked (the paper's Mark
+-- phase); c is true of the numbers that are no thread's
+abbrev pub start_mark : (ℕ → Bool) → AddressHeap → AddressHeap
+start_mark c w = record w { nmt = not w.nmt; crossed = c; global_todo = λ g. true; phase = MarkCrossing }
+
+-- the phase after a checkpoint that all have crossed (the paper's checkpoints)
+abbrev pub next_phase : Phase → Phase
+next_phase MarkCrossing = Scanning
+next_phase ProtectCrossing = Relocating
+next_phase f = f
+
+-- thread t crosses the checkpoint, and the phase becomes f (the paper's checkpoints)
+abbrev pub cross_checkpoint : ℕ → Phase → AddressHeap → AddressHeap
+cross_checkpoint t f w = record w { crossed = put w.crossed t true; phase = f }
+
+-- the page of these addresses gives its memory up, and its side array stays (the paper's Relocate phase)
+abbrev pub release_page : (ℕ → Bool) → AddressHeap → AddressHeap
+release_page inside w = record w { page_state = λ a. cond (inside a) Gone (w.page_state a); object_at = λ a. cond (inside a) None (w.object_at a) }
+
+-- pages get these states and side arrays, and all threads have to cross (the paper's Relocate phase)
+abbrev pub protect_pages : (ℕ → PageState) → (ℕ → SideEntry) → (ℕ → Bool) → AddressHeap → AddressHeap
+protect_pages states entries c w = record w { page_state = states; side_entry = entries; crossed = c; phase = ProtectCrossing }
+
+-- a page is opened
+abbrev pub open_page : (ℕ → Bool) → AddressHeap → AddressHeap
+open_page inside w = record w { page_state = λ a. cond (inside a) Open (w.page_state a) }
+
+-- thread t goes to sleep, or wakes
+abbrev pub set_parked : ℕ → Bool → AddressHeap → AddressHeap
+set_parked t b w = record w { parked = put w.parked t b }
+
+-- object o is born at a, named by register r of thread t; while a mark runs it is born marked (ours)
+abbrev pub born : ℕ → HeapObject → ℕ → ℕ → AddressHeap → AddressHeap
+born a o t r w = record w {
+  object_at = put w.object_at a (Some o);
+  births = suc w.births;
+  register = put_at w.register t r (To a w.nmt);
+  marked = put w.marked a (is_marking w.phase);
+  todo = put w.todo a (is_mark_crossing w.phase);
+}
+
+-- one more birth, of layout l, references xs and data ds, named by register r of thread t
+abbrev pub plain_born : ℕ → List (Option ℕ) → List ℕ → ℕ → ℕ → BirthHeap → BirthHeap
+plain_born l xs ds t r p = record p {
+  births = suc p.births;
+  layout = put p.layout p.births l;
+  refs = put p.refs p.births xs;
+  data_words = put p.data_words p.births ds;
+  register = put_at p.register t r (Some p.births);
+}

@@ -1,0 +1,93 @@
+-- What is promised of every heap that transitions lead to: what `law` ensures.
+use Rattle.std.specs.Prelude.{◌≡◌, ◌⊎◌, ◌≤◌, ◌↔◌, ℕ, Bool, true, Option, Some, None, length}
+use Rattle.model.specs.Stores.{has_memory}
+use Rattle.laws.specs.AddressHeap.{AddressHeap, Null, To, HeapObject, OpenBarrier, field, current, names}
+use Rattle.laws.specs.BirthHeap.{BirthHeap, ref, IsReachable}
+use Rattle.laws.specs.Invariant.{Invariant}
+use Rattle.laws.specs.Edits.{end_mark}
+use Rattle.laws.specs.First.{first, plain_first}
+use Rattle.laws.specs.Transitions.{IsUsable, Uses, Run, MayEndMark}
+
+-- birth b has exactly one current object, which is on a page with memory and has the layout, the data and the references
+-- of the plain heap; each reference word stands for the plain reference
+pub record HasOneCopy (w : AddressHeap) (p : BirthHeap) (b : ℕ) : Type 0 where
+  pub address : ℕ
+  pub object : HeapObject
+  pub here : current w address ≡ Some object
+  pub birth : object.birth ≡ b
+  pub only : (a : ℕ) (o : HeapObject) → current w a ≡ Some o → o.birth ≡ b → a ≡ address
+  pub frame : has_memory (w.page_state address) ≡ true
+  pub layout : object.layout ≡ p.layout b
+  pub data_words : object.data_words ≡ p.data_words b
+  pub refs_length : length object.refs ≡ length (p.refs b)
+  pub refs : (i : ℕ) → names w (field object i) ≡ Some (ref p b i)
+
+-- a thread has an open barrier exactly where it has a pending load, for the same register; the word that was loaded and
+-- the word so far stand for what is pending
+abbrev pub LoadStandsFor : AddressHeap → Option OpenBarrier → Option (ℕ × Option ℕ) → Type 0
+LoadStandsFor w None None = Unit {0}
+LoadStandsFor w (Some k) (Some q) = record {
+  target : k.target ≡ q.0;
+  raw : names w k.raw ≡ Some q.1;
+  now : names w k.now ≡ Some q.1;
+}
+LoadStandsFor w _ _ = ⊥
+
+-- a heap stands for a plain heap: registers, loads and globals for its entries, and what can be reached is there once
+pub record StandsForPlain (w : AddressHeap) (p : BirthHeap) : Type 0 where
+  pub registers : (t r : ℕ) → names w (w.register t r) ≡ Some (p.register t r)
+  pub loads : (t : ℕ) → LoadStandsFor w (w.barrier t) (p.pending t)
+  pub globals : (g : ℕ) → names w (w.global g) ≡ Some (p.global g)
+  pub reachable : (b : ℕ) → IsReachable p b → HasOneCopy w p b
+  pub births : w.births ≡ p.births
+
+-- object o, which a usable register names, is on a page with memory, and is the object of the birth that the register
+-- holds in the plain heap
+pub record ReadsPlain (w : AddressHeap) (p : BirthHeap) (t r a : ℕ) (o : HeapObject) : Type 0 where
+  pub frame : has_memory (w.page_state a) ≡ true
+  pub birth : p.register t r ≡ Some o.birth
+  pub layout : o.layout ≡ p.layout o.birth
+  pub data_words : o.data_words ≡ p.data_words o.birth
+
+-- what is read through a usable register is what the plain heap holds
+abbrev pub UsableReadsPlain : AddressHeap → BirthHeap → Type 0
+UsableReadsPlain w p = (t r a : ℕ) (o : HeapObject) → Uses w t r a o → ReadsPlain w p t r a o
+
+-- two usable registers of a thread have one address exactly where they hold one birth
+abbrev pub SameAddressSameBirth : AddressHeap → BirthHeap → Type 0
+SameAddressSameBirth w p = (t r s a c : ℕ) (o q : HeapObject) → Uses w t r a o → Uses w t s c q → (a ≡ c) ↔ (p.register t r ≡ p.register t s)
+
+-- a register is null exactly where it holds none
+abbrev pub NullIsNone : AddressHeap → BirthHeap → Type 0
+NullIsNone w p = (t r : ℕ) → (w.register t r ≡ Null) ↔ (p.register t r ≡ None)
+
+-- no register that may be used names a page without memory
+abbrev pub UsableHasMemory : AddressHeap → Type 0
+UsableHasMemory w = (t r a : ℕ) (n : Bool) → w.register t r ≡ To a n → IsUsable w t a → has_memory (w.page_state a) ≡ true
+
+-- the current object of each birth that can be reached is live
+abbrev pub ReachableIsLive : AddressHeap → BirthHeap → Type 0
+ReachableIsLive w p = (b : ℕ) → IsReachable p b → (a : ℕ) (o : HeapObject) → current w a ≡ Some o → o.birth ≡ b → w.live a ≡ true
+
+-- what is live could be reached as the last mark began, or is born since
+abbrev pub LiveWasReachable : AddressHeap → BirthHeap → Type 0
+LiveWasReachable w p0 = (a : ℕ) (o : HeapObject) → w.live a ≡ true → current w a ≡ Some o → IsReachable p0 o.birth ⊎ (p0.births ≤ o.birth)
+
+-- the first heaps have the invariant, and every list of transitions keeps it
+abbrev pub RunsKeepInvariant : Type 0
+RunsKeepInvariant = Invariant first plain_first plain_first × ((w : AddressHeap) (p p0 : BirthHeap) (v : AddressHeap) (q q0 : BirthHeap) → Invariant w p p0 → Run w p p0 v q q0 → Invariant v q q0)
+
+-- after every list of transitions from the first heaps, the heap stands for its plain heap, and no register that may be
+-- used names a page without memory
+abbrev pub RunsStandForPlain : Type 0
+RunsStandForPlain = (w : AddressHeap) (p p0 : BirthHeap) → Run first plain_first plain_first w p p0 → StandsForPlain w p × UsableHasMemory w
+
+-- after every list of transitions from the first heaps, a thread learns from its registers what it would from the plain
+-- heap's: the object of a birth, whether two registers hold one birth, and whether a register holds none
+abbrev pub RunsAnswerPlain : Type 0
+RunsAnswerPlain = (w : AddressHeap) (p p0 : BirthHeap) → Run first plain_first plain_first w p p0 → UsableReadsPlain w p × SameAddressSameBirth w p × NullIsNone w p
+
+-- where a mark ends after a list of transitions from the first heaps, what can be reached is live, and what is live could
+-- be reached when the mark began or is born since
+abbrev pub MarksEndLive : Type 0
+MarksEndLive = (w : AddressHeap) (p p0 : BirthHeap) → Run first plain_first plain_first w p p0 → MayEndMark w → (lent : ℕ → Bool) → ReachableIsLive (end_mark lent w) p × LiveWasReachable (end_mark lent w) p0
