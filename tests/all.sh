@@ -1,5 +1,6 @@
 #!/bin/sh
-# The whole test command: 'rt ci', then the examples. 'make test' runs it at
+# The whole test command: 'rt ci', then the program on the examples, and with
+# each of its requests for memory refused. 'make test' runs it at
 # the top of the repository. The last line is 'N passed, M failed', and the
 # exit status is 0 where M is 0.
 
@@ -38,6 +39,7 @@ count 'rt ci' "$RT" ci
 
 if "$MAKE" pauseless; then
     count 'the examples' sh tests/examples.sh
+    count 'refused memory' sh tests/memory.sh
 else
     echo 'failed: the program could not be built'
     failed=$((failed + 1))
