@@ -1,14 +1,13 @@
 -- What is done to a heap keeps its invariant.
-use Rattle.std.proofs.Common.{◌≡◌, ℕ, Bool, ◌-◌, ◌<◌, ◌≤◌, ◌^◌, ◌+◌, List, Option, Some, None, replicate, refl, sym, ◌∙◌, ap, subst, arith, set}
+use Rattle.std.proofs.Common.{◌≡◌, ℕ, Bool, ◌-◌, ◌<◌, ◌≤◌, ◌+◌, List, Option, Some, None, refl, arith, set}
 use Rattle.std.specs.List.{slice_get}
 use Rattle.std.specs.Option.{IfSome}
-use Rattle.model.specs.declared.config.Config.{Config}
 use Rattle.model.specs.declared.records.Buffer.{Buffer}
 use Rattle.model.specs.Stores.{StoreState}
 use Rattle.model.specs.Owning.{Each, LiesIn}
 use Rattle.model.specs.Holding.{IsHeap, FillsIn}
-use Rattle.model.specs.Heaps.{HeapState, ThreadState, Reference, changed, changed_at, set_register_of, with_register, first_heap}
-use Rattle.model.proofs.Lists.{each_set, each_replicate}
+use Rattle.model.specs.Heaps.{HeapState, ThreadState, changed, changed_at}
+use Rattle.model.proofs.Lists.{each_set}
 
 pub each_changed : {X : Type 0} (P : X → Type 0) (xs : List X) (i : ℕ) (change : X → X) → Each xs P → ((x : X) → P x → P (change x)) → Each (changed xs i change) P
 each_changed {X} P xs i change h k = by_element (slice_get xs i) refl

@@ -11,3 +11,6 @@ pub use heap::Heap;
 pub use model::{Config, ConfigFault, Refusal};
 pub use rows::{Row, Rows};
 pub use thread::Thread;
+
+#[cfg(test)]
+mod tests;

@@ -1,4 +1,4 @@
-use Rattle.std.proofs.Common.{◌≡◌, ◌<◌, ◌≤◌, ◌+◌, ◌*◌, ◌-◌, sym, subst, arith, ap, ◌∙◌}
+use Rattle.std.proofs.Common.{◌+◌, ◌*◌, sym, subst, ap, ◌∙◌}
 use Rattle.refword.specs.Words.{IsAddress}
 use Rattle.model.specs.Heaps.{HeapState}
 use Rattle.model.specs.Owning.{LiesIn}

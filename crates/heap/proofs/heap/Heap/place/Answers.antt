@@ -1,5 +1,4 @@
-use Rattle.std.proofs.Common.{◌≡◌, ◌+◌, ◌-◌, ◌≤◌, ◌<◌, sym, subst, ap, arith}
-use Rattle.layout.specs.Objects.{size_of}
+use Rattle.std.proofs.Common.{◌+◌, ◌-◌, ◌≤◌, ◌<◌, sym, subst}
 use Rattle.model.specs.Owning.{LiesIn}
 use Rattle.model.specs.Heaps.{HeapState}
 use Rattle.model.specs.Stores.{StoreState}

@@ -1,4 +1,4 @@
-use Rattle.std.proofs.Common.{◌≡◌, replicate, None, false}
+use Rattle.std.proofs.Common.{◌≡◌, replicate}
 use Rattle.model.specs.Heaps.{blank_thread}
 use Rattle.heap.proofs.heap.making.blank_threads.Given as goal
 

@@ -1,5 +1,4 @@
-use Rattle.std.proofs.Common.{◌≡◌, replicate, None, false}
-use Rattle.model.specs.Heaps.{blank_thread}
+use Rattle.std.proofs.Common.{◌≡◌, replicate}
 use Rattle.heap.proofs.heap.making.many.Given as goal
 
 abbrev pub invariant-loop-item : goal.invariant-loop-item

@@ -1,5 +1,4 @@
-use Rattle.std.proofs.Common.{◌≡◌, replicate, None, false}
-use Rattle.model.specs.Heaps.{blank_thread}
+use Rattle.std.proofs.Common.{◌≡◌, replicate, false}
 use Rattle.heap.proofs.rows.Rows.new.Given as goal
 
 abbrev pub invariant-loop-row : goal.invariant-loop-row

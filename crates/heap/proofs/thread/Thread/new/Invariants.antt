@@ -1,5 +1,4 @@
-use Rattle.std.proofs.Common.{◌≡◌, replicate, None, false}
-use Rattle.model.specs.Heaps.{blank_thread}
+use Rattle.std.proofs.Common.{◌≡◌, replicate, None}
 use Rattle.heap.proofs.thread.Thread.new.Given as goal
 
 abbrev pub invariant-loop-register : goal.invariant-loop-register

@@ -1,0 +1,74 @@
+use super::*;
+use layout::{Layout, Layouts};
+use std::alloc::{AllocError, Global};
+use std::test::Fail;
+
+fn good(alloc: Global) -> Result<Config, AllocError> {
+    Ok(Config {
+        words: 16,
+        frames: 2,
+        pages: 3,
+        threads: 2,
+        workers: 1,
+        registers: 4,
+        globals: 1,
+        layouts: Layouts::new(vec![in alloc; Layout { refs: 1, nums: 2 }]?),
+        births: 1 << 32,
+        history: 1_000_000,
+    })
+}
+
+/// All faults, in the order in which they are told.
+const FAULTS: [ConfigFault; 10] = [
+    ConfigFault::Words,
+    ConfigFault::Frames,
+    ConfigFault::Pages,
+    ConfigFault::Threads,
+    ConfigFault::Workers,
+    ConfigFault::Registers,
+    ConfigFault::Globals,
+    ConfigFault::Layouts,
+    ConfigFault::Births,
+    ConfigFault::History,
+];
+
+/// Puts a field out of its range.
+fn spoil(alloc: Global, config: &mut Config, fault: ConfigFault) -> Result<(), AllocError> {
+    match fault {
+        ConfigFault::Words => config.words = 24,
+        ConfigFault::Frames => config.frames = 0,
+        ConfigFault::Pages => config.pages = 1,
+        ConfigFault::Threads => config.threads = 65,
+        ConfigFault::Workers => config.workers = 0,
+        ConfigFault::Registers => config.registers = 17,
+        ConfigFault::Globals => config.globals = 65,
+        ConfigFault::Layouts => {
+            config.layouts = Layouts::new(vec![in alloc; Layout { refs: 0, nums: 16 }]?);
+        }
+        ConfigFault::Births => config.births = (1 << 32) + 1,
+        ConfigFault::History => config.history = 0,
+    }
+    Ok(())
+}
+
+fn told(alloc: Global, config: Config) -> Option<ConfigFault> {
+    match Heap::new(alloc, config) {
+        Err(NewFault::Config(fault)) => Some(fault),
+        _ => None,
+    }
+}
+
+#[test]
+fn the_first_fault_is_told(rt: HostRuntime) -> Result<(), Fail> {
+    let alloc = rt.alloc();
+    for fault in FAULTS {
+        let mut config = good(alloc)?;
+        spoil(alloc, &mut config, fault)?;
+        assert_eq!(rt; told(alloc, config), Some(fault));
+        let mut config = good(alloc)?;
+        spoil(alloc, &mut config, ConfigFault::History)?;
+        spoil(alloc, &mut config, fault)?;
+        assert_eq!(rt; told(alloc, config), Some(fault), "before the history");
+    }
+    Ok(())
+}
