@@ -83,9 +83,9 @@ moved_good w p p0 i a n b x f g =
     let r : resolve w n ≡ n = unmoved w i.objects n (ap is_protected k) (w.side_entry n) refl in
     record {
       names = ap (λ z. birth_of (current w z)) (r ∙ ap (λ f. resolve_by f a) (sym f)) ∙ g.names;
-      coloured = record {
-        outside = λ e y c h. g.coloured.outside e a c (let z = h in cc);
-        inside = λ y e h. absurd (let z = i.marks.unprotected a (g.coloured.inside a e (let u = h in cc)) in let y = i.objects.copied_from a n f in cc);
+      fits = record {
+        outside = λ e y c h. g.fits.outside e a c (let z = h in cc);
+        inside = λ y e h. absurd (let z = i.marks.unprotected a (g.fits.inside a e (let u = h in cc)) in let y = i.objects.copied_from a n f in cc);
       };
     }
 

@@ -24,7 +24,7 @@ module _ (w : AddressHeap) (p p0 : BirthHeap) (i : Invariant w p p0) (a n : ℕ)
       there y b x e = grind (arith, i.objects.planned_open, i.objects.planned_from, i.objects.planned_free, i.objects.copied_open, i.objects.copied_from, m.entry, m.here)
 
   good : (v : Word) (x : Option ℕ) → StandsFor w v x → StandsFor (copy_object a n o w) v x
-  good v x g = record { names = word v x g.names; coloured = g.coloured }
+  good v x g = record { names = word v x g.names; fits = g.fits }
 
   marked : (x : ℕ) → w.marked x ≡ true → (copy_object a n o w).object_at x ≡ w.object_at x
   marked x e = let q = (i.marks.object x e).1 in grind (arith, i.objects.planned_free a n m.entry)

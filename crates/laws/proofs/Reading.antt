@@ -84,7 +84,7 @@ pub clean_register : (w : AddressHeap) (p p0 : BirthHeap) → Invariant w p p0 �
 clean_register w p p0 i e t r = i.marks.registers t r (ap is_marking e) (i.phases.crossed (ap is_crossing e) t)
 
 pub mark_good : (w : AddressHeap) (u v : Word) (x : Option ℕ) → StandsFor w v x → StandsFor (mark_word u w) v x
-mark_good w u v x g = record { names = g.names; coloured = record { outside = g.coloured.outside; inside = λ y e h. more u y (g.coloured.inside y e h) } }
+mark_good w u v x g = record { names = g.names; fits = record { outside = g.fits.outside; inside = λ y e h. more u y (g.fits.inside y e h) } }
   where
     more : (u : Word) (y : ℕ) → w.marked y ≡ true → marked_after u w y ≡ true
     more Null y e = e
@@ -99,7 +99,7 @@ pub record MarkedWord (w : AddressHeap) (p p0 : BirthHeap) (v : Word) (x : Optio
 pub mark_word_keeps : (w : AddressHeap) (p p0 : BirthHeap) → Invariant w p p0 → is_marking w.phase ≡ true → (v : Word) (x : Option ℕ) → names w v ≡ Some x → ((b : ℕ) → x ≡ Some b → IsKept w p b) → MarkedWord w p p0 v x
 mark_word_keeps w p p0 i m Null x e k = record {
   inv = i;
-  good = record { names = e; coloured = record { outside = λ _ a n h. cc; inside = λ a _ h. cc } };
+  good = record { names = e; fits = record { outside = λ _ a n h. cc; inside = λ a _ h. cc } };
   clean = λ a n h. cc;
 }
 mark_word_keeps w p p0 i m (To a n) x e k =
@@ -110,7 +110,7 @@ mark_word_keeps w p p0 i m (To a n) x e k =
       inv = j;
       good = record {
         names = ap (λ z. birth_of (current w z)) r ∙ e;
-        coloured = record { outside = λ f. (let z = m in cc); inside = λ y f h. (let z : resolve w a ≡ y = cc in ap (marked_after (To a n) w) (sym z) ∙ put_same w.marked (resolve w a) true) };
+        fits = record { outside = λ f. (let z = m in cc); inside = λ y f h. (let z : resolve w a ≡ y = cc in ap (marked_after (To a n) w) (sym z) ∙ put_same w.marked (resolve w a) true) };
       };
       clean = λ y b h. (let z = h in cc);
     }

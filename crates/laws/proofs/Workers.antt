@@ -6,7 +6,7 @@ use Rattle.model.specs.declared.records.Phase.TheVariants.{MarkCrossing, Scannin
 use Rattle.laws.specs.AddressHeap.{AddressHeap, HeapObject, Word, Null, To, put, put_at, field, current, resolve, is_marking, is_crossing, Planned, WorkerScan}
 use Rattle.laws.specs.BirthHeap.{BirthHeap, ref, Start, Next}
 use Rattle.laws.specs.Invariant.{IsKept, IsClean, Invariant}
-use Rattle.laws.specs.Edits.{set_object, set_global, end_global_scan, set_scan, end_scan, mark_word, todo_after, marked_word, copy_object, cross_checkpoint, next_phase}
+use Rattle.laws.specs.Edits.{set_object, set_global, end_global_scan, set_scan, end_scan, mark_word, todo_after, marked_word, copy_object, cross_checkpoint}
 use Rattle.laws.specs.Effects.{with_field, mark_register, mark_registers, scan_field}
 use Rattle.laws.proofs.Basics.{put_id, put_at_id, put_all, put_same, put_other, same_or_not, marked_current}
 use Rattle.laws.proofs.Reading.{at, mark_word_keeps, global_kept, register_kept, set_at}
@@ -14,7 +14,7 @@ use Rattle.laws.proofs.CopyObject.{copy_object_keeps}
 use Rattle.laws.proofs.Globals.{set_global_keeps, end_global_scan_keeps}
 use Rattle.laws.proofs.Mutators.{write_field, set_register_keeps}
 use Rattle.laws.proofs.Scans.{set_scan_keeps, end_scan_keeps}
-use Rattle.laws.proofs.Crossings.{cross_keeps}
+use Rattle.laws.proofs.Crossings.{next_phase, cross_keeps}
 
 -- Pick
 pub pick_keeps : (w : AddressHeap) (p p0 : BirthHeap) → Invariant w p p0 → (k a : ℕ) → w.phase ≡ Scanning → w.todo a ≡ true → ((l : ℕ) (z : WorkerScan) → w.scan l ≡ Some z → z.address ≢ a) → Invariant (set_scan k (Some (record { address = a; next = 0 })) w) p p0

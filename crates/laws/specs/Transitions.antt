@@ -85,7 +85,7 @@ pub record MayBeBorn (w : AddressHeap) (a : ℕ) (o : HeapObject) (t l : ℕ) (x
 
 -- what the steps do: from a heap, its plain heap and the plain heap as the last mark began, to those after the step
 pub data Transition (w : AddressHeap) (p p0 : BirthHeap) : AddressHeap → BirthHeap → BirthHeap → Type 0 where
-  -- a thread takes a buffer on a fresh page, which opens
+  -- a thread takes a buffer on a fresh page, which opens; inside is true of the page's addresses
   TakeFresh : (inside : ℕ → Bool) → ((a : ℕ) → inside a ≡ true → w.page_state a ≡ Unused)
       → Transition w p p0 (open_page inside w) p p0
   -- thread t makes an object
@@ -169,7 +169,7 @@ pub data Transition (w : AddressHeap) (p p0 : BirthHeap) : AddressHeap → Birth
   -- a worker marks global g, and writes it back clean (the paper's Mark phase)
   ScanGlobal : (g : ℕ) → IsScanning w
       → Transition w p p0 (end_global_scan g (set_global g (marked_word w (w.global g)) (mark_word (w.global g) w))) p p0
-  -- a mark ends; lent is true of the pages in which a buffer is lent (the paper's Mark and Remap phases)
+  -- a mark ends; lent is true of the addresses of pages in which a buffer is lent (the paper's Mark and Remap phases)
   EndMark : (lent : ℕ → Bool) → MayEndMark w
       → Transition w p p0 (end_mark lent w) p p0
   -- pages are protected (the paper's Relocate phase)
@@ -178,7 +178,7 @@ pub data Transition (w : AddressHeap) (p p0 : BirthHeap) : AddressHeap → Birth
   -- a worker copies a planned object, once all have crossed (the paper's Relocate phase; that it waits is ours)
   Copy : (a n : ℕ) (o : HeapObject) → ((t : ℕ) → w.crossed t ≡ true) → w.side_entry a ≡ Planned n → w.object_at a ≡ Some o
       → Transition w p p0 (copy_object a n o w) p p0
-  -- a page gives its memory up (the paper's Relocate phase)
+  -- a page gives its memory up; inside is true of its addresses (the paper's Relocate phase)
   Release : (inside : ℕ → Bool) → MayRelease w inside
       → Transition w p p0 (release_page inside w) p p0
 
