@@ -18,7 +18,10 @@ pub record MarkedByCopy (w : AddressHeap) (p p0 : BirthHeap) (a n : ℕ) (o : He
   pub good : StandsFor (mark_at n (copy_object a n o w)) (To n w.nmt) x
   pub clean : IsClean w (To n w.nmt)
 
-pub mark_by_copy : (w : AddressHeap) (p p0 : BirthHeap) → Invariant w p p0 → is_marking w.phase ≡ true → (a n : ℕ) (b : Bool) (o : HeapObject) (x : Option ℕ) → names w (To a b) ≡ Some x → ((c : ℕ) → x ≡ Some c → IsKept w p c) → w.side_entry a ≡ Planned n → w.object_at a ≡ Some o → MarkedByCopy w p p0 a n o x
+pub mark_by_copy : (w : AddressHeap) (p p0 : BirthHeap) → Invariant w p p0 → is_marking w.phase ≡ true
+    → (a n : ℕ) (b : Bool) (o : HeapObject) (x : Option ℕ) → names w (To a b) ≡ Some x
+    → ((c : ℕ) → x ≡ Some c → IsKept w p c) → w.side_entry a ≡ Planned n → w.object_at a ≡ Some o
+    → MarkedByCopy w p p0 a n o x
 mark_by_copy w p p0 i m a n b o x e k f h =
     let held : w.phase ≢ ProtectCrossing = λ y. (let z = ap is_marking y in cc) in
     let c : MayCopy w a n o = record { entry = f; here = h; phase = held } in
