@@ -20,11 +20,12 @@ module _ (w : AddressHeap) (p p0 : BirthHeap) (i : Invariant w p p0) (a n : ℕ)
   word Null x e = e
   word (To y b) x e = there y b x e
     where
-      there : (y : ℕ) (b : Bool) (x : Option ℕ) → names w (To y b) ≡ Some x → names (copy_object a n o w) (To y b) ≡ Some x
+      there : (y : ℕ) (b : Bool) (x : Option ℕ) → names w (To y b) ≡ Some x
+          → names (copy_object a n o w) (To y b) ≡ Some x
       there y b x e = grind (arith, i.objects.planned_open, i.objects.planned_from, i.objects.planned_free, i.objects.copied_open, i.objects.copied_from, m.entry, m.here)
 
   good : (v : Word) (x : Option ℕ) → StandsFor w v x → StandsFor (copy_object a n o w) v x
-  good v x g = record { names = word v x g.names; coloured = g.coloured }
+  good v x g = record { names = word v x g.names; fits = g.fits }
 
   marked : (x : ℕ) → w.marked x ≡ true → (copy_object a n o w).object_at x ≡ w.object_at x
   marked x e = let q = (i.marks.object x e).1 in grind (arith, i.objects.planned_free a n m.entry)
@@ -52,10 +53,12 @@ module _ (w : AddressHeap) (p p0 : BirthHeap) (i : Invariant w p p0) (a n : ℕ)
   current_was : current w a ≡ Some o
   current_was = grind (arith, m.entry, m.here)
 
-  after : (x : ℕ) (q : HeapObject) → current (copy_object a n o w) x ≡ Some q → ((x ≡ n) × (q ≡ o)) ⊎ ((x ≢ n) × (x ≢ a) × (current w x ≡ Some q))
+  after : (x : ℕ) (q : HeapObject) → current (copy_object a n o w) x ≡ Some q
+      → ((x ≡ n) × (q ≡ o)) ⊎ ((x ≢ n) × (x ≢ a) × (current w x ≡ Some q))
   after x q e = grind (arith, current_new)
 
-  once : (x y : ℕ) (q r : HeapObject) → current (copy_object a n o w) x ≡ Some q → current (copy_object a n o w) y ≡ Some r → q.birth ≡ r.birth → x ≡ y
+  once : (x y : ℕ) (q r : HeapObject) → current (copy_object a n o w) x ≡ Some q
+      → current (copy_object a n o w) y ≡ Some r → q.birth ≡ r.birth → x ≡ y
   once x y q r e f b = let c = after x q e in let d = after y r f in grind (arith, i.objects.one_current x y q r, i.objects.one_current x a q o, i.objects.one_current y a r o, current_was)
 
   stands : (b : ℕ) → IsKept (copy_object a n o w) p b → HasCurrent (copy_object a n o w) p b
@@ -104,13 +107,15 @@ module _ (w : AddressHeap) (p p0 : BirthHeap) (i : Invariant w p p0) (a n : ℕ)
   planned_from : (x y : ℕ) → (copy_object a n o w).side_entry x ≡ Planned y → w.page_state x ≡ From
   planned_from x y e = grind (arith, i.objects.planned_from)
 
-  planned_object : (x y : ℕ) → (copy_object a n o w).side_entry x ≡ Planned y → (q : HeapObject) × ((copy_object a n o w).object_at x ≡ Some q)
+  planned_object : (x y : ℕ) → (copy_object a n o w).side_entry x ≡ Planned y
+      → (q : HeapObject) × ((copy_object a n o w).object_at x ≡ Some q)
   planned_object x y e = let q = i.objects.planned_object x y (was x y e) in (q.0, there x q.0 q.1 (i.objects.planned_free a n m.entry))
     where
       was : (x y : ℕ) → (copy_object a n o w).side_entry x ≡ Planned y → w.side_entry x ≡ Planned y
       was x y e = grind arith
 
-      there : (x : ℕ) (q : HeapObject) → w.object_at x ≡ Some q → w.object_at n ≡ None → (copy_object a n o w).object_at x ≡ Some q
+      there : (x : ℕ) (q : HeapObject) → w.object_at x ≡ Some q → w.object_at n ≡ None
+          → (copy_object a n o w).object_at x ≡ Some q
       there x q e f = grind arith
 
   planned_open : (x y : ℕ) → (copy_object a n o w).side_entry x ≡ Planned y → w.page_state y ≡ Open
@@ -119,7 +124,8 @@ module _ (w : AddressHeap) (p p0 : BirthHeap) (i : Invariant w p p0) (a n : ℕ)
   planned_free : (x y : ℕ) → (copy_object a n o w).side_entry x ≡ Planned y → (copy_object a n o w).object_at y ≡ None
   planned_free x y e = grind (arith, i.objects.planned_free, i.objects.planned_once, m.entry)
 
-  planned_once : (x y z : ℕ) → (copy_object a n o w).side_entry x ≡ Planned z → (copy_object a n o w).side_entry y ≡ Planned z → x ≡ y
+  planned_once : (x y z : ℕ) → (copy_object a n o w).side_entry x ≡ Planned z
+      → (copy_object a n o w).side_entry y ≡ Planned z → x ≡ y
   planned_once x y z e f = grind (arith, i.objects.planned_once x y z)
 
   copied_from : (x y : ℕ) → (copy_object a n o w).side_entry x ≡ Copied y → is_protected (w.page_state x) ≡ true
@@ -128,16 +134,19 @@ module _ (w : AddressHeap) (p p0 : BirthHeap) (i : Invariant w p p0) (a n : ℕ)
   copied_open : (x y : ℕ) → (copy_object a n o w).side_entry x ≡ Copied y → w.page_state y ≡ Open
   copied_open x y e = grind (arith, i.objects.copied_open, i.objects.planned_open, m.entry)
 
-  live_object : (x : ℕ) → w.page_state x ≡ Closed → w.live x ≡ true → (q : HeapObject) × ((copy_object a n o w).object_at x ≡ Some q)
+  live_object : (x : ℕ) → w.page_state x ≡ Closed → w.live x ≡ true
+      → (q : HeapObject) × ((copy_object a n o w).object_at x ≡ Some q)
   live_object x e f = let q = i.objects.live_object x e f in (q.0, stays x q.0 q.1 e)
     where
-      stays : (x : ℕ) (q : HeapObject) → w.object_at x ≡ Some q → w.page_state x ≡ Closed → (copy_object a n o w).object_at x ≡ Some q
+      stays : (x : ℕ) (q : HeapObject) → w.object_at x ≡ Some q → w.page_state x ≡ Closed
+          → (copy_object a n o w).object_at x ≡ Some q
       stays x q e k = grind (arith, i.objects.planned_open, m.entry)
 
   mark_object : (x : ℕ) → w.marked x ≡ true → (q : HeapObject) × ((copy_object a n o w).object_at x ≡ Some q)
   mark_object x e = let q = i.marks.object x e in (q.0, marked x e ∙ q.1)
 
-  scanned : (x : ℕ) (q : HeapObject) (j : ℕ) → w.marked x ≡ true → w.todo x ≡ false → (copy_object a n o w).object_at x ≡ Some q → IsClean w (field q j)
+  scanned : (x : ℕ) (q : HeapObject) (j : ℕ) → w.marked x ≡ true → w.todo x ≡ false
+      → (copy_object a n o w).object_at x ≡ Some q → IsClean w (field q j)
   scanned x q j e f h = i.marks.scanned x q j e f (sym (marked x e) ∙ h)
 
   passed : (k : ℕ) (s : WorkerScan) → w.scan k ≡ Some s → IsCleanBelow (copy_object a n o w) s.address s.next
@@ -149,7 +158,8 @@ module _ (w : AddressHeap) (p p0 : BirthHeap) (i : Invariant w p p0) (a n : ℕ)
   all_copied : (x y : ℕ) → is_marking w.phase ≡ true → (copy_object a n o w).side_entry x ≡ Planned y → ⊥
   all_copied x y e f = grind (arith, i.phases.all_copied)
 
-  since : is_marking w.phase ≡ true → (b : ℕ) → IsKept (copy_object a n o w) p b → IsReached p0.refs (IsRoot p0) b ⊎ (p0.births ≤ b)
+  since : is_marking w.phase ≡ true → (b : ℕ) → IsKept (copy_object a n o w) p b
+      → IsReached p0.refs (IsRoot p0) b ⊎ (p0.births ≤ b)
   since e b k = i.since e b (kept b k)
 
   pub copy_object_keeps : Invariant (copy_object a n o w) p p0

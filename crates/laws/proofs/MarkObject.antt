@@ -1,12 +1,20 @@
 -- To mark an object keeps the invariant.
-use Rattle.std.proofs.Common.{◌≡◌, ◌≢◌, ◌⊎◌, inl, inr, ℕ, true, false, cond, Option, Some, refl, sym, ◌∙◌, ap, subst}
+use Rattle.std.proofs.Common.{◌≡◌, ◌≢◌, ◌⊎◌, inl, inr, ℕ, Bool, true, false, cond, Option, Some, refl, sym, ◌∙◌, ap, subst}
 use Rattle.model.specs.Stores.{is_protected}
 use Rattle.laws.specs.AddressHeap.{AddressHeap, HeapObject, Word, put, current, field, LoadPlace, AtField, AtGlobal, is_marking}
 use Rattle.laws.specs.BirthHeap.{BirthHeap, ref, Start, Next}
 use Rattle.laws.specs.Invariant.{IsSeed, IsKept, HasCurrent, StandsFor, IsClean, Invariant, IsPlace}
-use Rattle.laws.specs.Edits.{mark_at, mark_with_todo}
 use Rattle.laws.proofs.Basics.{reached, put_all, put_both, put_after, put_id, true_or_false, barrier_map, current_there}
 
+-- the object at an address is marked, and its todo bit becomes b
+abbrev pub mark_with_todo : ℕ → Bool → AddressHeap → AddressHeap
+mark_with_todo a b w = record w { marked = put w.marked a true; todo = put w.todo a b }
+
+-- the object at an address is marked: where it wasn't, it has still to be scanned (the paper's Mark phase)
+abbrev pub mark_at : ℕ → AddressHeap → AddressHeap
+mark_at a w = mark_with_todo a (cond (w.marked a) (w.todo a) true) w
+
+-- object o at a may be marked
 pub record MayMark (w : AddressHeap) (p : BirthHeap) (a : ℕ) (o : HeapObject) : Type 0 where
   pub running : is_marking w.phase ≡ true
   pub here : current w a ≡ Some o
@@ -18,7 +26,7 @@ module _ (w : AddressHeap) (p p0 : BirthHeap) (i : Invariant w p p0) (a : ℕ) (
   more = put_all (λ x b. w.marked x ≡ true → b ≡ true) w.marked a true (λ _. refl) (λ x _ e. e)
 
   good : (v : Word) (x : Option ℕ) → StandsFor w v x → StandsFor (mark_with_todo a true w) v x
-  good v x g = record { names = g.names; coloured = record { outside = g.coloured.outside; inside = λ y e h. more y (g.coloured.inside y e h) } }
+  good v x g = record { names = g.names; fits = record { outside = g.fits.outside; inside = λ y e h. more y (g.fits.inside y e h) } }
 
   kept : (b : ℕ) → IsKept (mark_with_todo a true w) p b → IsKept w p b
   kept = reached p.refs (IsSeed (mark_with_todo a true w) p) (IsKept w p) seed (λ b c j k. Next b c j k)

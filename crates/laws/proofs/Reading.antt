@@ -18,15 +18,18 @@ pub record NamedObject (w : AddressHeap) (a : ℕ) (x : Option ℕ) : Type 0 whe
   pub here : current w a ≡ Some object
   pub birth : x ≡ Some object.birth
 
-named_by : (w : AddressHeap) (a : ℕ) (x : Option ℕ) (y : Option HeapObject) → current w a ≡ y → birth_of y ≡ Some x → NamedObject w a x
+named_by : (w : AddressHeap) (a : ℕ) (x : Option ℕ) (y : Option HeapObject) → current w a ≡ y → birth_of y ≡ Some x
+    → NamedObject w a x
 named_by w a x None e h = cc
 named_by w a x (Some o) e h = record { object = o; here = e; birth = (let z = h in cc) }
 
-pub named : (w : AddressHeap) (a : ℕ) (n : Bool) (x : Option ℕ) → names w (To a n) ≡ Some x → NamedObject w (resolve w a) x
+pub named : (w : AddressHeap) (a : ℕ) (n : Bool) (x : Option ℕ) → names w (To a n) ≡ Some x
+    → NamedObject w (resolve w a) x
 named w a n x e = named_by w (resolve w a) x (current w (resolve w a)) refl e
 
 -- a usable address resolves to itself
-pub usable_here : (w : AddressHeap) (p p0 : BirthHeap) → Invariant w p p0 → (t a : ℕ) → IsUsable w t a → resolve w a ≡ a
+pub usable_here : (w : AddressHeap) (p p0 : BirthHeap) → Invariant w p p0 → (t a : ℕ) → IsUsable w t a
+    → resolve w a ≡ a
 usable_here w p p0 i t a u = go (w.side_entry a) refl
   where
     go : (f : SideEntry) → w.side_entry a ≡ f → resolve_by f a ≡ a
@@ -34,7 +37,8 @@ usable_here w p p0 i t a u = go (w.side_entry a) refl
     go (Planned n) e = refl
     go (Copied n) e = absurd (i.phases.uncopied a n (u (i.objects.copied_from a n e)).0 e)
 
-pub used : (w : AddressHeap) (p p0 : BirthHeap) → Invariant w p p0 → (t r a : ℕ) (n : Bool) → w.register t r ≡ To a n → IsUsable w t a → NamedObject w a (p.register t r)
+pub used : (w : AddressHeap) (p p0 : BirthHeap) → Invariant w p p0 → (t r a : ℕ) (n : Bool) → w.register t r ≡ To a n
+    → IsUsable w t a → NamedObject w a (p.register t r)
 used w p p0 i t r a n e u = subst (λ y. NamedObject w y (p.register t r)) (usable_here w p p0 i t a u) (named w a n (p.register t r) (ap (names w) (sym e) ∙ (i.words.registers t r).names))
 
 pub register_kept : (w : AddressHeap) (p : BirthHeap) (t r b : ℕ) → p.register t r ≡ Some b → IsKept w p b
@@ -52,7 +56,8 @@ pub record At (w : AddressHeap) (p : BirthHeap) (a : ℕ) (o : HeapObject) : Typ
   pub refs_length : length o.refs ≡ length (p.refs o.birth)
   pub refs : (j : ℕ) → StandsFor w (field o j) (ref p o.birth j)
 
-pub at : (w : AddressHeap) (p p0 : BirthHeap) → Invariant w p p0 → (a : ℕ) (o : HeapObject) → current w a ≡ Some o → IsKept w p o.birth → At w p a o
+pub at : (w : AddressHeap) (p p0 : BirthHeap) → Invariant w p p0 → (a : ℕ) (o : HeapObject) → current w a ≡ Some o
+    → IsKept w p o.birth → At w p a o
 at w p p0 i a o h k =
     let s = i.words.kept o.birth k in
     let e : s.address ≡ a = i.objects.one_current s.address a s.object o s.here h s.birth in
@@ -69,7 +74,8 @@ at w p p0 i a o h k =
     }
 
 -- a kept object is on no protected page while a mark runs
-pub kept_unprotected : (w : AddressHeap) (p p0 : BirthHeap) → Invariant w p p0 → is_marking w.phase ≡ true → (a : ℕ) (o : HeapObject) → current w a ≡ Some o → IsKept w p o.birth → is_protected (w.page_state a) ≡ false
+pub kept_unprotected : (w : AddressHeap) (p p0 : BirthHeap) → Invariant w p p0 → is_marking w.phase ≡ true
+    → (a : ℕ) (o : HeapObject) → current w a ≡ Some o → IsKept w p o.birth → is_protected (w.page_state a) ≡ false
 kept_unprotected w p p0 i m a o h k = go (w.page_state a) refl
   where
     go : (k : PageState) → w.page_state a ≡ k → is_protected k ≡ false
@@ -80,11 +86,12 @@ kept_unprotected w p p0 i m a o h k = go (w.page_state a) refl
     go Gone e = let z = i.objects.with_memory a o (current_there w a o h) in let y = ap has_memory e in cc
 
 -- in a scan every register is clean
-pub clean_register : (w : AddressHeap) (p p0 : BirthHeap) → Invariant w p p0 → w.phase ≡ Scanning → (t r : ℕ) → IsClean w (w.register t r)
+pub clean_register : (w : AddressHeap) (p p0 : BirthHeap) → Invariant w p p0 → w.phase ≡ Scanning → (t r : ℕ)
+    → IsClean w (w.register t r)
 clean_register w p p0 i e t r = i.marks.registers t r (ap is_marking e) (i.phases.crossed (ap is_crossing e) t)
 
 pub mark_good : (w : AddressHeap) (u v : Word) (x : Option ℕ) → StandsFor w v x → StandsFor (mark_word u w) v x
-mark_good w u v x g = record { names = g.names; coloured = record { outside = g.coloured.outside; inside = λ y e h. more u y (g.coloured.inside y e h) } }
+mark_good w u v x g = record { names = g.names; fits = record { outside = g.fits.outside; inside = λ y e h. more u y (g.fits.inside y e h) } }
   where
     more : (u : Word) (y : ℕ) → w.marked y ≡ true → marked_after u w y ≡ true
     more Null y e = e
@@ -96,10 +103,11 @@ pub record MarkedWord (w : AddressHeap) (p p0 : BirthHeap) (v : Word) (x : Optio
   pub good : StandsFor (mark_word v w) (marked_word w v) x
   pub clean : IsClean w (marked_word w v)
 
-pub mark_word_keeps : (w : AddressHeap) (p p0 : BirthHeap) → Invariant w p p0 → is_marking w.phase ≡ true → (v : Word) (x : Option ℕ) → names w v ≡ Some x → ((b : ℕ) → x ≡ Some b → IsKept w p b) → MarkedWord w p p0 v x
+pub mark_word_keeps : (w : AddressHeap) (p p0 : BirthHeap) → Invariant w p p0 → is_marking w.phase ≡ true
+    → (v : Word) (x : Option ℕ) → names w v ≡ Some x → ((b : ℕ) → x ≡ Some b → IsKept w p b) → MarkedWord w p p0 v x
 mark_word_keeps w p p0 i m Null x e k = record {
   inv = i;
-  good = record { names = e; coloured = record { outside = λ _ a n h. cc; inside = λ a _ h. cc } };
+  good = record { names = e; fits = record { outside = λ _ a n h. cc; inside = λ a _ h. cc } };
   clean = λ a n h. cc;
 }
 mark_word_keeps w p p0 i m (To a n) x e k =
@@ -110,15 +118,17 @@ mark_word_keeps w p p0 i m (To a n) x e k =
       inv = j;
       good = record {
         names = ap (λ z. birth_of (current w z)) r ∙ e;
-        coloured = record { outside = λ f. (let z = m in cc); inside = λ y f h. (let z : resolve w a ≡ y = cc in ap (marked_after (To a n) w) (sym z) ∙ put_same w.marked (resolve w a) true) };
+        fits = record { outside = λ f. (let z = m in cc); inside = λ y f h. (let z : resolve w a ≡ y = cc in ap (marked_after (To a n) w) (sym z) ∙ put_same w.marked (resolve w a) true) };
       };
       clean = λ y b h. (let z = h in cc);
     }
 
 -- an element after another was set
-pub set_at : {A : Type 0} (l : List A) (i j : ℕ) (v d : A) → i < length l → ((j ≡ i) × (get_or (set l i v) j d ≡ v)) ⊎ ((j ≢ i) × (get_or (set l i v) j d ≡ get_or l j d))
+pub set_at : {A : Type 0} (l : List A) (i j : ℕ) (v d : A) → i < length l
+    → ((j ≡ i) × (get_or (set l i v) j d ≡ v)) ⊎ ((j ≢ i) × (get_or (set l i v) j d ≡ get_or l j d))
 set_at l i j v d h = go (same_or_not j i)
   where
-    go : (j ≡ i) ⊎ (j ≢ i) → ((j ≡ i) × (get_or (set l i v) j d ≡ v)) ⊎ ((j ≢ i) × (get_or (set l i v) j d ≡ get_or l j d))
+    go : (j ≡ i) ⊎ (j ≢ i)
+        → ((j ≡ i) × (get_or (set l i v) j d ≡ v)) ⊎ ((j ≢ i) × (get_or (set l i v) j d ≡ get_or l j d))
     go (inl e) = inl (e, ap (λ j. get_or (set l i v) j d) e ∙ get_or-set_same l i v d h)
     go (inr e) = inr (e, get_or-set_other l i j v d e)

@@ -14,7 +14,8 @@ use Rattle.laws.proofs.Release.{release_keeps}
 use Rattle.laws.proofs.Births.{born_keeps}
 use Rattle.laws.proofs.Parking.{set_parked_keeps}
 
-pub transition_keeps : (w : AddressHeap) (p p0 : BirthHeap) (v : AddressHeap) (q q0 : BirthHeap) → Invariant w p p0 → Transition w p p0 v q q0 → Invariant v q q0
+pub transition_keeps : (w : AddressHeap) (p p0 : BirthHeap) (v : AddressHeap) (q q0 : BirthHeap) → Invariant w p p0
+    → Transition w p p0 v q q0 → Invariant v q q0
 transition_keeps w p p0 _ _ _ i (TakeFresh inside h) = open_page_keeps w p p0 i inside h
 transition_keeps w p p0 _ _ _ i (New a o t r l xs ds m) = born_keeps w p p0 i a o t r l xs ds m
 transition_keeps w p p0 _ _ _ i (Load t d r a o j u l f) = load_field_keeps w p p0 i t d r a u.bit o j u.word u.usable u.here l f
@@ -48,6 +49,7 @@ transition_keeps w p p0 _ _ _ i (Protect states entries c m) = protect_keeps w p
 transition_keeps w p p0 _ _ _ i (Copy a n o c e h) = copy_step_keeps w p p0 i a n o c e h
 transition_keeps w p p0 _ _ _ i (Release inside m) = release_keeps w p p0 i inside m
 
-pub run_keeps : (w : AddressHeap) (p p0 : BirthHeap) (v : AddressHeap) (q q0 : BirthHeap) → Invariant w p p0 → Run w p p0 v q q0 → Invariant v q q0
+pub run_keeps : (w : AddressHeap) (p p0 : BirthHeap) (v : AddressHeap) (q q0 : BirthHeap) → Invariant w p p0
+    → Run w p p0 v q q0 → Invariant v q q0
 run_keeps w p p0 _ _ _ i (End _ _ _) = i
 run_keeps w p p0 v q q0 i (Then _ _ _ x y y0 _ _ _ d r) = run_keeps x y y0 v q q0 (transition_keeps w p p0 x y y0 i d) r

@@ -6,7 +6,7 @@ use Rattle.model.specs.declared.records.Phase.TheVariants.{MarkCrossing, Scannin
 use Rattle.laws.specs.AddressHeap.{AddressHeap, HeapObject, Word, Null, To, put, put_at, field, current, resolve, is_marking, is_crossing, Planned, WorkerScan}
 use Rattle.laws.specs.BirthHeap.{BirthHeap, ref, Start, Next}
 use Rattle.laws.specs.Invariant.{IsKept, IsClean, Invariant}
-use Rattle.laws.specs.Edits.{set_object, set_global, end_global_scan, set_scan, end_scan, mark_word, todo_after, marked_word, copy_object, cross_checkpoint, next_phase}
+use Rattle.laws.specs.Edits.{set_object, set_global, end_global_scan, set_scan, end_scan, mark_word, todo_after, marked_word, copy_object, cross_checkpoint}
 use Rattle.laws.specs.Effects.{with_field, mark_register, mark_registers, scan_field}
 use Rattle.laws.proofs.Basics.{put_id, put_at_id, put_all, put_same, put_other, same_or_not, marked_current}
 use Rattle.laws.proofs.Reading.{at, mark_word_keeps, global_kept, register_kept, set_at}
@@ -14,10 +14,12 @@ use Rattle.laws.proofs.CopyObject.{copy_object_keeps}
 use Rattle.laws.proofs.Globals.{set_global_keeps, end_global_scan_keeps}
 use Rattle.laws.proofs.Mutators.{write_field, set_register_keeps}
 use Rattle.laws.proofs.Scans.{set_scan_keeps, end_scan_keeps}
-use Rattle.laws.proofs.Crossings.{cross_keeps}
+use Rattle.laws.proofs.Crossings.{next_phase, cross_keeps}
 
 -- Pick
-pub pick_keeps : (w : AddressHeap) (p p0 : BirthHeap) → Invariant w p p0 → (k a : ℕ) → w.phase ≡ Scanning → w.todo a ≡ true → ((l : ℕ) (z : WorkerScan) → w.scan l ≡ Some z → z.address ≢ a) → Invariant (set_scan k (Some (record { address = a; next = 0 })) w) p p0
+pub pick_keeps : (w : AddressHeap) (p p0 : BirthHeap) → Invariant w p p0 → (k a : ℕ) → w.phase ≡ Scanning
+    → w.todo a ≡ true → ((l : ℕ) (z : WorkerScan) → w.scan l ≡ Some z → z.address ≢ a)
+    → Invariant (set_scan k (Some (record { address = a; next = 0 })) w) p p0
 pick_keeps w p p0 i k a e h f = set_scan_keeps w p p0 i k (record { address = a; next = 0 }) (record { phase = e; todo = h; passed = λ o j x l. absurd (omega arith); alone = λ l z _ g. f l z g })
 
 still_todo : (v : Word) (w : AddressHeap) (a : ℕ) → w.todo a ≡ true → todo_after v w a ≡ true
@@ -33,7 +35,9 @@ still_todo (To y n) w a e = go (same_or_not a (resolve w y))
     go (inr h) = put_other w.todo (resolve w y) (cond (w.marked (resolve w y)) (w.todo (resolve w y)) true) a h ∙ e
 
 -- ScanField
-pub scan_field_keeps : (w : AddressHeap) (p p0 : BirthHeap) → Invariant w p p0 → (k : ℕ) (s : WorkerScan) (o : HeapObject) → w.phase ≡ Scanning → w.scan k ≡ Some s → w.object_at s.address ≡ Some o → s.next < length o.refs → Invariant (scan_field k s o w) p p0
+pub scan_field_keeps : (w : AddressHeap) (p p0 : BirthHeap) → Invariant w p p0
+    → (k : ℕ) (s : WorkerScan) (o : HeapObject) → w.phase ≡ Scanning → w.scan k ≡ Some s
+    → w.object_at s.address ≡ Some o → s.next < length o.refs → Invariant (scan_field k s o w) p p0
 scan_field_keeps w p p0 i k s o e f h l =
     let a = s.address in
     let j = s.next in
@@ -58,16 +62,22 @@ scan_field_keeps w p p0 i k s o e f h l =
       alone = λ n z y q t. y (i.marks.alone n k z s q f t);
     })
   where
-    below : (n : ℕ) → n < s.next + 1 → ((n ≡ s.next) × (get_or (set o.refs s.next (marked_word w (field o s.next))) n Null ≡ marked_word w (field o s.next))) ⊎ ((n ≢ s.next) × (get_or (set o.refs s.next (marked_word w (field o s.next))) n Null ≡ field o n)) → IsClean w (marked_word w (field o s.next)) → IsClean w (field (with_field o s.next (marked_word w (field o s.next))) n)
+    below : (n : ℕ) → n < s.next + 1
+        → ((n ≡ s.next) × (get_or (set o.refs s.next (marked_word w (field o s.next))) n Null ≡ marked_word w (field o s.next))) ⊎ ((n ≢ s.next) × (get_or (set o.refs s.next (marked_word w (field o s.next))) n Null ≡ field o n))
+        → IsClean w (marked_word w (field o s.next))
+        → IsClean w (field (with_field o s.next (marked_word w (field o s.next))) n)
     below n z (inl y) c = subst (IsClean w) (sym y.1) c
     below n z (inr y) c = subst (IsClean w) (sym y.1) (i.marks.passed k s f o n h (let t = y.0 in omega arith))
 
 -- ScanField, where no field is left
-pub scan_end_keeps : (w : AddressHeap) (p p0 : BirthHeap) → Invariant w p p0 → (k : ℕ) (s : WorkerScan) (o : HeapObject) → w.phase ≡ Scanning → w.scan k ≡ Some s → w.object_at s.address ≡ Some o → length o.refs ≤ s.next → Invariant (end_scan k s.address w) p p0
+pub scan_end_keeps : (w : AddressHeap) (p p0 : BirthHeap) → Invariant w p p0
+    → (k : ℕ) (s : WorkerScan) (o : HeapObject) → w.phase ≡ Scanning → w.scan k ≡ Some s
+    → w.object_at s.address ≡ Some o → length o.refs ≤ s.next → Invariant (end_scan k s.address w) p p0
 scan_end_keeps w p p0 i k s o e f h l = end_scan_keeps w p p0 i k s (record { phase = e; scan = f; past_end = λ q j y z. subst (λ q. field q j ≡ Null) (let t : o ≡ q = cc in t) (get_or_past o.refs j Null (let a = l in let b = z in omega arith)) })
 
 -- ScanGlobal
-pub scan_global_keeps : (w : AddressHeap) (p p0 : BirthHeap) → Invariant w p p0 → (g : ℕ) → w.phase ≡ Scanning → Invariant (end_global_scan g (set_global g (marked_word w (w.global g)) (mark_word (w.global g) w))) p p0
+pub scan_global_keeps : (w : AddressHeap) (p p0 : BirthHeap) → Invariant w p p0 → (g : ℕ) → w.phase ≡ Scanning
+    → Invariant (end_global_scan g (set_global g (marked_word w (w.global g)) (mark_word (w.global g) w))) p p0
 scan_global_keeps w p p0 i g e =
     let v = w.global g in
     let r = mark_word_keeps w p p0 i (ap is_marking e) v (p.global g) (i.words.globals g).names (global_kept w p g) in
@@ -78,11 +88,14 @@ scan_global_keeps w p p0 i g e =
     end_global_scan_keeps w2 p p0 j g e (subst (IsClean w) (sym (put_same w.global g (marked_word w v))) r.clean)
 
 -- Copy, once all have crossed
-pub copy_step_keeps : (w : AddressHeap) (p p0 : BirthHeap) → Invariant w p p0 → (a n : ℕ) (o : HeapObject) → ((t : ℕ) → w.crossed t ≡ true) → w.side_entry a ≡ Planned n → w.object_at a ≡ Some o → Invariant (copy_object a n o w) p p0
+pub copy_step_keeps : (w : AddressHeap) (p p0 : BirthHeap) → Invariant w p p0 → (a n : ℕ) (o : HeapObject)
+    → ((t : ℕ) → w.crossed t ≡ true) → w.side_entry a ≡ Planned n → w.object_at a ≡ Some o
+    → Invariant (copy_object a n o w) p p0
 copy_step_keeps w p p0 i a n o c e h = copy_object_keeps w p p0 i a n o (record { entry = e; here = h; phase = λ f. (let t = i.phases.waits (ap is_crossing f) in let y = t.1 in let z = c t.0 in cc) })
 
 -- the mark checkpoint marks a register
-mark_register_keeps : (w : AddressHeap) (p p0 : BirthHeap) → Invariant w p p0 → (t r : ℕ) → is_marking w.phase ≡ true → w.barrier t ≡ None → Invariant (mark_register t r w) p p0
+mark_register_keeps : (w : AddressHeap) (p p0 : BirthHeap) → Invariant w p p0 → (t r : ℕ) → is_marking w.phase ≡ true
+    → w.barrier t ≡ None → Invariant (mark_register t r w) p p0
 mark_register_keeps w p p0 i t r m e =
     let v = w.register t r in
     let q = mark_word_keeps w p p0 i m v (p.register t r) (i.words.registers t r).names (register_kept w p t r) in
@@ -103,7 +116,8 @@ marked_clean : (w : AddressHeap) (v : Word) → IsClean w (marked_word w v)
 marked_clean w Null a n e = cc
 marked_clean w (To y b) a n e = let z = e in cc
 
-pub mark_registers_keeps : (w : AddressHeap) (p p0 : BirthHeap) → Invariant w p p0 → (t : ℕ) → is_marking w.phase ≡ true → w.barrier t ≡ None → (n : ℕ) → CrossedBelow w p p0 t n (mark_registers t n w)
+pub mark_registers_keeps : (w : AddressHeap) (p p0 : BirthHeap) → Invariant w p p0 → (t : ℕ)
+    → is_marking w.phase ≡ true → w.barrier t ≡ None → (n : ℕ) → CrossedBelow w p p0 t n (mark_registers t n w)
 mark_registers_keeps w p p0 i t m e zero = record { inv = i; phase = refl; nmt = refl; barrier = refl; crossed = refl; clean = λ r l. absurd (omega arith); rest = λ r l. refl }
 mark_registers_keeps w p p0 i t m e (suc n) =
     let h = mark_registers_keeps w p p0 i t m e n in
@@ -119,12 +133,14 @@ mark_registers_keeps w p p0 i t m e (suc n) =
       rest = λ r l. (let x : r ≢ n = omega arith in ap (λ f. f r) (put_same u.register t (put (u.register t) n (marked_word u v))) ∙ put_other (u.register t) n (marked_word u v) r x ∙ h.rest r (omega arith));
     }
   where
-    clean : (u : AddressHeap) (v : Word) → ((r : ℕ) → r < n → IsClean u (u.register t r)) → (r : ℕ) → r < suc n → IsClean u (put_at u.register t n (marked_word u v) t r)
+    clean : (u : AddressHeap) (v : Word) → ((r : ℕ) → r < n → IsClean u (u.register t r)) → (r : ℕ) → r < suc n
+        → IsClean u (put_at u.register t n (marked_word u v) t r)
     clean u v h r l = subst (IsClean u) (sym (ap (λ f. f r) (put_same u.register t (put (u.register t) n (marked_word u v)))))
         (put_all (λ r y. r < suc n → IsClean u y) (u.register t) n (marked_word u v) (λ _. marked_clean u v) (λ r x l. h r (omega arith)) r l)
 
 -- Cross at the mark checkpoint: of n registers, and the phase f after it
-pub cross_mark_keeps : (w : AddressHeap) (p p0 : BirthHeap) → Invariant w p p0 → (t n : ℕ) (f : Phase) → w.phase ≡ MarkCrossing → w.barrier t ≡ None → ((r : ℕ) → n ≤ r → w.register t r ≡ Null)
+pub cross_mark_keeps : (w : AddressHeap) (p p0 : BirthHeap) → Invariant w p p0 → (t n : ℕ) (f : Phase)
+    → w.phase ≡ MarkCrossing → w.barrier t ≡ None → ((r : ℕ) → n ≤ r → w.register t r ≡ Null)
     → ((f ≡ MarkCrossing) × (u : ℕ) × (u ≢ t) × (w.crossed u ≡ false)) ⊎ ((f ≡ Scanning) × ((u : ℕ) → u ≢ t → w.crossed u ≡ true)) → Invariant (cross_checkpoint t f (mark_registers t n w)) p p0
 cross_mark_keeps w p p0 i t n f e b z x =
     let h = mark_registers_keeps w p p0 i t (ap is_marking e) b n in
@@ -144,7 +160,8 @@ cross_mark_keeps w p p0 i t n f e b z x =
     clean u h r (inr l) = λ a b k. (let y = h.rest r l in let x = z r l in cc)
 
 -- Cross at the protect checkpoint
-pub cross_protect_keeps : (w : AddressHeap) (p p0 : BirthHeap) → Invariant w p p0 → (t : ℕ) (f : Phase) → w.phase ≡ ProtectCrossing → w.barrier t ≡ None
+pub cross_protect_keeps : (w : AddressHeap) (p p0 : BirthHeap) → Invariant w p p0 → (t : ℕ) (f : Phase)
+    → w.phase ≡ ProtectCrossing → w.barrier t ≡ None
     → ((f ≡ ProtectCrossing) × (u : ℕ) × (u ≢ t) × (w.crossed u ≡ false)) ⊎ ((f ≡ Relocating) × ((u : ℕ) → u ≢ t → w.crossed u ≡ true)) → Invariant (cross_checkpoint t f w) p p0
 cross_protect_keeps w p p0 i t f e b x = cross_keeps w p p0 i t f (record {
   opened = ap is_crossing e;

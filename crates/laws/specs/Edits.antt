@@ -1,7 +1,7 @@
 -- The edits of the heap by addresses of which the transitions are made, each beside its edit of the plain heap.
 use Rattle.std.specs.Prelude.{ℕ, suc, not, Bool, true, false, cond, Option, Some, None, List}
 use Rattle.model.specs.declared.records.Phase.{Phase}
-use Rattle.model.specs.declared.records.Phase.TheVariants.{Idle, MarkCrossing, Scanning, ProtectCrossing, Relocating}
+use Rattle.model.specs.declared.records.Phase.TheVariants.{Idle, MarkCrossing, ProtectCrossing}
 use Rattle.model.specs.declared.records.PageState.{PageState}
 use Rattle.model.specs.declared.records.PageState.TheVariants.{Unused, Open, Closed, Gone}
 use Rattle.model.specs.Stores.{is_protected}
@@ -31,14 +31,6 @@ end_mark lent w = record w {
 -- object o, which is at a, is copied to n, and the side array says so (the paper's Relocate phase)
 abbrev pub copy_object : ℕ → ℕ → HeapObject → AddressHeap → AddressHeap
 copy_object a n o w = record w { object_at = put w.object_at n (Some o); side_entry = put w.side_entry a (Copied n) }
-
--- the object at an address is marked, and its todo bit becomes b
-abbrev pub mark_with_todo : ℕ → Bool → AddressHeap → AddressHeap
-mark_with_todo a b w = record w { marked = put w.marked a true; todo = put w.todo a b }
-
--- the object at an address is marked: where it wasn't, it has still to be scanned (the paper's Mark phase)
-abbrev pub mark_at : ℕ → AddressHeap → AddressHeap
-mark_at a w = mark_with_todo a (cond (w.marked a) (w.todo a) true) w
 
 -- the mark bits after the object that a word names is marked
 abbrev pub marked_after : Word → AddressHeap → ℕ → Bool
@@ -107,12 +99,6 @@ end_scan k a w = record w { scan = put w.scan k None; todo = put w.todo a false 
 -- phase); c is true of the numbers that are no thread's
 abbrev pub start_mark : (ℕ → Bool) → AddressHeap → AddressHeap
 start_mark c w = record w { nmt = not w.nmt; crossed = c; global_todo = λ g. true; phase = MarkCrossing }
-
--- the phase after a checkpoint that all have crossed (the paper's checkpoints)
-abbrev pub next_phase : Phase → Phase
-next_phase MarkCrossing = Scanning
-next_phase ProtectCrossing = Relocating
-next_phase f = f
 
 -- thread t crosses the checkpoint, and the phase becomes f (the paper's checkpoints)
 abbrev pub cross_checkpoint : ℕ → Phase → AddressHeap → AddressHeap

@@ -28,15 +28,15 @@ abbrev pub IsClean : AddressHeap → Word → Type 0
 IsClean w v = (a : ℕ) (n : Bool) → v ≡ To a n → n ≡ w.nmt
 
 -- a word's not-marked-through bit fits the phase
-abbrev pub HasColour : AddressHeap → Word → Type 0
-HasColour w v = record {
+abbrev pub FitsPhase : AddressHeap → Word → Type 0
+FitsPhase w v = record {
   outside : is_marking w.phase ≡ false → IsClean w v;  -- while no mark runs, it is clean
   inside : (a : ℕ) → is_marking w.phase ≡ true → v ≡ To a w.nmt → w.marked a ≡ true;  -- while a mark runs, a clean word names a marked object
 }
 
 -- a word stands for a birth or for none, and its not-marked-through bit fits the phase
 abbrev pub StandsFor : AddressHeap → Word → Option ℕ → Type 0
-StandsFor w v x = record { names : names w v ≡ Some x; coloured : HasColour w v }
+StandsFor w v x = record { names : names w v ≡ Some x; fits : FitsPhase w v }
 
 -- a birth has a current object, which no page release can take away, and which holds what the plain heap holds
 abbrev pub HasCurrent : AddressHeap → BirthHeap → ℕ → Type 0

@@ -51,13 +51,15 @@ pub record MayStartMark (w : AddressHeap) (c : ℕ → Bool) : Type 0 where
 -- that open for it; c is true of the numbers that are no thread's (the paper's Relocate phase)
 pub record MayProtect (w : AddressHeap) (states : ℕ → PageState) (entries : ℕ → SideEntry) (c : ℕ → Bool) : Type 0 where
   pub phase : w.phase ≡ Idle
-  pub changes : (a : ℕ) → (states a ≡ w.page_state a) ⊎ ((w.page_state a ≡ Closed) × (states a ≡ From)) ⊎ ((w.page_state a ≡ Unused) × (states a ≡ Open))
+  pub changes : (a : ℕ)
+      → (states a ≡ w.page_state a) ⊎ ((w.page_state a ≡ Closed) × (states a ≡ From)) ⊎ ((w.page_state a ≡ Unused) × (states a ≡ Open))
   pub uncopied : (a n : ℕ) → entries a ≢ Copied n
   pub from : (a n : ℕ) → entries a ≡ Planned n → states a ≡ From
   pub planned_live : (a n : ℕ) → entries a ≡ Planned n → w.live a ≡ true
   pub target : (a n : ℕ) → entries a ≡ Planned n → (w.page_state n ≡ Unused) × (states n ≡ Open)
   pub planned_once : (a b n : ℕ) → entries a ≡ Planned n → entries b ≡ Planned n → a ≡ b
-  pub live : (a : ℕ) (o : HeapObject) → states a ≡ From → w.object_at a ≡ Some o → w.live a ≡ true → (n : ℕ) × (entries a ≡ Planned n)
+  pub live : (a : ℕ) (o : HeapObject) → states a ≡ From → w.object_at a ≡ Some o → w.live a ≡ true
+      → (n : ℕ) × (entries a ≡ Planned n)
   pub waits : (t : ℕ) × (c t ≡ false)
   pub no_thread : (t : ℕ) → c t ≡ true → w.barrier t ≡ None
 
@@ -85,7 +87,7 @@ pub record MayBeBorn (w : AddressHeap) (a : ℕ) (o : HeapObject) (t l : ℕ) (x
 
 -- what the steps do: from a heap, its plain heap and the plain heap as the last mark began, to those after the step
 pub data Transition (w : AddressHeap) (p p0 : BirthHeap) : AddressHeap → BirthHeap → BirthHeap → Type 0 where
-  -- a thread takes a buffer on a fresh page, which opens
+  -- a thread takes a buffer on a fresh page, which opens; inside is true of the page's addresses
   TakeFresh : (inside : ℕ → Bool) → ((a : ℕ) → inside a ≡ true → w.page_state a ≡ Unused)
       → Transition w p p0 (open_page inside w) p p0
   -- thread t makes an object
@@ -98,19 +100,23 @@ pub data Transition (w : AddressHeap) (p p0 : BirthHeap) : AddressHeap → Birth
   LoadGlobal : (t d g : ℕ) → w.parked t ≡ false
       → Transition w p p0 (set_barrier t (new_barrier d (AtGlobal g) (w.global g)) w) (plain_set_pending t (d, p.global g) p) p0
   -- a GC trap, whose object was copied: the word is forwarded (the paper's read barrier)
-  TrapMoved : (t : ℕ) (k : OpenBarrier) (a n : ℕ) (b : Bool) → w.barrier t ≡ Some k → k.now ≡ To a b → w.side_entry a ≡ Copied n
+  TrapMoved : (t : ℕ) (k : OpenBarrier) (a n : ℕ) (b : Bool) → w.barrier t ≡ Some k → k.now ≡ To a b
+      → w.side_entry a ≡ Copied n
       → Transition w p p0 (set_barrier t (record k { now = To n b }) w) p p0
   -- a GC trap, whose object wasn't copied: the thread copies it, once all have crossed (ours), and forwards the word
-  TrapCopied : (t : ℕ) (k : OpenBarrier) (a n : ℕ) (b : Bool) (o : HeapObject) → w.barrier t ≡ Some k → k.now ≡ To a b → w.side_entry a ≡ Planned n → w.object_at a ≡ Some o → w.phase ≢ ProtectCrossing
+  TrapCopied : (t : ℕ) (k : OpenBarrier) (a n : ℕ) (b : Bool) (o : HeapObject) → w.barrier t ≡ Some k → k.now ≡ To a b
+      → w.side_entry a ≡ Planned n → w.object_at a ≡ Some o → w.phase ≢ ProtectCrossing
       → Transition w p p0 (set_barrier t (record k { now = To n b }) (copy_object a n o w)) p p0
   -- an NMT trap: the object is marked, and the word becomes clean (the paper's read barrier)
   TrapMarked : (t : ℕ) (k : OpenBarrier) → w.barrier t ≡ Some k → is_marking w.phase ≡ true
       → Transition w p p0 (set_barrier t (record k { now = marked_word w k.now }) (mark_word k.now w)) p p0
   -- the repaired word is written back to its global, which still holds what was loaded (the paper's read barrier)
-  HealGlobal : (t : ℕ) (k : OpenBarrier) (g : ℕ) → w.barrier t ≡ Some k → w.global g ≡ k.raw → nmt_trap_due w t k.now ≡ false
+  HealGlobal : (t : ℕ) (k : OpenBarrier) (g : ℕ) → w.barrier t ≡ Some k → w.global g ≡ k.raw
+      → nmt_trap_due w t k.now ≡ false
       → Transition w p p0 (set_barrier t (record k { healed = true }) (set_global g k.now w)) p p0
   -- the repaired word is written back to its field, which still holds what was loaded (the paper's read barrier)
-  HealField : (t : ℕ) (k : OpenBarrier) (a j : ℕ) (o : HeapObject) → w.barrier t ≡ Some k → k.place ≡ AtField a j → w.object_at a ≡ Some o → field o j ≡ k.raw → nmt_trap_due w t k.now ≡ false
+  HealField : (t : ℕ) (k : OpenBarrier) (a j : ℕ) (o : HeapObject) → w.barrier t ≡ Some k → k.place ≡ AtField a j
+      → w.object_at a ≡ Some o → field o j ≡ k.raw → nmt_trap_due w t k.now ≡ false
       → Transition w p p0 (set_barrier t (record k { healed = true }) (set_object a (with_field o j k.now) w)) p p0
   -- the place holds another word by now, and nothing is written
   HealChanged : (t : ℕ) (k : OpenBarrier) → w.barrier t ≡ Some k
@@ -134,22 +140,27 @@ pub data Transition (w : AddressHeap) (p p0 : BirthHeap) : AddressHeap → Birth
   ClearReg : (t r : ℕ) → w.barrier t ≡ None
       → Transition w p p0 (set_register t r Null w) (plain_set_register t r None p) p0
   -- thread t crosses the mark checkpoint: its registers, of which n are in use, are marked (the paper's checkpoints)
-  CrossMark : (t n : ℕ) (f : Phase) → w.phase ≡ MarkCrossing → w.barrier t ≡ None → ((r : ℕ) → n ≤ r → w.register t r ≡ Null) → IsPhaseAfter w t MarkCrossing Scanning f
+  CrossMark : (t n : ℕ) (f : Phase) → w.phase ≡ MarkCrossing → w.barrier t ≡ None
+      → ((r : ℕ) → n ≤ r → w.register t r ≡ Null) → IsPhaseAfter w t MarkCrossing Scanning f
       → Transition w p p0 (cross_checkpoint t f (mark_registers t n w)) p p0
   -- the collector crosses the mark checkpoint for a thread that sleeps (the paper's checkpoints)
-  CrossMarkFor : (t n : ℕ) (f : Phase) → w.phase ≡ MarkCrossing → w.parked t ≡ true → ((r : ℕ) → n ≤ r → w.register t r ≡ Null) → IsPhaseAfter w t MarkCrossing Scanning f
+  CrossMarkFor : (t n : ℕ) (f : Phase) → w.phase ≡ MarkCrossing → w.parked t ≡ true
+      → ((r : ℕ) → n ≤ r → w.register t r ≡ Null) → IsPhaseAfter w t MarkCrossing Scanning f
       → Transition w p p0 (cross_checkpoint t f (mark_registers t n w)) p p0
   -- the collector crosses the protect checkpoint for a thread that sleeps (the paper's checkpoints)
-  CrossProtectFor : (t : ℕ) (f : Phase) → w.phase ≡ ProtectCrossing → w.parked t ≡ true → IsPhaseAfter w t ProtectCrossing Relocating f
+  CrossProtectFor : (t : ℕ) (f : Phase) → w.phase ≡ ProtectCrossing → w.parked t ≡ true
+      → IsPhaseAfter w t ProtectCrossing Relocating f
       → Transition w p p0 (cross_checkpoint t f w) p p0
   -- thread t crosses the protect checkpoint; its registers stay as they are (ours)
-  CrossProtect : (t : ℕ) (f : Phase) → w.phase ≡ ProtectCrossing → w.barrier t ≡ None → IsPhaseAfter w t ProtectCrossing Relocating f
+  CrossProtect : (t : ℕ) (f : Phase) → w.phase ≡ ProtectCrossing → w.barrier t ≡ None
+      → IsPhaseAfter w t ProtectCrossing Relocating f
       → Transition w p p0 (cross_checkpoint t f w) p p0
   -- a register that names an object that was copied is forwarded (ours)
   ScrubMoved : (t r a n : ℕ) (b : Bool) → w.barrier t ≡ None → w.register t r ≡ To a b → w.side_entry a ≡ Copied n
       → Transition w p p0 (set_register t r (To n b) w) p p0
   -- a register that names an object that wasn't copied: it is copied, once all have crossed, and the register forwarded (ours)
-  ScrubCopied : (t r a n : ℕ) (b : Bool) (o : HeapObject) → w.barrier t ≡ None → w.register t r ≡ To a b → w.side_entry a ≡ Planned n → w.object_at a ≡ Some o → w.phase ≢ ProtectCrossing
+  ScrubCopied : (t r a n : ℕ) (b : Bool) (o : HeapObject) → w.barrier t ≡ None → w.register t r ≡ To a b
+      → w.side_entry a ≡ Planned n → w.object_at a ≡ Some o → w.phase ≢ ProtectCrossing
       → Transition w p p0 (set_register t r (To n b) (copy_object a n o w)) p p0
   -- thread t goes to sleep, or wakes
   Park : (t : ℕ) (b : Bool) → w.barrier t ≡ None
@@ -161,28 +172,32 @@ pub data Transition (w : AddressHeap) (p p0 : BirthHeap) : AddressHeap → Birth
   Pick : (k a : ℕ) → IsScanning w → w.todo a ≡ true → ((l : ℕ) (z : WorkerScan) → w.scan l ≡ Some z → z.address ≢ a)
       → Transition w p p0 (set_scan k (Some (record { address = a; next = 0 })) w) p p0
   -- worker k marks the next field of its object (the paper's Mark phase)
-  ScanField : (k : ℕ) (s : WorkerScan) (o : HeapObject) → IsScanning w → w.scan k ≡ Some s → w.object_at s.address ≡ Some o → s.next < length o.refs
+  ScanField : (k : ℕ) (s : WorkerScan) (o : HeapObject) → IsScanning w → w.scan k ≡ Some s
+      → w.object_at s.address ≡ Some o → s.next < length o.refs
       → Transition w p p0 (scan_field k s o w) p p0
   -- worker k has passed the last field of its object (the paper's Mark phase)
-  ScanEnd : (k : ℕ) (s : WorkerScan) (o : HeapObject) → IsScanning w → w.scan k ≡ Some s → w.object_at s.address ≡ Some o → length o.refs ≤ s.next
+  ScanEnd : (k : ℕ) (s : WorkerScan) (o : HeapObject) → IsScanning w → w.scan k ≡ Some s
+      → w.object_at s.address ≡ Some o → length o.refs ≤ s.next
       → Transition w p p0 (end_scan k s.address w) p p0
   -- a worker marks global g, and writes it back clean (the paper's Mark phase)
   ScanGlobal : (g : ℕ) → IsScanning w
       → Transition w p p0 (end_global_scan g (set_global g (marked_word w (w.global g)) (mark_word (w.global g) w))) p p0
-  -- a mark ends; lent is true of the pages in which a buffer is lent (the paper's Mark and Remap phases)
+  -- a mark ends; lent is true of the addresses of pages in which a buffer is lent (the paper's Mark and Remap phases)
   EndMark : (lent : ℕ → Bool) → MayEndMark w
       → Transition w p p0 (end_mark lent w) p p0
   -- pages are protected (the paper's Relocate phase)
   Protect : (states : ℕ → PageState) (entries : ℕ → SideEntry) (c : ℕ → Bool) → MayProtect w states entries c
       → Transition w p p0 (protect_pages states entries c w) p p0
   -- a worker copies a planned object, once all have crossed (the paper's Relocate phase; that it waits is ours)
-  Copy : (a n : ℕ) (o : HeapObject) → ((t : ℕ) → w.crossed t ≡ true) → w.side_entry a ≡ Planned n → w.object_at a ≡ Some o
+  Copy : (a n : ℕ) (o : HeapObject) → ((t : ℕ) → w.crossed t ≡ true) → w.side_entry a ≡ Planned n
+      → w.object_at a ≡ Some o
       → Transition w p p0 (copy_object a n o w) p p0
-  -- a page gives its memory up (the paper's Relocate phase)
+  -- a page gives its memory up; inside is true of its addresses (the paper's Relocate phase)
   Release : (inside : ℕ → Bool) → MayRelease w inside
       → Transition w p p0 (release_page inside w) p p0
 
 -- a list of transitions, each from the heaps that the one before leads to
 pub data Run : AddressHeap → BirthHeap → BirthHeap → AddressHeap → BirthHeap → BirthHeap → Type 0 where
   End : (w : AddressHeap) (p p0 : BirthHeap) → Run w p p0 w p p0
-  Then : (w : AddressHeap) (p p0 : BirthHeap) (v : AddressHeap) (q q0 : BirthHeap) (u : AddressHeap) (r r0 : BirthHeap) → Transition w p p0 v q q0 → Run v q q0 u r r0 → Run w p p0 u r r0
+  Then : (w : AddressHeap) (p p0 : BirthHeap) (v : AddressHeap) (q q0 : BirthHeap) (u : AddressHeap) (r r0 : BirthHeap)
+      → Transition w p p0 v q q0 → Run v q q0 u r r0 → Run w p p0 u r r0
