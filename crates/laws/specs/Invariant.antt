@@ -31,7 +31,8 @@ IsClean w v = (a : ℕ) (n : Bool) → v ≡ To a n → n ≡ w.nmt
 abbrev pub FitsPhase : AddressHeap → Word → Type 0
 FitsPhase w v = record {
   outside : is_marking w.phase ≡ false → IsClean w v;  -- while no mark runs, it is clean
-  inside : (a : ℕ) → is_marking w.phase ≡ true → v ≡ To a w.nmt → w.marked a ≡ true;  -- while a mark runs, a clean word names a marked object
+  -- while a mark runs, a clean word names a marked object
+  inside : (a : ℕ) → is_marking w.phase ≡ true → v ≡ To a w.nmt → w.marked a ≡ true;
 }
 
 -- a word stands for a birth or for none, and its not-marked-through bit fits the phase
@@ -46,7 +47,8 @@ HasCurrent w p b = record {
   here : current w address ≡ Some object;
   birth : object.birth ≡ b;
   live : w.page_state address ≡ Closed → w.live address ≡ true;  -- on a closed page it is live, so a plan has it
-  entry : w.page_state address ≡ From → (n : ℕ) × (w.side_entry address ≡ Planned n);  -- on a page that is emptied it has a place to go
+  -- on a page that is emptied it has a place to go
+  entry : w.page_state address ≡ From → (n : ℕ) × (w.side_entry address ≡ Planned n);
   layout : object.layout ≡ p.layout b;
   data_words : object.data_words ≡ p.data_words b;
   refs_length : length object.refs ≡ length (p.refs b);
@@ -62,7 +64,8 @@ IsPlace w p t (AtField a i) = record {
   within : i < length object.refs;
   register : ℕ;
   held : p.register t register ≡ Some object.birth;
-  page : w.page_state a ≡ From → (w.phase ≡ ProtectCrossing) × (w.crossed t ≡ false);  -- its page is emptied only where the thread hasn't crossed
+  -- its page is emptied only where the thread hasn't crossed
+  page : w.page_state a ≡ From → (w.phase ≡ ProtectCrossing) × (w.crossed t ≡ false);
 }
 
 -- a thread has an open barrier exactly where it has a pending load, and the barrier fits the load
@@ -92,13 +95,18 @@ SoundObjects w = record {
   one_current : (a c : ℕ) (o q : HeapObject) → current w a ≡ Some o → current w c ≡ Some q → o.birth ≡ q.birth → a ≡ c;
   with_memory : (a : ℕ) (o : HeapObject) → w.object_at a ≡ Some o → has_memory (w.page_state a) ≡ true;
   births : (a : ℕ) (o : HeapObject) → w.object_at a ≡ Some o → o.birth < w.births;
-  planned_from : (a n : ℕ) → w.side_entry a ≡ Planned n → w.page_state a ≡ From;  -- a planned object is on a page that is emptied
-  planned_object : (a n : ℕ) → w.side_entry a ≡ Planned n → (o : HeapObject) × (w.object_at a ≡ Some o);  -- it is there
+  -- a planned object is on a page that is emptied
+  planned_from : (a n : ℕ) → w.side_entry a ≡ Planned n → w.page_state a ≡ From;
+  -- it is there
+  planned_object : (a n : ℕ) → w.side_entry a ≡ Planned n → (o : HeapObject) × (w.object_at a ≡ Some o);
   planned_open : (a n : ℕ) → w.side_entry a ≡ Planned n → w.page_state n ≡ Open;  -- its new place is on an open page
   planned_free : (a n : ℕ) → w.side_entry a ≡ Planned n → w.object_at n ≡ None;  -- which has no object there
-  planned_once : (a c n : ℕ) → w.side_entry a ≡ Planned n → w.side_entry c ≡ Planned n → a ≡ c;  -- and is planned for no other
-  copied_from : (a n : ℕ) → w.side_entry a ≡ Copied n → is_protected (w.page_state a) ≡ true;  -- only objects of protected pages are copied away
-  copied_open : (a n : ℕ) → w.side_entry a ≡ Copied n → w.page_state n ≡ Open;  -- and to open pages, so one look at a side array suffices
+  -- and is planned for no other
+  planned_once : (a c n : ℕ) → w.side_entry a ≡ Planned n → w.side_entry c ≡ Planned n → a ≡ c;
+  -- only objects of protected pages are copied away
+  copied_from : (a n : ℕ) → w.side_entry a ≡ Copied n → is_protected (w.page_state a) ≡ true;
+  -- and to open pages, so one look at a side array suffices
+  copied_open : (a n : ℕ) → w.side_entry a ≡ Copied n → w.page_state n ≡ Open;
   live_object : (a : ℕ) → w.page_state a ≡ Closed → w.live a ≡ true → (o : HeapObject) × (w.object_at a ≡ Some o);
 }
 
@@ -114,9 +122,12 @@ SoundMarks w = record {
   unprotected : (a : ℕ) → w.marked a ≡ true → is_protected (w.page_state a) ≡ false;
   todo : (a : ℕ) → w.todo a ≡ true → w.marked a ≡ true;
   scanned : (a : ℕ) (o : HeapObject) (i : ℕ) → w.marked a ≡ true → w.todo a ≡ false → w.object_at a ≡ Some o → IsClean w (field o i);
-  scanning : (k : ℕ) (s : WorkerScan) → w.scan k ≡ Some s → w.todo s.address ≡ true;  -- a worker's object has still to be scanned
-  passed : (k : ℕ) (s : WorkerScan) → w.scan k ≡ Some s → IsCleanBelow w s.address s.next;  -- and is clean before its next field
-  alone : (k l : ℕ) (s z : WorkerScan) → w.scan k ≡ Some s → w.scan l ≡ Some z → s.address ≡ z.address → k ≡ l;  -- and no other worker has it
+  -- a worker's object has still to be scanned
+  scanning : (k : ℕ) (s : WorkerScan) → w.scan k ≡ Some s → w.todo s.address ≡ true;
+  -- and is clean before its next field
+  passed : (k : ℕ) (s : WorkerScan) → w.scan k ≡ Some s → IsCleanBelow w s.address s.next;
+  -- and no other worker has it
+  alone : (k l : ℕ) (s z : WorkerScan) → w.scan k ≡ Some s → w.scan l ≡ Some z → s.address ≡ z.address → k ≡ l;
   registers : (t r : ℕ) → is_marking w.phase ≡ true → w.crossed t ≡ true → IsClean w (w.register t r);
   globals : (g : ℕ) → is_marking w.phase ≡ true → w.global_todo g ≡ false → IsClean w (w.global g);
 }
@@ -127,10 +138,13 @@ SoundPhases w = record {
   waits : is_crossing w.phase ≡ true → (t : ℕ) × (w.crossed t ≡ false);  -- an open checkpoint waits for somebody
   crossed : is_crossing w.phase ≡ false → (t : ℕ) → w.crossed t ≡ true;  -- else all have crossed
   idle : (a : ℕ) → w.phase ≡ Idle → is_protected (w.page_state a) ≡ false;  -- no page is protected in Idle
-  none_gone : (a : ℕ) → w.phase ≡ ProtectCrossing → w.page_state a ≢ Gone;  -- nothing is released before all have crossed
+  -- nothing is released before all have crossed
+  none_gone : (a : ℕ) → w.phase ≡ ProtectCrossing → w.page_state a ≢ Gone;
   uncopied : (a n : ℕ) → w.phase ≡ ProtectCrossing → w.side_entry a ≢ Copied n;  -- and nothing is copied
-  all_copied : (a n : ℕ) → is_marking w.phase ≡ true → w.side_entry a ≢ Planned n;  -- a mark begins when all is copied
-  all_todo : (a : ℕ) → w.phase ≡ MarkCrossing → w.marked a ≡ true → w.todo a ≡ true;  -- nothing is scanned before all have crossed
+  -- a mark begins when all is copied
+  all_copied : (a n : ℕ) → is_marking w.phase ≡ true → w.side_entry a ≢ Planned n;
+  -- nothing is scanned before all have crossed
+  all_todo : (a : ℕ) → w.phase ≡ MarkCrossing → w.marked a ≡ true → w.todo a ≡ true;
   globals_todo : (g : ℕ) → w.phase ≡ MarkCrossing → w.global_todo g ≡ true;
   no_scan : (k : ℕ) → w.phase ≡ MarkCrossing → w.scan k ≡ None;
 }
@@ -142,5 +156,6 @@ pub record Invariant (w : AddressHeap) (p p0 : BirthHeap) : Type 0 where
   pub marks : SoundMarks w
   pub phases : SoundPhases w
   pub births : w.births ≡ p.births
-  pub since : is_marking w.phase ≡ true → (b : ℕ) → IsKept w p b → IsReachable p0 b ⊎ (p0.births ≤ b)  -- what is kept could be reached then, or is born since
+  -- what is kept could be reached then, or is born since
+  pub since : is_marking w.phase ≡ true → (b : ℕ) → IsKept w p b → IsReachable p0 b ⊎ (p0.births ≤ b)
   pub later : p0.births ≤ p.births

@@ -55,7 +55,9 @@ UsableReadsPlain w p = (t r a : ℕ) (o : HeapObject) → Uses w t r a o → Rea
 
 -- two usable registers of a thread have one address exactly where they hold one birth
 abbrev pub SameAddressSameBirth : AddressHeap → BirthHeap → Type 0
-SameAddressSameBirth w p = (t r s a c : ℕ) (o q : HeapObject) → Uses w t r a o → Uses w t s c q → (a ≡ c) ↔ (p.register t r ≡ p.register t s)
+SameAddressSameBirth w p =
+    (t r s a c : ℕ) (o q : HeapObject) → Uses w t r a o → Uses w t s c q
+    → (a ≡ c) ↔ (p.register t r ≡ p.register t s)
 
 -- a register is null exactly where it holds none
 abbrev pub NullIsNone : AddressHeap → BirthHeap → Type 0
@@ -63,31 +65,42 @@ NullIsNone w p = (t r : ℕ) → (w.register t r ≡ Null) ↔ (p.register t r �
 
 -- no register that may be used names a page without memory
 abbrev pub UsableHasMemory : AddressHeap → Type 0
-UsableHasMemory w = (t r a : ℕ) (n : Bool) → w.register t r ≡ To a n → IsUsable w t a → has_memory (w.page_state a) ≡ true
+UsableHasMemory w =
+    (t r a : ℕ) (n : Bool) → w.register t r ≡ To a n → IsUsable w t a → has_memory (w.page_state a) ≡ true
 
 -- the current object of each birth that can be reached is live
 abbrev pub ReachableIsLive : AddressHeap → BirthHeap → Type 0
-ReachableIsLive w p = (b : ℕ) → IsReachable p b → (a : ℕ) (o : HeapObject) → current w a ≡ Some o → o.birth ≡ b → w.live a ≡ true
+ReachableIsLive w p =
+    (b : ℕ) → IsReachable p b → (a : ℕ) (o : HeapObject) → current w a ≡ Some o → o.birth ≡ b → w.live a ≡ true
 
 -- what is live could be reached as the last mark began, or is born since
 abbrev pub LiveWasReachable : AddressHeap → BirthHeap → Type 0
-LiveWasReachable w p0 = (a : ℕ) (o : HeapObject) → w.live a ≡ true → current w a ≡ Some o → IsReachable p0 o.birth ⊎ (p0.births ≤ o.birth)
+LiveWasReachable w p0 =
+    (a : ℕ) (o : HeapObject) → w.live a ≡ true → current w a ≡ Some o → IsReachable p0 o.birth ⊎ (p0.births ≤ o.birth)
 
 -- the first heaps have the invariant, and every list of transitions keeps it
 abbrev pub RunsKeepInvariant : Type 0
-RunsKeepInvariant = Invariant first plain_first plain_first × ((w : AddressHeap) (p p0 : BirthHeap) (v : AddressHeap) (q q0 : BirthHeap) → Invariant w p p0 → Run w p p0 v q q0 → Invariant v q q0)
+RunsKeepInvariant =
+    Invariant first plain_first plain_first
+    × ((w : AddressHeap) (p p0 : BirthHeap) (v : AddressHeap) (q q0 : BirthHeap) → Invariant w p p0 → Run w p p0 v q q0 → Invariant v q q0)
 
 -- after every list of transitions from the first heaps, the heap stands for its plain heap, and no register that may be
 -- used names a page without memory
 abbrev pub RunsStandForPlain : Type 0
-RunsStandForPlain = (w : AddressHeap) (p p0 : BirthHeap) → Run first plain_first plain_first w p p0 → StandsForPlain w p × UsableHasMemory w
+RunsStandForPlain =
+    (w : AddressHeap) (p p0 : BirthHeap) → Run first plain_first plain_first w p p0
+    → StandsForPlain w p × UsableHasMemory w
 
 -- after every list of transitions from the first heaps, a thread learns from its registers what it would from the plain
 -- heap's: the object of a birth, whether two registers hold one birth, and whether a register holds none
 abbrev pub RunsAnswerPlain : Type 0
-RunsAnswerPlain = (w : AddressHeap) (p p0 : BirthHeap) → Run first plain_first plain_first w p p0 → UsableReadsPlain w p × SameAddressSameBirth w p × NullIsNone w p
+RunsAnswerPlain =
+    (w : AddressHeap) (p p0 : BirthHeap) → Run first plain_first plain_first w p p0
+    → UsableReadsPlain w p × SameAddressSameBirth w p × NullIsNone w p
 
 -- where a mark ends after a list of transitions from the first heaps, what can be reached is live, and what is live could
 -- be reached when the mark began or is born since
 abbrev pub MarksEndLive : Type 0
-MarksEndLive = (w : AddressHeap) (p p0 : BirthHeap) → Run first plain_first plain_first w p p0 → MayEndMark w → (lent : ℕ → Bool) → ReachableIsLive (end_mark lent w) p × LiveWasReachable (end_mark lent w) p0
+MarksEndLive =
+    (w : AddressHeap) (p p0 : BirthHeap) → Run first plain_first plain_first w p p0 → MayEndMark w → (lent : ℕ → Bool)
+    → ReachableIsLive (end_mark lent w) p × LiveWasReachable (end_mark lent w) p0

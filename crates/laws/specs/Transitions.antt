@@ -26,7 +26,9 @@ pub record Uses (w : AddressHeap) (t r a : ℕ) (o : HeapObject) : Type 0 where
 -- f is the phase after thread t crosses: the same where another has still to cross, and the next one where t is the last
 -- (the paper's checkpoints)
 abbrev pub IsPhaseAfter : AddressHeap → ℕ → Phase → Phase → Phase → Type 0
-IsPhaseAfter w t now next f = ((f ≡ now) × (u : ℕ) × (u ≢ t) × (w.crossed u ≡ false)) ⊎ ((f ≡ next) × ((u : ℕ) → u ≢ t → w.crossed u ≡ true))
+IsPhaseAfter w t now next f =
+    ((f ≡ now) × (u : ℕ) × (u ≢ t) × (w.crossed u ≡ false))
+    ⊎ ((f ≡ next) × ((u : ℕ) → u ≢ t → w.crossed u ≡ true))
 
 -- a mark runs, and all threads have crossed
 pub record IsScanning (w : AddressHeap) : Type 0 where

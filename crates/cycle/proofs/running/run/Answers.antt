@@ -1,5 +1,4 @@
-use Rattle.std.proofs.Common.{◌≡◌, ◌≤◌, ◌+◌, ◌∷◌, [], ◌++◌, ◌∙◌, length, length-append, append_assoc, ap, sym, subst, arith, rules}
-use Rattle.cycle.specs.Books.{Ran}
+use Rattle.std.proofs.Common.{arith}
 use Rattle.cycle.proofs.Runs.{ran_more, next_part, one_longer}
 use Rattle.cycle.proofs.running.run.Goals as goal
 
