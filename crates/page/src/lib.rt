@@ -1,9 +1,11 @@
 //! The page store: pages, the frames that are their memory, and the buffers that threads fill.
 #![tactic(auto)]
 
+mod copies;
 mod frame;
 mod search;
 mod store;
 
+pub use copies::many;
 pub use model::{Buffer, Page, PageState, Room};
-pub use store::Store;
+pub use store::{Store, record_count};

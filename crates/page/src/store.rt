@@ -8,6 +8,7 @@ ghost use Rattle.model.specs.Owning.{IsStore, LiesIn, TakesWell};
 ghost use Rattle.page.specs.Lending.{LendsPart};
 ghost use Rattle.page.specs.Records.{is_unused_in};
 
+use crate::copies::many;
 use crate::frame::Frame;
 use crate::search::{free_frame, page_with_room, unused_record};
 use model::{Buffer, Page, PageState, Room};
@@ -51,17 +52,9 @@ fn blank_frames(alloc: Global, count: u32, words: u32) -> Result<Vec<Frame, Glob
     Ok(frames)
 }
 
-fn many<T: Copy>(alloc: Global, count: u32, item: T) -> Result<Vec<T, Global>, AllocError>
-    ensures { IfOk result (λ v. v.items ≡ replicate count item) }
-{
-    let mut items = Vec::with_capacity(alloc, count as usize)?;
-    for _item in 0..count {
-        items.push(item)?;
-    }
-    Ok(items)
-}
-
-fn record_count(frames: u32, pages: u32) -> u32
+/// How many pages of a store have records, of so many frames and page numbers: no more are ever
+/// in use at once (ours). There are at most 4,096 frames.
+pub fn record_count(frames: u32, pages: u32) -> u32
     requires { frames ≤ 4096 }
     ensures { result ≡ record_count frames pages }
 {

@@ -1,9 +1,8 @@
 //! Making a heap.
 
-ghost use Rattle.std.specs.Prelude.{◌≡◌, ◌≤◌, replicate, IfOk};
+ghost use Rattle.std.specs.Prelude.{◌≡◌, replicate, IfOk};
 ghost use Rattle.model.specs.Configs.{IsRanged};
 ghost use Rattle.model.specs.Heaps.{first_heap, blank_thread};
-ghost use Rattle.model.specs.Stores.{record_count};
 ghost use Rattle.heap.specs.Making.{Makes};
 
 use crate::fault::NewFault;
@@ -11,7 +10,7 @@ use crate::heap::Heap;
 use crate::rows::Rows;
 use crate::thread::Thread;
 use model::{Config, Global, Phase};
-use page::Store;
+use page::{Store, many, record_count};
 use refword::Word;
 use std::alloc::{AllocError, Global as Memory};
 
@@ -23,27 +22,6 @@ fn blank_threads(alloc: Memory, count: u32, registers: u32) -> Result<Vec<Thread
         threads.push(Thread::new(alloc, registers)?)?;
     }
     Ok(threads)
-}
-
-fn many<T: Copy>(alloc: Memory, count: u32, item: T) -> Result<Vec<T>, AllocError>
-    ensures { IfOk result (λ v. v.items ≡ replicate count item) }
-{
-    let mut items = Vec::with_capacity(alloc, count as usize)?;
-    for _item in 0..count {
-        items.push(item)?;
-    }
-    Ok(items)
-}
-
-fn record_count(frames: u32, pages: u32) -> u32
-    requires { frames ≤ 4096 }
-    ensures { result ≡ record_count frames pages }
-{
-    if pages <= 2 * frames {
-        pages
-    } else {
-        2 * frames
-    }
 }
 
 impl Heap {
