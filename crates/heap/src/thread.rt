@@ -1,9 +1,10 @@
 //! The record of a mutator thread.
 
-ghost use Rattle.std.specs.Prelude.{◌≡◌, ◌<◌, length, slice_get, slice_set, replicate, None, IfOk};
+ghost use Rattle.std.specs.Prelude.{◌≡◌, ◌<◌, length, slice_get, slice_set, IfOk};
 ghost use Rattle.model.specs.Heaps.{blank_thread, set_register_of, set_buffer_of, flat};
 
 use model::{Barrier, Buffer};
+use page::many;
 use refword::Word;
 use std::alloc::{AllocError, Global};
 use std::marker::Model;
@@ -31,12 +32,8 @@ impl Thread {
     pub fn new(alloc: Global, registers: u32) -> Result<Thread, AllocError>
         ensures { IfOk result (λ t. t ≡ blank_thread registers) }
     {
-        let mut words = Vec::with_capacity(alloc, registers as usize)?;
-        for _register in 0..registers {
-            words.push(Word::null())?;
-        }
         Ok(Thread {
-            registers: words,
+            registers: many(alloc, registers, Word::null())?,
             buffer: None,
             crossed: true,
             parked: false,
