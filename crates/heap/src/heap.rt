@@ -60,28 +60,28 @@ impl Heap {
         &self.store
     }
 
-    /// Where objects start.
+    /// Where objects start, by record and offset (ours).
     pub fn starts(&self) -> &Rows
         ensures { result.now ≡ self.now.starts }
     {
         &self.starts
     }
 
-    /// Which objects the last mark found to live.
+    /// Which objects the last mark found to live (Mark phase).
     pub fn live(&self) -> &Rows
         ensures { result.now ≡ self.now.live }
     {
         &self.live
     }
 
-    /// Which objects the running mark has marked.
+    /// Which objects the running mark has marked (Mark phase).
     pub fn mark(&self) -> &Rows
         ensures { result.now ≡ self.now.mark }
     {
         &self.mark
     }
 
-    /// Which marked objects are still to be scanned.
+    /// Which marked objects are still to be scanned (Mark phase).
     pub fn todo(&self) -> &Rows
         ensures { result.now ≡ self.now.todo }
     {
@@ -95,7 +95,7 @@ impl Heap {
         &self.threads
     }
 
-    /// What each worker scans, by number from 0.
+    /// What each worker scans, by number from 0 (Mark phase).
     pub fn workers(&self) -> &[Option<Scan>]
         ensures { result.now ≡ self.now.workers }
     {
@@ -109,21 +109,21 @@ impl Heap {
         &self.globals
     }
 
-    /// Where the collector is in its cycle.
+    /// Where the collector is in its cycle; idle today.
     pub fn phase(&self) -> Phase
         ensures { result ≡ self.now.phase }
     {
         self.phase
     }
 
-    /// The not-marked-through bit of words that are marked through.
+    /// The not-marked-through bit of words that are marked through (read barrier).
     pub fn nmt(&self) -> bool
         ensures { result ≡ self.now.nmt }
     {
         self.nmt
     }
 
-    /// How many objects were born.
+    /// How many objects were born: 0 to the configuration's `births`.
     pub fn births(&self) -> u64
         ensures { result ≡ self.now.births }
     {

@@ -1,4 +1,7 @@
 //! The heap: pages, threads, workers, globals and the collector's state, and the steps of threads.
+//!
+//! A comment that names a section means the paper of Click, Tene and Wolf, "The Pauseless GC
+//! Algorithm" (VEE 2005); all else is ours.
 #![tactic(auto)]
 
 mod fault;

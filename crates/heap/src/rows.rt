@@ -22,7 +22,7 @@ impl Model for Row {
 }
 
 impl Row {
-    /// So many bits, all clear.
+    /// So many bits, all clear. Fails only by memory.
     pub fn new(alloc: Global, words: u32) -> Result<Row, AllocError>
         ensures { IfOk result (λ r. r ≡ replicate words false) }
     {
@@ -70,7 +70,7 @@ impl Model for Rows {
 }
 
 impl Rows {
-    /// So many rows of so many bits, all clear.
+    /// So many rows of so many bits, all clear. Fails only by memory.
     pub fn new(alloc: Global, count: u32, words: u32) -> Result<Rows, AllocError>
         ensures { IfOk result (λ r. r ≡ replicate count (replicate words false)) }
     {
@@ -81,7 +81,7 @@ impl Rows {
         Ok(Rows { rows })
     }
 
-    /// The row of an index.
+    /// The row of an index from 0, if it is there.
     pub fn get(&self, index: usize) -> Option<&Row>
         ensures { option_copied result ≡ slice_get self.now index }
     {

@@ -28,7 +28,8 @@ impl Model for Thread {
 }
 
 impl Thread {
-    /// A thread whose registers are null. It has crossed, and it runs.
+    /// A thread of so many registers, which are null. It has crossed, and it runs. Fails only by
+    /// memory.
     pub fn new(alloc: Global, registers: u32) -> Result<Thread, AllocError>
         ensures { IfOk result (λ t. t ≡ blank_thread registers) }
     {
@@ -55,7 +56,8 @@ impl Thread {
         self.buffer
     }
 
-    /// Whether it has crossed the open checkpoint; true where none is open.
+    /// Whether it has crossed the open checkpoint (the paper's checkpoints); true where none is
+    /// open.
     pub fn crossed(&self) -> bool
         ensures { result ≡ self.now.crossed }
     {
@@ -69,7 +71,7 @@ impl Thread {
         self.parked
     }
 
-    /// Its load that isn't finished, if there is one.
+    /// Its load that isn't finished, if there is one (the paper's read barrier).
     pub fn barrier(&self) -> Option<Barrier>
         ensures { result ≡ self.now.barrier }
     {

@@ -11,7 +11,7 @@ ghost use Rattle.layout.specs.declared.header.Header.{Header};
 pub struct Header {
     /// The birth number: how many objects were born before this one.
     pub birth: u32,
-    /// The number of its layout in the heap's table.
+    /// The number of its layout in the heap's table, from 0.
     pub layout: u8,
 }
 

@@ -1,5 +1,8 @@
 //! The words that all crates of the heap share: who acts, what is done and answered, and the
 //! records of a heap's state. The definitions over them stand in `specs/`.
+//!
+//! The paper is Click, Tene and Wolf, "The Pauseless GC Algorithm" (VEE 2005). A comment that names
+//! one of its sections tells a rule of that section; all else is ours.
 #![tactic(auto)]
 
 mod config;

@@ -1,4 +1,4 @@
-//! The records of a heap's state.
+//! The records of a heap's state. Offsets and sizes count words.
 
 use refword::{Addr, Word};
 
@@ -11,13 +11,14 @@ pub enum PageState {
     Open,
     /// It has a frame, and no buffer is taken in it any more.
     Closed,
-    /// It is protected: its live objects are being copied out (the paper's relocation).
+    /// It is protected: its live objects are being copied out (the paper's Relocate phase).
     From,
-    /// Its objects are copied and its frame is given back; its side array stays.
+    /// Its objects are copied and its frame is given back; its side array stays (the paper's
+    /// Relocate phase: memory is free before the references are corrected).
     Gone,
 }
 
-/// A page's record. The page of number n is the n-th record, counted from 1.
+/// A page's record. The page of number n is the n-th record, counted from 1 (ours).
 #[derive(Clone, Copy, Debug, PartialEq, Eq)]
 pub struct Page {
     /// How it is used.
@@ -28,14 +29,14 @@ pub struct Page {
     pub top: u32,
 }
 
-/// The part of a page that a thread may still fill.
+/// The part of a page that a thread may still fill (ours).
 #[derive(Clone, Copy, Debug, PartialEq, Eq)]
 pub struct Buffer {
-    /// The page's number.
+    /// The page's number, from 1.
     pub page: u32,
-    /// The offset of the next object.
+    /// The offset of the next object, from 0 to `end`.
     pub next: u32,
-    /// The offset at which the buffer ends.
+    /// The offset at which the buffer ends, at most the words of a page.
     pub end: u32,
 }
 
@@ -48,18 +49,19 @@ pub enum Room {
     NoPages,
 }
 
-/// Where the collector is in its cycle (the paper's phases, with their checkpoints).
+/// Where the collector is in its cycle (the paper's phases, with their checkpoints). The paper's
+/// Remap phase is the walk of the next mark, so it has no state here.
 #[derive(Clone, Copy, Debug, PartialEq, Eq)]
 pub enum Phase {
     /// No mark runs, and no page is protected.
     Idle,
-    /// A mark has begun, and some thread hasn't crossed its checkpoint.
+    /// A mark has begun, and some thread hasn't crossed its checkpoint (Mark).
     MarkCrossing,
-    /// A mark runs, and all threads have crossed.
+    /// A mark runs, and all threads have crossed (Mark).
     Scanning,
-    /// Pages are protected, and some thread hasn't crossed the checkpoint.
+    /// Pages are protected, and some thread hasn't crossed the checkpoint (Relocate).
     ProtectCrossing,
-    /// Pages are protected, and all threads have crossed.
+    /// Pages are protected, and all threads have crossed (Relocate).
     Relocating,
 }
 
@@ -73,35 +75,36 @@ pub enum Place {
         /// The number of the field.
         index: u32,
     },
-    /// The global of this number.
+    /// The global of this number, from 0.
     Global(u32),
 }
 
 /// A load that isn't finished (the paper's read barrier).
 #[derive(Clone, Copy, Debug, PartialEq, Eq)]
 pub struct Barrier {
-    /// The register that the load is for.
+    /// The number of the register that the load is for, from 0.
     pub target: u32,
     /// Where the word was loaded.
     pub place: Place,
     /// The word that was loaded.
     pub raw: Word,
-    /// The word so far.
+    /// The word so far: `raw`, or what a trap made of it.
     pub now: Word,
     /// Whether the place was healed.
     pub healed: bool,
 }
 
-/// An object that a worker scans.
+/// An object that a worker scans (the paper's Mark phase).
 #[derive(Clone, Copy, Debug, PartialEq, Eq)]
 pub struct Scan {
     /// The object's address.
     pub object: Addr,
-    /// The number of the next reference field.
+    /// The number of the next reference field, from 0.
     pub next: u32,
 }
 
-/// An entry of a protected page's side array: one live object, and where it goes.
+/// An entry of a protected page's side array: one live object, and where it goes (the paper's
+/// Relocate phase: forwarding stands apart from the page).
 #[derive(Clone, Copy, Debug, PartialEq, Eq)]
 pub struct Forwarding {
     /// The object's offset in its page.
@@ -117,6 +120,6 @@ pub struct Forwarding {
 pub struct Global {
     /// What it names.
     pub word: Word,
-    /// Whether the running mark has still to mark it.
+    /// Whether the running mark has still to mark it (the paper's Mark phase).
     pub todo: bool,
 }

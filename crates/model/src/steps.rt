@@ -4,7 +4,7 @@ ghost use Rattle.std.specs.Prelude.{◌≡◌};
 
 use std::marker::Model;
 
-/// Who does a step. Threads and workers count from 0.
+/// Who does a step (ours). Threads and workers count from 0.
 #[derive(Clone, Copy, Debug, PartialEq, Eq)]
 pub enum Actor {
     /// A mutator thread.
@@ -13,7 +13,7 @@ pub enum Actor {
     Worker(u32),
 }
 
-/// A list of page numbers, as a contract sees it.
+/// A list of page numbers. A contract sees the list of them.
 #[derive(Debug, Drop)]
 pub struct PageList {
     pages: Vec<u32>,
@@ -51,10 +51,14 @@ impl PageList {
     }
 }
 
-/// What an actor does in one hold of the heap.
+/// What an actor does in one hold of the heap. What the steps are is ours; a section of the paper
+/// is named where a step does its rule.
+///
+/// Registers, globals, fields, data words, layouts and entries of a side array count from 0, pages
+/// from 1; offsets and sizes are in words. A number that names nothing is refused (`BadIndex`).
 #[derive(Debug, Drop)]
 pub enum Step {
-    /// A buffer of so many words is taken.
+    /// A buffer of so many words is taken: 1 to the words of a page.
     Take(u32),
     /// The buffer is given back.
     GiveBack,
@@ -63,22 +67,22 @@ pub enum Step {
         target: u32,
         layout: u32,
     },
-    /// A reference field is loaded: a barrier opens.
+    /// A reference field is loaded: a barrier opens (read barrier).
     Load {
         target: u32,
         object: u32,
         field: u32,
     },
-    /// A global is loaded: a barrier opens.
+    /// A global is loaded: a barrier opens (read barrier).
     LoadGlobal {
         target: u32,
         global: u32,
     },
-    /// The word in the barrier is corrected or marked.
+    /// The word in the barrier is corrected or marked (read barrier).
     Trap,
-    /// The place of the load gets the word in the barrier.
+    /// The place of the load gets the word in the barrier, if it hasn't changed (read barrier).
     Heal,
-    /// The register gets the word in the barrier, which closes.
+    /// The register gets the word in the barrier, which closes (read barrier).
     Finish,
     /// A reference field gets a register's word.
     Store {
@@ -116,54 +120,55 @@ pub enum Step {
     },
     /// A register becomes null.
     ClearReg(u32),
-    /// The thread crosses the open checkpoint.
+    /// The thread crosses the open checkpoint (checkpoints).
     Cross,
     /// A register that names a protected page is corrected.
     Scrub(u32),
-    /// The thread blocks.
+    /// The thread blocks, and does nothing but `Unpark`.
     Park,
     /// The thread runs again.
     Unpark,
-    /// A mark starts.
+    /// A mark starts (Mark).
     StartMark,
-    /// The worker takes an object to scan.
+    /// The worker takes an object to scan (Mark).
     Pick {
         page: u32,
         offset: u32,
     },
-    /// The worker scans the next field of its object.
+    /// The worker scans the next field of its object, and corrects it (Mark, Remap).
     ScanField,
-    /// A global is marked.
+    /// A global is marked, and corrected (Mark, Remap).
     ScanGlobal(u32),
-    /// The mark ends.
+    /// The mark ends, and pages that were emptied become unused (ours).
     EndMark,
-    /// Pages are protected.
+    /// Pages are protected, and it is planned where their live objects go (Relocate; the
+    /// plan is ours).
     Protect(PageList),
-    /// An object of a protected page is copied.
+    /// An object of a protected page is copied (Relocate).
     Copy {
         page: u32,
         entry: u32,
     },
-    /// A protected page gives its frame back.
+    /// A protected page gives its frame back (Relocate).
     Release(u32),
-    /// A parked thread is crossed.
+    /// A parked thread is crossed (checkpoints).
     CrossFor(u32),
 }
 
 /// What an accepted step says.
 #[derive(Clone, Copy, Debug, PartialEq, Eq)]
 pub enum Answer {
-    /// A buffer begins there.
+    /// A buffer begins there: a page's number, and an offset in words.
     Lent { page: u32, offset: u32 },
-    /// The object's birth number.
+    /// The object's birth number: how many were born before it.
     Birth(u32),
     /// A barrier is open.
     Loaded,
-    /// The word names the copy now.
+    /// The word names the copy now (read barrier).
     Moved,
-    /// The word was marked.
+    /// The word was marked (read barrier).
     Marked,
-    /// No trap was due.
+    /// No trap was due (read barrier).
     Clear,
     /// The place of the load was written.
     Healed,
@@ -191,7 +196,7 @@ pub enum Answer {
     Released { free: u64 },
 }
 
-/// Why a step isn't accepted. A refused step changes nothing.
+/// Why a step isn't accepted (ours). A refused step changes nothing.
 #[derive(Clone, Copy, Debug, PartialEq, Eq)]
 pub enum Refusal {
     /// There is no such actor, or it does no such step.

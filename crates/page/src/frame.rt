@@ -23,7 +23,7 @@ impl Model for Frame {
 }
 
 impl Frame {
-    /// A frame of zeros.
+    /// A frame of so many words, all 0. Fails only by memory.
     pub fn new(alloc: Global, words: u32) -> Result<Frame, AllocError>
         ensures { IfOk result (λ f. f ≡ replicate words 0) }
     {
@@ -32,7 +32,7 @@ impl Frame {
         })
     }
 
-    /// The word at an offset.
+    /// The word at an offset, or `None` past the end.
     pub fn get(&self, offset: usize) -> Option<u64>
         ensures { result ≡ slice_get self.now offset }
     {
@@ -62,7 +62,7 @@ impl Frame {
         &self.words
     }
 
-    /// The words from one offset up to another.
+    /// Lends the words from one offset up to another, which must not go past the end.
     pub fn run_mut(&mut self, start: usize, end: usize) -> &mut [u64]
         requires order { start ≤ end }
         requires within { end ≤ length self.old }

@@ -13,7 +13,7 @@ fn has_room(page: &Page, words: u32, n: u32) -> bool
     matches!(page.state, PageState::Open) && n <= words.saturating_sub(page.top)
 }
 
-/// The index of the lowest open page with room for `n` words.
+/// The index, from 0, of the lowest open page with room for `n` words of `words`.
 #[tactic(auto, unfolding(model::specs::Stores::page_with_room), using(crate::proofs::Found::room_found))]
 pub fn page_with_room(pages: &[Page], words: u32, n: u32) -> Option<usize>
     requires { 0 < n }
@@ -24,7 +24,7 @@ pub fn page_with_room(pages: &[Page], words: u32, n: u32) -> Option<usize>
     pages.iter().position(|page| has_room(page, words, n))
 }
 
-/// The lowest free frame.
+/// The number, from 0, of the lowest free frame.
 #[tactic(auto, unfolding(model::specs::Stores::free_frame), using(crate::proofs::Found::free_found, crate::proofs::Found::free_counts))]
 pub fn free_frame(owners: &[Option<u32>]) -> Option<usize>
     ensures first { result ≡ free_frame owners.now }
@@ -35,7 +35,7 @@ pub fn free_frame(owners: &[Option<u32>]) -> Option<usize>
     owners.iter().position(|owner| owner.is_none())
 }
 
-/// The index of the lowest unused page that has a record.
+/// The index, from 0, of the lowest unused page that has a record.
 #[tactic(auto, using(crate::proofs::Found::unused_found))]
 pub fn unused_record(pages: &[Page]) -> Option<usize>
     ensures first { result ≡ position (λ p. is_unused p.state) pages.now }

@@ -98,7 +98,7 @@ impl Store {
         let _ = &self.words;
     }
 
-    /// The words of a page.
+    /// The words of a page: 1 to 4,096.
     pub fn page_words(&self) -> u32
         ensures value { result ≡ self.now.words }
         ensures positive { 0 < result }
@@ -107,7 +107,7 @@ impl Store {
         self.words
     }
 
-    /// The number of page numbers: pages count from 1 to it.
+    /// The number of page numbers: pages count from 1 to it. At most 65,535.
     pub fn page_count(&self) -> u32
         ensures value { result ≡ self.now.count }
         ensures range { result ≤ 65535 }
@@ -122,7 +122,7 @@ impl Store {
         &self.pages
     }
 
-    /// The number of frames.
+    /// The number of frames: at most 4,096. A frame has the words of a page.
     pub fn frame_count(&self) -> usize
         ensures { result ≡ length self.now.frames }
     {
@@ -143,7 +143,7 @@ impl Store {
         self.frames.len() - self.free as usize
     }
 
-    /// The record of a page, if it has one.
+    /// The record of a page by its number, if it has one: none for 0, nor past the records.
     #[tactic(auto, unfolding(model::specs::Stores::page_at))]
     pub fn page(&self, number: u32) -> Option<Page>
         ensures { result ≡ page_at self.now number }
@@ -184,7 +184,7 @@ impl Store {
         Some((frame, (address % words) as usize))
     }
 
-    /// The word at an address, if its page has memory.
+    /// The word at an address, which is below 2^32, if its page has memory.
     #[tactic(auto, unfolding(model::specs::Stores::word_at))]
     pub fn word(&self, address: u64) -> Option<u64>
         requires { address < 2 ^ 32 }
@@ -195,7 +195,7 @@ impl Store {
         frame.get(offset)
     }
 
-    /// The words of a page, if it has memory.
+    /// The words of a page by its number, if it has memory.
     #[tactic(auto, unfolding(model::specs::Stores::words_at))]
     pub fn words(&self, page: u32) -> Option<&[u64]>
         ensures { option_map (λ w. w.now) result ≡ words_at self.now page }
@@ -205,7 +205,7 @@ impl Store {
         Some(frame.words())
     }
 
-    /// Writes the word at an address, if its page has memory.
+    /// Writes the word at an address, which is below 2^32, if its page has memory.
     #[tactic(auto, unfolding(model::specs::Stores::with_word, model::specs::Stores::with_words, model::specs::Stores::spot_of))]
     pub fn set_word(&mut self, address: u64, value: u64)
         requires { address < 2 ^ 32 }
@@ -219,7 +219,7 @@ impl Store {
         }
     }
 
-    /// Lends the free rest of a buffer, to be written.
+    /// Lends the free rest of a buffer that lies in an open page, to be written.
     pub fn part_mut(&mut self, buffer: &Buffer) -> &mut [u64]
         requires { LiesIn self.old buffer.now }
         ensures value { IfSome (words_at self.old buffer.now.page) (λ ws. result.now ≡ slice_range ws buffer.now.next buffer.now.end) }
@@ -279,7 +279,7 @@ impl Store {
     }
 
     /// A buffer of `n` words: in the lowest open page that has room, else in the lowest unused
-    /// page, opened on the lowest free frame. `n` is 1 to the words of a page.
+    /// page, opened on the lowest free frame (ours). `n` is 1 to the words of a page.
     ///
     /// Answers `NoFrames` where no frame is free, else `NoPages` where no page is unused; the
     /// store is then as it was.

@@ -75,7 +75,7 @@ impl Word {
         self.raw >= MARK
     }
 
-    /// The same address with this NMT bit. Null stays null.
+    /// The same address with this NMT bit (the paper's read barrier). Null stays null.
     pub fn with_nmt(self, nmt: bool) -> Word
         ensures { result ≡ remarked self nmt }
     {

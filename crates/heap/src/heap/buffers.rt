@@ -47,7 +47,8 @@ impl Heap {
         }
     }
 
-    /// A thread takes a buffer, in the lowest open page with room, else in a fresh page.
+    /// A thread takes a buffer of 1 to the words of a page, in the lowest open page with room,
+    /// else in a fresh page (ours).
     ///
     /// Refused where it has one (`HasBuffer`); where no page has room and no frame is free
     /// (`NoFrames`); where no page number is unused (`NoPages`).

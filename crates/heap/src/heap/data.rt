@@ -11,7 +11,7 @@ use model::{Answer, Refusal};
 use refword::Addr;
 
 impl Heap {
-    /// The layout of the object at an address, if one is there.
+    /// The layout of the object at an address, if a header of a layout in the table is there.
     #[tactic(auto, unfolding(model::specs::Heaps::layout_at))]
     pub fn layout_at(&self, address: Addr) -> Option<Layout>
         ensures { result ≡ layout_at self.now address }
@@ -34,8 +34,8 @@ impl Heap {
         Some(address.number() + 1 + u64::from(layout.refs) + u64::from(index))
     }
 
-    /// Reads a data word. Refused where the register is null or can't be used, then `BadIndex`
-    /// where the object has no such word.
+    /// Reads a data word, by its number from 0. Refused as `usable` is, then `BadIndex` where the
+    /// object has no such word.
     #[tactic(auto, unfolding(model::specs::Outcome::datum_outcome))]
     pub fn datum(&self, thread: u32, object: u32, index: u32) -> Result<Answer, Refusal>
         ensures { Does self.now result self.now (datum_outcome self.now thread object index) }

@@ -42,7 +42,7 @@ impl Heap {
     }
 
     /// Whether a thread may use an address: not on a protected page, unless the thread has still
-    /// to cross the checkpoint at which pages are being protected.
+    /// to cross the checkpoint at which pages are being protected (the paper's checkpoints).
     #[tactic(auto, unfolding(model::specs::Outcome::let_through))]
     fn let_through(&self, thread: u32, address: Addr) -> Result<(), Refusal>
         ensures { result ≡ let_through self.now thread address }
@@ -67,6 +67,9 @@ impl Heap {
     }
 
     /// The address in a register that names an object and may be used.
+    ///
+    /// Refused where it is null (`Null`); on a protected page `Stall`, where pages are being
+    /// protected and the thread has crossed, and in other phases `Stale` (ours).
     #[tactic(auto, unfolding(model::specs::Outcome::usable))]
     pub fn usable(&self, thread: u32, register: u32) -> Result<Addr, Refusal>
         ensures { result ≡ usable self.now thread register }
@@ -78,7 +81,8 @@ impl Heap {
         Ok(address)
     }
 
-    /// The address in a register that may be used, or none where it is null.
+    /// The address in a register that may be used, or none where it is null. Else refused as
+    /// `usable` is.
     #[tactic(auto, unfolding(model::specs::Outcome::usable_or_null))]
     pub fn usable_or_null(&self, thread: u32, register: u32) -> Result<Option<Addr>, Refusal>
         ensures { result ≡ usable_or_null self.now thread register }
@@ -90,7 +94,8 @@ impl Heap {
         Ok(Some(address))
     }
 
-    /// Whether two registers name the same object, or both none.
+    /// Whether two registers name the same object, or both none; their NMT bits don't count.
+    /// Refused as `usable_or_null` is.
     #[tactic(auto, unfolding(model::specs::Outcome::same_outcome))]
     pub fn same(&self, thread: u32, left: u32, right: u32) -> Result<Answer, Refusal>
         ensures { Does self.now result self.now (same_outcome self.now thread left right) }
@@ -100,7 +105,7 @@ impl Heap {
         Ok(Answer::Truth(left == right))
     }
 
-    /// Whether a register is null.
+    /// Whether a register is null. Never refused here.
     #[tactic(auto, unfolding(model::specs::Outcome::is_null_outcome))]
     pub fn is_null(&self, thread: u32, register: u32) -> Result<Answer, Refusal>
         ensures { Does self.now result self.now (is_null_outcome self.now thread register) }
@@ -108,7 +113,7 @@ impl Heap {
         Ok(Answer::Truth(self.register(thread, register).is_null()))
     }
 
-    /// A register gets another one's word.
+    /// A register gets another one's word. Never refused here.
     #[tactic(auto, unfolding(model::specs::Outcome::copy_register_outcome))]
     pub fn copy_register(
         &mut self,
@@ -123,7 +128,7 @@ impl Heap {
         Ok(Answer::Done)
     }
 
-    /// A register becomes null.
+    /// A register becomes null. Never refused here.
     #[tactic(auto, unfolding(model::specs::Outcome::clear_register_outcome))]
     pub fn clear_register(&mut self, thread: u32, target: u32) -> Result<Answer, Refusal>
         ensures { Does self.old result self.new (clear_register_outcome self.old thread target) }
