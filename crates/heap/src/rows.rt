@@ -1,8 +1,8 @@
 //! Rows of bits, one bit for each word of a page.
 
-ghost use Rattle.std.specs.Prelude.{◌≡◌, ◌<◌, length, replicate, slice_get, false, true, IfOk, count_by};
+ghost use Rattle.std.specs.Prelude.{◌≡◌, ◌<◌, length, replicate, slice_get, false, IfOk, count_by};
 ghost use Rattle.std.specs.Option.{option_copied};
-ghost use Rattle.model.specs.Heaps.{changed, blank_row, set_bit};
+ghost use Rattle.model.specs.Heaps.{changed, blank_row, put_bit};
 
 use std::alloc::{AllocError, Global};
 use std::marker::Model;
@@ -38,12 +38,12 @@ impl Row {
         self.bits.iter().filter(|bit| **bit).count()
     }
 
-    /// Sets a bit, if the row goes that far.
-    pub fn set(&mut self, offset: usize)
-        ensures { self.new ≡ set_bit offset self.old }
+    /// Sets or clears a bit, if the row goes that far.
+    pub fn put(&mut self, offset: usize, bit: bool)
+        ensures { self.new ≡ put_bit offset bit self.old }
     {
         if offset < self.bits.len() {
-            self.bits[offset] = true;
+            self.bits[offset] = bit;
         }
     }
 
@@ -88,13 +88,13 @@ impl Rows {
         self.rows.get(index)
     }
 
-    /// Sets a bit of a row, if it is there.
-    pub fn set(&mut self, index: usize, offset: usize)
-        ensures { self.new ≡ changed self.old index (set_bit offset) }
+    /// Sets or clears a bit of a row, if it is there.
+    pub fn put(&mut self, index: usize, offset: usize, bit: bool)
+        ensures { self.new ≡ changed self.old index (put_bit offset bit) }
     {
         if index < self.rows.len() {
             let row = &mut self.rows[index];
-            row.set(offset);
+            row.put(offset, bit);
         }
     }
 

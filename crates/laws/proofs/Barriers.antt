@@ -6,7 +6,8 @@ use Rattle.model.specs.declared.records.Phase.TheVariants.{MarkCrossing, Scannin
 use Rattle.model.specs.declared.records.PageState.{PageState}
 use Rattle.model.specs.declared.records.PageState.TheVariants.{From, Gone}
 use Rattle.model.specs.Stores.{is_protected, has_memory}
-use Rattle.laws.specs.AddressHeap.{AddressHeap, HeapObject, Word, Null, To, put, field, current, resolve, resolve_by, names, birth_of, OpenBarrier, AtField, is_marking, is_crossing, SideEntry, NoEntry, Planned, Copied}
+use Rattle.model.specs.Phases.{is_marking}
+use Rattle.laws.specs.AddressHeap.{AddressHeap, HeapObject, Word, Null, To, put, field, current, resolve, resolve_by, names, birth_of, OpenBarrier, AtField, is_crossing, SideEntry, NoEntry, Planned, Copied}
 use Rattle.laws.specs.BirthHeap.{BirthHeap, ref, InPending, Start, Next}
 use Rattle.laws.specs.Invariant.{IsKept, IsClean, StandsFor, Invariant, IsBarrierFor, IsPlace}
 use Rattle.laws.specs.Edits.{set_object, end_load, plain_end_load, set_barrier, set_global, copy_object, mark_word, marked_word}

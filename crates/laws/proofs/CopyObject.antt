@@ -3,7 +3,8 @@ use Rattle.std.proofs.Common.{◌≡◌, ◌≢◌, ◌⊎◌, ◌≤◌, ◌<�
 use Rattle.model.specs.declared.records.Phase.TheVariants.{ProtectCrossing}
 use Rattle.model.specs.declared.records.PageState.TheVariants.{Closed, Open, From}
 use Rattle.model.specs.Stores.{is_protected, has_memory}
-use Rattle.laws.specs.AddressHeap.{AddressHeap, HeapObject, Word, Null, To, field, current, names, is_marking, Planned, Copied, WorkerScan, LoadPlace, AtField, AtGlobal}
+use Rattle.model.specs.Phases.{is_marking}
+use Rattle.laws.specs.AddressHeap.{AddressHeap, HeapObject, Word, Null, To, field, current, names, Planned, Copied, WorkerScan, LoadPlace, AtField, AtGlobal}
 use Rattle.laws.specs.BirthHeap.{BirthHeap, ref, IsRoot, IsReached, Start, Next}
 use Rattle.laws.specs.Invariant.{Invariant, StandsFor, IsClean, IsCleanBelow, IsKept, HasCurrent, IsSeed, IsPlace, IsBarrierFor}
 use Rattle.laws.specs.Edits.{copy_object}

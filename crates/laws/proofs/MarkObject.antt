@@ -1,7 +1,8 @@
 -- To mark an object keeps the invariant.
 use Rattle.std.proofs.Common.{◌≡◌, ◌≢◌, ◌⊎◌, inl, inr, ℕ, Bool, true, false, cond, Option, Some, refl, sym, ◌∙◌, ap, subst}
 use Rattle.model.specs.Stores.{is_protected}
-use Rattle.laws.specs.AddressHeap.{AddressHeap, HeapObject, Word, put, current, field, LoadPlace, AtField, AtGlobal, is_marking}
+use Rattle.model.specs.Phases.{is_marking}
+use Rattle.laws.specs.AddressHeap.{AddressHeap, HeapObject, Word, put, current, field, LoadPlace, AtField, AtGlobal}
 use Rattle.laws.specs.BirthHeap.{BirthHeap, ref, Start, Next}
 use Rattle.laws.specs.Invariant.{IsSeed, IsKept, HasCurrent, StandsFor, IsClean, Invariant, IsPlace}
 use Rattle.laws.proofs.Basics.{reached, put_all, put_both, put_after, put_id, true_or_false, barrier_map, current_there}

@@ -5,7 +5,8 @@ use Rattle.model.specs.declared.records.Phase.TheVariants.{Idle, MarkCrossing, P
 use Rattle.model.specs.declared.records.PageState.{PageState}
 use Rattle.model.specs.declared.records.PageState.TheVariants.{Unused, Open, Closed, Gone}
 use Rattle.model.specs.Stores.{is_protected}
-use Rattle.laws.specs.AddressHeap.{AddressHeap, HeapObject, Word, Null, To, SideEntry, NoEntry, Copied, is_marking, is_mark_crossing, OpenBarrier, WorkerScan, put, put_at, resolve}
+use Rattle.model.specs.Phases.{is_marking, is_mark_crossing}
+use Rattle.laws.specs.AddressHeap.{AddressHeap, HeapObject, Word, Null, To, SideEntry, NoEntry, Copied, OpenBarrier, WorkerScan, put, put_at, resolve}
 use Rattle.laws.specs.BirthHeap.{BirthHeap}
 
 -- a page's state after a mark: an open page without a lent buffer closes, and a protected page is unused again (the paper's

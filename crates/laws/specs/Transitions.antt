@@ -7,7 +7,8 @@ use Rattle.model.specs.declared.records.Phase.TheVariants.{Idle, MarkCrossing, S
 use Rattle.model.specs.declared.records.PageState.{PageState}
 use Rattle.model.specs.declared.records.PageState.TheVariants.{Unused, Open, Closed, From}
 use Rattle.model.specs.Stores.{is_protected}
-use Rattle.laws.specs.AddressHeap.{AddressHeap, HeapObject, Null, To, SideEntry, Planned, Copied, OpenBarrier, AtField, AtGlobal, WorkerScan, field, is_marking}
+use Rattle.model.specs.Phases.{is_marking}
+use Rattle.laws.specs.AddressHeap.{AddressHeap, HeapObject, Null, To, SideEntry, Planned, Copied, OpenBarrier, AtField, AtGlobal, WorkerScan, field}
 use Rattle.laws.specs.BirthHeap.{BirthHeap}
 use Rattle.laws.specs.Edits.{set_object, set_barrier, plain_set_pending, end_load, set_global, plain_set_global, copy_object, mark_word, marked_word, end_global_scan, set_scan, end_scan, start_mark, cross_checkpoint, release_page, protect_pages, open_page, set_parked, born, plain_born, end_mark}
 use Rattle.laws.specs.Effects.{plain_store, plain_datum, plain_load_field, plain_finish, plain_set_register, set_register, with_field, with_datum, new_barrier, nmt_trap_due, mark_registers, scan_field}

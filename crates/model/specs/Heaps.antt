@@ -92,8 +92,8 @@ blank_row row = replicate (length row) false
 abbrev pub opened_rows : Buffer → List (List Bool) → List (List Bool)
 opened_rows b rows = if b.next == 0 then changed rows (b.page - 1) blank_row else rows
 
-abbrev pub set_bit : ℕ → List Bool → List Bool
-set_bit o row = slice_set row o true
+abbrev pub put_bit : ℕ → Bool → List Bool → List Bool
+put_bit o bit row = slice_set row o bit
 
 -- objects
 

@@ -1,4 +1,5 @@
 pub mod Configs
+pub mod Phases
 pub mod Stores
 pub mod Owning
 pub mod Heaps

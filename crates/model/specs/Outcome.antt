@@ -14,8 +14,9 @@ use Rattle.model.specs.declared.records.Phase.{Phase}
 use Rattle.model.specs.declared.records.Phase.TheVariants.{ProtectCrossing}
 use Rattle.model.specs.declared.records.Room.{Room}
 use Rattle.model.specs.declared.records.Room.TheVariants.{NoFrames, NoPages}
+use Rattle.model.specs.Phases.{is_marking, is_mark_crossing}
 use Rattle.model.specs.Stores.{StoreState, state_at, is_protected, word_at, with_word, with_words, overlaid, taken}
-use Rattle.model.specs.Heaps.{HeapState, ThreadState, Reference, register_of, with_register, with_buffer, buffer_of_thread, changed, set_register_of, set_buffer_of, opened_rows, set_bit, layout_at, datum_address, fresh_object}
+use Rattle.model.specs.Heaps.{HeapState, ThreadState, Reference, register_of, with_register, with_buffer, buffer_of_thread, changed, set_register_of, set_buffer_of, opened_rows, put_bit, layout_at, datum_address, fresh_object}
 use Rattle.model.specs.Refusing.{◌>>=◌, or_refuse, Outcome}
 
 -- registers that may be used
@@ -132,11 +133,14 @@ used_buffer b n = record b { next = b.next + n }
 abbrev pub handed : ℕ → Reference → Buffer → ThreadState → ThreadState
 handed target w rest t = set_register_of target w (set_buffer_of (Some rest) t)
 
--- the heap after an object was made in a buffer
+-- the heap after an object was made in a buffer; while a mark runs it is born marked, and before all have crossed it is
+-- still to be scanned (ours)
 unfoldable pub placed : HeapState → ℕ → ℕ → ℕ → Layout → Buffer → HeapState
 placed h t target number l b = record h {
   store = with_words h.store b.page (λ ws. overlaid ws b.next (fresh_object h.births number l));
-  starts = changed h.starts (b.page - 1) (set_bit b.next);
+  starts = changed h.starts (b.page - 1) (put_bit b.next true);
+  mark = changed h.mark (b.page - 1) (put_bit b.next (is_marking h.phase));
+  todo = changed h.todo (b.page - 1) (put_bit b.next (is_mark_crossing h.phase));
   threads = changed h.threads t (handed target (Some (b.page * h.store.words + b.next, h.nmt)) (used_buffer b (size_of l)));
   births = h.births + 1;
 }

@@ -1,5 +1,8 @@
 //! The records of a heap's state. Offsets and sizes count words.
 
+ghost use Rattle.std.specs.Prelude.{◌≡◌};
+ghost use Rattle.model.specs.Phases.{is_marking, is_mark_crossing};
+
 use refword::{Addr, Word};
 
 /// How a page is used.
@@ -63,6 +66,22 @@ pub enum Phase {
     ProtectCrossing,
     /// Pages are protected, and all threads have crossed (Relocate).
     Relocating,
+}
+
+impl Phase {
+    /// Whether a mark runs (the paper's Mark phase).
+    pub fn is_marking(self) -> bool
+        ensures { result ≡ is_marking self }
+    {
+        matches!(self, Phase::MarkCrossing | Phase::Scanning)
+    }
+
+    /// Whether a mark waits for threads to cross (the paper's checkpoints).
+    pub fn is_mark_crossing(self) -> bool
+        ensures { result ≡ is_mark_crossing self }
+    {
+        matches!(self, Phase::MarkCrossing)
+    }
 }
 
 /// Where a load takes its word from.

@@ -1,11 +1,12 @@
 //! New objects.
 
-ghost use Rattle.std.specs.Prelude.{◌≡◌, ◌≤◌, ◌<◌, ◌+◌, ◌-◌, ◌*◌, ◌∷◌, ◌++◌, length, drop, replicate, slice_get, Some};
+ghost use Rattle.std.specs.Prelude.{◌≡◌, ◌≤◌, ◌<◌, ◌+◌, ◌-◌, ◌*◌, ◌∷◌, ◌++◌, length, drop, replicate, slice_get, Some, true};
 ghost use Rattle.layout.specs.Objects.{size_of};
 ghost use Rattle.model.specs.Stores.{overlaid, with_words};
 ghost use Rattle.model.specs.Owning.{LiesIn};
 ghost use Rattle.model.specs.Refusing.{Does};
-ghost use Rattle.model.specs.Heaps.{changed};
+ghost use Rattle.model.specs.Heaps.{changed, put_bit};
+ghost use Rattle.model.specs.Phases.{is_marking, is_mark_crossing};
 ghost use Rattle.model.specs.Outcome.{placed, new_outcome, handed};
 
 use crate::heap::Heap;
@@ -78,7 +79,7 @@ impl Heap {
         let size = layout.size();
         let word = Word::of(self.buffer_address(buffer), self.nmt);
         write_new(&mut self.store, buffer, header.write(), size - 1);
-        self.starts.set(buffer.page.saturating_sub(1) as usize, buffer.next as usize);
+        self.note_start(buffer);
         self.births += 1;
         let rest = Buffer {
             page: buffer.page,
@@ -86,6 +87,22 @@ impl Heap {
             end: buffer.end,
         };
         self.hand_over(thread, target, word, rest);
+    }
+
+    /// Notes that an object starts at the head of a buffer. While a mark runs it is marked at
+    /// once, and to be scanned while threads have still to cross (ours).
+    fn note_start(&mut self, buffer: Buffer)
+        ensures { self.new ≡ record self.old {
+            starts = changed self.old.starts (buffer.page - 1) (put_bit buffer.next true);
+            mark = changed self.old.mark (buffer.page - 1) (put_bit buffer.next (is_marking self.old.phase));
+            todo = changed self.old.todo (buffer.page - 1) (put_bit buffer.next (is_mark_crossing self.old.phase));
+        } }
+    {
+        let index = buffer.page.saturating_sub(1) as usize;
+        let offset = buffer.next as usize;
+        self.starts.put(index, offset, true);
+        self.mark.put(index, offset, self.phase.is_marking());
+        self.todo.put(index, offset, self.phase.is_mark_crossing());
     }
 
     /// A thread's register gets a new object's word, and its buffer is what is left of it.

@@ -1,0 +1,71 @@
+-- What lies where in memory: the runs of addresses that objects, buffers, planned places and the free ends of open pages
+-- have, of which no two overlap.
+use Rattle.std.specs.Prelude.{◌≡◌, ◌⊎◌, ◌≤◌, ◌+◌, ◌*◌, ◌%◌, ℕ, Bool, true, false, List, length, Option, Some, None, option_map, slice_get, if◌then◌else◌}
+use Rattle.model.specs.declared.records.Page.{Page}
+use Rattle.model.specs.declared.records.PageState.TheVariants.{Unused}
+use Rattle.model.specs.declared.records.Buffer.{Buffer}
+use Rattle.model.specs.Stores.{StoreState, page_at, state_at, is_open, has_memory}
+use Rattle.model.specs.Owning.{Each}
+use Rattle.model.specs.Heaps.{HeapState, buffer_of_thread}
+use Rattle.laws.specs.AddressHeap.{HeapObject, SideEntry, Planned}
+use Rattle.refinement.specs.Worlds.{world_of, object_at, bit_at}
+
+-- who has words of memory
+pub data Claim : Type 0 where
+  OfObject : (address : ℕ) → Claim
+  OfBuffer : (thread : ℕ) → Claim
+  OfPlan : (address : ℕ) → Claim  -- the place that the object at an address will be copied to
+  OfEnd : (page : ℕ) → Claim  -- the words of an open page that were not given out
+
+-- the addresses from one up to another
+pub record Extent : Type 0 where
+  pub from : ℕ
+  pub upto : ℕ
+
+abbrev pub object_size : HeapObject → ℕ
+object_size o = 1 + length o.refs + length o.data_words
+
+abbrev pub planned_extent : SideEntry → Option HeapObject → Option Extent
+planned_extent (Planned n) (Some o) = Some (record { from = n; upto = n + object_size o })
+planned_extent _ _ = None
+
+abbrev pub buffer_extent : ℕ → Buffer → Extent
+buffer_extent words b = record { from = b.page * words + b.next; upto = b.page * words + b.end }
+
+abbrev pub end_extent : ℕ → ℕ → Option Page → Option Extent
+end_extent words n None = None
+end_extent words n (Some p) = if is_open p.state then Some (record { from = n * words + p.top; upto = n * words + words }) else None
+
+-- the addresses that a claim has
+abbrev pub extent : HeapState → Claim → Option Extent
+extent h (OfObject a) = option_map (λ o. record { from = a; upto = a + object_size o }) (object_at h a)
+extent h (OfBuffer t) = option_map (buffer_extent h.store.words) (buffer_of_thread h t)
+extent h (OfPlan a) = planned_extent ((world_of h).side_entry a) (object_at h a)
+extent h (OfEnd n) = end_extent h.store.words n (page_at h.store n)
+
+abbrev pub AreApart : Extent → Extent → Type 0
+AreApart x y = (x.upto ≤ y.from) ⊎ (y.upto ≤ x.from)
+
+-- no two claims overlap
+abbrev pub Apart : (Claim → Option Extent) → Type 0
+Apart e = (c d : Claim) (x y : Extent) → e c ≡ Some x → e d ≡ Some y → (c ≡ d) ⊎ AreApart x y
+
+-- each page has a row, of a bit for each of its words
+pub record AreRows (s : StoreState) (rows : List (List Bool)) : Type 0 where
+  pub pages : length rows ≡ length s.pages
+  pub words : Each rows (λ row. length row ≡ s.words)
+
+-- the memory of a heap is in order
+pub record IsLaid (h : HeapState) : Type 0 where
+  pub starts : AreRows h.store h.starts
+  pub live : AreRows h.store h.live
+  pub mark : AreRows h.store h.mark
+  pub todo : AreRows h.store h.todo
+  pub registers : Each h.threads (λ t. length t.registers ≡ h.config.registers)
+  -- where an object is said to start on a page with memory, there is one
+  pub objects : (a : ℕ) → bit_at h.starts h.store.words a ≡ true → has_memory ((world_of h).page_state a) ≡ true → (o : HeapObject) × (object_at h a ≡ Some o)
+  pub apart : Apart (extent h)
+  -- a planned place lies in one page
+  pub planned : (a n : ℕ) (o : HeapObject) → (world_of h).side_entry a ≡ Planned n → object_at h a ≡ Some o → n % h.store.words + object_size o ≤ h.store.words
+  -- nothing is live on an unused page
+  pub unused : (a : ℕ) → (world_of h).page_state a ≡ Unused → bit_at h.live h.store.words a ≡ false

@@ -1,0 +1,4 @@
+pub mod Worlds
+pub mod Births
+pub mod Claims
+pub mod Standing

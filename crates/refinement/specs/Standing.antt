@@ -1,0 +1,43 @@
+-- A heap's state stands for a plain heap, and what is promised of its steps.
+use Rattle.std.specs.Prelude.{◌≡◌, Option, Some, None, Ok, true}
+use Rattle.model.specs.declared.steps.Actor.{Actor}
+use Rattle.model.specs.declared.steps.Step.{Step}
+use Rattle.model.specs.declared.steps.Answer.{Answer}
+use Rattle.model.specs.declared.config.Config.{Config}
+use Rattle.model.specs.Configs.{IsRanged}
+use Rattle.model.specs.Owning.{IsStore}
+use Rattle.model.specs.Holding.{IsHeap}
+use Rattle.model.specs.Heaps.{HeapState, first_heap}
+use Rattle.model.specs.Outcome.{outcome}
+use Rattle.model.specs.Plain.{PlainHeap, plain_step, plain_answer, plain_start}
+use Rattle.laws.specs.Invariant.{Invariant}
+use Rattle.refinement.specs.Worlds.{world_of}
+use Rattle.refinement.specs.Births.{births_of, HasRootsOf}
+use Rattle.refinement.specs.Claims.{IsLaid}
+
+-- a heap stands for a plain heap p; p0 is the plain heap as the last mark began
+pub record Holds (h : HeapState) (p p0 : PlainHeap) : Type 0 where
+  pub laid : IsLaid h
+  pub roots : HasRootsOf h p
+  pub invariant : Invariant (world_of h) (births_of p) (births_of p0)
+
+-- an answer is the plain heap's, where that says anything
+abbrev pub AnswersPlain : Option Answer → Answer → Type 0
+AnswersPlain None answer = Unit {0}
+AnswersPlain (Some a) answer = answer ≡ a
+
+-- after an accepted step the heap stands for the plain heap after its step, and the answer is the plain heap's
+pub record StepHolds (h : HeapState) (p p0 : PlainHeap) (actor : Actor) (step : Step) (g : HeapState) (answer : Answer) : Type 0 where
+  pub holds : Holds g (plain_step h.config.layouts p actor step) p0
+  pub answers : AnswersPlain (plain_answer p actor step) answer
+
+-- the heap that a configuration begins with stands for the plain heap that it begins with
+abbrev pub FirstHolds : Type 0
+FirstHolds = (c : Config) → IsRanged c → Holds (first_heap c) (plain_start c) (plain_start c)
+
+-- every accepted step keeps what stands
+abbrev pub StepsHold : Type 0
+StepsHold =
+    (h : HeapState) (p p0 : PlainHeap) (actor : Actor) (step : Step) (g : HeapState) (answer : Answer)
+    → IsStore h.store → IsHeap h → Holds h p p0 → outcome h actor step ≡ Ok (g, answer)
+    → StepHolds h p p0 actor step g answer

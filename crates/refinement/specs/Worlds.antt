@@ -1,0 +1,139 @@
+-- The heap by addresses that a heap's state stands for: its objects, read off the words of its pages, and all else read
+-- off its records.
+use Rattle.std.specs.Prelude.{ℕ, ◌+◌, ◌/◌, ◌%◌, ◌^◌, ◌==◌, zero, suc, Bool, true, false, List, [], ◌∷◌, length, take, drop, map, get_or, Option, Some, None, option_map, nat_le, slice_get, if◌then◌else◌}
+use Rattle.refword.specs.Words.{word_of}
+use Rattle.layout.specs.declared.shape.Layout.{Layout}
+use Rattle.layout.specs.Objects.{size_of}
+use Rattle.model.specs.declared.records.Forwarding.{Forwarding}
+use Rattle.model.specs.declared.records.Barrier.{Barrier}
+use Rattle.model.specs.declared.records.Scan.{Scan}
+use Rattle.model.specs.declared.records.Global.{Global}
+use Rattle.model.specs.declared.records.Place.{Place}
+use Rattle.model.specs.declared.records.Place.TheVariants as places
+use Rattle.model.specs.Stores.{state_at, words_at}
+use Rattle.model.specs.Heaps.{HeapState, ThreadState, Reference, register_of}
+use Rattle.laws.specs.AddressHeap.{AddressHeap, HeapObject, Word, Null, To, SideEntry, NoEntry, Planned, Copied, LoadPlace, AtField, AtGlobal, OpenBarrier, WorkerScan}
+
+-- words
+
+-- a reference, as the laws speak of it
+abbrev pub as_word : Reference → Word
+as_word None = Null
+as_word (Some w) = To w.0 w.1
+
+-- the reference that a word in memory is
+abbrev pub word_in_memory : ℕ → Word
+word_in_memory bits = as_word (word_of bits)
+
+-- objects
+
+-- n of a page's words, from an offset on
+abbrev pub run : List ℕ → ℕ → ℕ → List ℕ
+run words offset n = take n (drop offset words)
+
+-- the object of a layout at an offset: its header, then its references, then its data
+abbrev pub object_of : List ℕ → ℕ → ℕ → Layout → HeapObject
+object_of words offset header l = record {
+  birth = header % 2 ^ 32;
+  layout = header / 2 ^ 32;
+  refs = map word_in_memory (run words (offset + 1) l.refs);
+  data_words = run words (offset + 1 + l.refs) l.nums;
+}
+
+-- there is one where it ends within the page
+abbrev pub object_laid : List ℕ → ℕ → ℕ → Option Layout → Option HeapObject
+object_laid words offset header None = None
+object_laid words offset header (Some l) = if nat_le (offset + size_of l) (length words) then Some (object_of words offset header l) else None
+
+-- the object that begins with a header
+abbrev pub object_headed : List Layout → List ℕ → ℕ → Option ℕ → Option HeapObject
+object_headed ls words offset None = None
+object_headed ls words offset (Some header) = object_laid words offset header (slice_get ls (header / 2 ^ 32))
+
+-- the object at an offset of a page that has memory, where the bit says that one starts there
+abbrev pub object_in : List Layout → Bool → Option (List ℕ) → ℕ → Option HeapObject
+object_in ls true (Some words) offset = object_headed ls words offset (slice_get words offset)
+object_in ls _ _ offset = None
+
+-- rows and side arrays
+
+-- what page n has in a list of something for each record
+abbrev pub of_page : {X : Type 0} → List (List X) → ℕ → List X
+of_page xs zero = []
+of_page xs (suc i) = get_or xs i []
+
+-- the bit of an address in rows of pages of so many words
+abbrev pub bit_at : List (List Bool) → ℕ → ℕ → Bool
+bit_at rows words a = get_or (of_page rows (a / words)) (a % words) false
+
+abbrev pub forwarded : Bool → ℕ → SideEntry
+forwarded true to = Copied to
+forwarded false to = Planned to
+
+-- the entry of an offset in a side array
+abbrev pub entry_at : List Forwarding → ℕ → SideEntry
+entry_at [] offset = NoEntry
+entry_at (f ∷ fs) offset = if f.offset == offset then forwarded f.copied f.to else entry_at fs offset
+
+-- threads, workers and globals
+
+abbrev pub as_place : Place → LoadPlace
+as_place (places.Field object index) = AtField object index
+as_place (places.Global index) = AtGlobal index
+
+abbrev pub as_barrier : Barrier → OpenBarrier
+as_barrier b = record { target = b.target; place = as_place b.place; raw = as_word b.raw; now = as_word b.now; healed = b.healed }
+
+abbrev pub as_scan : Scan → WorkerScan
+as_scan s = record { address = s.object; next = s.next }
+
+abbrev pub crossed_in : Option ThreadState → Bool
+crossed_in None = true
+crossed_in (Some t) = t.crossed
+
+abbrev pub parked_in : Option ThreadState → Bool
+parked_in None = false
+parked_in (Some t) = t.parked
+
+abbrev pub barrier_in : Option ThreadState → Option OpenBarrier
+barrier_in None = None
+barrier_in (Some t) = option_map as_barrier t.barrier
+
+abbrev pub scan_in : Option (Option Scan) → Option WorkerScan
+scan_in None = None
+scan_in (Some s) = option_map as_scan s
+
+abbrev pub global_in : Option Global → Word
+global_in None = Null
+global_in (Some g) = as_word g.word
+
+abbrev pub todo_in : Option Global → Bool
+todo_in None = false
+todo_in (Some g) = g.todo
+
+-- the whole
+
+-- the object at an address
+abbrev pub object_at : HeapState → ℕ → Option HeapObject
+object_at h a = object_in h.config.layouts (bit_at h.starts h.store.words a) (words_at h.store (a / h.store.words)) (a % h.store.words)
+
+-- the heap by addresses of a state
+abbrev pub world_of : HeapState → AddressHeap
+world_of h = record {
+  page_state = λ a. state_at h.store (a / h.store.words);
+  object_at = object_at h;
+  side_entry = λ a. entry_at (of_page h.sides (a / h.store.words)) (a % h.store.words);
+  live = bit_at h.live h.store.words;
+  marked = bit_at h.mark h.store.words;
+  todo = bit_at h.todo h.store.words;
+  births = h.births;
+  register = λ t r. as_word (register_of h t r);
+  crossed = λ t. crossed_in (slice_get h.threads t);
+  parked = λ t. parked_in (slice_get h.threads t);
+  barrier = λ t. barrier_in (slice_get h.threads t);
+  scan = λ k. scan_in (slice_get h.workers k);
+  global = λ g. global_in (slice_get h.globals g);
+  global_todo = λ g. todo_in (slice_get h.globals g);
+  phase = h.phase;
+  nmt = h.nmt;
+}
