@@ -26,9 +26,9 @@ fills_in s t (Some b) h f = h b f
 pub store_keeps : (h : HeapState) (s : StoreState) → IsHeap h → ((c : Buffer) → LiesIn h.store c → LiesIn s c) → IsHeap (record h { store = s })
 store_keeps h s i k = record { config = i.config; births = i.births; buffers = λ t x e. fills_in h.store s x.buffer k (i.buffers t x e) }
 
--- an object is made: other words in a page, one more birth
-pub birth_keeps : (h : HeapState) (s : StoreState) (starts : List (List Bool)) → IsHeap h → h.births < h.config.births → ((c : Buffer) → LiesIn h.store c → LiesIn s c) → IsHeap (record h { store = s; starts = starts; births = h.births + 1 })
-birth_keeps h s starts i low k = record { config = i.config; births = omega arith; buffers = λ t x e. fills_in h.store s x.buffer k (i.buffers t x e) }
+-- an object is made: other words in a page, other bits, one more birth
+pub birth_keeps : (h : HeapState) (s : StoreState) (starts mark todo : List (List Bool)) → IsHeap h → h.births < h.config.births → ((c : Buffer) → LiesIn h.store c → LiesIn s c) → IsHeap (record h { store = s; starts = starts; mark = mark; todo = todo; births = h.births + 1 })
+birth_keeps h s starts mark todo i low k = record { config = i.config; births = omega arith; buffers = λ t x e. fills_in h.store s x.buffer k (i.buffers t x e) }
 
 -- what is left of a buffer lies where it did
 pub rest_lies : (s : StoreState) (b : Buffer) (n : ℕ) → LiesIn s b → n ≤ b.end - b.next → LiesIn s (record b { next = b.next + n })

@@ -10,8 +10,9 @@ ghost use Rattle.model.specs.Phases.{is_marking, is_mark_crossing};
 ghost use Rattle.model.specs.Outcome.{placed, new_outcome, handed};
 
 use crate::heap::Heap;
+use crate::rows::Rows;
 use layout::{Header, Layout};
-use model::{Answer, Buffer, Refusal};
+use model::{Answer, Buffer, Phase, Refusal};
 use page::Store;
 use refword::{Addr, Word};
 
@@ -34,6 +35,20 @@ fn write_new(store: &mut Store, buffer: Buffer, header: u64, others: u32)
     store.law();
     let part = store.part_mut(&buffer);
     write_object(part, header, others as usize);
+}
+
+/// Notes that an object starts at the head of a buffer. While a mark runs it is marked at once,
+/// and to be scanned while threads have still to cross (ours).
+fn note_start(starts: &mut Rows, mark: &mut Rows, todo: &mut Rows, phase: Phase, buffer: Buffer)
+    ensures starts { starts.new ≡ changed starts.old (buffer.page - 1) (put_bit buffer.next true) }
+    ensures mark { mark.new ≡ changed mark.old (buffer.page - 1) (put_bit buffer.next (is_marking phase)) }
+    ensures todo { todo.new ≡ changed todo.old (buffer.page - 1) (put_bit buffer.next (is_mark_crossing phase)) }
+{
+    let index = buffer.page.saturating_sub(1) as usize;
+    let offset = buffer.next as usize;
+    starts.put(index, offset, true);
+    mark.put(index, offset, phase.is_marking());
+    todo.put(index, offset, phase.is_mark_crossing());
 }
 
 impl Heap {
@@ -79,7 +94,7 @@ impl Heap {
         let size = layout.size();
         let word = Word::of(self.buffer_address(buffer), self.nmt);
         write_new(&mut self.store, buffer, header.write(), size - 1);
-        self.note_start(buffer);
+        note_start(&mut self.starts, &mut self.mark, &mut self.todo, self.phase, buffer);
         self.births += 1;
         let rest = Buffer {
             page: buffer.page,
@@ -87,22 +102,6 @@ impl Heap {
             end: buffer.end,
         };
         self.hand_over(thread, target, word, rest);
-    }
-
-    /// Notes that an object starts at the head of a buffer. While a mark runs it is marked at
-    /// once, and to be scanned while threads have still to cross (ours).
-    fn note_start(&mut self, buffer: Buffer)
-        ensures { self.new ≡ record self.old {
-            starts = changed self.old.starts (buffer.page - 1) (put_bit buffer.next true);
-            mark = changed self.old.mark (buffer.page - 1) (put_bit buffer.next (is_marking self.old.phase));
-            todo = changed self.old.todo (buffer.page - 1) (put_bit buffer.next (is_mark_crossing self.old.phase));
-        } }
-    {
-        let index = buffer.page.saturating_sub(1) as usize;
-        let offset = buffer.next as usize;
-        self.starts.put(index, offset, true);
-        self.mark.put(index, offset, self.phase.is_marking());
-        self.todo.put(index, offset, self.phase.is_mark_crossing());
     }
 
     /// A thread's register gets a new object's word, and its buffer is what is left of it.
