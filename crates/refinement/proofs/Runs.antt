@@ -14,9 +14,13 @@ get_take (suc n) (x ∷ xs) zero h = refl
 get_take (suc n) (x ∷ xs) (suc i) h = get_take n xs i (omega arith)
 
 pub get_drop : {X : Type 0} (o : ℕ) (xs : List X) (i : ℕ) → slice_get (drop o xs) i ≡ slice_get xs (o + i)
-get_drop zero xs i = refl
-get_drop (suc o) [] i = refl
-get_drop (suc o) (x ∷ xs) i = get_drop o xs i
+get_drop o xs i = at o xs i (o + i) refl
+  where
+    at : {X : Type 0} (o : ℕ) (xs : List X) (i j : ℕ) → j ≡ o + i → slice_get (drop o xs) i ≡ slice_get xs j
+    at zero xs i j e = ap (slice_get xs) (omega (arith, e))
+    at (suc o) [] i j e = refl
+    at (suc o) (x ∷ xs) i zero e = absurd (omega (arith, e))
+    at (suc o) (x ∷ xs) i (suc j) e = at o xs i j (omega (arith, e))
 
 pub get_first : {X : Type 0} (xs ys : List X) (i : ℕ) → i < length xs → slice_get (xs ++ ys) i ≡ slice_get xs i
 get_first [] ys i h = absurd (omega arith)
@@ -24,8 +28,12 @@ get_first (x ∷ xs) ys zero h = refl
 get_first (x ∷ xs) ys (suc i) h = get_first xs ys i (omega arith)
 
 pub get_second : {X : Type 0} (xs ys : List X) (i : ℕ) → slice_get (xs ++ ys) (length xs + i) ≡ slice_get ys i
-get_second [] ys i = refl
-get_second (x ∷ xs) ys i = get_second xs ys i
+get_second {X} xs ys i = at xs i (length xs + i) refl
+  where
+    at : (xs : List X) (i j : ℕ) → j ≡ length xs + i → slice_get (xs ++ ys) j ≡ slice_get ys i
+    at [] i j e = ap (slice_get ys) (omega (arith, e))
+    at (x ∷ xs) i zero e = absurd (omega (arith, e))
+    at (x ∷ xs) i (suc j) e = at xs i j (omega (arith, e))
 
 -- lists of one length that have the same in each place
 pub same_lists : {X : Type 0} (xs ys : List X) → length xs ≡ length ys → ((i : ℕ) → i < length xs → slice_get xs i ≡ slice_get ys i) → xs ≡ ys

@@ -25,9 +25,16 @@ pub record Extent : Type 0 where
 abbrev pub object_size : HeapObject → ℕ
 object_size o = 1 + length o.refs + length o.data_words
 
-abbrev pub planned_extent : SideEntry → Option HeapObject → Option Extent
-planned_extent (Planned n) (Some o) = Some (record { from = n; upto = n + object_size o })
-planned_extent _ _ = None
+-- how many words the object at an address has
+abbrev pub size_at : HeapState → ℕ → Option ℕ
+size_at h a = option_map object_size (object_at h a)
+
+abbrev pub sized_extent : ℕ → ℕ → Extent
+sized_extent a n = record { from = a; upto = a + n }
+
+abbrev pub planned_extent : SideEntry → Option ℕ → Option Extent
+planned_extent (Planned to) size = option_map (sized_extent to) size
+planned_extent _ size = None
 
 abbrev pub buffer_extent : ℕ → Buffer → Extent
 buffer_extent words b = record { from = b.page * words + b.next; upto = b.page * words + b.end }
@@ -38,9 +45,9 @@ end_extent words n (Some p) = if is_open p.state then Some (record { from = n * 
 
 -- the addresses that a claim has
 abbrev pub extent : HeapState → Claim → Option Extent
-extent h (OfObject a) = option_map (λ o. record { from = a; upto = a + object_size o }) (object_at h a)
+extent h (OfObject a) = option_map (sized_extent a) (size_at h a)
 extent h (OfBuffer t) = option_map (buffer_extent h.store.words) (buffer_of_thread h t)
-extent h (OfPlan a) = planned_extent ((world_of h).side_entry a) (object_at h a)
+extent h (OfPlan a) = planned_extent ((world_of h).side_entry a) (size_at h a)
 extent h (OfEnd n) = end_extent h.store.words n (page_at h.store n)
 
 abbrev pub AreApart : Extent → Extent → Type 0
