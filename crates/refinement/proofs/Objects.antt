@@ -12,11 +12,6 @@ use Rattle.refinement.specs.Claims.{object_size}
 use Rattle.refinement.proofs.Runs.{Agree}
 use Rattle.refinement.proofs.Reading.{IsRead, read_is, is_read, read_same}
 
--- addresses
-
-pub same_place : (w x a : ℕ) → x / w ≡ a / w → x % w ≡ a % w → x ≡ a
-same_place w x a e f = sym (div-add-mod' x w) ∙ ap₂ (λ q r. q * w + r) e f ∙ div-add-mod' a w
-
 -- an object that is there
 
 pub record IsThere (h : HeapState) (a : ℕ) (q : HeapObject) : Type 0 where
