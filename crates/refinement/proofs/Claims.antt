@@ -35,3 +35,56 @@ objects_apart h x a o q apart e f d page = go (apart (OfObject x) (OfObject a) _
 -- where all extents stay, no two overlap
 pub extents_same : (e f : Claim → Option Extent) → Apart e → ((c : Claim) → f c ≡ e c) → Apart f
 extents_same e f a same c d x y k l = a c d x y (sym (same c) ∙ k) (sym (same d) ∙ l)
+
+-- x lies within y
+pub record Within (x y : Extent) : Type 0 where
+  pub from : y.from ≤ x.from
+  pub upto : x.upto ≤ y.upto
+
+-- claim c had a whole extent, of which it and d now have parts, and no other claim changes
+pub record Splits (e f : Claim → Option Extent) (c d : Claim) : Type 0 where
+  pub whole : Extent
+  pub had : e c ≡ Some whole
+  pub new : e d ≡ None
+  pub rest : (x : Extent) → f c ≡ Some x → Within x whole
+  pub part : (y : Extent) → f d ≡ Some y → Within y whole
+  pub apart : (x y : Extent) → f c ≡ Some x → f d ≡ Some y → AreApart x y
+  pub others : (u : Claim) → (u ≡ c) ⊎ (u ≡ d) ⊎ (f u ≡ e u)
+
+module _ (e f : Claim → Option Extent) (a : Apart e) (c d : Claim) (s : Splits e f c d) where
+  -- a part of what c had is apart from what another had
+  far : (x y : Extent) (u : Claim) → Within x s.whole → e u ≡ Some y → (c ≡ u) ⊎ AreApart x y
+  far x y u h k = go (a c u s.whole y s.had k)
+    where
+      go : (c ≡ u) ⊎ AreApart s.whole y → (c ≡ u) ⊎ AreApart x y
+      go (inl q) = inl q
+      go (inr (inl q)) = inr (inl (let z = h.upto in omega arith))
+      go (inr (inr q)) = inr (inr (let z = h.from in omega arith))
+
+  swap : (x y : Extent) → AreApart x y → AreApart y x
+  swap x y (inl h) = inr h
+  swap x y (inr h) = inl h
+
+  -- what c or d has now, and what another has
+  one : (u v : Claim) (x y : Extent) → f u ≡ Some x → f v ≡ Some y → (u ≡ c) ⊎ (u ≡ d) → f v ≡ e v → (u ≡ v) ⊎ AreApart x y
+  one u v x y h k (inl p) q = elim (far x y v (s.rest x (ap f (sym p) ∙ h)) (sym q ∙ k)) [ inl r ↦ inl (p ∙ r) | inr r ↦ inr r ]
+  one u v x y h k (inr p) q = inr (elim (far x y v (s.part x (ap f (sym p) ∙ h)) (sym q ∙ k)) [ inl r ↦ swap y x (s.apart y x (ap f r ∙ k) (ap f (sym p) ∙ h)) | inr r ↦ r ])
+
+  -- where a claim is split, no two overlap
+  pub split_apart : Apart f
+  split_apart u v x y h k = go (s.others u) (s.others v)
+    where
+      back : (v ≡ u) ⊎ AreApart y x → (u ≡ v) ⊎ AreApart x y
+      back (inl r) = inl (sym r)
+      back (inr r) = inr (swap y x r)
+
+      go : (u ≡ c) ⊎ (u ≡ d) ⊎ (f u ≡ e u) → (v ≡ c) ⊎ (v ≡ d) ⊎ (f v ≡ e v) → (u ≡ v) ⊎ AreApart x y
+      go (inl p) (inl q) = inl (p ∙ sym q)
+      go (inl p) (inr (inl q)) = inr (s.apart x y (ap f (sym p) ∙ h) (ap f (sym q) ∙ k))
+      go (inr (inl p)) (inl q) = inr (swap y x (s.apart y x (ap f (sym q) ∙ k) (ap f (sym p) ∙ h)))
+      go (inr (inl p)) (inr (inl q)) = inl (p ∙ sym q)
+      go (inr (inr p)) (inr (inr q)) = a u v x y (sym p ∙ h) (sym q ∙ k)
+      go (inl p) (inr (inr q)) = one u v x y h k (inl p) q
+      go (inr (inl p)) (inr (inr q)) = one u v x y h k (inr p) q
+      go (inr (inr p)) (inl q) = back (one v u y x k h (inl q) p)
+      go (inr (inr p)) (inr (inl q)) = back (one v u y x k h (inr q) p)
