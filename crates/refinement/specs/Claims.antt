@@ -1,6 +1,6 @@
 -- What lies where in memory: the runs of addresses that objects, buffers, planned places and the free ends of open pages
 -- have, of which no two overlap.
-use Rattle.std.specs.Prelude.{◌≡◌, ◌⊎◌, ◌≤◌, ◌+◌, ◌*◌, ◌%◌, ℕ, Bool, true, false, List, length, Option, Some, None, option_map, slice_get, if◌then◌else◌}
+use Rattle.std.specs.Prelude.{◌≡◌, ◌⊎◌, ◌≤◌, ◌<◌, ◌+◌, ◌*◌, ◌%◌, ℕ, Bool, true, false, List, length, Option, Some, None, option_map, slice_get, if◌then◌else◌}
 use Rattle.model.specs.declared.records.Page.{Page}
 use Rattle.model.specs.declared.records.PageState.TheVariants.{Unused}
 use Rattle.model.specs.declared.records.Buffer.{Buffer}
@@ -76,3 +76,7 @@ pub record IsLaid (h : HeapState) : Type 0 where
   pub planned : (a n : ℕ) (o : HeapObject) → (world_of h).side_entry a ≡ Planned n → object_at h a ≡ Some o → n % h.store.words + object_size o ≤ h.store.words
   -- nothing is live on an unused page
   pub unused : (a : ℕ) → (world_of h).page_state a ≡ Unused → bit_at h.live h.store.words a ≡ false
+
+-- an open page has given out some of its words
+abbrev pub HasGiven : Page → Type 0
+HasGiven p = is_open p.state ≡ true → 0 < p.top

@@ -5,7 +5,7 @@ use Rattle.model.specs.declared.steps.Step.{Step}
 use Rattle.model.specs.declared.steps.Answer.{Answer}
 use Rattle.model.specs.declared.config.Config.{Config}
 use Rattle.model.specs.Configs.{IsRanged}
-use Rattle.model.specs.Owning.{IsStore}
+use Rattle.model.specs.Owning.{Each, IsStore}
 use Rattle.model.specs.Holding.{IsHeap}
 use Rattle.model.specs.Heaps.{HeapState, first_heap}
 use Rattle.model.specs.Outcome.{outcome}
@@ -13,11 +13,12 @@ use Rattle.model.specs.Plain.{PlainHeap, plain_step, plain_answer, plain_start}
 use Rattle.laws.specs.Invariant.{Invariant}
 use Rattle.refinement.specs.Worlds.{world_of}
 use Rattle.refinement.specs.Births.{births_of, HasRootsOf}
-use Rattle.refinement.specs.Claims.{IsLaid}
+use Rattle.refinement.specs.Claims.{IsLaid, HasGiven}
 
 -- a heap stands for a plain heap p; p0 is the plain heap as the last mark began
 pub record Holds (h : HeapState) (p p0 : PlainHeap) : Type 0 where
   pub laid : IsLaid h
+  pub given : Each h.store.pages HasGiven
   pub roots : HasRootsOf h p
   pub invariant : Invariant (world_of h) (births_of p) (births_of p0)
 

@@ -1,0 +1,123 @@
+-- The steps of the model's plain heap are those of the laws' plain heap.
+use Rattle.std.proofs.Common.{◌≡◌, ◌≢◌, ◌⊎◌, inl, inr, ℕ, zero, suc, ◌+◌, ◌<◌, List, [], ◌∷◌, ◌++◌, length, set, replicate, Option, Some, None, refl, sym, ◌∙◌, ap, ap₂, subst, arith, length-append}
+use mathlib.Core.Path.{fun_ext}
+use Rattle.std.specs.List.{slice_get}
+use Rattle.std.specs.Option.{option_map}
+use Rattle.std.proofs.Math.ListN.{length-set}
+use Rattle.layout.specs.declared.shape.Layout.{Layout}
+use Rattle.model.specs.Owning.{Each}
+use Rattle.model.specs.Heaps.{HeapState, flat, changed}
+use Rattle.model.specs.Plain.{PlainHeap, PlainThread, Object, name_of, name_in, naming, set_name, born, blank_object, writing, set_datum, pending_in}
+use Rattle.model.proofs.Lists.{get_set_same, get_set_other, get_within}
+use Rattle.laws.specs.AddressHeap.{put, put_at}
+use Rattle.laws.specs.BirthHeap.{BirthHeap}
+use Rattle.laws.specs.Edits.{plain_born}
+use Rattle.laws.specs.Effects.{plain_set_register, plain_datum, datum_at}
+use Rattle.laws.proofs.Basics.{put_all, put_same, put_other, put_id, same_or_not}
+use Rattle.refinement.specs.Births.{births_of, layout_in, refs_in, data_in, as_pair, HasRootsOf}
+use Rattle.refinement.proofs.Runs.{get_first, get_second}
+use Rattle.refinement.proofs.Changes.{get_changed, kept_of, length_changed, each_changed}
+
+-- registers
+
+name_changed : (ts : List PlainThread) (t r : ℕ) (v : Option ℕ) (y : PlainThread) → slice_get ts t ≡ Some y → r < length y.registers
+    → (u s : ℕ) → name_in (slice_get (changed ts t (set_name r v)) u) s ≡ put_at (λ u s. name_in (slice_get ts u) s) t r v u s
+name_changed ts t r v y e k u s =
+    ap (λ o. name_in o s) (get_changed ts t (set_name r v) u) ∙ put_all (λ u z. (q : ℕ) → name_in (put (slice_get ts) t (option_map (set_name r v) (slice_get ts t)) u) q ≡ z q)
+    (λ u q. name_in (slice_get ts u) q) t (put (λ q. name_in (slice_get ts t) q) r v) here (λ u d q. ap (λ o. name_in o q) (put_other (slice_get ts) t (option_map (set_name r v) (slice_get ts t)) u d)) u s
+  where
+    in_thread : (q : ℕ) → flat (slice_get (set y.registers r v) q) ≡ put (λ q. flat (slice_get y.registers q)) r v q
+    in_thread = put_all (λ q z. flat (slice_get (set y.registers r v) q) ≡ z) (λ q. flat (slice_get y.registers q)) r v
+        (let (z, there) = get_within y.registers r k in ap flat (get_set_same y.registers r z v there))
+        (λ q d. ap flat (get_set_other y.registers r q v d))
+
+    here : (q : ℕ) → name_in (put (slice_get ts) t (option_map (set_name r v) (slice_get ts t)) t) q ≡ put (λ q. name_in (slice_get ts t) q) r v q
+    here q =
+        ap (λ o. name_in o q) (put_same (slice_get ts) t (option_map (set_name r v) (slice_get ts t)) ∙ ap (option_map (set_name r v)) e) ∙ in_thread q
+        ∙ ap (λ o. put (λ q. name_in o q) r v q) (sym e)
+
+-- a register gets a birth
+pub naming_is : (p : PlainHeap) (t r : ℕ) (v : Option ℕ) (y : PlainThread) → slice_get p.threads t ≡ Some y → r < length y.registers → births_of (naming p t r v) ≡ plain_set_register t r v (births_of p)
+unfolding naming name_of
+naming_is p t r v y e k = λ z. record (births_of p) {
+  register = fun_ext (λ u. fun_ext (name_changed p.threads t r v y e k u)) z;
+  pending = fun_ext (kept_of (λ o. option_map as_pair (pending_in o)) p.threads t (set_name r v) (λ x. refl)) z;
+}
+
+pub naming_roots : (h : HeapState) (p : PlainHeap) (t r : ℕ) (v : Option ℕ) → HasRootsOf h p → HasRootsOf h (naming p t r v)
+unfolding naming
+naming_roots h p t r v k = record {
+  threads = length_changed p.threads t (set_name r v) ∙ k.threads;
+  registers = each_changed (λ y. length y.registers ≡ h.config.registers) p.threads t (set_name r v) k.registers (λ y e. length-set y.registers r v ∙ e);
+  globals = k.globals;
+}
+
+-- objects
+
+object_more : (xs : List Object) (o : Object) (b : ℕ) → slice_get (xs ++ o ∷ []) b ≡ put (slice_get xs) (length xs) (Some o) b
+object_more xs o = put_all (λ b y. slice_get (xs ++ o ∷ []) b ≡ y) (slice_get xs) (length xs) (Some o) here elsewhere
+  where
+    here : slice_get (xs ++ o ∷ []) (length xs) ≡ Some o
+    here = ap (slice_get (xs ++ o ∷ [])) (omega arith) ∙ get_second xs (o ∷ []) 0
+
+    elsewhere : (b : ℕ) → b ≢ length xs → slice_get (xs ++ o ∷ []) b ≡ slice_get xs b
+    elsewhere b d = by_list xs b d
+      where
+        by_list : (xs : List Object) (b : ℕ) → b ≢ length xs → slice_get (xs ++ o ∷ []) b ≡ slice_get xs b
+        by_list [] zero d = absurd (d refl)
+        by_list [] (suc b) d = refl
+        by_list (x ∷ xs) zero d = refl
+        by_list (x ∷ xs) (suc b) d = by_list xs b (λ e. d (ap suc e))
+
+-- what is read of a function with a value put in
+put_read : {X B : Type 0} (P : Option X → B) (f : ℕ → Option X) (a : ℕ) (v : Option X) (b : ℕ) → P (put f a v b) ≡ put (λ c. P (f c)) a (P v) b
+put_read P f a v = put_all (λ b y. P (put f a v b) ≡ y) (λ c. P (f c)) a (P v) (ap P (put_same f a v)) (λ b d. ap P (put_other f a v b d))
+
+-- an object is born
+pub born_is : (p : PlainHeap) (t r number : ℕ) (l : Layout) (y : PlainThread) → slice_get p.threads t ≡ Some y → r < length y.registers
+    → births_of (born p t r number (Some l)) ≡ plain_born number (replicate l.refs None) (replicate l.nums 0) t r (births_of p)
+unfolding naming name_of
+born_is p t r number l y e k = λ z. record (births_of p) {
+  births = count z;
+  layout = fun_ext (λ b. ap layout_in (more b) ∙ put_read layout_in (slice_get p.objects) (length p.objects) (Some new) b) z;
+  refs = fun_ext (λ b. ap refs_in (more b) ∙ put_read refs_in (slice_get p.objects) (length p.objects) (Some new) b) z;
+  data_words = fun_ext (λ b. ap data_in (more b) ∙ put_read data_in (slice_get p.objects) (length p.objects) (Some new) b) z;
+  register = fun_ext (λ u. fun_ext (name_changed p.threads t r (Some (length p.objects)) y e k u)) z;
+  pending = fun_ext (kept_of (λ o. option_map as_pair (pending_in o)) p.threads t (set_name r (Some (length p.objects))) (λ x. refl)) z;
+}
+  where
+    new : Object
+    new = blank_object number l
+
+    more : (b : ℕ) → slice_get (p.objects ++ new ∷ []) b ≡ put (slice_get p.objects) (length p.objects) (Some new) b
+    more = object_more p.objects new
+
+    count : length (p.objects ++ new ∷ []) ≡ suc (length p.objects)
+    count = omega (arith, length-append p.objects (new ∷ []))
+
+pub born_roots : (h : HeapState) (p : PlainHeap) (t r number : ℕ) (l : Layout) → HasRootsOf h p → HasRootsOf h (born p t r number (Some l))
+unfolding naming
+born_roots h p t r number l k = record {
+  threads = length_changed p.threads t (set_name r (Some (length p.objects))) ∙ k.threads;
+  registers = each_changed (λ y. length y.registers ≡ h.config.registers) p.threads t (set_name r (Some (length p.objects))) k.registers (λ y e. length-set y.registers r (Some (length p.objects)) ∙ e);
+  globals = k.globals;
+}
+
+-- a datum is written
+pub writing_is : (p : PlainHeap) (o : Option ℕ) (j v : ℕ) → births_of (writing p o j v) ≡ datum_at o j v (births_of p)
+unfolding name_of
+writing_is p None j v = refl
+writing_is p (Some b) j v = λ z. record (births_of p) {
+  births = length_changed p.objects b (set_datum j v) z;
+  layout = fun_ext (kept_of layout_in p.objects b (set_datum j v) (λ x. refl)) z;
+  refs = fun_ext (λ c. kept_of refs_in p.objects b (set_datum j v) (λ x. refl) c ∙ sym (ap (λ f. f c) (put_id (λ c. refs_in (slice_get p.objects c)) b (refs_in (slice_get p.objects b)) refl))) z;
+  data_words = fun_ext (λ c. ap data_in (get_changed p.objects b (set_datum j v) c) ∙ put_read data_in (slice_get p.objects) b (option_map (set_datum j v) (slice_get p.objects b)) c ∙ ap (λ d. put (λ c. data_in (slice_get p.objects c)) b d c) (set_in (slice_get p.objects b))) z;
+}
+  where
+    set_in : (o : Option Object) → data_in (option_map (set_datum j v) o) ≡ set (data_in o) j v
+    set_in None = refl
+    set_in (Some o) = refl
+
+pub writing_roots : (h : HeapState) (p : PlainHeap) (o : Option ℕ) (j v : ℕ) → HasRootsOf h p → HasRootsOf h (writing p o j v)
+writing_roots h p None j v k = k
+writing_roots h p (Some b) j v k = record { threads = k.threads; registers = k.registers; globals = k.globals }

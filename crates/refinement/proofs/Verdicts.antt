@@ -1,0 +1,161 @@
+-- What an accepted step has passed: the tests before its row, and those of the row.
+use Rattle.std.proofs.Common.{◌≡◌, ◌≢◌, ◌⊎◌, inl, inr, ℕ, zero, suc, ◌+◌, ◌-◌, ◌*◌, ◌/◌, ◌%◌, ◌^◌, ◌<◌, ◌≤◌, ◌||◌, Bool, true, false, not, cond, List, length, nat_le, nat_lt, is_some, Option, Some, None, refl, sym, ◌∙◌, ap, ap₂, subst, arith}
+use Rattle.std.specs.Prelude.{Result, Ok, Err}
+use Rattle.std.specs.List.{slice_get}
+use Rattle.std.specs.Option.{option_map, option_and_then}
+use Rattle.std.proofs.lemmas.Bool.Decides.{nat_tests}
+use Rattle.layout.specs.declared.shape.Layout.{Layout}
+use Rattle.model.specs.declared.steps.Actor.TheVariants.{Thread}
+use Rattle.model.specs.declared.steps.Step.{Step}
+use Rattle.model.specs.declared.steps.Answer.{Answer}
+use Rattle.model.specs.declared.steps.Refusal.{Refusal}
+use Rattle.model.specs.declared.steps.Refusal.TheVariants as refusals
+use Rattle.model.specs.declared.records.Barrier.{Barrier}
+use Rattle.model.specs.declared.records.Phase.{Phase}
+use Rattle.model.specs.declared.records.Phase.TheVariants.{Idle, MarkCrossing, Scanning, ProtectCrossing, Relocating}
+use Rattle.model.specs.Stores.{StoreState, state_at, is_protected, word_at, word_in, spot_of, at_offset, words_at, page_at, frame_in}
+use Rattle.model.specs.Heaps.{HeapState, ThreadState, Reference, register_of, layout_at, layout_in, header_layout, datum_address}
+use Rattle.model.specs.Refusing.{◌>>=◌, or_refuse, Outcome}
+use Rattle.model.specs.Outcome.{outcome, thread_gate, thread_row, has_bad_index, is_for_threads, is_parked_in, is_loading_in, usable, use_word, usable_or_null, use_or_null, let_through, held_back, has_crossed, datum_at, datum_place}
+use Rattle.model.proofs.Lists.{get_within}
+use Rattle.laws.specs.AddressHeap.{HeapObject, To}
+use Rattle.laws.specs.Transitions.{IsUsable}
+use Rattle.refinement.specs.Worlds.{world_of, object_at, crossed_in}
+use Rattle.refinement.proofs.Reading.{IsRead}
+use Rattle.refinement.proofs.Objects.{IsThere, there}
+
+-- results
+
+abbrev accepted : {A : Type 0} → A → Result A Refusal
+accepted x = Ok x
+
+pub bind_ok : {A B : Type 0} (r : Result A Refusal) (f : A → Result B Refusal) (y : B) → r >>= f ≡ accepted y → (x : A) × (r ≡ accepted x) × (f x ≡ accepted y)
+bind_ok (Ok x) f y e = (x, refl, e)
+bind_ok (Err n) f y e = absurd (cc)
+
+pub found_ok : {A : Type 0} (o : Option A) (n : Refusal) (x : A) → or_refuse o n ≡ accepted x → o ≡ Some x
+found_ok None n x e = absurd (cc)
+found_ok (Some y) n x e = cc
+
+pub same_result : {A : Type 0} (x y : A) → accepted x ≡ accepted y → x ≡ y
+same_result x y e = cc
+
+pub not_refused : {A : Type 0} (b : Bool) (n : Refusal) (r : Result A Refusal) (y : A) → cond b (Err n) r ≡ accepted y → (b ≡ false) × (r ≡ accepted y)
+not_refused true n r y e = absurd (cc)
+not_refused false n r y e = (refl, e)
+
+-- the tests before a row
+
+pub record Passed (h : HeapState) (t : ℕ) (s : Step) : Type 0 where
+  pub thread : ThreadState
+  pub there : slice_get h.threads t ≡ Some thread
+  pub indices : has_bad_index h s ≡ false
+  pub closed : thread.barrier ≡ None
+
+both_false : (a b : Bool) → a || b ≡ false → a ≡ false
+both_false false b e = refl
+both_false true b e = absurd (cc)
+
+pub first_false : (a b : Bool) → a || b ≡ false → a ≡ false
+first_false a b e = both_false a b e
+
+pub second_false : (a b : Bool) → a || b ≡ false → b ≡ false
+second_false false b e = e
+second_false true b e = absurd (cc)
+
+pub not_le : (m n : ℕ) → nat_le m n ≡ false → n < m
+not_le m n e = grind (arith, nat_tests)
+
+no_barrier : (b : Option Barrier) → is_some b ≡ false → b ≡ None
+no_barrier None e = refl
+no_barrier (Some b) e = absurd (cc)
+
+pub passed : (h : HeapState) (t : ℕ) (s : Step) (x : HeapState × Answer) → outcome h (Thread t) s ≡ accepted x → Passed h t s × (thread_row h t s ≡ accepted x)
+unfolding outcome thread_gate
+passed h t s x e =
+    let (u, gate, row) = bind_ok (thread_gate h t s) (λ u. thread_row h t s) x e in
+    let (a, rest) = not_refused (nat_le (length h.threads) t || not (is_for_threads s)) refusals.NoActor _ u gate in
+    let (b, rest2) = not_refused (has_bad_index h s) refusals.BadIndex _ u rest in
+    let (c, rest3) = not_refused (is_parked_in (slice_get h.threads t)) refusals.Parked _ u rest2 in
+    let (d, rest4) = not_refused (is_loading_in (slice_get h.threads t)) refusals.Busy _ u rest3 in
+    let (y, at) = get_within h.threads t (not_le (length h.threads) t (both_false (nat_le (length h.threads) t) (not (is_for_threads s)) a)) in
+    (record { thread = y; there = at; indices = b; closed = no_barrier y.barrier (ap is_loading_in (sym at) ∙ d) }, row)
+
+-- registers that may be used
+
+pub record IsUsed (h : HeapState) (t r a : ℕ) : Type 0 where
+  pub bit : Bool
+  pub word : register_of h t r ≡ Some (a, bit)
+  pub usable : IsUsable (world_of h) t a
+
+held : (p : Phase) (c : Bool) → held_back p c ≡ accepted tt → (p ≡ ProtectCrossing) × (c ≡ false)
+held ProtectCrossing false e = (refl, refl)
+held ProtectCrossing true e = absurd (cc)
+held Idle c e = absurd (cc)
+held MarkCrossing c e = absurd (cc)
+held Scanning c e = absurd (cc)
+held Relocating c e = absurd (cc)
+
+through : (h : HeapState) (t a : ℕ) (x : ThreadState) → slice_get h.threads t ≡ Some x → let_through h t a ≡ accepted tt → IsUsable (world_of h) t a
+unfolding let_through
+through h t a x at e p =
+    let z = held h.phase (has_crossed (slice_get h.threads t)) (sym (ap (λ b. cond b (held_back h.phase (has_crossed (slice_get h.threads t))) (Ok tt)) p) ∙ e) in
+    (z.0, ap crossed_in at ∙ sym (ap has_crossed at) ∙ z.1)
+
+one_unit : (u : Unit {0}) → u ≡ tt
+one_unit tt = refl
+
+pub used_ok : (h : HeapState) (t r a : ℕ) (x : ThreadState) → slice_get h.threads t ≡ Some x → usable h t r ≡ accepted a → IsUsed h t r a
+unfolding usable
+used_ok h t r a x at e = by_word (register_of h t r) refl e
+  where
+    by_word : (w : Reference) → register_of h t r ≡ w → use_word h t w ≡ accepted a → IsUsed h t r a
+    by_word None f k = absurd (cc)
+    by_word (Some w) f k =
+        let (u, pass, is) = bind_ok (let_through h t w.0) (λ u. Ok w.0) a k in
+        let same : w.0 ≡ a = same_result w.0 a is in
+        record {
+          bit = w.1;
+          word = f ∙ ap (λ n. Some (n, w.1)) same;
+          usable = subst (IsUsable (world_of h) t) same (through h t w.0 x at (pass ∙ ap accepted (one_unit u)));
+        }
+
+-- a register that is null, or may be used
+pub used_or_null : (h : HeapState) (t r : ℕ) (o : Option ℕ) (x : ThreadState) → slice_get h.threads t ≡ Some x → usable_or_null h t r ≡ accepted o → ((o ≡ None) × (register_of h t r ≡ None)) ⊎ ((a : ℕ) × (o ≡ Some a) × IsUsed h t r a)
+unfolding usable_or_null
+used_or_null h t r o x at e = by_word (register_of h t r) refl e
+  where
+    by_word : (w : Reference) → register_of h t r ≡ w → use_or_null h t w ≡ accepted o → ((o ≡ None) × (register_of h t r ≡ None)) ⊎ ((a : ℕ) × (o ≡ Some a) × IsUsed h t r a)
+    by_word None f k = inl (sym (same_result None o k), f)
+    by_word (Some w) f k =
+        let (u, pass, is) = bind_ok (let_through h t w.0) (λ u. Ok (Some w.0)) o k in
+        inr (w.0, sym (same_result (Some w.0) o is), record { bit = w.1; word = f; usable = through h t w.0 x at (pass ∙ ap accepted (one_unit u)) })
+
+-- data
+
+-- the word at an address is one of its page's
+pub word_on_page : (s : StoreState) (a : ℕ) → word_at s a ≡ option_and_then (λ ws. slice_get ws (a % s.words)) (words_at s (a / s.words))
+unfolding word_at spot_of words_at
+word_on_page s a = by_frame (frame_in (page_at s (a / s.words)))
+  where
+    by_words : (o : Option (List ℕ)) → option_and_then (λ ws. slice_get ws (a % s.words)) o ≡ option_and_then (λ ws. slice_get ws (a % s.words)) o
+    by_words o = refl
+
+    by_frame : (o : Option ℕ) → word_in s.frames (at_offset o (a % s.words)) ≡ option_and_then (λ ws. slice_get ws (a % s.words)) (option_and_then (slice_get s.frames) o)
+    by_frame None = refl
+    by_frame (Some f) = refl
+
+-- where a datum of an object stands
+pub datum_there : (h : HeapState) (a : ℕ) (q : HeapObject) (t : IsThere h a q) (j place : ℕ) → datum_at h a j ≡ Some place → (j < t.read.shape.nums) × (a + 1 + t.read.shape.refs + j ≡ place)
+unfolding datum_at layout_at
+datum_there h a q t j place e = by_test (nat_lt j t.read.shape.nums) refl (sym (ap (datum_place a j) shape) ∙ e)
+  where
+    shape : layout_in h.config.layouts (header_layout (word_at h.store a)) ≡ Some t.read.shape
+    shape = ap (λ o. layout_in h.config.layouts (header_layout o)) (word_on_page h.store a ∙ ap (option_and_then (λ ws. slice_get ws (a % h.store.words))) t.page ∙ t.read.at) ∙ t.read.known
+
+    less : (m n : ℕ) → nat_lt m n ≡ true → m < n
+    less m n e = grind (arith, nat_tests)
+
+    by_test : (b : Bool) → nat_lt j t.read.shape.nums ≡ b → cond b (Some (datum_address a t.read.shape j)) None ≡ Some place → (j < t.read.shape.nums) × (a + 1 + t.read.shape.refs + j ≡ place)
+    by_test true f k = (less j t.read.shape.nums f, cc)
+    by_test false f k = absurd (cc)
