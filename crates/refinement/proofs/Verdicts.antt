@@ -26,7 +26,7 @@ use Rattle.refinement.proofs.Objects.{IsThere, there}
 
 -- results
 
-abbrev accepted : {A : Type 0} → A → Result A Refusal
+abbrev pub accepted : {A : Type 0} → A → Result A Refusal
 accepted x = Ok x
 
 pub bind_ok : {A B : Type 0} (r : Result A Refusal) (f : A → Result B Refusal) (y : B) → r >>= f ≡ accepted y → (x : A) × (r ≡ accepted x) × (f x ≡ accepted y)
