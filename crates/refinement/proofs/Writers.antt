@@ -1,0 +1,161 @@
+-- Steps that write: registers, data, buffers and new objects.
+use Rattle.std.proofs.Common.{◌≡◌, ◌≢◌, ◌⊎◌, ◌↔◌, inl, inr, ℕ, zero, suc, ◌+◌, ◌-◌, ◌*◌, ◌/◌, ◌%◌, ◌^◌, ◌<◌, ◌≤◌, ◌==◌, Bool, true, false, not, cond, nat_eq, nat_lt, nat_le, List, [], ◌∷◌, length, replicate, get_or, is_some, is_none, Option, Some, None, refl, sym, ◌∙◌, ap, ap₂, subst, arith}
+use Rattle.std.specs.List.{slice_get}
+use Rattle.std.specs.Prelude.{Ok, Err, Result}
+use Rattle.std.specs.Option.{option_map, option_and_then, IfSome}
+use Rattle.std.proofs.Math.ListN.{length-replicate}
+use Rattle.std.proofs.lemmas.Bool.Decides.{nat_tests}
+use Rattle.layout.specs.declared.shape.Layout.{Layout}
+use Rattle.layout.specs.Objects.{size_of}
+use Rattle.model.specs.declared.steps.Actor.TheVariants.{Thread}
+use Rattle.model.specs.declared.steps.Step.{Step}
+use Rattle.model.specs.declared.steps.Step.TheVariants as steps
+use Rattle.model.specs.declared.steps.Answer.{Answer}
+use Rattle.model.specs.declared.steps.Answer.TheVariants as answers
+use Rattle.model.specs.declared.steps.Refusal.TheVariants as refusals
+use Rattle.model.specs.declared.records.Buffer.{Buffer}
+use Rattle.model.specs.declared.records.PageState.TheVariants.{Open, From}
+use Rattle.model.specs.Stores.{StoreState, with_word, with_words, state_at, page_at}
+use Rattle.model.specs.Owning.{Each, IsStore, LiesIn}
+use Rattle.model.specs.Holding.{IsHeap}
+use Rattle.model.specs.Heaps.{HeapState, ThreadState, Reference, register_of, with_register, with_buffer, buffer_of_thread, buffer_in, changed, set_register_of, set_buffer_of}
+use Rattle.model.specs.Refusing.{◌>>=◌, or_refuse}
+use Rattle.model.specs.Outcome.{set_datum_outcome, copy_register_outcome, clear_register_outcome, give_back_outcome, new_outcome, placed, no_register, has_bad_index, usable, datum_at, handed, used_buffer}
+use Rattle.model.specs.Plain.{PlainHeap, PlainThread, plain_step, plain_answer, name_of, naming, writing, born}
+use Rattle.model.proofs.Lists.{get_within}
+use Rattle.laws.specs.AddressHeap.{AddressHeap, HeapObject, Word, Null, To, Planned, field}
+use Rattle.laws.specs.BirthHeap.{BirthHeap}
+use Rattle.laws.specs.Invariant.{Invariant}
+use Rattle.laws.specs.Effects.{datum_at as plain_datum_at}
+use Rattle.laws.specs.Transitions.{Transition, SetDatum, CopyReg, ClearReg, New, MayBeBorn, Uses}
+use Rattle.laws.proofs.Runs.{transition_keeps}
+use Rattle.refinement.specs.Worlds.{world_of, as_word, object_at, as_barrier, barrier_in}
+use Rattle.refinement.specs.Births.{births_of, HasRootsOf}
+use Rattle.refinement.specs.Claims.{IsLaid, HasGiven}
+use Rattle.refinement.specs.Standing.{Holds, StepHolds, AnswersPlain}
+use Rattle.refinement.proofs.Reading.{read_refs, read_data, new_object}
+use Rattle.refinement.proofs.Objects.{IsThere, there}
+use Rattle.refinement.proofs.Changes.{length_changed}
+use Rattle.refinement.proofs.Data as written
+use Rattle.refinement.proofs.Registers.{register_world, register_laid, buffer_world, given_back_laid}
+use Rattle.refinement.proofs.Births.{naming_is, naming_roots, writing_is, writing_roots, born_is, born_roots}
+use Rattle.refinement.proofs.Verdicts.{bind_ok, found_ok, same_result, not_refused, accepted, Passed, first_false, not_le, IsUsed, used_ok, datum_there}
+use Rattle.refinement.proofs.Readers.{names_object}
+
+-- the invariant of other heaps that are these
+pub moved : (w v : AddressHeap) (p q p0 : BirthHeap) → v ≡ w → q ≡ p → Invariant w p p0 → Invariant v q p0
+moved w v p q p0 e f i = subst (λ x. Invariant x q p0) (sym e) (subst (λ x. Invariant w x p0) (sym f) i)
+
+-- the roots of a heap that has as many threads and globals
+pub moved_roots : (h g : HeapState) (p : PlainHeap) → length g.threads ≡ length h.threads → g.config.registers ≡ h.config.registers → length g.globals ≡ length h.globals → HasRootsOf h p → HasRootsOf g p
+moved_roots h g p e f n k = record {
+  threads = k.threads ∙ sym e;
+  registers = λ i x a. k.registers i x a ∙ sym f;
+  globals = k.globals ∙ sym n;
+}
+
+module _ (h : HeapState) (p p0 : PlainHeap) (s : IsStore h.store) (d : IsHeap h) (k : Holds h p p0) (t : ℕ) where
+  -- the plain heap has the thread
+  plain_thread : (x : ThreadState) → slice_get h.threads t ≡ Some x → (y : PlainThread) × (slice_get p.threads t ≡ Some y) × (length y.registers ≡ h.config.registers)
+  plain_thread x at =
+      let (y, e) = get_within p.threads t (omega (arith, within h.threads t at, k.roots.threads)) in
+      (y, e, k.roots.registers t y e)
+    where
+      within : (xs : List ThreadState) (i : ℕ) → slice_get xs i ≡ Some x → i < length xs
+      within [] i e = absurd (cc)
+      within (z ∷ zs) zero e = omega arith
+      within (z ∷ zs) (suc i) e = omega (arith, within zs i e)
+
+  pub give_back_holds : (y : HeapState × Answer) → give_back_outcome h t ≡ accepted y → StepHolds h p p0 (Thread t) steps.GiveBack y.0 y.1
+  unfolding give_back_outcome plain_step plain_answer with_buffer
+  give_back_holds y e = by_buffer (is_some (buffer_of_thread h t)) e
+    where
+      by_buffer : (b : Bool) → cond b (Ok (with_buffer h t None, answers.Done)) (Err refusals.NoRoom) ≡ accepted y → StepHolds h p p0 (Thread t) steps.GiveBack y.0 y.1
+      by_buffer false f = absurd (cc)
+      by_buffer true f = subst (λ (z : HeapState × Answer). StepHolds h p p0 (Thread t) steps.GiveBack z.0 z.1) (same_result (with_buffer h t None, answers.Done) y f) (record {
+        holds = record {
+          laid = given_back_laid h k.laid t;
+          given = k.given;
+          roots = moved_roots h (with_buffer h t None) p (length_changed h.threads t (set_buffer_of None)) refl refl k.roots;
+          invariant = moved (world_of h) (world_of (with_buffer h t None)) (births_of p) (births_of p) (births_of p0) (buffer_world h k.laid t None) refl k.invariant;
+        };
+        answers = tt;
+      })
+
+  -- a register gets another's word, or null
+  register_holds : (r : ℕ) (w : Reference) (v : Option ℕ) (x : ThreadState) → slice_get h.threads t ≡ Some x → r < h.config.registers
+      → Invariant (world_of (with_register h t r w)) (births_of (naming p t r v)) (births_of p0)
+      → Holds (with_register h t r w) (naming p t r v) p0
+  unfolding with_register
+  register_holds r w v x at low i = record {
+    laid = register_laid h k.laid t r w;
+    given = k.given;
+    roots = moved_roots h (with_register h t r w) (naming p t r v) (length_changed h.threads t (set_register_of r w)) refl refl (naming_roots h p t r v k.roots);
+    invariant = i;
+  }
+
+  closed_barrier : (x : ThreadState) → slice_get h.threads t ≡ Some x → x.barrier ≡ None → (world_of h).barrier t ≡ None
+  closed_barrier x at e = ap barrier_in at ∙ ap (option_map as_barrier) e
+
+  pub copy_holds : (r q : ℕ) (g : Passed h t (steps.CopyReg r q)) (y : HeapState × Answer) → copy_register_outcome h t r q ≡ accepted y → StepHolds h p p0 (Thread t) (steps.CopyReg r q) y.0 y.1
+  unfolding copy_register_outcome plain_step plain_answer no_register register_of name_of
+  copy_holds r q g y e =
+      let low : r < h.config.registers = not_le h.config.registers r (first_false (no_register h r) (no_register h q) g.indices) in
+      let (z, there, size) = plain_thread g.thread g.there in
+      let i = transition_keeps (world_of h) (births_of p) (births_of p0) _ _ _ k.invariant (CopyReg t r q (closed_barrier g.thread g.there g.closed)) in
+      subst (λ (z : HeapState × Answer). StepHolds h p p0 (Thread t) (steps.CopyReg r q) z.0 z.1) (same_result (with_register h t r (register_of h t q), answers.Done) y e) (record {
+        holds = register_holds r (register_of h t q) (name_of p t q) g.thread g.there low
+        (moved _ _ _ _ (births_of p0) (register_world h k.laid t r (register_of h t q) g.thread g.there (omega (arith, low, k.laid.registers t g.thread g.there))) (naming_is p t r (name_of p t q) z there (omega (arith, low, size))) i);
+        answers = tt;
+      })
+
+  pub clear_holds : (r : ℕ) (g : Passed h t (steps.ClearReg r)) (y : HeapState × Answer) → clear_register_outcome h t r ≡ accepted y → StepHolds h p p0 (Thread t) (steps.ClearReg r) y.0 y.1
+  unfolding clear_register_outcome plain_step plain_answer no_register
+  clear_holds r g y e =
+      let low : r < h.config.registers = not_le h.config.registers r g.indices in
+      let (z, there, size) = plain_thread g.thread g.there in
+      let i = transition_keeps (world_of h) (births_of p) (births_of p0) _ _ _ k.invariant (ClearReg t r (closed_barrier g.thread g.there g.closed)) in
+      subst (λ (z : HeapState × Answer). StepHolds h p p0 (Thread t) (steps.ClearReg r) z.0 z.1) (same_result (with_register h t r None, answers.Done) y e) (record {
+        holds = register_holds r None None g.thread g.there low
+        (moved _ _ _ _ (births_of p0) (register_world h k.laid t r None g.thread g.there (omega (arith, low, k.laid.registers t g.thread g.there))) (naming_is p t r None z there (omega (arith, low, size))) i);
+        answers = tt;
+      })
+
+  -- a datum is written
+  pub set_datum_holds : (r j v : ℕ) (g : Passed h t (steps.SetDatum r j v)) (y : HeapState × Answer) → set_datum_outcome h t r j v ≡ accepted y → StepHolds h p p0 (Thread t) (steps.SetDatum r j v) y.0 y.1
+  unfolding set_datum_outcome plain_step plain_answer name_of with_word with_words
+  set_datum_holds r j v g y e =
+      let (a, first, rest) = bind_ok (usable h t r) (λ a. or_refuse (datum_at h a j) refusals.BadIndex >>= λ n. Ok (record h { store = with_word h.store n v }, answers.Done)) y e in
+      let (n, second, is) = bind_ok (or_refuse (datum_at h a j) refusals.BadIndex) (λ n. Ok (record h { store = with_word h.store n v }, answers.Done)) y rest in
+      let names = names_object h p p0 k t r a (used_ok h t r a g.thread g.there first) in
+      by_place a names.object names.uses n (found_ok (datum_at h a j) refusals.BadIndex n second) (same_result (record h { store = with_word h.store n v }, answers.Done) y is)
+    where
+      at_place : (a : ℕ) (q : HeapObject) (u : Uses (world_of h) t r a q) (m : j < length q.data_words) → StepHolds h p p0 (Thread t) (steps.SetDatum r j v) (written.after h s k.laid a q u.here j v m) answers.Done
+      at_place a q u m =
+          let i = transition_keeps (world_of h) (births_of p) (births_of p0) _ _ _ k.invariant (SetDatum t r a q j v u) in
+          record {
+            holds = record {
+              laid = written.datum_laid h s k.laid a q u.here j v m;
+              given = given a q u m;
+              roots = roots a q u m;
+              invariant = moved _ _ _ _ (births_of p0) (written.datum_world h s k.laid a q u.here j v m) (writing_is p (name_of p t r) j v) i;
+            };
+            answers = tt;
+          }
+        where
+          given : (a : ℕ) (q : HeapObject) (u : Uses (world_of h) t r a q) (m : j < length q.data_words) → Each (written.after h s k.laid a q u.here j v m).store.pages HasGiven
+          given a q u m = k.given
+
+          roots : (a : ℕ) (q : HeapObject) (u : Uses (world_of h) t r a q) (m : j < length q.data_words) → HasRootsOf (written.after h s k.laid a q u.here j v m) (writing p (name_of p t r) j v)
+          roots a q u m = moved_roots h (written.after h s k.laid a q u.here j v m) (writing p (name_of p t r) j v) refl refl refl (writing_roots h p (name_of p t r) j v k.roots)
+
+      by_place : (a : ℕ) (q : HeapObject) (u : Uses (world_of h) t r a q) (n : ℕ) → datum_at h a j ≡ Some n → (record h { store = with_word h.store n v }, answers.Done) ≡ y → StepHolds h p p0 (Thread t) (steps.SetDatum r j v) y.0 y.1
+      by_place a q u n e f =
+          let c = there h a q u.here in
+          let (m, spot) = datum_there h a q c j n e in
+          let refs = read_refs h.config.layouts c.words (a % h.store.words) q c.read in
+          let nums = read_data h.config.layouts c.words (a % h.store.words) q c.read in
+          let within : j < length q.data_words = omega (arith, m, nums) in
+          let same : a + (1 + length q.refs + j) ≡ n = omega (arith, refs, spot) in
+          subst (λ (z : HeapState × Answer). StepHolds h p p0 (Thread t) (steps.SetDatum r j v) z.0 z.1) f
+          (subst (λ z. StepHolds h p p0 (Thread t) (steps.SetDatum r j v) (record h { store = with_word h.store z v }) answers.Done) same (at_place a q u within))
