@@ -20,6 +20,7 @@ use Rattle.model.specs.Outcome.{placed, handed, used_buffer}
 use Rattle.model.proofs.Lists.{get_within}
 use Rattle.model.proofs.Memory.{words_sized, memory_words, page_there}
 use Rattle.laws.specs.AddressHeap.{HeapObject, Word, Null, SideEntry, NoEntry, Planned, Copied, put, put_at}
+use Rattle.laws.specs.Invariant.{SoundObjects}
 use Rattle.laws.specs.Edits.{born}
 use Rattle.laws.proofs.Basics.{put_all, put_after, put_same, put_other, same_or_not}
 use Rattle.refinement.specs.Worlds.{world_of, object_at, bit_at, crossed_in, parked_in, barrier_in}
@@ -40,6 +41,11 @@ open_state Unused e = absurd (cc)
 open_state Closed e = absurd (cc)
 open_state From e = absurd (cc)
 open_state Gone e = absurd (cc)
+
+-- a buffer's page is open
+pub open_at : (h : HeapState) (b : Buffer) → LiesIn h.store b → b.next < h.store.words → (world_of h).page_state (b.page * h.store.words + b.next) ≡ Open
+unfolding state_at
+open_at h b lies low = ap (state_at h.store) (div-mul-add b.page h.store.words b.next low) ∙ open_state (state_in (page_at h.store b.page)) lies.page
 
 -- what holds where an object is made in a buffer
 pub record MayPlace (h : HeapState) (t target number : ℕ) (shape : Layout) (b : Buffer) (x : ThreadState) : Type 0 where
@@ -123,6 +129,13 @@ module _ (h : HeapState) (s : IsStore h.store) (l : IsLaid h) (t target number :
       by_object : (o : Option HeapObject) → object_at h address ≡ o → o ≡ None
       by_object None e = refl
       by_object (Some q) e = absurd (elim (clear (OfObject address) _ (λ k. cc) (object_extent h address q e)) [ inl k ↦ omega (arith, k) | inr k ↦ omega (arith, k, m.room) ])
+
+  -- and none will be copied there
+  pub unplanned_place : SoundObjects (world_of h) → (y : ℕ) → (world_of h).side_entry y ≢ Planned address
+  unplanned_place o y e =
+      let (q, is) = o.planned_object y address e in
+      let had : extent h (OfPlan y) ≡ Some (sized_extent address (object_size q)) = ap₂ planned_extent e (ap (option_map object_size) is) in
+      elim (clear (OfPlan y) _ (λ k. cc) had) [ inl k ↦ absurd (omega (arith, k)) | inr k ↦ absurd (omega (arith, k, m.room)) ]
 
   abbrev change : List ℕ → List ℕ
   change words = overlaid words b.next (fresh_object h.births number shape)

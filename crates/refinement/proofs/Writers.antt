@@ -37,6 +37,7 @@ use Rattle.refinement.proofs.Reading.{read_refs, read_data, new_object}
 use Rattle.refinement.proofs.Objects.{IsThere, there}
 use Rattle.refinement.proofs.Changes.{length_changed}
 use Rattle.refinement.proofs.Data as written
+use Rattle.refinement.proofs.Born as births
 use Rattle.refinement.proofs.Registers.{register_world, register_laid, buffer_world, given_back_laid}
 use Rattle.refinement.proofs.Births.{naming_is, naming_roots, writing_is, writing_roots, born_is, born_roots}
 use Rattle.refinement.proofs.Verdicts.{bind_ok, found_ok, same_result, not_refused, accepted, Passed, first_false, not_le, IsUsed, used_ok, datum_there}
@@ -159,3 +160,81 @@ module _ (h : HeapState) (p p0 : PlainHeap) (s : IsStore h.store) (d : IsHeap h)
           let same : a + (1 + length q.refs + j) ≡ n = omega (arith, refs, spot) in
           subst (λ (z : HeapState × Answer). StepHolds h p p0 (Thread t) (steps.SetDatum r j v) z.0 z.1) f
           (subst (λ z. StepHolds h p p0 (Thread t) (steps.SetDatum r j v) (record h { store = with_word h.store z v }) answers.Done) same (at_place a q u within))
+
+  null_field : (n j : ℕ) → get_or (replicate n Null) j Null ≡ Null
+  null_field zero j = refl
+  null_field (suc n) zero = refl
+  null_field (suc n) (suc j) = null_field n j
+
+  none_field : (n j : ℕ) → get_or (replicate {A = Option ℕ} n None) j None ≡ None
+  none_field zero j = refl
+  none_field (suc n) zero = refl
+  none_field (suc n) (suc j) = none_field n j
+
+  -- an object is made
+  pub new_holds : (r number : ℕ) (g : Passed h t (steps.New r number)) (y : HeapState × Answer) → new_outcome h t r number ≡ accepted y → StepHolds h p p0 (Thread t) (steps.New r number) y.0 y.1
+  unfolding new_outcome plain_step plain_answer no_register placed with_words
+  new_holds r number g y e =
+      let (b, first, rest) = bind_ok (or_refuse (buffer_of_thread h t) refusals.NoRoom) (λ b. or_refuse (slice_get h.config.layouts number) refusals.BadIndex >>= λ l. cond (nat_lt (b.end - b.next) (size_of l)) (Err refusals.NoRoom) (cond (nat_le h.config.births h.births) (Err refusals.Births) (Ok (placed h t r number l b, answers.Birth h.births)))) y e in
+      let (l, second, rest2) = bind_ok (or_refuse (slice_get h.config.layouts number) refusals.BadIndex) (λ l. cond (nat_lt (b.end - b.next) (size_of l)) (Err refusals.NoRoom) (cond (nat_le h.config.births h.births) (Err refusals.Births) (Ok (placed h t r number l b, answers.Birth h.births)))) y rest in
+      let (room, rest3) = not_refused (nat_lt (b.end - b.next) (size_of l)) refusals.NoRoom _ y rest2 in
+      let (more, is) = not_refused (nat_le h.config.births h.births) refusals.Births _ y rest3 in
+      by_object b l (found_ok (buffer_of_thread h t) refusals.NoRoom b first) (found_ok (slice_get h.config.layouts number) refusals.BadIndex l second) (not_less (b.end - b.next) (size_of l) room) (not_le h.config.births h.births more)
+      (same_result (placed h t r number l b, answers.Birth h.births) y is)
+    where
+      not_less : (m n : ℕ) → nat_lt m n ≡ false → n ≤ m
+      not_less m n e = grind (arith, nat_tests)
+
+      lies_of : (o : Option Buffer) (b : Buffer) → o ≡ Some b → IfSome o (LiesIn h.store) → LiesIn h.store b
+      lies_of None b e f = absurd (cc)
+      lies_of (Some c) b e f = subst (LiesIn h.store) (same_inside c b e) f
+        where
+          same_inside : (c b : Buffer) → Some c ≡ Some b → c ≡ b
+          same_inside c b e = cc
+
+      may : (b : Buffer) (l : Layout) → buffer_of_thread h t ≡ Some b → slice_get h.config.layouts number ≡ Some l → size_of l ≤ b.end - b.next → h.births < h.config.births → births.MayPlace h t r number l b g.thread
+      may b l first known room more =
+          let buffer : g.thread.buffer ≡ Some b = sym (ap buffer_in g.there) ∙ first in
+          let lies = lies_of g.thread.buffer b buffer (d.buffers t g.thread g.there) in
+          record {
+            thread = g.there;
+            buffer = buffer;
+            lies = lies;
+            register = omega (arith, not_le h.config.registers r (first_false (no_register h r) _ g.indices), k.laid.registers t g.thread g.there);
+            known = known;
+            room = room;
+            births = omega (arith, more, d.config.births);
+            unplanned = λ m e. open_or_from (sym (births.open_at h b lies (omega (arith, room, lies.end))) ∙ k.invariant.objects.planned_from (b.page * h.store.words + b.next) m e);
+          }
+        where
+          open_or_from : Open ≡ From → ⊥
+          open_or_from e = cc
+
+      by_object : (b : Buffer) (l : Layout) → buffer_of_thread h t ≡ Some b → slice_get h.config.layouts number ≡ Some l → size_of l ≤ b.end - b.next → h.births < h.config.births → (placed h t r number l b, answers.Birth h.births) ≡ y → StepHolds h p p0 (Thread t) (steps.New r number) y.0 y.1
+      by_object b l first known room more is =
+          let m = may b l first known room more in
+          let (z, there, size) = plain_thread g.thread g.there in
+          let low : r < h.config.registers = not_le h.config.registers r (first_false (no_register h r) _ g.indices) in
+          let open_page = births.open_at h b m.lies (omega (arith, room, m.lies.end)) in
+          let fits : MayBeBorn (world_of h) (b.page * h.store.words + b.next) (new_object h.births number l) t number (replicate l.refs None) (replicate l.nums 0) = record {
+            free = births.place_free h s k.laid t r number l b g.thread m;
+            page_open = open_page;
+            unplanned = births.unplanned_place h s k.laid t r number l b g.thread m k.invariant.objects;
+            birth = refl;
+            nulls = null_field l.refs;
+            nones = none_field l.refs;
+            refs_length = length-replicate {A = Word} l.refs Null ∙ sym (length-replicate {A = Option ℕ} l.refs None);
+            layout = refl;
+            data_words = refl;
+            barrier = closed_barrier g.thread g.there g.closed;
+          } in
+          let i = transition_keeps (world_of h) (births_of p) (births_of p0) _ _ _ k.invariant (New (b.page * h.store.words + b.next) (new_object h.births number l) t r number (replicate l.refs None) (replicate l.nums 0) fits) in
+          subst (λ (z : HeapState × Answer). StepHolds h p p0 (Thread t) (steps.New r number) z.0 z.1) is (record {
+            holds = subst (λ o. Holds (placed h t r number l b) (born p t r number o) p0) (sym known) (record {
+              laid = births.born_laid h s k.laid t r number l b g.thread m;
+              given = k.given;
+              roots = moved_roots h (placed h t r number l b) (born p t r number (Some l)) (length_changed h.threads t (handed r (Some (b.page * h.store.words + b.next, h.nmt)) (used_buffer b (size_of l)))) refl refl (born_roots h p t r number l k.roots);
+              invariant = moved _ _ _ _ (births_of p0) (births.born_world h s k.laid t r number l b g.thread m) (born_is p t r number l z there (omega (arith, low, size))) i;
+            });
+            answers = ap answers.Birth k.invariant.births;
+          })
