@@ -1,29 +1,24 @@
 -- The first heap stands for the first plain heap.
-use Rattle.std.proofs.Common.{◌≡◌, ◌≢◌, ◌⊎◌, inl, inr, ℕ, zero, suc, ◌-◌, ◌/◌, ◌%◌, Bool, true, false, List, [], ◌∷◌, length, get_or, replicate, cond, Option, Some, None, refl, sym, ◌∙◌, ap, ap₂, subst, arith}
+use Rattle.std.proofs.Common.{◌≡◌, ◌≢◌, ◌⊎◌, inl, inr, ℕ, zero, suc, ◌-◌, ◌/◌, ◌%◌, true, false, List, [], length, get_or, replicate, Option, Some, None, refl, sym, ◌∙◌, ap, subst}
 use mathlib.Core.Path.{fun_ext}
 use Rattle.std.specs.List.{slice_get}
 use Rattle.std.specs.Option.{option_map}
 use Rattle.std.proofs.Math.ListN.{length-replicate}
 use Rattle.model.specs.declared.config.Config.{Config}
-use Rattle.model.specs.declared.records.Page.{Page}
-use Rattle.model.specs.declared.records.PageState.{PageState}
 use Rattle.model.specs.declared.records.PageState.TheVariants.{Unused}
 use Rattle.model.specs.declared.records.Forwarding.{Forwarding}
-use Rattle.model.specs.declared.records.Global.{Global}
-use Rattle.model.specs.declared.records.Scan.{Scan}
-use Rattle.model.specs.Stores.{StoreState, first_store, record_count, blank_page, page_at, state_at, state_in, words_at}
-use Rattle.model.specs.Owning.{Each}
-use Rattle.model.specs.Heaps.{HeapState, ThreadState, Reference, first_heap, blank_rows, blank_thread, no_sides, register_of, register_in, buffer_in, flat}
-use Rattle.model.specs.Plain.{PlainHeap, PlainThread, plain_start, name_of, name_in, pending_in}
-use Rattle.model.proofs.Lists.{each_replicate, get_replicate}
+use Rattle.model.specs.Stores.{first_store, record_count, blank_page, page_at, state_at, state_in, words_at}
+use Rattle.model.specs.Heaps.{HeapState, Reference, first_heap, blank_rows, blank_thread, register_of, register_in, buffer_in, flat}
+use Rattle.model.specs.Plain.{PlainThread, plain_start, name_of, name_in, pending_in}
+use Rattle.model.proofs.Lists.{each_replicate}
 use Rattle.page.proofs.Keeping.{page_at_record, page_at_zero}
-use Rattle.laws.specs.AddressHeap.{AddressHeap, Null, SideEntry, NoEntry, HeapObject}
+use Rattle.laws.specs.AddressHeap.{Null, NoEntry, HeapObject}
 use Rattle.laws.specs.Invariant.{Invariant}
 use Rattle.laws.specs.First.{first, plain_first}
 use Rattle.laws.proofs.Basics.{same_or_not}
 use Rattle.laws.proofs.First.{first_holds}
 use Rattle.refinement.specs.Worlds.{world_of, as_word, object_at, object_in, of_page, bit_at, entry_at, crossed_in, parked_in, barrier_in, scan_in, global_in, todo_in}
-use Rattle.refinement.specs.Births.{births_of, HasRootsOf, as_pair}
+use Rattle.refinement.specs.Births.{births_of, as_pair}
 use Rattle.refinement.specs.Claims.{IsLaid, AreRows, HasGiven, Claim, OfObject, OfBuffer, OfPlan, OfEnd, extent, end_extent, sized_extent, planned_extent, size_at, buffer_extent, object_size, Extent}
 use Rattle.refinement.specs.Standing.{Holds}
 use Rattle.refinement.proofs.Writers.{moved}

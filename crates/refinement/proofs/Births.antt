@@ -1,21 +1,19 @@
 -- The steps of the model's plain heap are those of the laws' plain heap.
-use Rattle.std.proofs.Common.{◌≡◌, ◌≢◌, ◌⊎◌, inl, inr, ℕ, zero, suc, ◌+◌, ◌<◌, List, [], ◌∷◌, ◌++◌, length, set, replicate, Option, Some, None, refl, sym, ◌∙◌, ap, ap₂, subst, arith, length-append}
+use Rattle.std.proofs.Common.{◌≡◌, ◌≢◌, ℕ, zero, suc, ◌<◌, List, [], ◌∷◌, ◌++◌, length, set, replicate, Option, Some, None, refl, sym, ◌∙◌, ap, arith, length-append}
 use mathlib.Core.Path.{fun_ext}
 use Rattle.std.specs.List.{slice_get}
 use Rattle.std.specs.Option.{option_map}
 use Rattle.std.proofs.Math.ListN.{length-set}
 use Rattle.layout.specs.declared.shape.Layout.{Layout}
-use Rattle.model.specs.Owning.{Each}
 use Rattle.model.specs.Heaps.{HeapState, flat, changed}
 use Rattle.model.specs.Plain.{PlainHeap, PlainThread, Object, name_of, name_in, naming, set_name, born, blank_object, writing, set_datum, pending_in}
 use Rattle.model.proofs.Lists.{get_set_same, get_set_other, get_within}
 use Rattle.laws.specs.AddressHeap.{put, put_at}
-use Rattle.laws.specs.BirthHeap.{BirthHeap}
 use Rattle.laws.specs.Edits.{plain_born}
-use Rattle.laws.specs.Effects.{plain_set_register, plain_datum, datum_at}
-use Rattle.laws.proofs.Basics.{put_all, put_same, put_other, put_id, same_or_not}
+use Rattle.laws.specs.Effects.{plain_set_register, datum_at}
+use Rattle.laws.proofs.Basics.{put_all, put_same, put_other, put_id}
 use Rattle.refinement.specs.Births.{births_of, layout_in, refs_in, data_in, as_pair, HasRootsOf}
-use Rattle.refinement.proofs.Runs.{get_first, get_second}
+use Rattle.refinement.proofs.Runs.{get_second}
 use Rattle.refinement.proofs.Changes.{get_changed, kept_of, length_changed, each_changed}
 
 -- registers

@@ -1,5 +1,5 @@
 -- An object that is made in a buffer is born.
-use Rattle.std.proofs.Common.{◌≡◌, ◌≢◌, ◌⊎◌, inl, inr, ℕ, zero, suc, ◌+◌, ◌-◌, ◌*◌, ◌/◌, ◌%◌, ◌^◌, ◌<◌, ◌≤◌, Bool, true, false, List, length, set, Option, Some, None, refl, sym, ◌∙◌, ap, ap₂, subst, arith, div-add-mod', replicate}
+use Rattle.std.proofs.Common.{◌≡◌, ◌≢◌, ◌⊎◌, inl, inr, ℕ, suc, ◌+◌, ◌-◌, ◌*◌, ◌/◌, ◌%◌, ◌^◌, ◌<◌, ◌≤◌, Bool, true, List, length, Option, Some, None, refl, sym, ◌∙◌, ap, ap₂, subst, arith, div-add-mod', replicate}
 use mathlib.Core.Path.{fun_ext}
 use Rattle.std.specs.List.{slice_get}
 use Rattle.std.specs.Option.{option_map}
@@ -13,23 +13,23 @@ use Rattle.model.specs.declared.records.PageState.{PageState}
 use Rattle.model.specs.declared.records.PageState.TheVariants.{Unused, Open, Closed, From, Gone}
 use Rattle.model.specs.declared.records.Buffer.{Buffer}
 use Rattle.model.specs.Phases.{is_marking, is_mark_crossing}
-use Rattle.model.specs.Stores.{StoreState, words_at, with_words, state_at, state_in, page_at, has_memory, is_open, overlaid}
+use Rattle.model.specs.Stores.{words_at, with_words, state_at, state_in, page_at, has_memory, is_open, overlaid}
 use Rattle.model.specs.Owning.{IsStore, LiesIn}
-use Rattle.model.specs.Heaps.{HeapState, ThreadState, register_of, register_in, buffer_in, changed, put_bit, fresh_object}
+use Rattle.model.specs.Heaps.{HeapState, ThreadState, register_of, buffer_in, changed, put_bit, fresh_object}
 use Rattle.model.specs.Outcome.{placed, handed, used_buffer}
 use Rattle.model.proofs.Lists.{get_within}
 use Rattle.model.proofs.Memory.{words_sized, memory_words, page_there}
-use Rattle.laws.specs.AddressHeap.{HeapObject, Word, Null, SideEntry, NoEntry, Planned, Copied, put, put_at}
+use Rattle.laws.specs.AddressHeap.{HeapObject, Word, Null, SideEntry, NoEntry, Planned, Copied, put}
 use Rattle.laws.specs.Invariant.{SoundObjects}
 use Rattle.laws.specs.Edits.{born}
 use Rattle.laws.proofs.Basics.{put_all, put_after, put_same, put_other, same_or_not}
 use Rattle.refinement.specs.Worlds.{world_of, object_at, bit_at, crossed_in, parked_in, barrier_in}
-use Rattle.refinement.specs.Claims.{IsLaid, AreRows, Apart, AreApart, Claim, OfObject, OfBuffer, OfPlan, OfEnd, Extent, extent, object_size, size_at, sized_extent, planned_extent, buffer_extent}
+use Rattle.refinement.specs.Claims.{IsLaid, AreRows, AreApart, Claim, OfObject, OfBuffer, OfPlan, OfEnd, Extent, extent, object_size, size_at, sized_extent, planned_extent, buffer_extent}
 use Rattle.refinement.proofs.Runs.{Agree, overlaid_before, overlaid_behind, length_overlaid}
 use Rattle.refinement.proofs.Reading.{IsRead, read_fits, read_fresh, new_object}
-use Rattle.refinement.proofs.Objects.{Rewrites, IsThere, there, rewritten}
-use Rattle.refinement.proofs.Changes.{get_changed, kept_of, length_changed, each_changed, rows_changed, length_put, bit_put}
-use Rattle.refinement.proofs.Claims.{object_extent, Splits, Within, split_apart}
+use Rattle.refinement.proofs.Objects.{Rewrites, there, rewritten}
+use Rattle.refinement.proofs.Changes.{get_changed, kept_of, each_changed, rows_changed, length_put, bit_put}
+use Rattle.refinement.proofs.Claims.{object_extent, Splits, split_apart}
 use Rattle.refinement.proofs.Registers.{register_changed}
 
 same_inside : {X : Type 0} {x y : X} → Some x ≡ Some y → x ≡ y

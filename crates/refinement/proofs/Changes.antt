@@ -1,14 +1,14 @@
 -- One element of a list is changed: threads, and the bits of rows.
-use Rattle.std.proofs.Common.{◌≡◌, ◌≢◌, ◌⊎◌, inl, inr, ℕ, zero, suc, ◌+◌, ◌-◌, ◌*◌, ◌/◌, ◌%◌, ◌<◌, ◌≤◌, Bool, true, false, List, [], ◌∷◌, length, get_or, set, replicate, Option, Some, None, refl, sym, ◌∙◌, ap, ap₂, subst, arith, div-add-mod'}
+use Rattle.std.proofs.Common.{◌≡◌, ◌≢◌, ◌⊎◌, inl, inr, ℕ, zero, suc, ◌+◌, ◌*◌, ◌/◌, ◌%◌, ◌<◌, ◌≤◌, Bool, false, List, [], ◌∷◌, length, get_or, set, replicate, Option, Some, None, refl, sym, ◌∙◌, ap, ap₂, arith, div-add-mod'}
 use Rattle.std.specs.List.{slice_get}
 use Rattle.std.specs.Option.{option_map}
-use Rattle.std.proofs.lemmas.Option.{get_or_from_slice_get, slice_get_within, slice_get_past}
+use Rattle.std.proofs.lemmas.Option.{get_or_from_slice_get}
 use Rattle.std.proofs.lemmas.List.{get_or_past}
 use Rattle.std.proofs.Math.ListN.{length-set, length-replicate}
 use Rattle.model.specs.Stores.{StoreState}
 use Rattle.model.specs.Owning.{Each}
 use Rattle.model.specs.Heaps.{changed, changed_at, blank_row, put_bit}
-use Rattle.model.proofs.Lists.{get_set_same, get_set_other, get_set, each_set, get_within, get_replicate}
+use Rattle.model.proofs.Lists.{get_set_same, get_set_other, each_set, get_within}
 use Rattle.laws.specs.AddressHeap.{put}
 use Rattle.laws.proofs.Basics.{put_all, put_same, put_other, put_id, same_or_not}
 use Rattle.refinement.specs.Worlds.{of_page, bit_at}

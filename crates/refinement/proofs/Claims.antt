@@ -1,11 +1,11 @@
 -- What no two claims overlapping says of objects, and where a claim is split.
-use Rattle.std.proofs.Common.{◌≡◌, ◌≢◌, ◌⊎◌, inl, inr, ℕ, ◌+◌, ◌*◌, ◌/◌, ◌%◌, ◌<◌, ◌≤◌, length, Option, Some, None, refl, sym, ◌∙◌, ap, subst, arith, div-add-mod'}
+use Rattle.std.proofs.Common.{◌≡◌, ◌≢◌, ◌⊎◌, inl, inr, ℕ, ◌+◌, ◌*◌, ◌/◌, ◌%◌, ◌<◌, ◌≤◌, Option, Some, None, sym, ◌∙◌, ap, arith, div-add-mod'}
 use Rattle.std.specs.Option.{option_map}
 use Rattle.std.proofs.lemmas.Nat.{div-mul-add, mod-mul-add}
 use Rattle.model.specs.Heaps.{HeapState}
 use Rattle.laws.specs.AddressHeap.{HeapObject}
 use Rattle.refinement.specs.Worlds.{object_at}
-use Rattle.refinement.specs.Claims.{Claim, OfObject, OfBuffer, OfPlan, OfEnd, Extent, AreApart, Apart, extent, object_size, sized_extent}
+use Rattle.refinement.specs.Claims.{Claim, OfObject, Extent, AreApart, Apart, extent, object_size, sized_extent}
 
 -- an address within the page of another
 pub within_page : (w a k : ℕ) → a % w + k < w → ((a + k) / w ≡ a / w) × ((a + k) % w ≡ a % w + k)

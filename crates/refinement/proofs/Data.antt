@@ -1,9 +1,9 @@
 -- A datum that is written in memory is that of the object.
-use Rattle.std.proofs.Common.{◌≡◌, ◌≢◌, ◌⊎◌, inl, inr, ℕ, ◌+◌, ◌*◌, ◌/◌, ◌%◌, ◌<◌, ◌≤◌, Bool, true, false, List, length, set, Option, Some, None, refl, sym, ◌∙◌, ap, ap₂, subst, arith}
+use Rattle.std.proofs.Common.{◌≡◌, ◌≢◌, ◌⊎◌, inl, inr, ℕ, ◌+◌, ◌/◌, ◌%◌, ◌<◌, ◌≤◌, true, List, length, set, Some, refl, sym, ◌∙◌, ap, subst, arith}
 use mathlib.Core.Path.{fun_ext}
 use Rattle.std.proofs.Math.ListN.{length-set}
 use Rattle.std.specs.Option.{option_map}
-use Rattle.model.specs.Stores.{StoreState, words_at, with_words, with_word, state_at, page_at, has_memory}
+use Rattle.model.specs.Stores.{words_at, with_words, with_word, state_at, page_at, has_memory}
 use Rattle.model.specs.Owning.{IsStore}
 use Rattle.model.specs.Heaps.{HeapState, register_of}
 use Rattle.model.proofs.Lists.{get_set_other}
@@ -13,9 +13,9 @@ use Rattle.laws.specs.Edits.{set_object}
 use Rattle.laws.specs.Effects.{with_datum}
 use Rattle.laws.proofs.Basics.{put_all, put_after, put_same, put_other, same_or_not}
 use Rattle.refinement.specs.Worlds.{world_of, object_at, bit_at}
-use Rattle.refinement.specs.Claims.{IsLaid, Apart, Claim, OfObject, OfBuffer, OfPlan, OfEnd, extent, object_size, size_at, sized_extent, planned_extent}
+use Rattle.refinement.specs.Claims.{IsLaid, Claim, OfObject, OfBuffer, OfPlan, OfEnd, extent, object_size, size_at, sized_extent, planned_extent}
 use Rattle.refinement.proofs.Runs.{Agree}
-use Rattle.refinement.proofs.Reading.{IsRead, read_refs, read_data, read_size, read_fits, read_datum}
+use Rattle.refinement.proofs.Reading.{IsRead, read_refs, read_data, read_fits, read_datum}
 use Rattle.refinement.proofs.Objects.{Rewrites, IsThere, there, rewritten}
 use Rattle.refinement.proofs.Claims.{within_page, objects_apart, extents_same}
 

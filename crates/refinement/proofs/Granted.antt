@@ -1,16 +1,15 @@
 -- A thread gets words of an open page as its buffer: the objects stay, and the free end of the page is split.
-use Rattle.std.proofs.Common.{◌≡◌, ◌≢◌, ◌⊎◌, inl, inr, ℕ, zero, suc, ◌+◌, ◌-◌, ◌*◌, ◌/◌, ◌%◌, ◌<◌, ◌≤◌, Bool, true, false, List, length, set, Option, Some, None, refl, sym, ◌∙◌, ap, ap₂, subst, arith, cond}
+use Rattle.std.proofs.Common.{◌≡◌, ◌≢◌, ◌⊎◌, inl, inr, ℕ, ◌+◌, ◌-◌, ◌*◌, ◌/◌, ◌%◌, ◌≤◌, Bool, true, List, length, set, Option, Some, None, refl, sym, ◌∙◌, ap, ap₂, arith, cond}
 use mathlib.Core.Path.{fun_ext}
 use Rattle.std.specs.List.{slice_get}
 use Rattle.std.specs.Option.{option_map, option_and_then}
 use Rattle.std.proofs.Math.ListN.{length-set}
 use Rattle.model.specs.declared.records.Page.{Page}
-use Rattle.model.specs.declared.records.Buffer.{Buffer}
 use Rattle.model.specs.Stores.{StoreState, words_at, state_at, state_in, frame_in, page_at, has_memory, is_open, buffer_of}
-use Rattle.model.specs.Heaps.{HeapState, ThreadState, register_of, register_in, buffer_in, buffer_of_thread, changed, set_buffer_of}
+use Rattle.model.specs.Heaps.{HeapState, ThreadState, register_of, register_in, buffer_in, changed, set_buffer_of}
 use Rattle.model.proofs.Lists.{get_set_same, get_set_other}
 use Rattle.page.proofs.Keeping.{page_at_record, page_at_zero}
-use Rattle.laws.specs.AddressHeap.{HeapObject, put}
+use Rattle.laws.specs.AddressHeap.{put}
 use Rattle.laws.proofs.Basics.{put_all, put_same, put_other, same_or_not}
 use Rattle.refinement.specs.Worlds.{world_of, object_at, object_in, bit_at, as_word, crossed_in, parked_in, barrier_in}
 use Rattle.refinement.specs.Claims.{IsLaid, AreRows, Claim, OfObject, OfBuffer, OfPlan, OfEnd, Extent, extent, object_size, sized_extent, planned_extent, buffer_extent, end_extent, size_at}

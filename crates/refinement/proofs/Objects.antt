@@ -1,13 +1,12 @@
 -- Other words in one page: the object at one address is made or changed, and all others stay.
-use Rattle.std.proofs.Common.{◌≡◌, ◌≢◌, ◌⊎◌, inl, inr, ℕ, ◌+◌, ◌*◌, ◌/◌, ◌%◌, ◌<◌, ◌≤◌, Bool, true, false, List, length, Option, Some, None, refl, sym, ◌∙◌, ap, ap₂, subst, arith, div-add-mod'}
-use Rattle.std.specs.List.{slice_get}
-use Rattle.model.specs.Stores.{StoreState, words_at, with_words}
+use Rattle.std.proofs.Common.{◌≡◌, ◌≢◌, ◌⊎◌, inl, inr, ℕ, ◌+◌, ◌/◌, ◌%◌, Bool, true, false, List, length, Option, Some, None, refl, sym, ◌∙◌, ap, ap₂, subst}
+use Rattle.model.specs.Stores.{words_at, with_words}
 use Rattle.model.specs.Owning.{IsStore}
 use Rattle.model.specs.Heaps.{HeapState}
 use Rattle.model.proofs.Memory.{words_changed, words_kept}
 use Rattle.laws.specs.AddressHeap.{HeapObject, put}
 use Rattle.laws.proofs.Basics.{put_all, same_or_not}
-use Rattle.refinement.specs.Worlds.{object_at, object_in, object_headed, bit_at}
+use Rattle.refinement.specs.Worlds.{object_at, object_in, bit_at}
 use Rattle.refinement.specs.Claims.{object_size}
 use Rattle.refinement.proofs.Runs.{Agree}
 use Rattle.refinement.proofs.Reading.{IsRead, read_is, is_read, read_same}

@@ -1,10 +1,9 @@
 -- Steps that read: what the plain heap answers.
-use Rattle.std.proofs.Common.{◌≡◌, ◌≢◌, ◌⊎◌, ◌↔◌, inl, inr, ℕ, zero, suc, ◌+◌, ◌-◌, ◌*◌, ◌/◌, ◌%◌, ◌^◌, ◌<◌, ◌≤◌, Bool, true, false, not, cond, nat_eq, List, [], length, is_none, Option, Some, None, refl, sym, ◌∙◌, ap, ap₂, subst, arith, eq-eqb, ne_eqb}
+use Rattle.std.proofs.Common.{◌≡◌, ◌≢◌, ◌⊎◌, ◌↔◌, inl, inr, ℕ, ◌+◌, ◌%◌, ◌<◌, Bool, true, false, nat_eq, List, length, is_none, Option, Some, None, refl, sym, ◌∙◌, ap, ap₂, subst, arith, eq-eqb, ne_eqb}
 use Rattle.std.specs.List.{slice_get}
 use Rattle.std.specs.Prelude.{Ok}
-use Rattle.std.specs.Option.{option_map, option_and_then}
+use Rattle.std.specs.Option.{option_and_then}
 use Rattle.model.specs.declared.steps.Actor.TheVariants.{Thread}
-use Rattle.model.specs.declared.steps.Step.{Step}
 use Rattle.model.specs.declared.steps.Step.TheVariants as steps
 use Rattle.model.specs.declared.steps.Answer.{Answer}
 use Rattle.model.specs.declared.steps.Answer.TheVariants as answers
@@ -15,19 +14,19 @@ use Rattle.model.specs.Heaps.{HeapState, ThreadState, Reference, register_of}
 use Rattle.model.specs.Refusing.{◌>>=◌, or_refuse}
 use Rattle.model.specs.Outcome.{datum_outcome, same_outcome, is_null_outcome, usable, usable_or_null, datum_at, same_address}
 use Rattle.model.specs.Plain.{PlainHeap, Object, plain_step, plain_answer, name_of, object_of, datum_of, as_datum, same_name}
-use Rattle.laws.specs.AddressHeap.{HeapObject, Word, Null, To}
+use Rattle.laws.specs.AddressHeap.{HeapObject, Null, To}
 use Rattle.laws.specs.Transitions.{Uses}
 use Rattle.laws.specs.Promises.{ReadsPlain}
 use Rattle.laws.proofs.Basics.{current_there}
-use Rattle.laws.proofs.Reading.{NamedObject, used}
+use Rattle.laws.proofs.Reading.{used}
 use Rattle.laws.proofs.Promises.{reads, same, null_is_none}
-use Rattle.refinement.specs.Worlds.{world_of, as_word, object_at, run}
+use Rattle.refinement.specs.Worlds.{world_of, as_word, object_at}
 use Rattle.refinement.specs.Births.{births_of, data_in}
 use Rattle.refinement.specs.Standing.{Holds, StepHolds, AnswersPlain}
-use Rattle.refinement.proofs.Runs.{get_run, length_run}
-use Rattle.refinement.proofs.Reading.{IsRead, read_refs, read_data}
-use Rattle.refinement.proofs.Objects.{IsThere, there}
-use Rattle.refinement.proofs.Data.{datum_page, datum_offset, place}
+use Rattle.refinement.proofs.Runs.{get_run}
+use Rattle.refinement.proofs.Reading.{read_refs, read_data}
+use Rattle.refinement.proofs.Objects.{there}
+use Rattle.refinement.proofs.Data.{datum_page, datum_offset}
 use Rattle.refinement.proofs.Verdicts.{bind_ok, found_ok, same_result, accepted, IsUsed, used_ok, used_or_null, word_on_page, datum_there}
 
 -- the object that a usable register names
@@ -64,7 +63,7 @@ module _ (h : HeapState) (p p0 : PlainHeap) (s : IsStore h.store) (k : Holds h p
   pub is_null_holds : (r : ℕ) (y : HeapState × Answer) → is_null_outcome h t r ≡ accepted y → StepHolds h p p0 (Thread t) (steps.IsNull r) y.0 y.1
   unfolding is_null_outcome plain_step plain_answer name_of register_of
   is_null_holds r y e = subst (λ (z : HeapState × Answer). StepHolds h p p0 (Thread t) (steps.IsNull r) z.0 z.1) (same_result (h, answers.Truth (is_none (register_of h t r))) y e)
-      (record { holds = k; answers = ap answers.Truth (none_none (name_of p t r) (register_of h t r) (null_is_none (world_of h) (births_of p) (births_of p0) k.invariant t r)) })
+      (record { config = refl; holds = k; answers = ap answers.Truth (none_none (name_of p t r) (register_of h t r) (null_is_none (world_of h) (births_of p) (births_of p0) k.invariant t r)) })
 
   -- addresses and births
 
@@ -112,7 +111,7 @@ module _ (h : HeapState) (p p0 : PlainHeap) (s : IsStore h.store) (k : Holds h p
       let (a, first, rest) = bind_ok (usable_or_null h t l) (λ a. usable_or_null h t r >>= λ b. Ok (h, answers.Truth (same_address a b))) y e in
       let (b, second, is) = bind_ok (usable_or_null h t r) (λ b. Ok (h, answers.Truth (same_address a b))) y rest in
       subst (λ (z : HeapState × Answer). StepHolds h p p0 (Thread t) (steps.Same l r) z.0 z.1) (same_result (h, answers.Truth (same_address a b)) y is)
-      (record { holds = k; answers = ap answers.Truth (same_truth l r a b (used_or_null h t l a x at first) (used_or_null h t r b x at second)) })
+      (record { config = refl; holds = k; answers = ap answers.Truth (same_truth l r a b (used_or_null h t l a x at first) (used_or_null h t r b x at second)) })
 
   datum_answer : (o : Option Object) (ds : List ℕ) (j v : ℕ) → ds ≡ data_in o → slice_get ds j ≡ Some v → as_datum (datum_of o j) ≡ Some (answers.Datum v)
   datum_answer None ds j v e f = absurd (no (sym (ap (λ l. slice_get l j) e) ∙ f))
@@ -150,4 +149,4 @@ module _ (h : HeapState) (p p0 : PlainHeap) (s : IsStore h.store) (k : Holds h p
       let plain : as_datum (datum_of (object_of p (name_of p t r)) j) ≡ Some (answers.Datum v) =
       ap (λ o. as_datum (datum_of (object_of p o) j)) names.reads.birth ∙ datum_answer (slice_get p.objects q.birth) q.data_words j v names.reads.data_words read in
       subst (λ (z : HeapState × Answer). StepHolds h p p0 (Thread t) (steps.Datum r j) z.0 z.1) (same_result (h, answers.Datum v) y is)
-      (record { holds = k; answers = subst (λ o. AnswersPlain o (answers.Datum v)) (sym plain) refl })
+      (record { config = refl; holds = k; answers = subst (λ o. AnswersPlain o (answers.Datum v)) (sym plain) refl })

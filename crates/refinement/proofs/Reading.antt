@@ -1,21 +1,20 @@
 -- Objects read off words: what a write elsewhere leaves, and what a write into one makes.
-use Rattle.std.proofs.Common.{◌≡◌, ◌⊎◌, inl, inr, ℕ, zero, suc, ◌+◌, ◌-◌, ◌*◌, ◌/◌, ◌%◌, ◌^◌, ◌<◌, ◌≤◌, Bool, true, false, List, [], ◌∷◌, ◌++◌, length, take, drop, map, set, cond, nat_le, Option, Some, None, replicate, refl, sym, ◌∙◌, ap, ap₂, subst, arith, leb-true}
+use Rattle.std.proofs.Common.{◌≡◌, ℕ, zero, suc, ◌+◌, ◌*◌, ◌/◌, ◌%◌, ◌^◌, ◌<◌, ◌≤◌, Bool, true, false, List, ◌∷◌, length, take, drop, map, set, cond, nat_le, Option, Some, None, replicate, refl, sym, ◌∙◌, ap, ap₂, arith, leb-true}
 use Rattle.std.specs.List.{slice_get}
 use Rattle.std.proofs.Math.ListN.{length-set, length-replicate}
-use Rattle.std.proofs.lemmas.List.{length-map, drop-set-lt, drop-set-add, take-set-le}
+use Rattle.std.proofs.lemmas.List.{length-map, drop-set-add}
 use Rattle.std.proofs.Math.Seq.{take-set-lt}
 use Rattle.std.proofs.lemmas.Bool.Decides.{nat_tests}
-use Rattle.std.proofs.lemmas.Option.{slice_get_within}
 use Rattle.layout.specs.declared.shape.Layout.{Layout}
 use Rattle.layout.specs.Objects.{size_of}
 use Rattle.model.specs.Stores.{overlaid}
 use Rattle.model.specs.Heaps.{fresh_object}
-use Rattle.model.proofs.Lists.{get_set_other, get_within}
+use Rattle.model.proofs.Lists.{get_set_other}
 use Rattle.laws.specs.AddressHeap.{HeapObject, Word, Null}
 use Rattle.laws.specs.Effects.{with_datum}
 use Rattle.refinement.specs.Worlds.{run, object_of, object_laid, object_headed, word_in_memory}
 use Rattle.refinement.specs.Claims.{object_size}
-use Rattle.refinement.proofs.Runs.{Agree, run_same, run_all, length_run, get_run, overlaid_in, overlaid_before, overlaid_behind, length_overlaid}
+use Rattle.refinement.proofs.Runs.{Agree, run_same, run_all, length_run, overlaid_in, length_overlaid}
 
 -- what an object that was read has to do with the words
 pub record IsRead (ls : List Layout) (ws : List ℕ) (o : ℕ) (q : HeapObject) : Type 0 where

@@ -1,18 +1,18 @@
 -- A register that is written, and a buffer that is given back.
-use Rattle.std.proofs.Common.{◌≡◌, ◌≢◌, ◌⊎◌, inl, inr, ℕ, ◌<◌, Bool, List, length, set, Option, Some, None, refl, sym, ◌∙◌, ap, subst, arith}
+use Rattle.std.proofs.Common.{◌≡◌, ◌≢◌, ◌⊎◌, inl, inr, ℕ, ◌<◌, List, length, set, Option, Some, None, refl, sym, ◌∙◌, ap}
 use mathlib.Core.Path.{fun_ext}
 use Rattle.std.specs.List.{slice_get}
 use Rattle.std.specs.Option.{option_map}
 use Rattle.std.proofs.Math.ListN.{length-set}
 use Rattle.model.specs.declared.records.Buffer.{Buffer}
-use Rattle.model.specs.Heaps.{HeapState, ThreadState, Reference, flat, register_of, register_in, with_register, with_buffer, changed, set_register_of, set_buffer_of, buffer_of_thread, buffer_in}
+use Rattle.model.specs.Heaps.{HeapState, ThreadState, Reference, flat, register_of, register_in, with_register, with_buffer, changed, set_register_of, set_buffer_of, buffer_in}
 use Rattle.model.proofs.Lists.{get_set_same, get_set_other, get_within}
-use Rattle.laws.specs.AddressHeap.{Word, put, put_at}
+use Rattle.laws.specs.AddressHeap.{put, put_at}
 use Rattle.laws.specs.Effects.{set_register}
 use Rattle.laws.proofs.Basics.{put_all, put_same, put_other, same_or_not}
-use Rattle.refinement.specs.Worlds.{world_of, as_word, crossed_in, parked_in, barrier_in, object_at}
+use Rattle.refinement.specs.Worlds.{world_of, as_word, crossed_in, parked_in, barrier_in}
 use Rattle.refinement.specs.Claims.{IsLaid, Claim, OfObject, OfBuffer, OfPlan, OfEnd, extent, Extent, buffer_extent}
-use Rattle.refinement.proofs.Changes.{get_changed, kept_of, length_changed, each_changed}
+use Rattle.refinement.proofs.Changes.{get_changed, kept_of, each_changed}
 use Rattle.refinement.proofs.Claims.{extents_same}
 
 -- the registers of threads, of which one has its register r changed

@@ -1,11 +1,11 @@
 -- The two ways in which the store gives out a buffer.
-use Rattle.std.proofs.Common.{◌≡◌, ◌⊎◌, inl, inr, ℕ, ◌+◌, ◌-◌, ◌*◌, ◌<◌, ◌≤◌, ◌&&◌, Bool, true, false, List, length, Option, Some, None, position, count_by, is_none, cond, nat_lt, nat_le, refl, sym, ◌∙◌, ap, subst, arith}
+use Rattle.std.proofs.Common.{◌≡◌, ◌⊎◌, inl, inr, ℕ, ◌+◌, ◌-◌, ◌<◌, ◌≤◌, ◌&&◌, Bool, true, false, Option, Some, None, position, nat_le, refl, sym, ◌∙◌, ap, subst}
 use Rattle.std.specs.List.{slice_get}
-use Rattle.std.specs.Prelude.{Result, Ok, Err}
+use Rattle.std.specs.Prelude.{Result, Ok}
 use Rattle.model.specs.declared.records.Page.{Page}
 use Rattle.model.specs.declared.records.Buffer.{Buffer}
 use Rattle.model.specs.declared.records.Room.{Room}
-use Rattle.model.specs.Stores.{StoreState, taken, taken_at, taken_fresh, given, opened, page_with_room, free_frame, unused_page, unused_in, is_open, is_unused, has_room, top_in, blank_page}
+use Rattle.model.specs.Stores.{StoreState, taken, taken_at, taken_fresh, given, opened, page_with_room, free_frame, unused_page, unused_in, is_open, is_unused, top_in, blank_page}
 use Rattle.model.specs.Owning.{IsStore}
 use Rattle.model.proofs.Lists.{get_within}
 use Rattle.page.specs.Records.{is_unused_in}
@@ -75,14 +75,14 @@ ways s n x h low e = by_room (page_with_room s.words n s.pages) refl e
     by_room : (o : Option ℕ) → page_with_room s.words n s.pages ≡ o → taken_at s n o ≡ Ok x → InOpenPage s n x ⊎ InFreshPage s n x
     by_room None b k = inr (by_frame (free_frame s.owners) refl k)
     by_room (Some i) b k = inl (
-      let within = room_within s.words n s.pages i b blank_page in
-      let (p, at) = get_within s.pages i within in
-      record {
-        index = i;
-        page = p;
-        at = at;
-        is_so = left_true (is_open p.state) (nat_le n (s.words - p.top)) (room_passes s.words n s.pages i b p at);
-        room = subst (λ o. top_in o + n ≤ s.words) at (room_found s.words n s.pages i low within b);
-        is = same_answer k;
-      }
-    )
+        let within = room_within s.words n s.pages i b blank_page in
+        let (p, at) = get_within s.pages i within in
+        record {
+          index = i;
+          page = p;
+          at = at;
+          is_so = left_true (is_open p.state) (nat_le n (s.words - p.top)) (room_passes s.words n s.pages i b p at);
+          room = subst (λ o. top_in o + n ≤ s.words) at (room_found s.words n s.pages i low within b);
+          is = same_answer k;
+        }
+        )

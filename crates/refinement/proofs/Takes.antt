@@ -1,8 +1,7 @@
 -- A step that takes a buffer.
-use Rattle.std.proofs.Common.{◌≡◌, ◌≢◌, ◌⊎◌, inl, inr, ℕ, zero, suc, ◌+◌, ◌-◌, ◌<◌, ◌≤◌, ◌==◌, ◌||◌, Bool, true, false, cond, nat_eq, nat_lt, List, length, set, is_some, Option, Some, None, refl, sym, ◌∙◌, ap, ap₂, subst, arith, eq-eqb, ne_eqb}
+use Rattle.std.proofs.Common.{◌≡◌, ◌≢◌, ◌⊎◌, inl, inr, ℕ, ◌+◌, ◌-◌, ◌<◌, ◌≤◌, ◌==◌, Bool, true, false, cond, nat_eq, nat_lt, List, set, is_some, Option, Some, None, refl, sym, ◌∙◌, ap, subst, arith, ne_eqb}
 use Rattle.std.specs.List.{slice_get}
 use Rattle.std.specs.Prelude.{Ok, Err, Result}
-use Rattle.std.proofs.Math.ListN.{length-set}
 use Rattle.std.proofs.lemmas.Bool.Decides.{nat_tests}
 use Rattle.model.specs.declared.steps.Actor.TheVariants.{Thread}
 use Rattle.model.specs.declared.steps.Step.TheVariants as steps
@@ -13,7 +12,7 @@ use Rattle.model.specs.declared.records.Page.{Page}
 use Rattle.model.specs.declared.records.Buffer.{Buffer}
 use Rattle.model.specs.declared.records.Room.{Room}
 use Rattle.model.specs.declared.records.Room.TheVariants.{NoFrames, NoPages}
-use Rattle.model.specs.Stores.{StoreState, taken, given, opened, fresh_page, buffer_of, is_open, is_unused}
+use Rattle.model.specs.Stores.{StoreState, taken, opened, fresh_page, buffer_of, is_open, is_unused}
 use Rattle.model.specs.Owning.{Each, IsStore}
 use Rattle.model.specs.Holding.{IsHeap}
 use Rattle.model.specs.Heaps.{HeapState, ThreadState, buffer_of_thread, buffer_in, changed, set_buffer_of, opened_rows, blank_row}
@@ -24,8 +23,8 @@ use Rattle.page.proofs.Keeping.{given_at, opened_at}
 use Rattle.laws.specs.Transitions.{TakeFresh}
 use Rattle.laws.proofs.Runs.{transition_keeps}
 use Rattle.refinement.specs.Worlds.{world_of}
-use Rattle.refinement.specs.Births.{births_of, HasRootsOf}
-use Rattle.refinement.specs.Claims.{IsLaid, HasGiven}
+use Rattle.refinement.specs.Births.{births_of}
+use Rattle.refinement.specs.Claims.{HasGiven}
 use Rattle.refinement.specs.Standing.{Holds, StepHolds}
 use Rattle.refinement.proofs.Changes.{length_changed}
 use Rattle.refinement.proofs.Taken.{InOpenPage, InFreshPage, ways}
@@ -114,7 +113,7 @@ module _ (h : HeapState) (p p0 : PlainHeap) (s : IsStore h.store) (d : IsHeap h)
 
 -- a buffer is taken
 pub take_holds : (h : HeapState) (p p0 : PlainHeap) → IsStore h.store → IsHeap h → Holds h p p0 → (t n : ℕ) → Passed h t (steps.Take n) → (y : HeapState × Answer) → take_outcome h t n ≡ accepted y → StepHolds h p p0 (Thread t) (steps.Take n) y.0 y.1
-unfolding take_outcome plain_step plain_answer
+unfolding take_outcome plain_step plain_answer lent
 take_holds h p p0 s d k t n g y e =
     let (none, rest) = not_refused (is_some (buffer_of_thread h t)) refusals.HasBuffer (took h t (taken h.store n)) y e in
     let had : g.thread.buffer ≡ None = no_buffer g.thread.buffer (ap (λ o. is_some (buffer_in o)) (sym g.there) ∙ none) in
@@ -122,7 +121,7 @@ take_holds h p p0 s d k t n g y e =
     let high : n ≤ h.store.words = not_more h.store.words n (second_false (n == 0) (nat_lt h.store.words n) g.indices) in
     let (z, ok, is) = took_ok h p p0 s d k t n g.thread g.there had low (taken h.store n) y rest in
     subst (λ (z : HeapState × Answer). StepHolds h p p0 (Thread t) (steps.Take n) z.0 z.1) is
-    (record { holds = lent_holds h p p0 s d k t n g.thread g.there had low z high (ways h.store n z s low ok); answers = tt })
+    (record { config = refl; holds = lent_holds h p p0 s d k t n g.thread g.there had low z high (ways h.store n z s low ok); answers = tt })
   where
     no_buffer : (b : Option Buffer) → is_some b ≡ false → b ≡ None
     no_buffer None e = refl

@@ -1,10 +1,9 @@
 -- What an accepted step has passed: the tests before its row, and those of the row.
-use Rattle.std.proofs.Common.{◌≡◌, ◌≢◌, ◌⊎◌, inl, inr, ℕ, zero, suc, ◌+◌, ◌-◌, ◌*◌, ◌/◌, ◌%◌, ◌^◌, ◌<◌, ◌≤◌, ◌||◌, Bool, true, false, not, cond, List, length, nat_le, nat_lt, is_some, Option, Some, None, refl, sym, ◌∙◌, ap, ap₂, subst, arith}
+use Rattle.std.proofs.Common.{◌≡◌, ◌⊎◌, inl, inr, ℕ, ◌+◌, ◌/◌, ◌%◌, ◌<◌, ◌||◌, Bool, true, false, not, cond, List, length, nat_le, nat_lt, is_some, Option, Some, None, refl, sym, ◌∙◌, ap, subst, arith}
 use Rattle.std.specs.Prelude.{Result, Ok, Err}
 use Rattle.std.specs.List.{slice_get}
-use Rattle.std.specs.Option.{option_map, option_and_then}
+use Rattle.std.specs.Option.{option_and_then}
 use Rattle.std.proofs.lemmas.Bool.Decides.{nat_tests}
-use Rattle.layout.specs.declared.shape.Layout.{Layout}
 use Rattle.model.specs.declared.steps.Actor.TheVariants.{Thread}
 use Rattle.model.specs.declared.steps.Step.{Step}
 use Rattle.model.specs.declared.steps.Answer.{Answer}
@@ -13,16 +12,15 @@ use Rattle.model.specs.declared.steps.Refusal.TheVariants as refusals
 use Rattle.model.specs.declared.records.Barrier.{Barrier}
 use Rattle.model.specs.declared.records.Phase.{Phase}
 use Rattle.model.specs.declared.records.Phase.TheVariants.{Idle, MarkCrossing, Scanning, ProtectCrossing, Relocating}
-use Rattle.model.specs.Stores.{StoreState, state_at, is_protected, word_at, word_in, spot_of, at_offset, words_at, page_at, frame_in}
+use Rattle.model.specs.Stores.{StoreState, word_at, word_in, spot_of, at_offset, words_at, page_at, frame_in}
 use Rattle.model.specs.Heaps.{HeapState, ThreadState, Reference, register_of, layout_at, layout_in, header_layout, datum_address}
-use Rattle.model.specs.Refusing.{◌>>=◌, or_refuse, Outcome}
+use Rattle.model.specs.Refusing.{◌>>=◌, or_refuse}
 use Rattle.model.specs.Outcome.{outcome, thread_gate, thread_row, has_bad_index, is_for_threads, is_parked_in, is_loading_in, usable, use_word, usable_or_null, use_or_null, let_through, held_back, has_crossed, datum_at, datum_place}
 use Rattle.model.proofs.Lists.{get_within}
-use Rattle.laws.specs.AddressHeap.{HeapObject, To}
+use Rattle.laws.specs.AddressHeap.{HeapObject}
 use Rattle.laws.specs.Transitions.{IsUsable}
-use Rattle.refinement.specs.Worlds.{world_of, object_at, crossed_in}
-use Rattle.refinement.proofs.Reading.{IsRead}
-use Rattle.refinement.proofs.Objects.{IsThere, there}
+use Rattle.refinement.specs.Worlds.{world_of, crossed_in}
+use Rattle.refinement.proofs.Objects.{IsThere}
 
 -- results
 

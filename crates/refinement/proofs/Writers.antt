@@ -1,46 +1,44 @@
 -- Steps that write: registers, data, buffers and new objects.
-use Rattle.std.proofs.Common.{◌≡◌, ◌≢◌, ◌⊎◌, ◌↔◌, inl, inr, ℕ, zero, suc, ◌+◌, ◌-◌, ◌*◌, ◌/◌, ◌%◌, ◌^◌, ◌<◌, ◌≤◌, ◌==◌, Bool, true, false, not, cond, nat_eq, nat_lt, nat_le, List, [], ◌∷◌, length, replicate, get_or, is_some, is_none, Option, Some, None, refl, sym, ◌∙◌, ap, ap₂, subst, arith}
+use Rattle.std.proofs.Common.{◌≡◌, ℕ, zero, suc, ◌+◌, ◌-◌, ◌*◌, ◌%◌, ◌<◌, ◌≤◌, Bool, true, false, cond, nat_lt, nat_le, List, [], ◌∷◌, length, replicate, get_or, is_some, Option, Some, None, refl, sym, ◌∙◌, ap, subst, arith}
 use Rattle.std.specs.List.{slice_get}
-use Rattle.std.specs.Prelude.{Ok, Err, Result}
-use Rattle.std.specs.Option.{option_map, option_and_then, IfSome}
+use Rattle.std.specs.Prelude.{Ok, Err}
+use Rattle.std.specs.Option.{option_map, IfSome}
 use Rattle.std.proofs.Math.ListN.{length-replicate}
 use Rattle.std.proofs.lemmas.Bool.Decides.{nat_tests}
 use Rattle.layout.specs.declared.shape.Layout.{Layout}
 use Rattle.layout.specs.Objects.{size_of}
 use Rattle.model.specs.declared.steps.Actor.TheVariants.{Thread}
-use Rattle.model.specs.declared.steps.Step.{Step}
 use Rattle.model.specs.declared.steps.Step.TheVariants as steps
 use Rattle.model.specs.declared.steps.Answer.{Answer}
 use Rattle.model.specs.declared.steps.Answer.TheVariants as answers
 use Rattle.model.specs.declared.steps.Refusal.TheVariants as refusals
 use Rattle.model.specs.declared.records.Buffer.{Buffer}
 use Rattle.model.specs.declared.records.PageState.TheVariants.{Open, From}
-use Rattle.model.specs.Stores.{StoreState, with_word, with_words, state_at, page_at}
+use Rattle.model.specs.Stores.{with_word, with_words}
 use Rattle.model.specs.Owning.{Each, IsStore, LiesIn}
 use Rattle.model.specs.Holding.{IsHeap}
-use Rattle.model.specs.Heaps.{HeapState, ThreadState, Reference, register_of, with_register, with_buffer, buffer_of_thread, buffer_in, changed, set_register_of, set_buffer_of}
+use Rattle.model.specs.Heaps.{HeapState, ThreadState, Reference, register_of, with_register, with_buffer, buffer_of_thread, buffer_in, set_register_of, set_buffer_of}
 use Rattle.model.specs.Refusing.{◌>>=◌, or_refuse}
-use Rattle.model.specs.Outcome.{set_datum_outcome, copy_register_outcome, clear_register_outcome, give_back_outcome, new_outcome, placed, no_register, has_bad_index, usable, datum_at, handed, used_buffer}
+use Rattle.model.specs.Outcome.{set_datum_outcome, copy_register_outcome, clear_register_outcome, give_back_outcome, new_outcome, placed, no_register, usable, datum_at, handed, used_buffer}
 use Rattle.model.specs.Plain.{PlainHeap, PlainThread, plain_step, plain_answer, name_of, naming, writing, born}
 use Rattle.model.proofs.Lists.{get_within}
-use Rattle.laws.specs.AddressHeap.{AddressHeap, HeapObject, Word, Null, To, Planned, field}
+use Rattle.laws.specs.AddressHeap.{AddressHeap, HeapObject, Word, Null}
 use Rattle.laws.specs.BirthHeap.{BirthHeap}
 use Rattle.laws.specs.Invariant.{Invariant}
-use Rattle.laws.specs.Effects.{datum_at as plain_datum_at}
-use Rattle.laws.specs.Transitions.{Transition, SetDatum, CopyReg, ClearReg, New, MayBeBorn, Uses}
+use Rattle.laws.specs.Transitions.{SetDatum, CopyReg, ClearReg, New, MayBeBorn, Uses}
 use Rattle.laws.proofs.Runs.{transition_keeps}
-use Rattle.refinement.specs.Worlds.{world_of, as_word, object_at, as_barrier, barrier_in}
+use Rattle.refinement.specs.Worlds.{world_of, as_barrier, barrier_in}
 use Rattle.refinement.specs.Births.{births_of, HasRootsOf}
-use Rattle.refinement.specs.Claims.{IsLaid, HasGiven}
-use Rattle.refinement.specs.Standing.{Holds, StepHolds, AnswersPlain}
+use Rattle.refinement.specs.Claims.{HasGiven}
+use Rattle.refinement.specs.Standing.{Holds, StepHolds}
 use Rattle.refinement.proofs.Reading.{read_refs, read_data, new_object}
-use Rattle.refinement.proofs.Objects.{IsThere, there}
+use Rattle.refinement.proofs.Objects.{there}
 use Rattle.refinement.proofs.Changes.{length_changed}
 use Rattle.refinement.proofs.Data as written
 use Rattle.refinement.proofs.Born as births
 use Rattle.refinement.proofs.Registers.{register_world, register_laid, buffer_world, given_back_laid}
 use Rattle.refinement.proofs.Births.{naming_is, naming_roots, writing_is, writing_roots, born_is, born_roots}
-use Rattle.refinement.proofs.Verdicts.{bind_ok, found_ok, same_result, not_refused, accepted, Passed, first_false, not_le, IsUsed, used_ok, datum_there}
+use Rattle.refinement.proofs.Verdicts.{bind_ok, found_ok, same_result, not_refused, accepted, Passed, first_false, not_le, used_ok, datum_there}
 use Rattle.refinement.proofs.Readers.{names_object}
 
 -- the invariant of other heaps that are these
@@ -74,6 +72,7 @@ module _ (h : HeapState) (p p0 : PlainHeap) (s : IsStore h.store) (d : IsHeap h)
       by_buffer : (b : Bool) → cond b (Ok (with_buffer h t None, answers.Done)) (Err refusals.NoRoom) ≡ accepted y → StepHolds h p p0 (Thread t) steps.GiveBack y.0 y.1
       by_buffer false f = absurd (cc)
       by_buffer true f = subst (λ (z : HeapState × Answer). StepHolds h p p0 (Thread t) steps.GiveBack z.0 z.1) (same_result (with_buffer h t None, answers.Done) y f) (record {
+        config = refl;
         holds = record {
           laid = given_back_laid h k.laid t;
           given = k.given;
@@ -99,26 +98,28 @@ module _ (h : HeapState) (p p0 : PlainHeap) (s : IsStore h.store) (d : IsHeap h)
   closed_barrier x at e = ap barrier_in at ∙ ap (option_map as_barrier) e
 
   pub copy_holds : (r q : ℕ) (g : Passed h t (steps.CopyReg r q)) (y : HeapState × Answer) → copy_register_outcome h t r q ≡ accepted y → StepHolds h p p0 (Thread t) (steps.CopyReg r q) y.0 y.1
-  unfolding copy_register_outcome plain_step plain_answer no_register register_of name_of
+  unfolding copy_register_outcome plain_step plain_answer no_register register_of name_of with_register
   copy_holds r q g y e =
       let low : r < h.config.registers = not_le h.config.registers r (first_false (no_register h r) (no_register h q) g.indices) in
       let (z, there, size) = plain_thread g.thread g.there in
       let i = transition_keeps (world_of h) (births_of p) (births_of p0) _ _ _ k.invariant (CopyReg t r q (closed_barrier g.thread g.there g.closed)) in
       subst (λ (z : HeapState × Answer). StepHolds h p p0 (Thread t) (steps.CopyReg r q) z.0 z.1) (same_result (with_register h t r (register_of h t q), answers.Done) y e) (record {
+        config = refl;
         holds = register_holds r (register_of h t q) (name_of p t q) g.thread g.there low
-        (moved _ _ _ _ (births_of p0) (register_world h k.laid t r (register_of h t q) g.thread g.there (omega (arith, low, k.laid.registers t g.thread g.there))) (naming_is p t r (name_of p t q) z there (omega (arith, low, size))) i);
+            (moved _ _ _ _ (births_of p0) (register_world h k.laid t r (register_of h t q) g.thread g.there (omega (arith, low, k.laid.registers t g.thread g.there))) (naming_is p t r (name_of p t q) z there (omega (arith, low, size))) i);
         answers = tt;
       })
 
   pub clear_holds : (r : ℕ) (g : Passed h t (steps.ClearReg r)) (y : HeapState × Answer) → clear_register_outcome h t r ≡ accepted y → StepHolds h p p0 (Thread t) (steps.ClearReg r) y.0 y.1
-  unfolding clear_register_outcome plain_step plain_answer no_register
+  unfolding clear_register_outcome plain_step plain_answer no_register with_register
   clear_holds r g y e =
       let low : r < h.config.registers = not_le h.config.registers r g.indices in
       let (z, there, size) = plain_thread g.thread g.there in
       let i = transition_keeps (world_of h) (births_of p) (births_of p0) _ _ _ k.invariant (ClearReg t r (closed_barrier g.thread g.there g.closed)) in
       subst (λ (z : HeapState × Answer). StepHolds h p p0 (Thread t) (steps.ClearReg r) z.0 z.1) (same_result (with_register h t r None, answers.Done) y e) (record {
+        config = refl;
         holds = register_holds r None None g.thread g.there low
-        (moved _ _ _ _ (births_of p0) (register_world h k.laid t r None g.thread g.there (omega (arith, low, k.laid.registers t g.thread g.there))) (naming_is p t r None z there (omega (arith, low, size))) i);
+            (moved _ _ _ _ (births_of p0) (register_world h k.laid t r None g.thread g.there (omega (arith, low, k.laid.registers t g.thread g.there))) (naming_is p t r None z there (omega (arith, low, size))) i);
         answers = tt;
       })
 
@@ -135,6 +136,7 @@ module _ (h : HeapState) (p p0 : PlainHeap) (s : IsStore h.store) (d : IsHeap h)
       at_place a q u m =
           let i = transition_keeps (world_of h) (births_of p) (births_of p0) _ _ _ k.invariant (SetDatum t r a q j v u) in
           record {
+            config = refl;
             holds = record {
               laid = written.datum_laid h s k.laid a q u.here j v m;
               given = given a q u m;
@@ -230,6 +232,7 @@ module _ (h : HeapState) (p p0 : PlainHeap) (s : IsStore h.store) (d : IsHeap h)
           } in
           let i = transition_keeps (world_of h) (births_of p) (births_of p0) _ _ _ k.invariant (New (b.page * h.store.words + b.next) (new_object h.births number l) t r number (replicate l.refs None) (replicate l.nums 0) fits) in
           subst (λ (z : HeapState × Answer). StepHolds h p p0 (Thread t) (steps.New r number) z.0 z.1) is (record {
+            config = refl;
             holds = subst (λ o. Holds (placed h t r number l b) (born p t r number o) p0) (sym known) (record {
               laid = births.born_laid h s k.laid t r number l b g.thread m;
               given = k.given;

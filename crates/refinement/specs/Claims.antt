@@ -1,10 +1,10 @@
 -- What lies where in memory: the runs of addresses that objects, buffers, planned places and the free ends of open pages
 -- have, of which no two overlap.
-use Rattle.std.specs.Prelude.{◌≡◌, ◌⊎◌, ◌≤◌, ◌<◌, ◌+◌, ◌*◌, ◌%◌, ℕ, Bool, true, false, List, length, Option, Some, None, option_map, slice_get, if◌then◌else◌}
+use Rattle.std.specs.Prelude.{◌≡◌, ◌⊎◌, ◌≤◌, ◌<◌, ◌+◌, ◌*◌, ◌%◌, ℕ, Bool, true, false, List, length, Option, Some, None, option_map, if◌then◌else◌}
 use Rattle.model.specs.declared.records.Page.{Page}
 use Rattle.model.specs.declared.records.PageState.TheVariants.{Unused}
 use Rattle.model.specs.declared.records.Buffer.{Buffer}
-use Rattle.model.specs.Stores.{StoreState, page_at, state_at, is_open, has_memory}
+use Rattle.model.specs.Stores.{StoreState, page_at, is_open, has_memory}
 use Rattle.model.specs.Owning.{Each}
 use Rattle.model.specs.Heaps.{HeapState, buffer_of_thread}
 use Rattle.laws.specs.AddressHeap.{HeapObject, SideEntry, Planned}

@@ -1,7 +1,8 @@
 -- A heap's state stands for a plain heap, and what is promised of its steps.
-use Rattle.std.specs.Prelude.{◌≡◌, Option, Some, None, Ok, true}
+use Rattle.std.specs.Prelude.{◌≡◌, Option, Some, None, Ok}
 use Rattle.model.specs.declared.steps.Actor.{Actor}
 use Rattle.model.specs.declared.steps.Step.{Step}
+use Rattle.model.specs.declared.steps.Step.TheVariants as steps
 use Rattle.model.specs.declared.steps.Answer.{Answer}
 use Rattle.model.specs.declared.config.Config.{Config}
 use Rattle.model.specs.Configs.{IsRanged}
@@ -27,9 +28,15 @@ abbrev pub AnswersPlain : Option Answer → Answer → Type 0
 AnswersPlain None answer = Unit {0}
 AnswersPlain (Some a) answer = answer ≡ a
 
+-- the plain heap as the last mark began, after a step: a mark that starts keeps that of its moment
+abbrev pub at_mark : PlainHeap → PlainHeap → Step → PlainHeap
+at_mark p p0 steps.StartMark = p
+at_mark p p0 _ = p0
+
 -- after an accepted step the heap stands for the plain heap after its step, and the answer is the plain heap's
 pub record StepHolds (h : HeapState) (p p0 : PlainHeap) (actor : Actor) (step : Step) (g : HeapState) (answer : Answer) : Type 0 where
-  pub holds : Holds g (plain_step h.config.layouts p actor step) p0
+  pub config : g.config ≡ h.config
+  pub holds : Holds g (plain_step h.config.layouts p actor step) (at_mark p p0 step)
   pub answers : AnswersPlain (plain_answer p actor step) answer
 
 -- the heap that a configuration begins with stands for the plain heap that it begins with
