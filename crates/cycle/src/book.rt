@@ -2,6 +2,7 @@
 
 ghost use Rattle.std.specs.Prelude.{◌≡◌, ◌<◌, ◌++◌, ◌∷◌, [], vec_len, vec_capacity};
 ghost use Rattle.cycle.specs.Books.{Acts, MakesBook, acted, is_full, first_book};
+ghost use Rattle.cycle.specs.Replays.{IsBook, KeepsPromises};
 
 use crate::stepping::Stepping;
 use heap::{Config, Heap, NewFault};
@@ -21,6 +22,10 @@ pub struct Entry {
 }
 
 /// A heap and the history of its accepted steps, oldest first.
+///
+/// The heap stands for the plain heap that the history makes of an empty one, which never moves or
+/// frees an object, and each entry has the answer of the plain heap at its place: this is the
+/// invariant of the type.
 #[derive(Drop)]
 pub struct Book {
     heap: Heap,
@@ -32,17 +37,28 @@ impl Model for Book {
 
     ghost Value = { BookState };
 
-    ghost use Rattle.cycle.specs.Views.{book_of};
+    ghost use Rattle.cycle.specs.Views.{book_of, IsBookInside};
 
     ghost view = { book_of };
+
+    ghost invariant = { IsBookInside };
 }
 
 impl Book {
+    /// What holds of every book.
+    pub fn law(&self)
+        ensures book { IsBook self.now }
+        ensures promises { KeepsPromises self.now }
+    {
+        let _ = &self.history;
+    }
+
     /// A book of the first heap of a configuration, without entries. Faults as `Heap::new` does.
     #[tactic(auto, unfolding(crate::specs::Books::first_book))]
     pub fn new(alloc: Global, config: Config) -> Result<Book, NewFault>
         ensures { MakesBook config result }
     {
+        refinement::law();
         match Heap::new(alloc, config) {
             Ok(heap) => Ok(Book {
                 heap,
@@ -78,8 +94,19 @@ impl Book {
     /// `HistoryFull` is tested first; then room for the entry is made, and `Memory` answered
     /// where it is refused. A step that is refused for any cause leaves heap and history as
     /// they were.
-    #[tactic(auto, unfolding(crate::specs::Books::acted))]
     pub fn act(&mut self, actor: Actor, step: Step) -> Result<Answer, Refusal>
+        ensures acts { Acts self.old result self.new (acted self.old actor step) }
+        ensures book { IsBook self.new }
+        ensures promises { KeepsPromises self.new }
+    {
+        let reply = self.step_and_enter(actor, step);
+        self.law();
+        reply
+    }
+
+    /// What `act` does.
+    #[tactic(auto, unfolding(crate::specs::Books::acted))]
+    fn step_and_enter(&mut self, actor: Actor, step: Step) -> Result<Answer, Refusal>
         ensures { Acts self.old result self.new (acted self.old actor step) }
     {
         if self.is_full() {

@@ -3,6 +3,7 @@
 ghost use Rattle.std.specs.Prelude.{◌≡◌, false};
 ghost use Rattle.model.specs.Refusing.{Does};
 ghost use Rattle.model.specs.Outcome.{has_bad_index, thread_row, outcome};
+ghost use Rattle.refinement.specs.Standing.{KeepsStanding};
 
 use crate::gate::thread_gate;
 use heap::Heap;
@@ -17,17 +18,30 @@ pub trait Stepping {
 impl Stepping for Heap {
     /// Does exactly what the step's row says: refuses it by the first test that holds, and else
     /// gives its answer and has its effect. It takes no memory.
-    #[tactic(auto, unfolding(model::specs::Outcome::outcome, model::specs::Outcome::thread_gate))]
+    ///
+    /// Where the heap stands for a plain heap, which never moves or frees an object, it does so
+    /// after an accepted step, and the answer is the plain heap's.
     fn step(&mut self, actor: Actor, step: &Step) -> Result<Answer, Refusal>
-        ensures { Does self.old result self.new (outcome self.old actor step.now) }
+        ensures does { Does self.old result self.new (outcome self.old actor step.now) }
+        ensures stands { KeepsStanding self.old actor step.now result self.new }
     {
-        match actor {
-            Actor::Thread(thread) => {
-                thread_gate(self, thread, step)?;
-                thread_row(self, thread, step)
-            }
-            Actor::Worker(_) => Err(Refusal::NoActor),
+        self.law();
+        refinement::law();
+        actor_row(self, actor, step)
+    }
+}
+
+/// The step of an actor.
+#[tactic(auto, unfolding(model::specs::Outcome::outcome, model::specs::Outcome::thread_gate))]
+fn actor_row(heap: &mut Heap, actor: Actor, step: &Step) -> Result<Answer, Refusal>
+    ensures { Does heap.old result heap.new (outcome heap.old actor step.now) }
+{
+    match actor {
+        Actor::Thread(thread) => {
+            thread_gate(heap, thread, step)?;
+            thread_row(heap, thread, step)
         }
+        Actor::Worker(_) => Err(Refusal::NoActor),
     }
 }
 

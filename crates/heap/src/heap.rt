@@ -6,6 +6,8 @@ mod making;
 mod registers;
 
 ghost use Rattle.std.specs.Prelude.{◌≡◌};
+ghost use Rattle.model.specs.Owning.{IsStore};
+ghost use Rattle.model.specs.Holding.{IsHeap};
 
 use crate::rows::Rows;
 use crate::thread::Thread;
@@ -46,6 +48,15 @@ impl Model for Heap {
 }
 
 impl Heap {
+    /// What holds of every heap: its frames have one owner each, each thread's buffer lies in an
+    /// open page, and births are within their limit.
+    pub fn law(&self)
+        ensures store { IsStore self.now.store }
+        ensures heap { IsHeap self.now }
+    {
+        self.store.law();
+    }
+
     /// What it was made with.
     pub fn config(&self) -> &Config
         ensures { result.now ≡ self.now.config }

@@ -1,11 +1,11 @@
 -- A heap's state stands for a plain heap, and what is promised of its steps.
-use Rattle.std.specs.Prelude.{◌≡◌, Option, Some, None, Ok}
+use Rattle.std.specs.Prelude.{◌≡◌, Option, Some, None, Result, Ok, IfOk}
 use Rattle.model.specs.declared.steps.Actor.{Actor}
 use Rattle.model.specs.declared.steps.Step.{Step}
 use Rattle.model.specs.declared.steps.Step.TheVariants as steps
 use Rattle.model.specs.declared.steps.Answer.{Answer}
+use Rattle.model.specs.declared.steps.Refusal.{Refusal}
 use Rattle.model.specs.declared.config.Config.{Config}
-use Rattle.model.specs.Configs.{IsRanged}
 use Rattle.model.specs.Owning.{Each, IsStore}
 use Rattle.model.specs.Holding.{IsHeap}
 use Rattle.model.specs.Heaps.{HeapState, first_heap}
@@ -41,7 +41,7 @@ pub record StepHolds (h : HeapState) (p p0 : PlainHeap) (actor : Actor) (step : 
 
 -- the heap that a configuration begins with stands for the plain heap that it begins with
 abbrev pub FirstHolds : Type 0
-FirstHolds = (c : Config) → IsRanged c → Holds (first_heap c) (plain_start c) (plain_start c)
+FirstHolds = (c : Config) → Holds (first_heap c) (plain_start c) (plain_start c)
 
 -- every accepted step keeps what stands
 abbrev pub StepsHold : Type 0
@@ -49,3 +49,8 @@ StepsHold =
     (h : HeapState) (p p0 : PlainHeap) (actor : Actor) (step : Step) (g : HeapState) (answer : Answer)
     → IsStore h.store → IsHeap h → Holds h p p0 → outcome h actor step ≡ Ok (g, answer)
     → StepHolds h p p0 actor step g answer
+
+-- what a call that gave this result keeps: where the heap stood for a plain heap, it does after an accepted step, whose
+-- answer is the plain heap's
+abbrev pub KeepsStanding : HeapState → Actor → Step → Result Answer Refusal → HeapState → Type 0
+KeepsStanding old actor step result new = (p p0 : PlainHeap) → Holds old p p0 → IfOk result (λ answer. StepHolds old p p0 actor step new answer)

@@ -3,7 +3,7 @@ use Rattle.refinement.proofs.Steps.{step_holds}
 use Rattle.refinement.proofs.law.Goals as goal
 
 pub returns-clause-first : goal.returns-clause-first
-returns-clause-first c = λ config ranged. first_stands config
+returns-clause-first c = first_stands
 
 pub returns-clause-steps : goal.returns-clause-steps
 returns-clause-steps c = step_holds
