@@ -2,6 +2,7 @@
 
 ghost use Rattle.std.specs.Prelude.{◌≡◌, ◌<◌, ◌≤◌, ◌++◌, ◌∷◌, [], IfOk, OnErr, vec_len, vec_capacity};
 ghost use Rattle.cycle.specs.Books.{Ran};
+ghost use Rattle.cycle.specs.Replays.{IsBook, KeepsPromises};
 
 use crate::book::Book;
 use model::{Actor, Answer, Refusal, Step};
@@ -12,6 +13,22 @@ use std::alloc::{AllocError, Global};
 /// Makes the list of the replies first: an `Err` leaves the book as it was. A step for which
 /// memory is refused has `Memory` as its reply, and the others go on.
 pub fn run(
+    alloc: Global,
+    book: &mut Book,
+    steps: Vec<(Actor, Step)>,
+) -> Result<Vec<Result<Answer, Refusal>>, AllocError>
+    ensures ran { IfOk result (λ replies. Ran book.old steps.items replies.items book.new) }
+    ensures err { OnErr result (book.new ≡ book.old) }
+    ensures book { IsBook book.new }
+    ensures promises { KeepsPromises book.new }
+{
+    let replies = act_each(alloc, book, steps);
+    book.law();
+    replies
+}
+
+/// What `run` does.
+fn act_each(
     alloc: Global,
     book: &mut Book,
     steps: Vec<(Actor, Step)>,

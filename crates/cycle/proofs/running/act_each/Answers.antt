@@ -1,6 +1,6 @@
 use Rattle.std.proofs.Common.{arith}
 use Rattle.cycle.proofs.Runs.{ran_more, next_part, one_longer}
-use Rattle.cycle.proofs.running.run.Goals as goal
+use Rattle.cycle.proofs.running.act_each.Goals as goal
 
 pub steps-preserved : goal.steps-preserved
 steps-preserved c =
