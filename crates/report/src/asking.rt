@@ -1,9 +1,13 @@
 //! What the words of the command line ask for.
 
-ghost use Rattle.std.specs.Prelude.{◌≡◌, string_bytes};
+ghost use Rattle.std.specs.Prelude.{◌≡◌, ◌≢◌, ◌∷◌, [], true, Some, None, Err, IfOk, IfErr, map, codes, string_bytes};
+ghost use Rattle.clap.specs.Words.{app_of, fault_of, found_of, matches_of, rows_of};
+ghost use Rattle.report.specs.Asking.{are_plain, asked_by};
+ghost use Rattle.report.specs.Program.{program, texts_in};
+ghost use Rattle.report.specs.declared.asking.AskFault.TheVariants.{Memory, Usage};
 
 use clap::error::ErrorKind;
-use clap::{Arg, ArgAction, Command};
+use clap::{Arg, ArgAction, ArgMatches, Command};
 use std::alloc::{AllocError, AllocFailed, Global};
 use std::io;
 use thiserror::Error;
@@ -34,12 +38,16 @@ pub enum AskFault {
 }
 
 impl From<AllocError> for AskFault {
+    ghost from_gives = { λ _ fault. fault ≡ Memory };
+
     fn from(_error: AllocError) -> AskFault {
         AskFault::Memory
     }
 }
 
 impl<T: Drop> From<AllocFailed<T>> for AskFault {
+    ghost from_gives = { λ _ fault. fault ≡ Memory };
+
     fn from(_error: AllocFailed<T>) -> AskFault {
         AskFault::Memory
     }
@@ -47,7 +55,10 @@ impl<T: Drop> From<AllocFailed<T>> for AskFault {
 
 impl AskFault {
     /// Writes its line to standard error, and gives the exit status.
-    pub fn tell<E: io::Write>(self, errors: &mut E) -> u8 {
+    pub fn tell<E: io::Write>(self, errors: &mut E) -> u8
+        ensures usage { self ≡ Usage → result ≡ 2 }
+        ensures memory { self ≡ Memory → result ≡ 3 }
+    {
         let _ = writeln!(errors, "{self}");
         match self {
             AskFault::Usage => 2,
@@ -72,7 +83,9 @@ impl Asked {
     }
 }
 
-fn command<'a>(alloc: Global) -> Result<Command<'a>, AllocError> {
+fn command<'a>(alloc: Global) -> Result<Command<'a>, AllocError>
+    ensures { IfOk result (λ command. app_of command ≡ program) }
+{
     let mode = Arg::new(alloc, "mode")
         .required(true)
         .action(ArgAction::Set);
@@ -86,24 +99,49 @@ fn command<'a>(alloc: Global) -> Result<Command<'a>, AllocError> {
         .arg(file)
 }
 
-/// What the words ask for, without the program's name. They are a mode, of which there is
-/// `run`, and the name of a file; all else is the usage fault.
-pub fn ask(alloc: Global, words: &[String]) -> Result<Asked, AskFault> {
+/// The words, behind the program's name.
+fn named<'w>(alloc: Global, words: &'w [String]) -> Result<Vec<&'w str>, AskFault>
+    ensures texts { IfOk result (λ found. texts_in found.items ≡ codes "pauseless" ∷ map string_bytes words.now) }
+    ensures memory { IfErr result (λ fault. fault ≡ Memory) }
+{
     let mut texts = Vec::new(alloc);
     texts.push("pauseless")?;
     for word in words {
         texts.push(word.as_str())?;
     }
-    let matches = match command(alloc)?.try_get_matches_from(&texts) {
-        Ok(matches) => matches,
-        Err(error) => {
-            return Err(if matches!(error.kind(), ErrorKind::OutOfMemory) {
-                AskFault::Memory
-            } else {
-                AskFault::Usage
-            });
-        }
-    };
+    Ok(texts)
+}
+
+/// What is found in the texts, by the program's command.
+fn found<'a>(alloc: Global, texts: &'a [&'a str]) -> Result<ArgMatches<'a>, AskFault>
+    ensures rows { IfOk result (λ matches. rows_of (found_of matches) ≡ matches_of program (texts_in texts.now)) }
+    ensures taken { IfOk result (λ _. fault_of program (texts_in texts.now) ≡ []) }
+    ensures refused { result ≡ Err Usage → fault_of program (texts_in texts.now) ≢ [] }
+{
+    match command(alloc)?.try_get_matches_from(texts) {
+        Ok(matches) => Ok(matches),
+        Err(error) => match error.kind() {
+            ErrorKind::OutOfMemory => Err(AskFault::Memory),
+            _ => Err(AskFault::Usage),
+        },
+    }
+}
+
+/// What the words ask for, without the program's name. They are a mode, of which there is
+/// `run`, and the name of a file; all else is the usage fault.
+///
+/// No clause speaks of words of which one begins with `-`: they are read by the rules of flags,
+/// of which the program has none.
+pub fn ask(alloc: Global, words: &[String]) -> Result<Asked, AskFault>
+    // What is asked for is what the words say.
+    ensures asked { are_plain (map string_bytes words.now) ≡ true
+        → IfOk result (λ asked. asked_by (map string_bytes words.now) ≡ Some (asked.mode, string_bytes asked.file)) }
+    // The usage fault comes only where they say nothing.
+    ensures usage { are_plain (map string_bytes words.now) ≡ true
+        → result ≡ Err Usage → asked_by (map string_bytes words.now) ≡ None }
+{
+    let texts = named(alloc, words)?;
+    let matches = found(alloc, &texts)?;
     match (matches.get_str("mode"), matches.get_str("file")) {
         (Some("run"), Some(file)) => Ok(Asked {
             mode: Mode::Run,
