@@ -1,9 +1,13 @@
 -- What serving a script promises.
-use Rattle.std.specs.Prelude.{◌≡◌, ℕ, ◌+◌, List, take, Option, Ok, IfSome}
+use Rattle.std.specs.Prelude.{◌≡◌, ◌⊎◌, ℕ, ◌+◌, List, take, Option, Ok, IfSome, IsErr}
 use Rattle.std.specs.Io.KnownBytes.{Appends}
 use Rattle.parser.specs.Reading.{ScriptValue, script_in}
 use Rattle.parser.specs.declared.script.TheConstants.{MOST_BYTES}
+use Rattle.parser.specs.Scripts.{IsTooLong}
+use Rattle.parser.specs.declared.fault.ParseFault.TheVariants.{Line, TooLong}
 use Rattle.script.specs.Output.{output_text}
+use Rattle.report.specs.declared.serving.ServeFault.{ServeFault}
+use Rattle.report.specs.declared.serving.ServeFault.TheVariants.{Parse}
 
 -- what was read of a reader: all that it has, or one byte more than a script may have
 abbrev pub ReadsUpTo : Option (List ℕ) → List ℕ → Type 0
@@ -14,3 +18,13 @@ pub record Prints (bytes : List ℕ) (old new : Option (List ℕ)) : Type 0 wher
   pub script : ScriptValue
   pub read : script_in bytes ≡ Ok script
   pub written : Appends old new (output_text script)
+
+-- the bytes are too many for a script, or no script
+abbrev pub HasFault : List ℕ → Type 0
+HasFault bytes = IsTooLong bytes ⊎ IsErr (script_in bytes)
+
+-- the exit status: 2 for a fault of the script
+abbrev pub fault_status : ServeFault → ℕ
+fault_status (Parse (Line fault)) = 2
+fault_status (Parse TooLong) = 2
+fault_status _ = 3

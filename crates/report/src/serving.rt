@@ -1,9 +1,9 @@
 //! Serving what was asked for.
 
-ghost use Rattle.std.specs.Prelude.{◌≡◌, ◌<◌, ◌≤◌, length, IfSome, OnOk, IfOk};
+ghost use Rattle.std.specs.Prelude.{◌≡◌, ◌≤◌, ◌⊎◌, length, IfErr, IfSome, OnOk, IfOk};
 ghost use Rattle.std.specs.Io.KnownBytes.{Appends, Keeps};
 ghost use Rattle.script.specs.Output.{output_text};
-ghost use Rattle.report.specs.Serving.{Prints, ReadsUpTo};
+ghost use Rattle.report.specs.Serving.{HasFault, Prints, ReadsUpTo, fault_status};
 
 use crate::asking::{Asked, Mode};
 use script::{MOST_BYTES, ParseFault, RunFault, Script, by_schedule, parse};
@@ -44,7 +44,8 @@ fn cannot_read<E: io::Write>(asked: &Asked, errors: &mut E) -> u8
 
 /// The bytes of a script: at most one more than it may have.
 fn read_bytes<R: io::Read>(alloc: Global, reader: &mut R) -> Result<Vec<u8>, ServeFault>
-    ensures { IfOk result (λ bytes. ReadsUpTo (R.remaining reader.old) bytes.items) }
+    ensures bytes { IfOk result (λ bytes. ReadsUpTo (R.remaining reader.old) bytes.items) }
+    ensures faults { IfErr result (λ fault. fault_status fault ≡ 3) }
 {
     let mut bytes = Vec::new(alloc);
     let limit = MOST_BYTES as u64 + 1;
@@ -62,6 +63,7 @@ fn read_bytes<R: io::Read>(alloc: Global, reader: &mut R) -> Result<Vec<u8>, Ser
 fn run_bytes<O: io::Write>(alloc: Global, bytes: &[u8], output: &mut O) -> Result<(), ServeFault>
     ensures prints { OnOk result (Prints bytes.now (O.contents output.old) (O.contents output.new)) }
     ensures fits { OnOk result (length bytes.now ≤ MOST_BYTES) }
+    ensures faults { IfErr result (λ fault. fault_status fault ≡ 2 → HasFault bytes.now) }
 {
     if bytes.len() > MOST_BYTES {
         return Err(ServeFault::Parse(ParseFault::TooLong));
@@ -78,7 +80,8 @@ fn run_script<O: io::Write>(
     script: &Script,
     output: &mut O,
 ) -> Result<(), ServeFault>
-    ensures { OnOk result (Appends (O.contents output.old) (O.contents output.new) (output_text script.now)) }
+    ensures prints { OnOk result (Appends (O.contents output.old) (O.contents output.new) (output_text script.now)) }
+    ensures faults { IfErr result (λ fault. fault_status fault ≡ 3) }
 {
     match by_schedule(alloc, script, output) {
         Ok(()) => flushed(output),
@@ -87,7 +90,8 @@ fn run_script<O: io::Write>(
 }
 
 fn flushed<O: io::Write>(output: &mut O) -> Result<(), ServeFault>
-    ensures { OnOk result (Keeps (O.contents output.old) (O.contents output.new)) }
+    ensures keeps { OnOk result (Keeps (O.contents output.old) (O.contents output.new)) }
+    ensures faults { IfErr result (λ fault. fault_status fault ≡ 3) }
 {
     match output.flush() {
         Ok(()) => Ok(()),
@@ -98,7 +102,7 @@ fn flushed<O: io::Write>(output: &mut O) -> Result<(), ServeFault>
 impl ServeFault {
     /// Writes its line to standard error, and gives the exit status.
     fn tell<E: io::Write>(self, asked: &Asked, errors: &mut E) -> u8
-        ensures { 0 < result }
+        ensures { result ≡ fault_status self }
     {
         match self {
             ServeFault::Read => return cannot_read(asked, errors),
@@ -121,7 +125,8 @@ fn run<R: io::Read, O: io::Write>(
     reader: &mut R,
     output: &mut O,
 ) -> Result<(), ServeFault>
-    ensures { OnOk result (IfSome (R.remaining reader.old) (λ bytes. Prints bytes (O.contents output.old) (O.contents output.new))) }
+    ensures prints { OnOk result (IfSome (R.remaining reader.old) (λ bytes. Prints bytes (O.contents output.old) (O.contents output.new))) }
+    ensures faults { IfErr result (λ fault. fault_status fault ≡ 2 → IfSome (R.remaining reader.old) HasFault) }
 {
     let bytes = read_bytes(alloc, reader)?;
     run_bytes(alloc, &bytes, output)
@@ -139,7 +144,9 @@ pub fn serve<R: io::Read, O: io::Write, E: io::Write>(
     output: &mut O,
     errors: &mut E,
 ) -> u8
-    ensures { result ≡ 0 → IfSome (R.remaining reader.old) (λ bytes. Prints bytes (O.contents output.old) (O.contents output.new)) }
+    ensures done { result ≡ 0 → IfSome (R.remaining reader.old) (λ bytes. Prints bytes (O.contents output.old) (O.contents output.new)) }
+    ensures faults { result ≡ 2 → IfSome (R.remaining reader.old) HasFault }
+    ensures statuses { (result ≡ 0) ⊎ ((result ≡ 2) ⊎ (result ≡ 3)) }
 {
     match asked.mode() {
         Mode::Run => match run(alloc, reader, output) {
