@@ -132,6 +132,7 @@ fn found<'a>(alloc: Global, texts: &'a [&'a str]) -> Result<ArgMatches<'a>, AskF
 ///
 /// No clause speaks of words of which one begins with `-`: they are read by the rules of flags,
 /// of which the program has none.
+#[tactic(auto, using(crate::proofs::Parsing::other_answer, crate::proofs::Parsing::refused_answer, crate::proofs::Parsing::run_answer))]
 pub fn ask(alloc: Global, words: &[String]) -> Result<Asked, AskFault>
     // What is asked for is what the words say.
     ensures asked { are_plain (map string_bytes words.now) ≡ true
