@@ -28,3 +28,7 @@ abbrev pub fault_status : ServeFault → ℕ
 fault_status (Parse (Line fault)) = 2
 fault_status (Parse TooLong) = 2
 fault_status _ = 3
+
+-- an exit status: of what is done, of a fault of the script or of usage, of all else
+abbrev pub IsStatus : ℕ → Type 0
+IsStatus status = (status ≡ 0) ⊎ ((status ≡ 2) ⊎ (status ≡ 3))

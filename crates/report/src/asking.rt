@@ -83,6 +83,7 @@ impl Asked {
     }
 }
 
+/// The command of which the words are read: two required arguments, and no flag.
 fn command<'a>(alloc: Global) -> Result<Command<'a>, AllocError>
     ensures { IfOk result (λ command. app_of command ≡ program) }
 {

@@ -1,6 +1,9 @@
 //! The program `pauseless`: runs a script on a heap.
 #![tactic(auto)]
 
+ghost use Rattle.std.specs.Prelude.{IfOk};
+ghost use Rattle.report.specs.Serving.{IsStatus};
+
 mod asking;
 mod serving;
 #[cfg(test)]
@@ -22,7 +25,9 @@ fn words(rt: &HostRuntime) -> io::Result<Vec<String>> {
 }
 
 /// Does what the words ask for, and gives the exit status. The errors are want of memory.
-fn served<E: io::Write>(rt: &HostRuntime, errors: &mut E) -> io::Result<u8> {
+fn served<E: io::Write>(rt: &HostRuntime, errors: &mut E) -> io::Result<u8>
+    ensures { IfOk result IsStatus }
+{
     let words = words(rt)?;
     let asked = match ask(rt.alloc(), &words) {
         Ok(asked) => asked,

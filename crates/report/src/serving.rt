@@ -1,9 +1,9 @@
 //! Serving what was asked for.
 
-ghost use Rattle.std.specs.Prelude.{◌≡◌, ◌≤◌, ◌⊎◌, length, IfErr, IfSome, OnOk, IfOk};
+ghost use Rattle.std.specs.Prelude.{◌≡◌, ◌≤◌, length, IfErr, IfSome, OnOk, IfOk};
 ghost use Rattle.std.specs.Io.KnownBytes.{Appends, Keeps};
 ghost use Rattle.script.specs.Output.{output_text};
-ghost use Rattle.report.specs.Serving.{HasFault, Prints, ReadsUpTo, fault_status};
+ghost use Rattle.report.specs.Serving.{HasFault, IsStatus, Prints, ReadsUpTo, fault_status};
 
 use crate::asking::{Asked, Mode};
 use script::{MOST_BYTES, ParseFault, RunFault, Script, by_schedule, parse};
@@ -146,7 +146,7 @@ pub fn serve<R: io::Read, O: io::Write, E: io::Write>(
 ) -> u8
     ensures done { result ≡ 0 → IfSome (R.remaining reader.old) (λ bytes. Prints bytes (O.contents output.old) (O.contents output.new)) }
     ensures faults { result ≡ 2 → IfSome (R.remaining reader.old) HasFault }
-    ensures statuses { (result ≡ 0) ⊎ ((result ≡ 2) ⊎ (result ≡ 3)) }
+    ensures status { IsStatus result }
 {
     match asked.mode() {
         Mode::Run => match run(alloc, reader, output) {
