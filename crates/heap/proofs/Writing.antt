@@ -1,5 +1,5 @@
 -- An object written at the head of a lent part is written over the page's words.
-use Rattle.std.proofs.Common.{◌≡◌, ℕ, ◌+◌, ◌-◌, ◌*◌, ◌<◌, ◌≤◌, List, ◌∷◌, ◌++◌, length, take, drop, Option, Some, None, refl, sym, ◌∙◌, ap, subst, arith, append_assoc, length-drop, length-append, rules, set, option_and_then, replicate, suc, is_some}
+use Rattle.std.proofs.Common.{◌≡◌, ℕ, ◌+◌, ◌-◌, ◌*◌, ◌<◌, ◌≤◌, List, ◌∷◌, ◌++◌, length, take, drop, Option, Some, None, refl, sym, ◌∙◌, ap, subst, arith, append_assoc, length-drop, length-append, rules, set, replicate, suc, is_some}
 use Rattle.std.proofs.Math.Nat.{mul-le-mul_left}
 use Rattle.std.proofs.lemmas.Nat.{mul-add-lt}
 use Rattle.std.proofs.lemmas.Bool.Decides.{nat_tests}
@@ -12,10 +12,8 @@ use Rattle.refword.specs.Words.{IsAddress}
 use Rattle.model.specs.declared.records.Buffer.{Buffer}
 use Rattle.model.specs.Stores.{StoreState, overlaid, with_words, words_at, page_at, frame_in, changed_in, changed_frame, record_count}
 use Rattle.model.specs.Owning.{IsStore, LiesIn}
+use Rattle.model.proofs.Memory.{words_in, words_sized}
 use Rattle.page.proofs.Lying.{lies_at}
-
-abbrev words_at_of : List (List ℕ) → Option ℕ → Option (List ℕ)
-words_at_of frames o = option_and_then (slice_get frames) o
 
 -- two changes that do the same to a page's words
 same_words : (s : StoreState) (n : ℕ) (f g : List ℕ → List ℕ) → IfSome (words_at s n) (λ ws. f ws ≡ g ws) → with_words s n f ≡ with_words s n g
@@ -24,7 +22,7 @@ same_words s n f g h = ap (λ fs. record s { frames = fs }) (by_frame (frame_in 
   where
     by_words : (x : ℕ) → frame_in (page_at s n) ≡ Some x → (o : Option (List ℕ)) → slice_get s.frames x ≡ o → changed_frame s.frames x o f ≡ changed_frame s.frames x o g
     by_words x e None a = refl
-    by_words x e (Some ws) a = let there : words_at_of s.frames (Some x) ≡ Some ws = a in let k : IfSome (words_at_of s.frames (frame_in (page_at s n))) (λ v. f v ≡ g v) = h in ap (set s.frames x) (rw (e, a) at k)
+    by_words x e (Some ws) a = let there : words_in s.frames (Some x) ≡ Some ws = a in let k : IfSome (words_in s.frames (frame_in (page_at s n))) (λ v. f v ≡ g v) = h in ap (set s.frames x) (rw (e, a) at k)
 
     by_frame : (o : Option ℕ) → frame_in (page_at s n) ≡ o → changed_in s.frames o f ≡ changed_in s.frames o g
     by_frame None e = refl
@@ -49,15 +47,6 @@ overlaid_part ws xs o end low high =
     let same = rest_behind xs (drop o ws) m j refl (omega (arith, length-drop o ws)) in
     let behind = subst (λ k. (xs ++ drop (length xs) (take k (drop o ws))) ++ drop (length (xs ++ drop (length xs) (take k (drop o ws)))) (drop o ws) ≡ xs ++ drop (length xs) (drop o ws)) size same in
     ap (λ ys. take (length ws) (take o ws ++ ys)) behind
-
--- the words of a page fill a frame
-words_sized : (s : StoreState) (n : ℕ) (ws : List ℕ) → IsStore s → words_at s n ≡ Some ws → length ws ≡ s.words
-unfolding words_at
-words_sized s n ws h e = by_frame (frame_in (page_at s n)) e
-  where
-    by_frame : (o : Option ℕ) → words_at_of s.frames o ≡ Some ws → length ws ≡ s.words
-    by_frame None k = absurd (cc)
-    by_frame (Some f) k = h.sized.frames f ws k
 
 -- a part that was lent, with others written at its head
 pub written : (s : StoreState) (b : Buffer) (part xs : List ℕ) → IsStore s → LiesIn s b → length xs ≤ b.end - b.next → IfSome (words_at s b.page) (λ ws. part ≡ slice_range ws b.next b.end) →

@@ -1,10 +1,12 @@
 -- The words of pages: where they stand, and what a change of one page's words does to them and to those of others.
-use Rattle.std.proofs.Common.{◌≡◌, ◌≢◌, ◌⊎◌, inl, inr, ℕ, zero, suc, ◌+◌, ◌-◌, ◌<◌, cond, Bool, true, false, nat_eq, is_some, List, length, Option, Some, None, set, refl, sym, ◌∙◌, ap, subst, arith, rules}
+use Rattle.std.proofs.Common.{◌≡◌, ◌≢◌, ℕ, ◌+◌, ◌-◌, cond, Bool, true, false, nat_eq, is_some, List, length, Option, Some, None, refl, sym, ◌∙◌, ap, arith}
 use Rattle.std.specs.List.{slice_get}
 use Rattle.std.specs.Option.{option_and_then}
 use Rattle.std.proofs.lemmas.Option.{slice_get_within}
 use Rattle.model.specs.declared.records.Page.{Page}
-use Rattle.model.specs.Stores.{StoreState, page_at, frame_in, state_at, state_in, has_memory, words_at, with_words, changed_in, changed_frame}
+use Rattle.model.specs.declared.records.PageState.{PageState}
+use Rattle.model.specs.declared.records.PageState.TheVariants.{Unused, Open, Closed, From, Gone}
+use Rattle.model.specs.Stores.{StoreState, page_at, frame_in, state_at, state_in, has_memory, is_open, is_unused, words_at, with_words, changed_in, changed_frame}
 use Rattle.model.specs.Owning.{IsStore}
 use Rattle.model.proofs.Lists.{get_set_same, get_set_other, get_within}
 
@@ -28,7 +30,7 @@ page_record s n f e = by_zero (nat_eq n 0) refl e
     by_zero true z k = absurd (cc)
     by_zero false z k = by_page (slice_get s.pages (n - 1)) refl (back z) k
 
-some_in : {X : Type 0} {x y : X} → Some x ≡ Some y → x ≡ y
+pub some_in : {X : Type 0} {x y : X} → Some x ≡ Some y → x ≡ y
 some_in e = cc
 
 -- no two pages have one frame
@@ -111,3 +113,17 @@ memory_words s n h e = by_page (page_at s n) refl e
     by_page : (o : Option Page) → page_at s n ≡ o → has_memory (state_in o) ≡ true → (ws : List ℕ) × (words_in s.frames (frame_in o) ≡ Some ws)
     by_page None a k = absurd (cc)
     by_page (Some p) a k = let there = (page_there s n p a).1 in by_frame p there p.frame refl ((h.pages (n - 1) p there).memory ∙ k)
+
+pub open_state : (p : PageState) → is_open p ≡ true → p ≡ Open
+open_state Open e = refl
+open_state Unused e = absurd (cc)
+open_state Closed e = absurd (cc)
+open_state From e = absurd (cc)
+open_state Gone e = absurd (cc)
+
+pub unused_state : (p : PageState) → is_unused p ≡ true → p ≡ Unused
+unused_state Unused e = refl
+unused_state Open e = absurd (cc)
+unused_state Closed e = absurd (cc)
+unused_state From e = absurd (cc)
+unused_state Gone e = absurd (cc)

@@ -12,6 +12,7 @@ use Rattle.model.specs.declared.records.PageState.TheVariants.{Unused, Open, Clo
 use Rattle.model.specs.Stores.{StoreState, has_memory, is_protected, is_open, is_unused, page_at, state_in, frame_in, record_count, fresh_page, opened, first_store, blank_page, unused_page, unused_in, given, buffer_of, with_words, overlaid, top_in, words_at}
 use Rattle.model.specs.Owning.{IsPage, IsStore}
 use Rattle.model.proofs.Lists.{get_set, get_set_same, get_set_other, each_set, each_replicate, get_replicate, count_set, count_replicate, position_none, length_counted, same_or_not, get_within, as_number}
+use Rattle.model.proofs.Memory.{unused_state}
 use Rattle.page.specs.Records.{is_unused_in}
 
 pub same_inside : {X : Type 0} {x y : X} → Some x ≡ Some y → x ≡ y
@@ -26,13 +27,6 @@ none_or_some e = cc
 no_some : (o : Option ℕ) → is_some o ≡ false → o ≡ None
 no_some None e = refl
 no_some (Some x) e = absurd (cc)
-
-unused_is : (p : PageState) → is_unused p ≡ true → p ≡ Unused
-unused_is Unused e = refl
-unused_is Open e = absurd (cc)
-unused_is Closed e = absurd (cc)
-unused_is From e = absurd (cc)
-unused_is Gone e = absurd (cc)
 
 used_is : (p : PageState) → is_unused p ≡ false → has_memory p || is_protected p ≡ true
 used_is Unused e = absurd (cc)
@@ -107,7 +101,7 @@ open_keeps s i f p h e u g =
     let pages_same : length (set s.pages i (fresh_page f)) ≡ length s.pages = simp length-set in
     let owners_same : length (set s.owners f (Some (i + 1))) ≡ length s.owners = simp length-set in
     let frames_same : length (set s.frames f (replicate s.words 0)) ≡ length s.frames = simp length-set in
-    let state : p.state ≡ Unused = unused_is p.state u in
+    let state : p.state ≡ Unused = unused_state p.state u in
     let memory : has_memory p.state ≡ false = ap has_memory state in
     let open_before : is_protected p.state ≡ false = ap is_protected state in
     record {
@@ -132,7 +126,7 @@ open_keeps s i f p h e u g =
     }
   where
     no_frame : p.frame ≡ None
-    no_frame = no_some p.frame ((h.pages i p e).memory ∙ ap has_memory (unused_is p.state u))
+    no_frame = no_some p.frame ((h.pages i p e).memory ∙ ap has_memory (unused_state p.state u))
 
     owned : (j k : ℕ) (x : Page) → x.frame ≡ Some k → ((j ≡ i) × (fresh_page f ≡ x)) ⊎ ((j ≢ i) × (slice_get s.pages j ≡ Some x)) → slice_get (set s.owners f (Some (i + 1))) k ≡ Some (Some (j + 1))
     owned j k x b (inl a) =

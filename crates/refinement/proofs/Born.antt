@@ -9,8 +9,7 @@ use Rattle.std.proofs.lemmas.Option.{slice_get_within}
 use Rattle.layout.specs.declared.shape.Layout.{Layout}
 use Rattle.layout.specs.Objects.{size_of}
 use Rattle.model.specs.declared.records.Page.{Page}
-use Rattle.model.specs.declared.records.PageState.{PageState}
-use Rattle.model.specs.declared.records.PageState.TheVariants.{Unused, Open, Closed, From, Gone}
+use Rattle.model.specs.declared.records.PageState.TheVariants.{Open}
 use Rattle.model.specs.declared.records.Buffer.{Buffer}
 use Rattle.model.specs.Phases.{is_marking, is_mark_crossing}
 use Rattle.model.specs.Stores.{words_at, with_words, state_at, state_in, page_at, has_memory, is_open, overlaid}
@@ -18,7 +17,7 @@ use Rattle.model.specs.Owning.{IsStore, LiesIn}
 use Rattle.model.specs.Heaps.{HeapState, ThreadState, register_of, buffer_in, changed, put_bit, fresh_object}
 use Rattle.model.specs.Outcome.{placed, handed, used_buffer}
 use Rattle.model.proofs.Lists.{get_within}
-use Rattle.model.proofs.Memory.{words_sized, memory_words, page_there}
+use Rattle.model.proofs.Memory.{some_in, open_state, words_sized, memory_words, page_there}
 use Rattle.laws.specs.AddressHeap.{HeapObject, Word, Null, SideEntry, NoEntry, Planned, Copied, put}
 use Rattle.laws.specs.Invariant.{SoundObjects}
 use Rattle.laws.specs.Edits.{born}
@@ -31,16 +30,6 @@ use Rattle.refinement.proofs.Objects.{Rewrites, there, rewritten}
 use Rattle.refinement.proofs.Changes.{get_changed, kept_of, each_changed, rows_changed, length_put, bit_put}
 use Rattle.refinement.proofs.Claims.{object_extent, Splits, split_apart}
 use Rattle.refinement.proofs.Registers.{register_changed}
-
-same_inside : {X : Type 0} {x y : X} → Some x ≡ Some y → x ≡ y
-same_inside e = cc
-
-open_state : (p : PageState) → is_open p ≡ true → p ≡ Open
-open_state Open e = refl
-open_state Unused e = absurd (cc)
-open_state Closed e = absurd (cc)
-open_state From e = absurd (cc)
-open_state Gone e = absurd (cc)
 
 -- a buffer's page is open
 pub open_at : (h : HeapState) (b : Buffer) → LiesIn h.store b → b.next < h.store.words → (world_of h).page_state (b.page * h.store.words + b.next) ≡ Open
@@ -164,7 +153,7 @@ module _ (h : HeapState) (s : IsStore h.store) (l : IsLaid h) (t target number :
       end : y % h.store.words + object_size o ≤ length ws.0
       end =
           let r = there h y o e in
-          let same : r.words ≡ ws.0 = same_inside (sym r.page ∙ ap (words_at h.store) p ∙ ws.1) in
+          let same : r.words ≡ ws.0 = some_in (sym r.page ∙ ap (words_at h.store) p ∙ ws.1) in
           subst (λ v. y % h.store.words + object_size o ≤ length v) same (read_fits h.config.layouts r.words (y % h.store.words) o r.read)
 
       go : AreApart (record { from = y; upto = y + object_size o }) (buffer_extent h.store.words b) → Agree (change ws.0) ws.0 (y % h.store.words) (y % h.store.words + object_size o)
@@ -271,12 +260,12 @@ module _ (h : HeapState) (s : IsStore h.store) (l : IsLaid h) (t target number :
     where
       left : (y : Extent) → extent after (OfBuffer t) ≡ Some y → (y.from ≡ b.page * h.store.words + (b.next + size_of shape)) × (y.upto ≡ b.page * h.store.words + b.end)
       left y e =
-          let k : buffer_extent h.store.words rest ≡ y = same_inside (sym (buffers t ∙ put_same (λ v. extent h (OfBuffer v)) t (Some (buffer_extent h.store.words rest))) ∙ e) in
+          let k : buffer_extent h.store.words rest ≡ y = some_in (sym (buffers t ∙ put_same (λ v. extent h (OfBuffer v)) t (Some (buffer_extent h.store.words rest))) ∙ e) in
           (sym (ap (λ (z : Extent). z.from) k), sym (ap (λ (z : Extent). z.upto) k))
 
       part : (y : Extent) → extent after (OfObject address) ≡ Some y → (y.from ≡ address) × (y.upto ≡ address + size_of shape)
       part y e =
-          let k : sized_extent address (size_of shape) ≡ y = same_inside (sym (ap (option_map (sized_extent address)) size_here) ∙ e) in
+          let k : sized_extent address (size_of shape) ≡ y = some_in (sym (ap (option_map (sized_extent address)) size_here) ∙ e) in
           (sym (ap (λ (z : Extent). z.from) k), sym (ap (λ (z : Extent). z.upto) k))
 
   objects : (y : ℕ) → bit_at starts h.store.words y ≡ true → has_memory (state_at h.store (y / h.store.words)) ≡ true → (o : HeapObject) × (object_at after y ≡ Some o)

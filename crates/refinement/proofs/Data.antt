@@ -7,7 +7,7 @@ use Rattle.model.specs.Stores.{words_at, with_words, with_word, state_at, page_a
 use Rattle.model.specs.Owning.{IsStore}
 use Rattle.model.specs.Heaps.{HeapState, register_of}
 use Rattle.model.proofs.Lists.{get_set_other}
-use Rattle.model.proofs.Memory.{words_sized, words_memory}
+use Rattle.model.proofs.Memory.{some_in, words_sized, words_memory}
 use Rattle.laws.specs.AddressHeap.{HeapObject, Planned, put}
 use Rattle.laws.specs.Edits.{set_object}
 use Rattle.laws.specs.Effects.{with_datum}
@@ -18,9 +18,6 @@ use Rattle.refinement.proofs.Runs.{Agree}
 use Rattle.refinement.proofs.Reading.{IsRead, read_refs, read_data, read_fits, read_datum}
 use Rattle.refinement.proofs.Objects.{Rewrites, IsThere, there, rewritten}
 use Rattle.refinement.proofs.Claims.{within_page, objects_apart, extents_same}
-
-same_inside : {X : Type 0} {x y : X} → Some x ≡ Some y → x ≡ y
-same_inside e = cc
 
 module _ (h : HeapState) (s : IsStore h.store) (l : IsLaid h) (a : ℕ) (q : HeapObject) (e : object_at h a ≡ Some q) (j v : ℕ) (m : j < length q.data_words) where
   abbrev t : IsThere h a q
@@ -107,7 +104,7 @@ module _ (h : HeapState) (s : IsStore h.store) (l : IsLaid h) (a : ℕ) (q : Hea
     where
       go : ((x ≡ a) × (Some (with_datum q j v) ≡ Some o)) ⊎ ((x ≢ a) × (object_at h x ≡ Some o)) → n % h.store.words + object_size o ≤ h.store.words
       go (inl (f, g)) =
-          let size : object_size (with_datum q j v) ≡ object_size o = ap object_size (same_inside g) in
+          let size : object_size (with_datum q j v) ≡ object_size o = ap object_size (some_in g) in
           omega (arith, size, length-set q.data_words j v, l.planned x n q k (ap (object_at h) f ∙ e))
       go (inr (f, g)) = l.planned x n o k g
 

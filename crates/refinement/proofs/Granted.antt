@@ -9,15 +9,13 @@ use Rattle.model.specs.Stores.{StoreState, words_at, state_at, state_in, frame_i
 use Rattle.model.specs.Heaps.{HeapState, ThreadState, register_of, register_in, buffer_in, changed, set_buffer_of}
 use Rattle.model.proofs.Lists.{get_set_same, get_set_other}
 use Rattle.page.proofs.Keeping.{page_at_record, page_at_zero}
+use Rattle.model.proofs.Memory.{some_in}
 use Rattle.laws.specs.AddressHeap.{put}
 use Rattle.laws.proofs.Basics.{put_all, put_same, put_other, same_or_not}
 use Rattle.refinement.specs.Worlds.{world_of, object_at, object_in, bit_at, as_word, crossed_in, parked_in, barrier_in}
 use Rattle.refinement.specs.Claims.{IsLaid, AreRows, Claim, OfObject, OfBuffer, OfPlan, OfEnd, Extent, extent, object_size, sized_extent, planned_extent, buffer_extent, end_extent, size_at}
 use Rattle.refinement.proofs.Changes.{get_changed, kept_of, each_changed}
 use Rattle.refinement.proofs.Claims.{Splits, split_apart}
-
-same_inside : {X : Type 0} {x y : X} → Some x ≡ Some y → x ≡ y
-same_inside e = cc
 
 -- the pages of a store whose record of an index is replaced
 pub page_set : (s r : StoreState) (i : ℕ) (p q : Page) → slice_get s.pages i ≡ Some p → r.pages ≡ set s.pages i q → (m : ℕ) → page_at r m ≡ put (page_at s) (i + 1) (Some q) m
@@ -127,12 +125,12 @@ module _ (h : HeapState) (l : IsLaid h) (t i : ℕ) (p : Page) (n : ℕ) (x : Th
     where
       left : (y : Extent) → extent after (OfEnd (i + 1)) ≡ Some y → (y.from ≡ (i + 1) * h.store.words + (p.top + n)) × (y.upto ≡ (i + 1) * h.store.words + h.store.words)
       left y e =
-          let k = same_inside (sym end_has ∙ e) in
+          let k = some_in (sym end_has ∙ e) in
           (sym (ap (λ (z : Extent). z.from) k), sym (ap (λ (z : Extent). z.upto) k))
 
       part : (y : Extent) → extent after (OfBuffer t) ≡ Some y → (y.from ≡ (i + 1) * h.store.words + p.top) × (y.upto ≡ (i + 1) * h.store.words + (p.top + n))
       part y e =
-          let k = same_inside (sym (buffers t ∙ put_same (λ v. extent h (OfBuffer v)) t (Some (buffer_extent h.store.words (buffer_of i p.top n)))) ∙ e) in
+          let k = some_in (sym (buffers t ∙ put_same (λ v. extent h (OfBuffer v)) t (Some (buffer_extent h.store.words (buffer_of i p.top n)))) ∙ e) in
           (sym (ap (λ (z : Extent). z.from) k), sym (ap (λ (z : Extent). z.upto) k))
 
   rows : (xs : List (List Bool)) → AreRows h.store xs → AreRows after.store xs

@@ -7,15 +7,14 @@ use Rattle.std.specs.Option.{option_map}
 use Rattle.std.proofs.Math.ListN.{length-set}
 use Rattle.std.proofs.lemmas.Option.{slice_get_within}
 use Rattle.model.specs.declared.records.Page.{Page}
-use Rattle.model.specs.declared.records.PageState.{PageState}
-use Rattle.model.specs.declared.records.PageState.TheVariants.{Unused, Open, Closed, From, Gone}
+use Rattle.model.specs.declared.records.PageState.TheVariants.{Unused, Open}
 use Rattle.model.specs.declared.records.Buffer.{Buffer}
 use Rattle.model.specs.Stores.{words_at, state_at, state_in, frame_in, page_at, has_memory, is_open, is_unused, opened, fresh_page}
 use Rattle.model.specs.Owning.{IsStore, LiesIn}
 use Rattle.model.specs.Holding.{IsHeap}
 use Rattle.model.specs.Heaps.{HeapState, ThreadState, register_of, buffer_in, changed, blank_row}
 use Rattle.model.proofs.Lists.{get_set_other, get_within}
-use Rattle.model.proofs.Memory.{words_in, page_record, words_sized, words_memory}
+use Rattle.model.proofs.Memory.{some_in, open_state, unused_state, words_in, page_record, words_sized, words_memory}
 use Rattle.laws.specs.AddressHeap.{HeapObject, SideEntry, NoEntry, Planned, Copied, put}
 use Rattle.laws.specs.Invariant.{SoundObjects, SoundMarks}
 use Rattle.laws.specs.Edits.{open_page}
@@ -29,23 +28,6 @@ use Rattle.refinement.proofs.Granted.{page_set, page_here}
 
 mul_less : (a b w : ℕ) → a < b → a * w + w ≤ b * w
 mul_less a b w e = let z : suc a * w ≤ b * w = mul-le-mul_right w (omega (arith, e)) in omega (arith, z, suc-mul a w)
-
-some_in : {X : Type 0} {x y : X} → Some x ≡ Some y → x ≡ y
-some_in e = cc
-
-unused_state : (p : PageState) → is_unused p ≡ true → p ≡ Unused
-unused_state Unused e = refl
-unused_state Open e = absurd (cc)
-unused_state Closed e = absurd (cc)
-unused_state From e = absurd (cc)
-unused_state Gone e = absurd (cc)
-
-open_state : (p : PageState) → is_open p ≡ true → p ≡ Open
-open_state Open e = refl
-open_state Unused e = absurd (cc)
-open_state Closed e = absurd (cc)
-open_state From e = absurd (cc)
-open_state Gone e = absurd (cc)
 
 -- an extent lies in a page with memory
 pub record LiesOnPage (h : HeapState) (x : Extent) : Type 0 where

@@ -10,6 +10,7 @@ use Rattle.layout.specs.Objects.{size_of}
 use Rattle.model.specs.Stores.{overlaid}
 use Rattle.model.specs.Heaps.{fresh_object}
 use Rattle.model.proofs.Lists.{get_set_other}
+use Rattle.model.proofs.Memory.{some_in}
 use Rattle.laws.specs.AddressHeap.{HeapObject, Word, Null}
 use Rattle.laws.specs.Effects.{with_datum}
 use Rattle.refinement.specs.Worlds.{run, object_of, object_laid, object_headed, word_in_memory}
@@ -31,14 +32,11 @@ object b n xs ds = record { birth = b; layout = n; refs = xs; data_words = ds }
 abbrev built : ℕ → List ℕ → List ℕ → HeapObject
 built header xs ds = record { birth = header % 2 ^ 32; layout = header / 2 ^ 32; refs = map word_in_memory xs; data_words = ds }
 
-same_inside : {X : Type 0} {x y : X} → Some x ≡ Some y → x ≡ y
-same_inside e = cc
-
 pub read_is : (ls : List Layout) (ws : List ℕ) (o : ℕ) (q : HeapObject) → object_headed ls ws o (slice_get ws o) ≡ Some q → IsRead ls ws o q
 read_is ls ws o q e = by_header (slice_get ws o) refl e
   where
     by_fit : (header : ℕ) (l : Layout) (b : Bool) → nat_le (o + size_of l) (length ws) ≡ b → slice_get ws o ≡ Some header → slice_get ls (header / 2 ^ 32) ≡ Some l → cond b (Some (object_of ws o header l)) None ≡ Some q → IsRead ls ws o q
-    by_fit header l true f a k r = record { header = header; shape = l; at = a; known = k; fits = leb-true (o + size_of l) (length ws) f; is = sym (same_inside r) }
+    by_fit header l true f a k r = record { header = header; shape = l; at = a; known = k; fits = leb-true (o + size_of l) (length ws) f; is = sym (some_in r) }
     by_fit header l false f a k r = absurd (cc)
 
     by_layout : (header : ℕ) (y : Option Layout) → slice_get ws o ≡ Some header → slice_get ls (header / 2 ^ 32) ≡ y → object_laid ws o header y ≡ Some q → IsRead ls ws o q

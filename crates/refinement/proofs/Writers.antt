@@ -15,13 +15,14 @@ use Rattle.model.specs.declared.steps.Refusal.TheVariants as refusals
 use Rattle.model.specs.declared.records.Buffer.{Buffer}
 use Rattle.model.specs.declared.records.PageState.TheVariants.{Open, From}
 use Rattle.model.specs.Stores.{with_word, with_words}
-use Rattle.model.specs.Owning.{Each, IsStore, LiesIn}
+use Rattle.model.specs.Owning.{IsStore, LiesIn}
 use Rattle.model.specs.Holding.{IsHeap}
 use Rattle.model.specs.Heaps.{HeapState, ThreadState, Reference, register_of, with_register, with_buffer, buffer_of_thread, buffer_in, set_register_of, set_buffer_of}
 use Rattle.model.specs.Refusing.{◌>>=◌, or_refuse}
 use Rattle.model.specs.Outcome.{set_datum_outcome, copy_register_outcome, clear_register_outcome, give_back_outcome, new_outcome, placed, no_register, usable, datum_at, handed, used_buffer}
 use Rattle.model.specs.Plain.{PlainHeap, PlainThread, plain_step, plain_answer, name_of, naming, writing, born}
 use Rattle.model.proofs.Lists.{get_within}
+use Rattle.model.proofs.Memory.{some_in}
 use Rattle.laws.specs.AddressHeap.{AddressHeap, HeapObject, Word, Null}
 use Rattle.laws.specs.BirthHeap.{BirthHeap}
 use Rattle.laws.specs.Invariant.{Invariant}
@@ -29,7 +30,6 @@ use Rattle.laws.specs.Transitions.{SetDatum, CopyReg, ClearReg, New, MayBeBorn, 
 use Rattle.laws.proofs.Runs.{transition_keeps}
 use Rattle.refinement.specs.Worlds.{world_of, as_barrier, barrier_in}
 use Rattle.refinement.specs.Births.{births_of, HasRootsOf}
-use Rattle.refinement.specs.Claims.{HasGiven}
 use Rattle.refinement.specs.Standing.{Holds, StepHolds}
 use Rattle.refinement.proofs.Reading.{read_refs, read_data, new_object}
 use Rattle.refinement.proofs.Objects.{there}
@@ -139,18 +139,12 @@ module _ (h : HeapState) (p p0 : PlainHeap) (s : IsStore h.store) (d : IsHeap h)
             config = refl;
             holds = record {
               laid = written.datum_laid h s k.laid a q u.here j v m;
-              given = given a q u m;
-              roots = roots a q u m;
+              given = k.given;
+              roots = moved_roots h (written.after h s k.laid a q u.here j v m) (writing p (name_of p t r) j v) refl refl refl (writing_roots h p (name_of p t r) j v k.roots);
               invariant = moved _ _ _ _ (births_of p0) (written.datum_world h s k.laid a q u.here j v m) (writing_is p (name_of p t r) j v) i;
             };
             answers = tt;
           }
-        where
-          given : (a : ℕ) (q : HeapObject) (u : Uses (world_of h) t r a q) (m : j < length q.data_words) → Each (written.after h s k.laid a q u.here j v m).store.pages HasGiven
-          given a q u m = k.given
-
-          roots : (a : ℕ) (q : HeapObject) (u : Uses (world_of h) t r a q) (m : j < length q.data_words) → HasRootsOf (written.after h s k.laid a q u.here j v m) (writing p (name_of p t r) j v)
-          roots a q u m = moved_roots h (written.after h s k.laid a q u.here j v m) (writing p (name_of p t r) j v) refl refl refl (writing_roots h p (name_of p t r) j v k.roots)
 
       by_place : (a : ℕ) (q : HeapObject) (u : Uses (world_of h) t r a q) (n : ℕ) → datum_at h a j ≡ Some n → (record h { store = with_word h.store n v }, answers.Done) ≡ y → StepHolds h p p0 (Thread t) (steps.SetDatum r j v) y.0 y.1
       by_place a q u n e f =
@@ -189,10 +183,7 @@ module _ (h : HeapState) (p p0 : PlainHeap) (s : IsStore h.store) (d : IsHeap h)
 
       lies_of : (o : Option Buffer) (b : Buffer) → o ≡ Some b → IfSome o (LiesIn h.store) → LiesIn h.store b
       lies_of None b e f = absurd (cc)
-      lies_of (Some c) b e f = subst (LiesIn h.store) (same_inside c b e) f
-        where
-          same_inside : (c b : Buffer) → Some c ≡ Some b → c ≡ b
-          same_inside c b e = cc
+      lies_of (Some c) b e f = subst (LiesIn h.store) (some_in e) f
 
       may : (b : Buffer) (l : Layout) → buffer_of_thread h t ≡ Some b → slice_get h.config.layouts number ≡ Some l → size_of l ≤ b.end - b.next → h.births < h.config.births → births.MayPlace h t r number l b g.thread
       may b l first known room more =

@@ -94,7 +94,13 @@ impl Heap {
         let size = layout.size();
         let word = Word::of(self.buffer_address(buffer), self.nmt);
         write_new(&mut self.store, buffer, header.write(), size - 1);
-        note_start(&mut self.starts, &mut self.mark, &mut self.todo, self.phase, buffer);
+        note_start(
+            &mut self.starts,
+            &mut self.mark,
+            &mut self.todo,
+            self.phase,
+            buffer,
+        );
         self.births += 1;
         let rest = Buffer {
             page: buffer.page,
