@@ -7,7 +7,7 @@ use Rattle.model.specs.declared.records.PageState.{PageState}
 use Rattle.model.specs.declared.records.PageState.TheVariants.{From, Gone}
 use Rattle.model.specs.Stores.{is_protected, has_memory}
 use Rattle.model.specs.Phases.{is_marking}
-use Rattle.laws.specs.AddressHeap.{AddressHeap, HeapObject, Word, Null, To, put, field, current, resolve, resolve_by, names, birth_of, OpenBarrier, AtField, is_crossing, SideEntry, NoEntry, Planned, Copied}
+use Rattle.laws.specs.AddressHeap.{AtGlobal, AddressHeap, HeapObject, Word, Null, To, put, field, current, resolve, resolve_by, names, birth_of, OpenBarrier, AtField, is_crossing, SideEntry, NoEntry, Planned, Copied}
 use Rattle.laws.specs.BirthHeap.{BirthHeap, ref, InPending, Start, Next}
 use Rattle.laws.specs.Invariant.{IsKept, IsClean, StandsFor, Invariant, IsBarrierFor, IsPlace}
 use Rattle.laws.specs.Edits.{set_object, end_load, plain_end_load, set_barrier, set_global, copy_object, mark_word, marked_word}
@@ -143,13 +143,13 @@ trap_marked_keeps w p p0 i t k e m =
 
 -- Heal, where a global holds the word that was loaded
 pub heal_global_keeps : (w : AddressHeap) (p p0 : BirthHeap) → Invariant w p p0 → (t : ℕ) (k : OpenBarrier) (g : ℕ)
-    → w.barrier t ≡ Some k → w.global g ≡ k.raw → nmt_trap_due w t k.now ≡ false
+    → w.barrier t ≡ Some k → k.place ≡ AtGlobal g → w.global g ≡ k.raw → nmt_trap_due w t k.now ≡ false
     → Invariant (set_barrier t (record k { healed = true }) (set_global g k.now w)) p p0
-heal_global_keeps w p p0 i t k g e r d =
+heal_global_keeps w p p0 i t k g e l r d =
     let h = opened_of w p p0 i t k e in
     let same : p.global g ≡ h.pending.1 = (let x = (i.words.globals g).names in let y = h.barrier.raw in let z = ap (names w) r in cc) in
     let j : Invariant (set_global g k.now w) p p0 = subst (λ y. Invariant (set_global g k.now w) (record p { global = y }) p0) (put_id p.global g (p.global g) refl)
-    (set_global_keeps w p p0 i g k.now (p.global g) (record { good = subst (StandsFor w k.now) (sym same) h.barrier.now; kept = global_kept w p g; clean = clean_scan w p p0 i t k.now d })) in
+    (set_global_keeps w p p0 i g k.now (p.global g) (record { good = subst (StandsFor w k.now) (sym same) h.barrier.now; kept = global_kept w p g; clean = clean_scan w p p0 i t k.now d }) (subst (IsPlace w p t) l h.barrier.place)) in
     let h' = opened_of (set_global g k.now w) p p0 j t k e in
     change_keeps (set_global g k.now w) p p0 j t k (record k { healed = true }) h' (record { target = h'.barrier.target; raw = h'.barrier.raw; now = h'.barrier.now; place = h'.barrier.place; running = h'.barrier.running })
 

@@ -80,7 +80,7 @@ module _ (w : AddressHeap) (p p0 : BirthHeap) (i : Invariant w p p0) (a n : ℕ)
           planned x y h e = grind arith
 
   place : (t : ℕ) (d : LoadPlace) → IsPlace w p t d → IsPlace (copy_object a n o w) p t d
-  place t (AtGlobal g) h = tt
+  place t (AtGlobal g) h = h
   place t (AtField x j) h = record {
     object = h.object;
     here = current_old x h.object h.here (λ e. m.phase (h.page (ap w.page_state e ∙ i.objects.planned_from a n m.entry)).0);

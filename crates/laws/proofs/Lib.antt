@@ -21,3 +21,4 @@ pub mod Runs
 pub mod First
 pub mod MarkByCopy
 pub mod Promises
+pub mod Example

@@ -41,7 +41,7 @@ module _ (w : AddressHeap) (p p0 : BirthHeap) (i : Invariant w p p0) (a : ℕ) (
           go (inr k) = Start b (inr (record { address = h.address; object = h.object; is_marked = k.1; here = h.here; birth = h.birth }))
 
   place : (t : ℕ) (d : LoadPlace) → IsPlace w p t d → IsPlace (mark_with_todo a true w) p t d
-  place t (AtGlobal g) h = tt
+  place t (AtGlobal g) h = h
   place t (AtField x j) h = h
 
   stands : (b : ℕ) → HasCurrent w p b → HasCurrent (mark_with_todo a true w) p b
@@ -88,6 +88,7 @@ module _ (w : AddressHeap) (p p0 : BirthHeap) (i : Invariant w p p0) (a : ℕ) (
       all_copied = i.phases.all_copied;
       all_todo = λ x f. put_both (λ x b c. b ≡ true → c ≡ true) w.marked w.todo a true true (λ _. refl) (λ x _. i.phases.all_todo x f) x;
       globals_todo = i.phases.globals_todo;
+      no_global = i.phases.no_global;
       no_scan = i.phases.no_scan;
     };
     births = i.births;

@@ -77,15 +77,15 @@ pub scan_end_keeps : (w : AddressHeap) (p p0 : BirthHeap) → Invariant w p p0
 scan_end_keeps w p p0 i k s o e f h l = end_scan_keeps w p p0 i k s (record { phase = e; scan = f; past_end = λ q j y z. subst (λ q. field q j ≡ Null) (let t : o ≡ q = cc in t) (get_or_past o.refs j Null (let a = l in let b = z in omega arith)) })
 
 -- ScanGlobal
-pub scan_global_keeps : (w : AddressHeap) (p p0 : BirthHeap) → Invariant w p p0 → (g : ℕ) → w.phase ≡ Scanning
+pub scan_global_keeps : (w : AddressHeap) (p p0 : BirthHeap) → Invariant w p p0 → (g : ℕ) → w.is_global g ≡ true → w.phase ≡ Scanning
     → Invariant (end_global_scan g (set_global g (marked_word w (w.global g)) (mark_word (w.global g) w))) p p0
-scan_global_keeps w p p0 i g e =
+scan_global_keeps w p p0 i g n e =
     let v = w.global g in
     let r = mark_word_keeps w p p0 i (ap is_marking e) v (p.global g) (i.words.globals g).names (global_kept w p g) in
     let w1 = mark_word v w in
     let w2 = set_global g (marked_word w v) w1 in
     let j : Invariant w2 p p0 = subst (λ y. Invariant w2 (record p { global = y }) p0) (put_id p.global g (p.global g) refl)
-    (set_global_keeps w1 p p0 r.inv g (marked_word w v) (p.global g) (record { good = r.good; kept = global_kept w1 p g; clean = λ _. r.clean })) in
+    (set_global_keeps w1 p p0 r.inv g (marked_word w v) (p.global g) (record { good = r.good; kept = global_kept w1 p g; clean = λ _. r.clean }) n) in
     end_global_scan_keeps w2 p p0 j g e (subst (IsClean w) (sym (put_same w.global g (marked_word w v))) r.clean)
 
 -- Copy, once all have crossed

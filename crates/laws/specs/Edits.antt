@@ -99,7 +99,7 @@ end_scan k a w = record w { scan = put w.scan k None; todo = put w.todo a false 
 -- a mark begins: the clean value flips, all threads have to cross, and all globals have to be marked (the paper's Mark
 -- phase); c is true of the numbers that are no thread's
 abbrev pub start_mark : (ℕ → Bool) → AddressHeap → AddressHeap
-start_mark c w = record w { nmt = not w.nmt; crossed = c; global_todo = λ g. true; phase = MarkCrossing }
+start_mark c w = record w { nmt = not w.nmt; crossed = c; global_todo = w.is_global; phase = MarkCrossing }
 
 -- thread t crosses the checkpoint, and the phase becomes f (the paper's checkpoints)
 abbrev pub cross_checkpoint : ℕ → Phase → AddressHeap → AddressHeap

@@ -5,7 +5,7 @@ use Rattle.model.specs.declared.records.Phase.TheVariants.{Idle, MarkCrossing, P
 use Rattle.model.specs.declared.records.PageState.TheVariants.{Open, Closed, From, Gone}
 use Rattle.model.specs.Stores.{has_memory, is_protected}
 use Rattle.model.specs.Phases.{is_marking}
-use Rattle.laws.specs.AddressHeap.{AddressHeap, HeapObject, Word, To, Planned, Copied, OpenBarrier, LoadPlace, AtField, AtGlobal, WorkerScan, field, is_crossing, current, names}
+use Rattle.laws.specs.AddressHeap.{AddressHeap, HeapObject, Word, Null, To, Planned, Copied, OpenBarrier, LoadPlace, AtField, AtGlobal, WorkerScan, field, is_crossing, current, names}
 use Rattle.laws.specs.BirthHeap.{BirthHeap, ref, IsRoot, IsReached, IsReachable}
 
 -- birth b is that of an object that the running mark has found
@@ -58,7 +58,7 @@ HasCurrent w p b = record {
 
 -- the place of a thread's load is a global, or a field of the current object of a birth that one of its registers holds
 abbrev pub IsPlace : AddressHeap → BirthHeap → ℕ → LoadPlace → Type 0
-IsPlace w p t (AtGlobal g) = Unit {0}
+IsPlace w p t (AtGlobal g) = w.is_global g ≡ true
 IsPlace w p t (AtField a i) = record {
   object : HeapObject;
   here : current w a ≡ Some object;
@@ -146,7 +146,8 @@ SoundPhases w = record {
   all_copied : (a n : ℕ) → is_marking w.phase ≡ true → w.side_entry a ≢ Planned n;
   -- nothing is scanned before all have crossed
   all_todo : (a : ℕ) → w.phase ≡ MarkCrossing → w.marked a ≡ true → w.todo a ≡ true;
-  globals_todo : (g : ℕ) → w.phase ≡ MarkCrossing → w.global_todo g ≡ true;
+  globals_todo : (g : ℕ) → w.phase ≡ MarkCrossing → w.is_global g ≡ true → w.global_todo g ≡ true;
+  no_global : (g : ℕ) → w.is_global g ≡ false → w.global g ≡ Null;  -- what is no global holds nothing
   no_scan : (k : ℕ) → w.phase ≡ MarkCrossing → w.scan k ≡ None;
 }
 

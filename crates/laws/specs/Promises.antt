@@ -1,5 +1,5 @@
 -- What is promised of every heap that transitions lead to: what `law` ensures.
-use Rattle.std.specs.Prelude.{◌≡◌, ◌⊎◌, ◌≤◌, ◌↔◌, ℕ, Bool, true, Option, Some, None, length}
+use Rattle.std.specs.Prelude.{◌≡◌, ◌⊎◌, ◌≤◌, ◌↔◌, ℕ, Bool, true, false, Option, Some, None, length}
 use Rattle.model.specs.Stores.{has_memory}
 use Rattle.laws.specs.AddressHeap.{AddressHeap, Null, To, HeapObject, OpenBarrier, field, current, names}
 use Rattle.laws.specs.BirthHeap.{BirthHeap, ref, IsReachable}
@@ -81,26 +81,32 @@ LiveWasReachable w p0 =
 -- the first heaps have the invariant, and every list of transitions keeps it
 abbrev pub RunsKeepInvariant : Type 0
 RunsKeepInvariant =
-    Invariant first plain_first plain_first
+    ((is_global : ℕ → Bool) → Invariant (first is_global) plain_first plain_first)
     × ((w : AddressHeap) (p p0 : BirthHeap) (v : AddressHeap) (q q0 : BirthHeap) → Invariant w p p0 → Run w p p0 v q q0 → Invariant v q q0)
 
 -- after every list of transitions from the first heaps, the heap stands for its plain heap, and no register that may be
 -- used names a page without memory
 abbrev pub RunsStandForPlain : Type 0
 RunsStandForPlain =
-    (w : AddressHeap) (p p0 : BirthHeap) → Run first plain_first plain_first w p p0
+    (is_global : ℕ → Bool) (w : AddressHeap) (p p0 : BirthHeap) → Run (first is_global) plain_first plain_first w p p0
     → StandsForPlain w p × UsableHasMemory w
 
 -- after every list of transitions from the first heaps, a thread learns from its registers what it would from the plain
 -- heap's: the object of a birth, whether two registers hold one birth, and whether a register holds none
 abbrev pub RunsAnswerPlain : Type 0
 RunsAnswerPlain =
-    (w : AddressHeap) (p p0 : BirthHeap) → Run first plain_first plain_first w p p0
+    (is_global : ℕ → Bool) (w : AddressHeap) (p p0 : BirthHeap) → Run (first is_global) plain_first plain_first w p p0
     → UsableReadsPlain w p × SameAddressSameBirth w p × NullIsNone w p
 
 -- where a mark ends after a list of transitions from the first heaps, what can be reached is live, and what is live could
 -- be reached when the mark began or is born since
 abbrev pub MarksEndLive : Type 0
 MarksEndLive =
-    (w : AddressHeap) (p p0 : BirthHeap) → Run first plain_first plain_first w p p0 → MayEndMark w → (lent : ℕ → Bool)
+    (is_global : ℕ → Bool) (w : AddressHeap) (p p0 : BirthHeap) → Run (first is_global) plain_first plain_first w p p0 → MayEndMark w → (lent : ℕ → Bool)
     → ReachableIsLive (end_mark lent w) p × LiveWasReachable (end_mark lent w) p0
+
+-- a mark can end: from a first heap, transitions lead to where one may
+pub record MarksCanEnd : Type 0 where
+  pub heap : AddressHeap
+  pub run : Run (first (λ g. false)) plain_first plain_first heap plain_first plain_first
+  pub ends : MayEndMark heap

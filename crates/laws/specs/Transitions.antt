@@ -100,7 +100,7 @@ pub data Transition (w : AddressHeap) (p p0 : BirthHeap) : AddressHeap → Birth
   Load : (t d r a : ℕ) (o : HeapObject) (j : ℕ) → Uses w t r a o → j < length o.refs → w.parked t ≡ false
       → Transition w p p0 (set_barrier t (new_barrier d (AtField a j) (field o j)) w) (plain_load_field t d r j p) p0
   -- thread t begins to load global g, for register d
-  LoadGlobal : (t d g : ℕ) → w.parked t ≡ false
+  LoadGlobal : (t d g : ℕ) → w.is_global g ≡ true → w.parked t ≡ false
       → Transition w p p0 (set_barrier t (new_barrier d (AtGlobal g) (w.global g)) w) (plain_set_pending t (d, p.global g) p) p0
   -- a GC trap, whose object was copied: the word is forwarded (the paper's read barrier)
   TrapMoved : (t : ℕ) (k : OpenBarrier) (a n : ℕ) (b : Bool) → w.barrier t ≡ Some k → k.now ≡ To a b
@@ -114,7 +114,7 @@ pub data Transition (w : AddressHeap) (p p0 : BirthHeap) : AddressHeap → Birth
   TrapMarked : (t : ℕ) (k : OpenBarrier) → w.barrier t ≡ Some k → is_marking w.phase ≡ true
       → Transition w p p0 (set_barrier t (record k { now = marked_word w k.now }) (mark_word k.now w)) p p0
   -- the repaired word is written back to its global, which still holds what was loaded (the paper's read barrier)
-  HealGlobal : (t : ℕ) (k : OpenBarrier) (g : ℕ) → w.barrier t ≡ Some k → w.global g ≡ k.raw
+  HealGlobal : (t : ℕ) (k : OpenBarrier) (g : ℕ) → w.barrier t ≡ Some k → k.place ≡ AtGlobal g → w.global g ≡ k.raw
       → nmt_trap_due w t k.now ≡ false
       → Transition w p p0 (set_barrier t (record k { healed = true }) (set_global g k.now w)) p p0
   -- the repaired word is written back to its field, which still holds what was loaded (the paper's read barrier)
@@ -131,7 +131,7 @@ pub data Transition (w : AddressHeap) (p p0 : BirthHeap) : AddressHeap → Birth
   Store : (t r a : ℕ) (o : HeapObject) (j s : ℕ) → Uses w t r a o → j < length o.refs
       → Transition w p p0 (set_object a (with_field o j (w.register t s)) w) (plain_store t r j s p) p0
   -- thread t stores register s in global g
-  StoreGlobal : (t g s : ℕ)
+  StoreGlobal : (t g s : ℕ) → w.is_global g ≡ true
       → Transition w p p0 (set_global g (w.register t s) w) (plain_set_global g (p.register t s) p) p0
   -- thread t writes datum j of the object in register r
   SetDatum : (t r a : ℕ) (o : HeapObject) (j v : ℕ) → Uses w t r a o
@@ -183,7 +183,7 @@ pub data Transition (w : AddressHeap) (p p0 : BirthHeap) : AddressHeap → Birth
       → w.object_at s.address ≡ Some o → length o.refs ≤ s.next
       → Transition w p p0 (end_scan k s.address w) p p0
   -- a worker marks global g, and writes it back clean (the paper's Mark phase)
-  ScanGlobal : (g : ℕ) → IsScanning w
+  ScanGlobal : (g : ℕ) → w.is_global g ≡ true → IsScanning w
       → Transition w p p0 (end_global_scan g (set_global g (marked_word w (w.global g)) (mark_word (w.global g) w))) p p0
   -- a mark ends; lent is true of the addresses of pages in which a buffer is lent (the paper's Mark and Remap phases)
   EndMark : (lent : ℕ → Bool) → MayEndMark w

@@ -25,7 +25,7 @@
 //! transitions, or that a mark ever ends.
 #![tactic(auto)]
 
-ghost use Rattle.laws.specs.Promises.{RunsKeepInvariant, RunsStandForPlain, RunsAnswerPlain, MarksEndLive};
+ghost use Rattle.laws.specs.Promises.{RunsKeepInvariant, RunsStandForPlain, RunsAnswerPlain, MarksEndLive, MarksCanEnd};
 
 /// The laws. A run is a list of transitions of any threads and workers, in any order. A heap
 /// *stands for* a plain heap where
@@ -45,4 +45,6 @@ pub fn law()
     // where a mark ends after such a run, all that can be reached is live, and what is live could
     // be reached when the mark began, or is born since
     ensures ended { MarksEndLive }
+    // and marks can end
+    ensures ends { MarksCanEnd }
 {}
