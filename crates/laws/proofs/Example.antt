@@ -1,11 +1,11 @@
 -- A mark that ends: thread 0 crosses, with registers that are null, and nothing is left to be scanned.
-use Rattle.std.proofs.Common.{◌≡◌, ◌≢◌, inl, inr, ℕ, Bool, true, false, None, nat_lt, refl, arith}
+use Rattle.std.proofs.Common.{◌≡◌, ◌≢◌, inl, inr, ℕ, Bool, true, false, nat_lt, refl, arith}
 use Rattle.std.proofs.lemmas.Bool.Decides.{nat_tests}
 use Rattle.model.specs.declared.records.Phase.TheVariants.{Scanning}
 use Rattle.laws.specs.AddressHeap.{AddressHeap}
 use Rattle.laws.specs.First.{first, plain_first}
 use Rattle.laws.specs.Edits.{start_mark, cross_checkpoint}
-use Rattle.laws.specs.Transitions.{StartMark, CrossMark, Run, End, Then}
+use Rattle.laws.specs.Transitions.{StartMark, CrossMark, End, Then}
 use Rattle.laws.specs.Promises.{MarksCanEnd}
 use Rattle.laws.proofs.Basics.{put_all}
 

@@ -1,10 +1,11 @@
 -- The first heap stands for the first plain heap.
-use Rattle.std.proofs.Common.{◌≡◌, ◌≢◌, ◌⊎◌, inl, inr, ℕ, zero, suc, ◌-◌, ◌/◌, ◌%◌, true, false, List, [], length, get_or, replicate, Option, Some, None, refl, sym, ◌∙◌, ap, subst}
+use Rattle.std.proofs.Common.{nat_lt, ◌≡◌, ◌≢◌, ◌⊎◌, inl, inr, ℕ, zero, suc, ◌-◌, ◌/◌, ◌%◌, true, false, List, [], length, get_or, replicate, Option, Some, None, refl, sym, ◌∙◌, ap, subst}
 use mathlib.Core.Path.{fun_ext}
 use Rattle.std.specs.List.{slice_get}
 use Rattle.std.specs.Option.{option_map}
 use Rattle.std.proofs.Math.ListN.{length-replicate}
 use Rattle.model.specs.declared.config.Config.{Config}
+use Rattle.model.specs.declared.records.Global.{Global}
 use Rattle.model.specs.declared.records.PageState.TheVariants.{Unused}
 use Rattle.model.specs.declared.records.Forwarding.{Forwarding}
 use Rattle.model.specs.Stores.{first_store, record_count, blank_page, page_at, state_at, state_in, words_at}
@@ -19,7 +20,7 @@ use Rattle.laws.proofs.Basics.{same_or_not}
 use Rattle.laws.proofs.First.{first_holds}
 use Rattle.refinement.specs.Worlds.{world_of, as_word, object_at, object_in, of_page, bit_at, entry_at, crossed_in, parked_in, barrier_in, scan_in, global_in, todo_in}
 use Rattle.refinement.specs.Births.{births_of, as_pair}
-use Rattle.refinement.specs.Claims.{IsLaid, AreRows, HasGiven, Claim, OfObject, OfBuffer, OfPlan, OfEnd, extent, end_extent, sized_extent, planned_extent, size_at, buffer_extent, object_size, Extent}
+use Rattle.refinement.specs.Claims.{AreRising, IsLaid, AreRows, HasGiven, Claim, OfObject, OfBuffer, OfPlan, OfEnd, extent, end_extent, sized_extent, planned_extent, size_at, buffer_extent, object_size, Extent}
 use Rattle.refinement.specs.Standing.{Holds}
 use Rattle.refinement.proofs.Writers.{moved}
 
@@ -94,9 +95,10 @@ module _ (c : Config) where
   extents (OfPlan a) = ap (λ e. planned_extent e (size_at h a)) (entries a)
   extents (OfEnd n) = end_none n
 
-  first_world : world_of h ≡ first
+  first_world : world_of h ≡ first (λ g. nat_lt g c.globals)
   unfolding first_heap first_store register_of state_at
-  first_world = λ z. record first {
+  first_world = λ z. record (first (λ g. nat_lt g c.globals)) {
+    is_global = fun_ext (λ g. ap (nat_lt g) (length-replicate {A = Global} c.globals (record { word = None; todo = false }))) z;
     page_state = fun_ext (λ a. page_none (a / c.words)) z;
     object_at = fun_ext object_none z;
     side_entry = fun_ext entries z;
@@ -146,10 +148,15 @@ module _ (c : Config) where
     live = rows;
     mark = rows;
     todo = rows;
+    sides = record {
+      pages = length-replicate (record_count c.frames c.pages) [] ∙ sym (length-replicate (record_count c.frames c.pages) blank_page);
+      rising = each_replicate (AreRising c.words 0) (record_count c.frames c.pages) [] tt;
+    };
     registers = each_replicate (λ t. length t.registers ≡ c.registers) c.threads (blank_thread c.registers) (length-replicate c.registers None);
     objects = λ a e m. absurd (differ (sym (no_bit a) ∙ e));
     apart = λ d e x y f g. absurd (nothing (sym (extents d) ∙ f));
     planned = λ a n o e f. absurd (no_object (sym (object_none a) ∙ f));
+    live_objects = λ a e m. absurd (differ (sym (no_bit a) ∙ e));
     unused = λ a e. no_bit a;
   }
     where
@@ -165,6 +172,14 @@ module _ (c : Config) where
   pub first_stands : Holds h (plain_start c) (plain_start c)
   unfolding first_heap first_store plain_start
   first_stands = record {
+    sizes = record {
+      words = refl;
+      frames = length-replicate c.frames _;
+      pages = refl;
+      threads = length-replicate c.threads _;
+      workers = length-replicate c.workers _;
+      globals = length-replicate c.globals _;
+    };
     laid = first_laid;
     given = each_replicate HasGiven (record_count c.frames c.pages) blank_page (λ e. absurd (differ e));
     roots = record {
@@ -172,7 +187,7 @@ module _ (c : Config) where
       registers = each_replicate (λ t. length t.registers ≡ c.registers) c.threads _ (length-replicate c.registers None);
       globals = length-replicate c.globals _ ∙ sym (length-replicate c.globals _);
     };
-    invariant = subst (λ q. Invariant (world_of h) (births_of (plain_start c)) q) (sym first_births) (moved first (world_of h) plain_first (births_of (plain_start c)) plain_first first_world first_births first_holds);
+    invariant = subst (λ q. Invariant (world_of h) (births_of (plain_start c)) q) (sym first_births) (moved (first (λ g. nat_lt g c.globals)) (world_of h) plain_first (births_of (plain_start c)) plain_first first_world first_births (first_holds (λ g. nat_lt g c.globals)));
   }
     where
       differ : false ≡ true → ⊥

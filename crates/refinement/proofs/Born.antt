@@ -277,6 +277,14 @@ module _ (h : HeapState) (s : IsStore h.store) (l : IsLaid h) (t target number :
           let (o, is) = l.objects y (sym (put_at_address h.starts l.starts true y ∙ put_other (bit_at h.starts h.store.words) address true y d) ∙ e) k in
           (o, born_objects y ∙ put_other (object_at h) address (Some fresh) y d ∙ is)
 
+  -- an object that was there stays
+  stays : (y : ℕ) (o : HeapObject) → object_at h y ≡ Some o → (q : HeapObject) × (object_at after y ≡ Some q)
+  stays y o is = go (same_or_not y address)
+    where
+      go : (y ≡ address) ⊎ (y ≢ address) → (q : HeapObject) × (object_at after y ≡ Some q)
+      go (inl e) = (fresh, born_objects y ∙ ap (put (object_at h) address (Some fresh)) e ∙ put_same (object_at h) address (Some fresh))
+      go (inr e) = (o, born_objects y ∙ put_other (object_at h) address (Some fresh) y e ∙ is)
+
   planned : (y n : ℕ) (o : HeapObject) → (world_of h).side_entry y ≡ Planned n → put (object_at h) address (Some fresh) y ≡ Some o → n % h.store.words + object_size o ≤ h.store.words
   planned y n o k f = go (put_after (object_at h) address (Some fresh) y (Some o) f)
     where
@@ -292,10 +300,12 @@ module _ (h : HeapState) (s : IsStore h.store) (l : IsLaid h) (t target number :
     live = record { pages = l.live.pages; words = l.live.words };
     mark = rows h.mark l.mark (is_marking h.phase);
     todo = rows h.todo l.todo (is_mark_crossing h.phase);
+    sides = record { pages = l.sides.pages; rising = l.sides.rising };
     registers = each_changed (λ y. length y.registers ≡ h.config.registers) h.threads t (handed target (Some (address, h.nmt)) rest) l.registers (λ y e. length-set y.registers target (Some (address, h.nmt)) ∙ e);
     objects = objects;
     apart = split_apart (extent h) (extent after) l.apart (OfBuffer t) (OfObject address) splits;
     planned = λ y n o k f. planned y n o k (sym (born_objects y) ∙ f);
+    live_objects = λ y e m. (let (o, is) = l.live_objects y e m in stays y o is);
     unused = l.unused;
   }
     where

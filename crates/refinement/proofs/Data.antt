@@ -92,12 +92,18 @@ module _ (h : HeapState) (s : IsStore h.store) (l : IsLaid h) (a : ℕ) (q : Hea
   extents (OfPlan x) = ap (planned_extent ((world_of h).side_entry x)) (sizes x)
   extents (OfEnd n) = refl
 
-  objects : (x : ℕ) → bit_at h.starts h.store.words x ≡ true → has_memory (state_at h.store (x / h.store.words)) ≡ true → (o : HeapObject) × (object_at after x ≡ Some o)
-  objects x b k = go (same_or_not x a)
+  stays : (x : ℕ) (o : HeapObject) → object_at h x ≡ Some o → (p : HeapObject) × (object_at after x ≡ Some p)
+  stays x o is = go (same_or_not x a)
     where
       go : (x ≡ a) ⊎ (x ≢ a) → (o : HeapObject) × (object_at after x ≡ Some o)
       go (inl f) = (with_datum q j v, datum_objects x ∙ ap (put (object_at h) a (Some (with_datum q j v))) f ∙ put_same (object_at h) a (Some (with_datum q j v)))
-      go (inr f) = let (o, is) = l.objects x b k in (o, datum_objects x ∙ put_other (object_at h) a (Some (with_datum q j v)) x f ∙ is)
+      go (inr f) = (o, datum_objects x ∙ put_other (object_at h) a (Some (with_datum q j v)) x f ∙ is)
+
+  live : (x : ℕ) → bit_at h.live h.store.words x ≡ true → has_memory (state_at h.store (x / h.store.words)) ≡ true → (o : HeapObject) × (object_at after x ≡ Some o)
+  live x b k = let (o, is) = l.live_objects x b k in stays x o is
+
+  objects : (x : ℕ) → bit_at h.starts h.store.words x ≡ true → has_memory (state_at h.store (x / h.store.words)) ≡ true → (o : HeapObject) × (object_at after x ≡ Some o)
+  objects x b k = let (o, is) = l.objects x b k in stays x o is
 
   planned : (x n : ℕ) (o : HeapObject) → (world_of h).side_entry x ≡ Planned n → put (object_at h) a (Some (with_datum q j v)) x ≡ Some o → n % h.store.words + object_size o ≤ h.store.words
   planned x n o k f = go (put_after (object_at h) a (Some (with_datum q j v)) x (Some o) f)
@@ -115,9 +121,11 @@ module _ (h : HeapState) (s : IsStore h.store) (l : IsLaid h) (a : ℕ) (q : Hea
     live = record { pages = l.live.pages; words = l.live.words };
     mark = record { pages = l.mark.pages; words = l.mark.words };
     todo = record { pages = l.todo.pages; words = l.todo.words };
+    sides = record { pages = l.sides.pages; rising = l.sides.rising };
     registers = l.registers;
     objects = objects;
     apart = extents_same (extent h) (extent after) l.apart extents;
     planned = λ x n o k f. planned x n o k (sym (datum_objects x) ∙ f);
+    live_objects = λ x b k. live x b k;
     unused = l.unused;
   }

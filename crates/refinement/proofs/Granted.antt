@@ -143,9 +143,11 @@ module _ (h : HeapState) (l : IsLaid h) (t i : ℕ) (p : Page) (n : ℕ) (x : Th
     live = rows h.live l.live;
     mark = rows h.mark l.mark;
     todo = rows h.todo l.todo;
+    sides = record { pages = l.sides.pages ∙ sym (length-set h.store.pages i (with_more p n)); rising = l.sides.rising };
     registers = each_changed (λ y. length y.registers ≡ h.config.registers) h.threads t (set_buffer_of (Some (buffer_of i p.top n))) l.registers (λ y e. e);
     objects = λ a e k. let (o, is) = l.objects a e (ap has_memory (sym (states (a / h.store.words))) ∙ k) in (o, objects a ∙ is);
     apart = split_apart (extent h) (extent after) l.apart (OfEnd (i + 1)) (OfBuffer t) splits;
     planned = λ a m o k f. l.planned a m o k (sym (objects a) ∙ f);
+    live_objects = λ a e k. (let (o, is) = l.live_objects a e (ap has_memory (sym (states (a / h.store.words))) ∙ k) in (o, objects a ∙ is));
     unused = λ a k. l.unused a (sym (states (a / h.store.words)) ∙ k);
   }

@@ -320,10 +320,12 @@ module _ (h : HeapState) (s : IsStore h.store) (k : IsHeap h) (l : IsLaid h) (o 
     live = rows h.live l.live;
     mark = rows h.mark l.mark;
     todo = rows h.todo l.todo;
+    sides = record { pages = l.sides.pages ∙ sym (length-set h.store.pages i (fresh_page f)); rising = l.sides.rising };
     registers = l.registers;
     objects = objects;
     apart = apart;
     planned = λ a n q e g. l.planned a n q e (sym (opened_objects a) ∙ g);
+    live_objects = live;
     unused = λ a e. stays h.live l.live not_live a ∙ by_page a (same_or_not (a / h.store.words) (i + 1)) e;
   }
     where
@@ -339,6 +341,16 @@ module _ (h : HeapState) (s : IsStore h.store) (k : IsHeap h) (l : IsLaid h) (o 
           no : Open ≡ Unused → ⊥
           no z = cc
       by_page a (inr d) g = l.unused a (sym (old_state a d) ∙ g)
+
+      live : (a : ℕ) → bit_at (changed h.live i blank_row) h.store.words a ≡ true → has_memory (state_at after.store (a / h.store.words)) ≡ true → (q : HeapObject) × (object_at after a ≡ Some q)
+      live a e g = go (same_or_not (a / h.store.words) (i + 1))
+        where
+          no : false ≡ true → ⊥
+          no z = cc
+
+          go : (a / h.store.words ≡ i + 1) ⊎ (a / h.store.words ≢ i + 1) → (q : HeapObject) × (object_at after a ≡ Some q)
+          go (inl z) = absurd (no (sym (blank h.live l.live a z) ∙ e))
+          go (inr d) = let (q, is) = l.live_objects a (sym (other_bit h.live l.live a d) ∙ e) (ap has_memory (sym (old_state a d)) ∙ g) in (q, opened_objects a ∙ is)
 
       objects : (a : ℕ) → bit_at (changed h.starts i blank_row) h.store.words a ≡ true → has_memory (state_at after.store (a / h.store.words)) ≡ true → (q : HeapObject) × (object_at after a ≡ Some q)
       objects a e g = go (same_or_not (a / h.store.words) (i + 1))

@@ -50,10 +50,12 @@ module _ (h : HeapState) (l : IsLaid h) (t : ℕ) where
     live = record { pages = l.live.pages; words = l.live.words };
     mark = record { pages = l.mark.pages; words = l.mark.words };
     todo = record { pages = l.todo.pages; words = l.todo.words };
+    sides = record { pages = l.sides.pages; rising = l.sides.rising };
     registers = each_changed (λ y. length y.registers ≡ h.config.registers) h.threads t (set_register_of r w) l.registers (λ y e. length-set y.registers r w ∙ e);
     objects = l.objects;
     apart = extents_same (extent h) _ l.apart extents;
     planned = l.planned;
+    live_objects = l.live_objects;
     unused = l.unused;
   }
     where
@@ -80,10 +82,12 @@ module _ (h : HeapState) (l : IsLaid h) (t : ℕ) where
     live = record { pages = l.live.pages; words = l.live.words };
     mark = record { pages = l.mark.pages; words = l.mark.words };
     todo = record { pages = l.todo.pages; words = l.todo.words };
+    sides = record { pages = l.sides.pages; rising = l.sides.rising };
     registers = each_changed (λ y. length y.registers ≡ h.config.registers) h.threads t (set_buffer_of None) l.registers (λ y e. e);
     objects = l.objects;
     apart = λ c d x y e f. l.apart c d x y (back c x e) (back d y f);
     planned = l.planned;
+    live_objects = l.live_objects;
     unused = l.unused;
   }
     where

@@ -1,7 +1,8 @@
 -- A step that takes a buffer.
-use Rattle.std.proofs.Common.{◌≡◌, ◌≢◌, ◌⊎◌, inl, inr, ℕ, ◌+◌, ◌-◌, ◌<◌, ◌≤◌, ◌==◌, Bool, true, false, cond, nat_eq, nat_lt, List, set, is_some, Option, Some, None, refl, sym, ◌∙◌, ap, subst, arith, ne_eqb}
+use Rattle.std.proofs.Common.{replicate, ◌≡◌, ◌≢◌, ◌⊎◌, inl, inr, ℕ, ◌+◌, ◌-◌, ◌<◌, ◌≤◌, ◌==◌, Bool, true, false, cond, nat_eq, nat_lt, List, set, is_some, Option, Some, None, refl, sym, ◌∙◌, ap, subst, arith, ne_eqb}
 use Rattle.std.specs.List.{slice_get}
 use Rattle.std.specs.Prelude.{Ok, Err, Result}
+use Rattle.std.proofs.Math.ListN.{length-set}
 use Rattle.std.proofs.lemmas.Bool.Decides.{nat_tests}
 use Rattle.model.specs.declared.steps.Actor.TheVariants.{Thread}
 use Rattle.model.specs.declared.steps.Step.TheVariants as steps
@@ -27,6 +28,7 @@ use Rattle.refinement.specs.Births.{births_of}
 use Rattle.refinement.specs.Claims.{HasGiven}
 use Rattle.refinement.specs.Standing.{Holds, StepHolds}
 use Rattle.refinement.proofs.Changes.{length_changed}
+use Rattle.refinement.proofs.Sizes.{sizes_stay}
 use Rattle.refinement.proofs.Taken.{InOpenPage, InFreshPage, ways}
 use Rattle.refinement.proofs.Granted.{granted, granted_world, granted_laid, with_more}
 use Rattle.refinement.proofs.Opened.{opened_heap, opened_world, opened_laid, on_page, was_unused}
@@ -69,6 +71,7 @@ lent_fresh h t i f n = λ z. record (granted (opened_heap h i f) t i (fresh_page
 module _ (h : HeapState) (p p0 : PlainHeap) (s : IsStore h.store) (d : IsHeap h) (k : Holds h p p0) (t n : ℕ) (x : ThreadState) (at : slice_get h.threads t ≡ Some x) (had : x.buffer ≡ None) (low : 0 < n) where
   in_open : (i : ℕ) (q : Page) → slice_get h.store.pages i ≡ Some q → is_open q.state ≡ true → q.top + n ≤ h.store.words → Holds (granted h t i q n) p p0
   in_open i q there is_so room = record {
+    sizes = sizes_stay h (granted h t i q n) k.sizes refl refl refl refl (length_changed h.threads t (set_buffer_of (Some (buffer_of i q.top n)))) refl refl;
     laid = granted_laid h k.laid t i q n x there is_so room at had;
     given = each_set HasGiven h.store.pages i (with_more q n) k.given (λ e. omega (arith, low));
     roots = moved_roots h (granted h t i q n) p (length_changed h.threads t (set_buffer_of (Some (buffer_of i q.top n)))) refl refl k.roots;
@@ -85,6 +88,7 @@ module _ (h : HeapState) (p p0 : PlainHeap) (s : IsStore h.store) (d : IsHeap h)
       let one : 0 + n ≤ h.store.words = omega (arith, room) in
       let step = transition_keeps (world_of h) (births_of p) (births_of p0) _ _ _ k.invariant (TakeFresh (on_page h i) (was_unused h s d k.laid o m i f q there unused free)) in
       record {
+        sizes = sizes_stay h (granted (opened_heap h i f) t i (fresh_page f) n) k.sizes refl refl (length-set h.store.frames f (replicate h.store.words 0)) refl (length_changed h.threads t (set_buffer_of (Some (buffer_of i 0 n)))) refl refl;
         laid = granted_laid (opened_heap h i f) laid t i (fresh_page f) n x fresh refl one at had;
         given = each_set_again HasGiven h.store.pages i (fresh_page f) (with_more (fresh_page f) n) k.given (λ e. omega (arith, low));
         roots = moved_roots h (granted (opened_heap h i f) t i (fresh_page f) n) p (length_changed h.threads t (set_buffer_of (Some (buffer_of i 0 n)))) refl refl k.roots;

@@ -36,6 +36,7 @@ use Rattle.refinement.proofs.Objects.{there}
 use Rattle.refinement.proofs.Changes.{length_changed}
 use Rattle.refinement.proofs.Data as written
 use Rattle.refinement.proofs.Born as births
+use Rattle.refinement.proofs.Sizes.{frames_stay, sizes_stay}
 use Rattle.refinement.proofs.Registers.{register_world, register_laid, buffer_world, given_back_laid}
 use Rattle.refinement.proofs.Births.{naming_is, naming_roots, writing_is, writing_roots, born_is, born_roots}
 use Rattle.refinement.proofs.Verdicts.{bind_ok, found_ok, same_result, not_refused, accepted, Passed, first_false, not_le, used_ok, datum_there}
@@ -74,6 +75,7 @@ module _ (h : HeapState) (p p0 : PlainHeap) (s : IsStore h.store) (d : IsHeap h)
       by_buffer true f = subst (λ (z : HeapState × Answer). StepHolds h p p0 (Thread t) steps.GiveBack z.0 z.1) (same_result (with_buffer h t None, answers.Done) y f) (record {
         config = refl;
         holds = record {
+          sizes = sizes_stay h (with_buffer h t None) k.sizes refl refl refl refl (length_changed h.threads t (set_buffer_of None)) refl refl;
           laid = given_back_laid h k.laid t;
           given = k.given;
           roots = moved_roots h (with_buffer h t None) p (length_changed h.threads t (set_buffer_of None)) refl refl k.roots;
@@ -88,6 +90,7 @@ module _ (h : HeapState) (p p0 : PlainHeap) (s : IsStore h.store) (d : IsHeap h)
       → Holds (with_register h t r w) (naming p t r v) p0
   unfolding with_register
   register_holds r w v x at low i = record {
+    sizes = sizes_stay h (with_register h t r w) k.sizes refl refl refl refl (length_changed h.threads t (set_register_of r w)) refl refl;
     laid = register_laid h k.laid t r w;
     given = k.given;
     roots = moved_roots h (with_register h t r w) (naming p t r v) (length_changed h.threads t (set_register_of r w)) refl refl (naming_roots h p t r v k.roots);
@@ -138,6 +141,7 @@ module _ (h : HeapState) (p p0 : PlainHeap) (s : IsStore h.store) (d : IsHeap h)
           record {
             config = refl;
             holds = record {
+              sizes = sizes_stay h (written.after h s k.laid a q u.here j v m) k.sizes refl refl (frames_stay h.store _ _) refl refl refl refl;
               laid = written.datum_laid h s k.laid a q u.here j v m;
               given = k.given;
               roots = moved_roots h (written.after h s k.laid a q u.here j v m) (writing p (name_of p t r) j v) refl refl refl (writing_roots h p (name_of p t r) j v k.roots);
@@ -225,6 +229,7 @@ module _ (h : HeapState) (p p0 : PlainHeap) (s : IsStore h.store) (d : IsHeap h)
           subst (λ (z : HeapState × Answer). StepHolds h p p0 (Thread t) (steps.New r number) z.0 z.1) is (record {
             config = refl;
             holds = subst (λ o. Holds (placed h t r number l b) (born p t r number o) p0) (sym known) (record {
+              sizes = sizes_stay h (placed h t r number l b) k.sizes refl refl (frames_stay h.store _ _) refl (length_changed h.threads t (handed r (Some (b.page * h.store.words + b.next, h.nmt)) (used_buffer b (size_of l)))) refl refl;
               laid = births.born_laid h s k.laid t r number l b g.thread m;
               given = k.given;
               roots = moved_roots h (placed h t r number l b) (born p t r number (Some l)) (length_changed h.threads t (handed r (Some (b.page * h.store.words + b.next, h.nmt)) (used_buffer b (size_of l)))) refl refl (born_roots h p t r number l k.roots);

@@ -1,6 +1,7 @@
 -- What lies where in memory: the runs of addresses that objects, buffers, planned places and the free ends of open pages
 -- have, of which no two overlap.
-use Rattle.std.specs.Prelude.{◌≡◌, ◌⊎◌, ◌≤◌, ◌<◌, ◌+◌, ◌*◌, ◌%◌, ℕ, Bool, true, false, List, length, Option, Some, None, option_map, if◌then◌else◌}
+use Rattle.std.specs.Prelude.{[], ◌∷◌, ◌<◌, ◌≡◌, ◌⊎◌, ◌≤◌, ◌+◌, ◌*◌, ◌%◌, ℕ, Bool, true, false, List, length, Option, Some, None, option_map, if◌then◌else◌}
+use Rattle.model.specs.declared.records.Forwarding.{Forwarding}
 use Rattle.model.specs.declared.records.Page.{Page}
 use Rattle.model.specs.declared.records.PageState.TheVariants.{Unused}
 use Rattle.model.specs.declared.records.Buffer.{Buffer}
@@ -62,18 +63,40 @@ pub record AreRows (s : StoreState) (rows : List (List Bool)) : Type 0 where
   pub pages : length rows ≡ length s.pages
   pub words : Each rows (λ row. length row ≡ s.words)
 
+-- offsets rise from a lowest one, and lie in a page of so many words
+abbrev pub AreRising : ℕ → ℕ → List Forwarding → Type 0
+AreRising words low [] = Unit {0}
+AreRising words low (f ∷ fs) = (low ≤ f.offset) × (f.offset < words) × AreRising words (f.offset + 1) fs
+
+-- each page has a side array, whose entries rise by their offsets
+pub record AreSides (s : StoreState) (sides : List (List Forwarding)) : Type 0 where
+  pub pages : length sides ≡ length s.pages
+  pub rising : Each sides (AreRising s.words 0)
+
+-- the heap is of the sizes that it was made with
+pub record HasSizes (h : HeapState) : Type 0 where
+  pub words : h.store.words ≡ h.config.words
+  pub frames : length h.store.frames ≡ h.config.frames
+  pub pages : h.store.count ≡ h.config.pages
+  pub threads : length h.threads ≡ h.config.threads
+  pub workers : length h.workers ≡ h.config.workers
+  pub globals : length h.globals ≡ h.config.globals
+
 -- the memory of a heap is in order
 pub record IsLaid (h : HeapState) : Type 0 where
   pub starts : AreRows h.store h.starts
   pub live : AreRows h.store h.live
   pub mark : AreRows h.store h.mark
   pub todo : AreRows h.store h.todo
+  pub sides : AreSides h.store h.sides
   pub registers : Each h.threads (λ t. length t.registers ≡ h.config.registers)
   -- where an object is said to start on a page with memory, there is one
   pub objects : (a : ℕ) → bit_at h.starts h.store.words a ≡ true → has_memory ((world_of h).page_state a) ≡ true → (o : HeapObject) × (object_at h a ≡ Some o)
   pub apart : Apart (extent h)
   -- a planned place lies in one page
   pub planned : (a n : ℕ) (o : HeapObject) → (world_of h).side_entry a ≡ Planned n → object_at h a ≡ Some o → n % h.store.words + object_size o ≤ h.store.words
+  -- what is live on a page with memory is an object
+  pub live_objects : (a : ℕ) → bit_at h.live h.store.words a ≡ true → has_memory ((world_of h).page_state a) ≡ true → (o : HeapObject) × (object_at h a ≡ Some o)
   -- nothing is live on an unused page
   pub unused : (a : ℕ) → (world_of h).page_state a ≡ Unused → bit_at h.live h.store.words a ≡ false
 

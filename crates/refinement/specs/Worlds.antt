@@ -1,6 +1,6 @@
 -- The heap by addresses that a heap's state stands for: its objects, read off the words of its pages, and all else read
 -- off its records.
-use Rattle.std.specs.Prelude.{ℕ, ◌+◌, ◌/◌, ◌%◌, ◌^◌, ◌==◌, zero, suc, Bool, true, false, List, [], ◌∷◌, length, take, drop, map, get_or, Option, Some, None, option_map, nat_le, slice_get, if◌then◌else◌}
+use Rattle.std.specs.Prelude.{ℕ, ◌+◌, ◌/◌, ◌%◌, ◌^◌, ◌==◌, zero, suc, Bool, true, false, List, [], ◌∷◌, length, take, drop, map, get_or, Option, Some, None, option_map, nat_le, nat_lt, slice_get, if◌then◌else◌}
 use Rattle.refword.specs.Words.{word_of}
 use Rattle.layout.specs.declared.shape.Layout.{Layout}
 use Rattle.layout.specs.Objects.{size_of}
@@ -132,6 +132,7 @@ world_of h = record {
   parked = λ t. parked_in (slice_get h.threads t);
   barrier = λ t. barrier_in (slice_get h.threads t);
   scan = λ k. scan_in (slice_get h.workers k);
+  is_global = λ g. nat_lt g (length h.globals);
   global = λ g. global_in (slice_get h.globals g);
   global_todo = λ g. todo_in (slice_get h.globals g);
   phase = h.phase;
