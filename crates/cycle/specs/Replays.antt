@@ -6,7 +6,7 @@ use Rattle.model.specs.Plain.{PlainHeap, plain_start, plain_step, plain_answer}
 use Rattle.laws.specs.Promises.{StandsForPlain, UsableHasMemory}
 use Rattle.refinement.specs.Worlds.{world_of}
 use Rattle.refinement.specs.Births.{births_of}
-use Rattle.refinement.specs.Standing.{Holds, AnswersPlain, at_mark}
+use Rattle.refinement.specs.Standing.{Holds, AnswersPlain, kept_at_mark}
 use Rattle.cycle.specs.declared.book.Entry.{Entry}
 use Rattle.cycle.specs.Books.{BookState}
 
@@ -17,7 +17,7 @@ pub record Replayed : Type 0 where
 
 -- after one more entry
 abbrev pub after_entry : List Layout → Replayed → Entry → Replayed
-after_entry ls r e = record { now = plain_step ls r.now e.actor e.step; at_mark = at_mark r.now r.at_mark e.step }
+after_entry ls r e = record { now = plain_step ls r.now e.actor e.step; at_mark = kept_at_mark r.now r.at_mark e.step }
 
 -- after more entries
 abbrev pub after_entries : List Layout → Replayed → List Entry → Replayed

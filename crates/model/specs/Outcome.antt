@@ -22,7 +22,7 @@ use Rattle.model.specs.Refusing.{◌>>=◌, or_refuse, Outcome}
 -- registers that may be used
 
 abbrev pub has_crossed : Option ThreadState → Bool
-has_crossed None = false
+has_crossed None = true
 has_crossed (Some t) = t.crossed
 
 -- what keeps a thread from a protected page: nothing before it crosses the page's checkpoint

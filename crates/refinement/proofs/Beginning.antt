@@ -13,15 +13,17 @@ use Rattle.model.specs.Heaps.{HeapState, Reference, first_heap, blank_rows, blan
 use Rattle.model.specs.Plain.{PlainThread, plain_start, name_of, name_in, pending_in}
 use Rattle.model.proofs.Lists.{each_replicate}
 use Rattle.page.proofs.Keeping.{page_at_record, page_at_zero}
+use Rattle.model.specs.Outcome.{has_crossed, is_parked_in}
 use Rattle.laws.specs.AddressHeap.{Null, NoEntry, HeapObject}
 use Rattle.laws.specs.Invariant.{Invariant}
 use Rattle.laws.specs.First.{first, plain_first}
 use Rattle.laws.proofs.Basics.{same_or_not}
 use Rattle.laws.proofs.First.{first_holds}
-use Rattle.refinement.specs.Worlds.{world_of, as_word, object_at, object_in, of_page, bit_at, entry_at, crossed_in, parked_in, barrier_in, scan_in, global_in, todo_in}
+use Rattle.refinement.specs.Worlds.{world_of, as_word, object_at, object_in, of_page, bit_at, entry_at, barrier_in, scan_in, global_in, todo_in}
 use Rattle.refinement.specs.Births.{births_of, as_pair}
 use Rattle.refinement.specs.Claims.{AreRising, IsLaid, AreRows, HasGiven, Claim, OfObject, OfBuffer, OfPlan, OfEnd, extent, end_extent, sized_extent, planned_extent, size_at, buffer_extent, object_size, Extent}
 use Rattle.refinement.specs.Standing.{Holds}
+use Rattle.refinement.proofs.Changes.{blank_bit}
 use Rattle.refinement.proofs.Writers.{moved}
 
 -- what is read of equal elements
@@ -30,14 +32,9 @@ read_of P zero x e i = e
 read_of P (suc n) x e zero = refl
 read_of P (suc n) x e (suc i) = read_of P n x e i
 
-clear : (n i : ℕ) → get_or (replicate n false) i false ≡ false
-clear zero i = refl
-clear (suc n) zero = refl
-clear (suc n) (suc i) = clear n i
-
 clear_row : (n m i o : ℕ) → get_or (get_or (replicate n (replicate m false)) i []) o false ≡ false
 clear_row zero m i o = refl
-clear_row (suc n) m zero o = clear m o
+clear_row (suc n) m zero o = blank_bit m o
 clear_row (suc n) m (suc i) o = clear_row n m i o
 
 clear_page : (n m page o : ℕ) → get_or (of_page (replicate n (replicate m false)) page) o false ≡ false
@@ -106,8 +103,8 @@ module _ (c : Config) where
     marked = fun_ext no_bit z;
     todo = fun_ext no_bit z;
     register = fun_ext (λ t. fun_ext (registers t)) z;
-    crossed = fun_ext (read_of crossed_in c.threads (blank_thread c.registers) refl) z;
-    parked = fun_ext (read_of parked_in c.threads (blank_thread c.registers) refl) z;
+    crossed = fun_ext (read_of has_crossed c.threads (blank_thread c.registers) refl) z;
+    parked = fun_ext (read_of is_parked_in c.threads (blank_thread c.registers) refl) z;
     barrier = fun_ext (read_of barrier_in c.threads (blank_thread c.registers) refl) z;
     scan = fun_ext (read_of scan_in c.workers None refl) z;
     global = fun_ext (read_of global_in c.globals (record { word = None; todo = false }) refl) z;

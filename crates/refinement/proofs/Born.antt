@@ -15,14 +15,14 @@ use Rattle.model.specs.Phases.{is_marking, is_mark_crossing}
 use Rattle.model.specs.Stores.{words_at, with_words, state_at, state_in, page_at, has_memory, is_open, overlaid}
 use Rattle.model.specs.Owning.{IsStore, LiesIn}
 use Rattle.model.specs.Heaps.{HeapState, ThreadState, register_of, buffer_in, changed, put_bit, fresh_object}
-use Rattle.model.specs.Outcome.{placed, handed, used_buffer}
+use Rattle.model.specs.Outcome.{placed, handed, used_buffer, has_crossed, is_parked_in}
 use Rattle.model.proofs.Lists.{get_within}
 use Rattle.model.proofs.Memory.{some_in, open_state, words_sized, memory_words, page_there}
 use Rattle.laws.specs.AddressHeap.{HeapObject, Word, Null, SideEntry, NoEntry, Planned, Copied, put}
 use Rattle.laws.specs.Invariant.{SoundObjects}
 use Rattle.laws.specs.Edits.{born}
 use Rattle.laws.proofs.Basics.{put_all, put_after, put_same, put_other, same_or_not}
-use Rattle.refinement.specs.Worlds.{world_of, object_at, bit_at, crossed_in, parked_in, barrier_in}
+use Rattle.refinement.specs.Worlds.{world_of, object_at, bit_at, barrier_in}
 use Rattle.refinement.specs.Claims.{IsLaid, AreRows, AreApart, Claim, OfObject, OfBuffer, OfPlan, OfEnd, Extent, extent, object_size, size_at, sized_extent, planned_extent, buffer_extent}
 use Rattle.refinement.proofs.Runs.{Agree, overlaid_before, overlaid_behind, length_overlaid}
 use Rattle.refinement.proofs.Reading.{IsRead, read_fits, read_fresh, new_object}
@@ -189,8 +189,8 @@ module _ (h : HeapState) (s : IsStore h.store) (l : IsLaid h) (t target number :
     register = fun_ext (λ u. fun_ext (register_changed h.threads t target (Some (address, h.nmt)) (handed target (Some (address, h.nmt)) (used_buffer b (size_of shape))) x m.thread m.register refl u)) z;
     marked = fun_ext (put_at_address h.mark l.mark (is_marking h.phase)) z;
     todo = fun_ext (put_at_address h.todo l.todo (is_mark_crossing h.phase)) z;
-    crossed = fun_ext (kept_of crossed_in h.threads t (handed target (Some (address, h.nmt)) (used_buffer b (size_of shape))) (λ y. refl)) z;
-    parked = fun_ext (kept_of parked_in h.threads t (handed target (Some (address, h.nmt)) (used_buffer b (size_of shape))) (λ y. refl)) z;
+    crossed = fun_ext (kept_of has_crossed h.threads t (handed target (Some (address, h.nmt)) (used_buffer b (size_of shape))) (λ y. refl)) z;
+    parked = fun_ext (kept_of is_parked_in h.threads t (handed target (Some (address, h.nmt)) (used_buffer b (size_of shape))) (λ y. refl)) z;
     barrier = fun_ext (kept_of barrier_in h.threads t (handed target (Some (address, h.nmt)) (used_buffer b (size_of shape))) (λ y. refl)) z;
   }
     where

@@ -119,7 +119,7 @@ bit_put w rows i a b row p e h = put_all (λ x y. bit_at (changed rows i (put_bi
     elsewhere x d (inl q) = on_page x q ∙ put_other (λ j. get_or row j false) (a % w) b (x % w) (λ k. d (same_place w x a (q ∙ sym p) k)) ∙ ap (λ r. get_or r (x % w) false) (sym (ap (of_page rows) q ∙ row_there rows i row e))
     elsewhere x d (inr q) = ap (λ r. get_or r (x % w) false) (page_changed rows i (put_bit (a % w) b) row e (x / w) ∙ put_other (of_page rows) (suc i) (put_bit (a % w) b row) (x / w) q)
 
-blank_bit : (n i : ℕ) → get_or (replicate n false) i false ≡ false
+pub blank_bit : (n i : ℕ) → get_or (replicate n false) i false ≡ false
 blank_bit zero i = refl
 blank_bit (suc n) zero = refl
 blank_bit (suc n) (suc i) = blank_bit n i

@@ -10,9 +10,10 @@ use Rattle.model.specs.Heaps.{HeapState, ThreadState, register_of, register_in, 
 use Rattle.model.proofs.Lists.{get_set_same, get_set_other}
 use Rattle.page.proofs.Keeping.{page_at_record, page_at_zero}
 use Rattle.model.proofs.Memory.{some_in}
+use Rattle.model.specs.Outcome.{has_crossed, is_parked_in}
 use Rattle.laws.specs.AddressHeap.{put}
 use Rattle.laws.proofs.Basics.{put_all, put_same, put_other, same_or_not}
-use Rattle.refinement.specs.Worlds.{world_of, object_at, object_in, bit_at, as_word, crossed_in, parked_in, barrier_in}
+use Rattle.refinement.specs.Worlds.{world_of, object_at, object_in, bit_at, as_word, barrier_in}
 use Rattle.refinement.specs.Claims.{IsLaid, AreRows, Claim, OfObject, OfBuffer, OfPlan, OfEnd, Extent, extent, object_size, sized_extent, planned_extent, buffer_extent, end_extent, size_at}
 use Rattle.refinement.proofs.Changes.{get_changed, kept_of, each_changed}
 use Rattle.refinement.proofs.Claims.{Splits, split_apart}
@@ -69,8 +70,8 @@ module _ (h : HeapState) (l : IsLaid h) (t i : ℕ) (p : Page) (n : ℕ) (x : Th
     page_state = fun_ext (λ a. states (a / h.store.words)) z;
     object_at = fun_ext objects z;
     register = fun_ext (λ u. fun_ext (λ s. kept_of (λ o. as_word (register_in o s)) h.threads t change (λ y. refl) u)) z;
-    crossed = fun_ext (kept_of crossed_in h.threads t change (λ y. refl)) z;
-    parked = fun_ext (kept_of parked_in h.threads t change (λ y. refl)) z;
+    crossed = fun_ext (kept_of has_crossed h.threads t change (λ y. refl)) z;
+    parked = fun_ext (kept_of is_parked_in h.threads t change (λ y. refl)) z;
     barrier = fun_ext (kept_of barrier_in h.threads t change (λ y. refl)) z;
   }
     where

@@ -14,6 +14,7 @@ use Rattle.model.specs.Heaps.{HeapState, ThreadState, Reference, register_of}
 use Rattle.model.specs.Refusing.{◌>>=◌, or_refuse}
 use Rattle.model.specs.Outcome.{datum_outcome, same_outcome, is_null_outcome, usable, usable_or_null, datum_at, same_address}
 use Rattle.model.specs.Plain.{PlainHeap, Object, plain_step, plain_answer, name_of, object_of, datum_of, as_datum, same_name}
+use Rattle.model.proofs.Memory.{some_in}
 use Rattle.laws.specs.AddressHeap.{HeapObject, Null, To}
 use Rattle.laws.specs.Transitions.{Uses}
 use Rattle.laws.specs.Promises.{ReadsPlain}
@@ -76,12 +77,9 @@ module _ (h : HeapState) (p p0 : PlainHeap) (s : IsStore h.store) (k : Holds h p
       differ : (m n : ℕ) → nat_eq m n ≡ false → m ≢ n
       differ m n z = grind arith
 
-      inside : (m n : ℕ) → Some m ≡ Some n → m ≡ n
-      inside m n z = cc
-
       by_test : (y : Bool) → nat_eq b d ≡ y → nat_eq a c ≡ y
       by_test true z = eq-eqb a c (e.1 (ap Some (equal b d z)))
-      by_test false z = ne_eqb a c (λ q. differ b d z (inside b d (e.0 q)))
+      by_test false z = ne_eqb a c (λ q. differ b d z (some_in (e.0 q)))
 
   same_truth : (l r : ℕ) (a b : Option ℕ) → ((a ≡ None) × (register_of h t l ≡ None)) ⊎ ((c : ℕ) × (a ≡ Some c) × IsUsed h t l c) → ((b ≡ None) × (register_of h t r ≡ None)) ⊎ ((c : ℕ) × (b ≡ Some c) × IsUsed h t r c)
       → same_address a b ≡ same_name (name_of p t l) (name_of p t r)

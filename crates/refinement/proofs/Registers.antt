@@ -7,10 +7,11 @@ use Rattle.std.proofs.Math.ListN.{length-set}
 use Rattle.model.specs.declared.records.Buffer.{Buffer}
 use Rattle.model.specs.Heaps.{HeapState, ThreadState, Reference, flat, register_of, register_in, with_register, with_buffer, changed, set_register_of, set_buffer_of, buffer_in}
 use Rattle.model.proofs.Lists.{get_set_same, get_set_other, get_within}
+use Rattle.model.specs.Outcome.{has_crossed, is_parked_in}
 use Rattle.laws.specs.AddressHeap.{put, put_at}
 use Rattle.laws.specs.Effects.{set_register}
 use Rattle.laws.proofs.Basics.{put_all, put_same, put_other, same_or_not}
-use Rattle.refinement.specs.Worlds.{world_of, as_word, crossed_in, parked_in, barrier_in}
+use Rattle.refinement.specs.Worlds.{world_of, as_word, barrier_in}
 use Rattle.refinement.specs.Claims.{IsLaid, Claim, OfObject, OfBuffer, OfPlan, OfEnd, extent, Extent, buffer_extent}
 use Rattle.refinement.proofs.Changes.{get_changed, kept_of, each_changed}
 use Rattle.refinement.proofs.Claims.{extents_same}
@@ -38,8 +39,8 @@ module _ (h : HeapState) (l : IsLaid h) (t : ℕ) where
   unfolding with_register register_of
   register_world r w x e k = λ z. record (world_of h) {
     register = fun_ext (λ u. fun_ext (register_changed h.threads t r w (set_register_of r w) x e k refl u)) z;
-    crossed = fun_ext (kept_of crossed_in h.threads t (set_register_of r w) (λ y. refl)) z;
-    parked = fun_ext (kept_of parked_in h.threads t (set_register_of r w) (λ y. refl)) z;
+    crossed = fun_ext (kept_of has_crossed h.threads t (set_register_of r w) (λ y. refl)) z;
+    parked = fun_ext (kept_of is_parked_in h.threads t (set_register_of r w) (λ y. refl)) z;
     barrier = fun_ext (kept_of barrier_in h.threads t (set_register_of r w) (λ y. refl)) z;
   }
 
@@ -70,8 +71,8 @@ module _ (h : HeapState) (l : IsLaid h) (t : ℕ) where
   unfolding with_buffer register_of
   buffer_world b = λ z. record (world_of h) {
     register = fun_ext (λ u. fun_ext (λ s. kept_of (λ o. as_word (register_in o s)) h.threads t (set_buffer_of b) (λ y. refl) u)) z;
-    crossed = fun_ext (kept_of crossed_in h.threads t (set_buffer_of b) (λ y. refl)) z;
-    parked = fun_ext (kept_of parked_in h.threads t (set_buffer_of b) (λ y. refl)) z;
+    crossed = fun_ext (kept_of has_crossed h.threads t (set_buffer_of b) (λ y. refl)) z;
+    parked = fun_ext (kept_of is_parked_in h.threads t (set_buffer_of b) (λ y. refl)) z;
     barrier = fun_ext (kept_of barrier_in h.threads t (set_buffer_of b) (λ y. refl)) z;
   }
 

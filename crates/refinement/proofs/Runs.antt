@@ -3,6 +3,7 @@ use Rattle.std.proofs.Common.{◌≡◌, ℕ, zero, suc, ◌+◌, ◌-◌, ◌<�
 use Rattle.std.specs.List.{slice_get}
 use Rattle.std.proofs.lemmas.List.{length-take-le}
 use Rattle.model.specs.Stores.{overlaid}
+use Rattle.model.proofs.Memory.{some_in}
 use Rattle.refinement.specs.Worlds.{run}
 
 pub get_take : {X : Type 0} (n : ℕ) (xs : List X) (i : ℕ) → i < n → slice_get (take n xs) i ≡ slice_get xs i
@@ -38,10 +39,7 @@ pub same_lists : {X : Type 0} (xs ys : List X) → length xs ≡ length ys → (
 same_lists [] [] e h = refl
 same_lists [] (y ∷ ys) e h = absurd (omega (arith, e))
 same_lists (x ∷ xs) [] e h = absurd (omega (arith, e))
-same_lists (x ∷ xs) (y ∷ ys) e h = ap₂ (λ z zs. z ∷ zs) (inside (h zero (omega arith))) (same_lists xs ys (omega (arith, e)) (λ i l. h (suc i) (omega (arith, l))))
-  where
-    inside : Some x ≡ Some y → x ≡ y
-    inside k = cc
+same_lists (x ∷ xs) (y ∷ ys) e h = ap₂ (λ z zs. z ∷ zs) (some_in (h zero (omega arith))) (same_lists xs ys (omega (arith, e)) (λ i l. h (suc i) (omega (arith, l))))
 
 pub get_run : (ws : List ℕ) (o n i : ℕ) → i < n → slice_get (run ws o n) i ≡ slice_get ws (o + i)
 get_run ws o n i h = get_take n (drop o ws) i h ∙ get_drop o ws i
@@ -62,14 +60,11 @@ run_same ws vs o n e h agree =
 pub run_all : (ws : List ℕ) (o n v : ℕ) → o + n ≤ length ws → ((i : ℕ) → i < n → slice_get ws (o + i) ≡ Some v) → run ws o n ≡ replicate n v
 run_all ws o n v h k = all n (run ws o n) (length_run ws o n h) (λ i l. get_run ws o n i l ∙ k i l)
   where
-    inside : (x y : ℕ) → Some x ≡ Some y → x ≡ y
-    inside x y e = cc
-
     all : (n : ℕ) (xs : List ℕ) → length xs ≡ n → ((i : ℕ) → i < n → slice_get xs i ≡ Some v) → xs ≡ replicate n v
     all zero [] e f = refl
     all zero (x ∷ xs) e f = absurd (omega (arith, e))
     all (suc n) [] e f = absurd (omega (arith, e))
-    all (suc n) (x ∷ xs) e f = ap₂ (λ z zs. z ∷ zs) (inside x v (f zero (omega arith))) (all n xs (omega (arith, e)) (λ i l. f (suc i) (omega (arith, l))))
+    all (suc n) (x ∷ xs) e f = ap₂ (λ z zs. z ∷ zs) (some_in (f zero (omega arith))) (all n xs (omega (arith, e)) (λ i l. f (suc i) (omega (arith, l))))
 
 -- words with others written over them
 

@@ -19,7 +19,7 @@ use Rattle.model.specs.Outcome.{outcome, thread_gate, thread_row, has_bad_index,
 use Rattle.model.proofs.Lists.{get_within}
 use Rattle.laws.specs.AddressHeap.{HeapObject}
 use Rattle.laws.specs.Transitions.{IsUsable}
-use Rattle.refinement.specs.Worlds.{world_of, crossed_in}
+use Rattle.refinement.specs.Worlds.{world_of}
 use Rattle.refinement.proofs.Objects.{IsThere}
 
 -- results
@@ -98,7 +98,7 @@ through : (h : HeapState) (t a : ℕ) (x : ThreadState) → slice_get h.threads 
 unfolding let_through
 through h t a x at e p =
     let z = held h.phase (has_crossed (slice_get h.threads t)) (sym (ap (λ b. cond b (held_back h.phase (has_crossed (slice_get h.threads t))) (Ok tt)) p) ∙ e) in
-    (z.0, ap crossed_in at ∙ sym (ap has_crossed at) ∙ z.1)
+    (z.0, ap has_crossed at ∙ sym (ap has_crossed at) ∙ z.1)
 
 one_unit : (u : Unit {0}) → u ≡ tt
 one_unit tt = refl

@@ -30,14 +30,14 @@ AnswersPlain None answer = Unit {0}
 AnswersPlain (Some a) answer = answer ≡ a
 
 -- the plain heap as the last mark began, after a step: a mark that starts keeps that of its moment
-abbrev pub at_mark : PlainHeap → PlainHeap → Step → PlainHeap
-at_mark p p0 steps.StartMark = p
-at_mark p p0 _ = p0
+abbrev pub kept_at_mark : PlainHeap → PlainHeap → Step → PlainHeap
+kept_at_mark p p0 steps.StartMark = p
+kept_at_mark p p0 _ = p0
 
 -- after an accepted step the heap stands for the plain heap after its step, and the answer is the plain heap's
 pub record StepHolds (h : HeapState) (p p0 : PlainHeap) (actor : Actor) (step : Step) (g : HeapState) (answer : Answer) : Type 0 where
   pub config : g.config ≡ h.config
-  pub holds : Holds g (plain_step h.config.layouts p actor step) (at_mark p p0 step)
+  pub holds : Holds g (plain_step h.config.layouts p actor step) (kept_at_mark p p0 step)
   pub answers : AnswersPlain (plain_answer p actor step) answer
 
 -- the heap that a configuration begins with stands for the plain heap that it begins with

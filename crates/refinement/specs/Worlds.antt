@@ -12,6 +12,7 @@ use Rattle.model.specs.declared.records.Place.{Place}
 use Rattle.model.specs.declared.records.Place.TheVariants as places
 use Rattle.model.specs.Stores.{state_at, words_at}
 use Rattle.model.specs.Heaps.{HeapState, ThreadState, Reference, register_of}
+use Rattle.model.specs.Outcome.{has_crossed, is_parked_in}
 use Rattle.laws.specs.AddressHeap.{AddressHeap, HeapObject, Word, Null, To, SideEntry, NoEntry, Planned, Copied, LoadPlace, AtField, AtGlobal, OpenBarrier, WorkerScan}
 
 -- words
@@ -87,14 +88,6 @@ as_barrier b = record { target = b.target; place = as_place b.place; raw = as_wo
 abbrev pub as_scan : Scan → WorkerScan
 as_scan s = record { address = s.object; next = s.next }
 
-abbrev pub crossed_in : Option ThreadState → Bool
-crossed_in None = true
-crossed_in (Some t) = t.crossed
-
-abbrev pub parked_in : Option ThreadState → Bool
-parked_in None = false
-parked_in (Some t) = t.parked
-
 abbrev pub barrier_in : Option ThreadState → Option OpenBarrier
 barrier_in None = None
 barrier_in (Some t) = option_map as_barrier t.barrier
@@ -128,8 +121,8 @@ world_of h = record {
   todo = bit_at h.todo h.store.words;
   births = h.births;
   register = λ t r. as_word (register_of h t r);
-  crossed = λ t. crossed_in (slice_get h.threads t);
-  parked = λ t. parked_in (slice_get h.threads t);
+  crossed = λ t. has_crossed (slice_get h.threads t);
+  parked = λ t. is_parked_in (slice_get h.threads t);
   barrier = λ t. barrier_in (slice_get h.threads t);
   scan = λ k. scan_in (slice_get h.workers k);
   is_global = λ g. nat_lt g (length h.globals);

@@ -36,7 +36,7 @@ impl Heap {
         ensures { result ≡ has_crossed (slice_get self.now.threads thread) }
     {
         match self.threads.get(thread as usize) {
-            None => false,
+            None => true,
             Some(record) => record.crossed(),
         }
     }
