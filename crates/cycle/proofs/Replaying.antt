@@ -1,5 +1,6 @@
 -- The law of a book, from one entry to the next.
-use Rattle.std.proofs.Common.{◌≡◌, List, [], ◌∷◌, ◌++◌, refl, sym, subst}
+use Rattle.std.proofs.Common.{◌≡◌, List, [], ◌∷◌, ◌++◌, refl, sym, subst, ℕ, ◌<◌, ◌≤◌, Bool, false, length, nat_le, arith, length-append}
+use Rattle.std.proofs.lemmas.Bool.Decides.{nat_tests}
 use Rattle.std.specs.Prelude.{Result, Ok, Err}
 use Rattle.layout.specs.declared.shape.Layout.{Layout}
 use Rattle.model.specs.declared.config.Config.{Config}
@@ -18,7 +19,7 @@ use Rattle.refinement.specs.Worlds.{world_of}
 use Rattle.refinement.specs.Births.{births_of}
 use Rattle.refinement.specs.Standing.{Holds, StepHolds, AnswersPlain, FirstHolds, StepsHold, KeepsStanding}
 use Rattle.cycle.specs.declared.book.Entry.{Entry}
-use Rattle.cycle.specs.Books.{BookState, first_book}
+use Rattle.cycle.specs.Books.{BookState, first_book, is_full}
 use Rattle.cycle.specs.Replays.{Replayed, after_entry, after_entries, before_entries, replayed, AnswersAre, IsBook, KeepsPromises}
 
 after_more : (ls : List Layout) (r : Replayed) (es : List Entry) (e : Entry) → after_entries ls r (es ++ e ∷ []) ≡ after_entry ls (after_entries ls r es) e
@@ -29,11 +30,14 @@ answers_more : (ls : List Layout) (r : Replayed) (es : List Entry) (e : Entry) �
 answers_more ls r [] e a b = (b, tt)
 answers_more ls r (d ∷ es) e a b = (a.0, answers_more ls (after_entry ls r d) es e a.1 b)
 
+not_full : (m n : ℕ) → nat_le m n ≡ false → n < m
+not_full m n e = grind (arith, nat_tests)
+
 -- an entry is added
-pub entry_added : (b : BookState) (actor : Actor) (step : Step) (g : HeapState) (answer : Answer) → IsBook b → StepHolds b.heap (replayed b).now (replayed b).at_mark actor step g answer
+pub entry_added : (b : BookState) (actor : Actor) (step : Step) (g : HeapState) (answer : Answer) → IsBook b → is_full b ≡ false → StepHolds b.heap (replayed b).now (replayed b).at_mark actor step g answer
     → IsBook (record { heap = g; history = b.history ++ record { actor = actor; step = step; answer = answer } ∷ [] })
-unfolding replayed
-entry_added b actor step g answer k s =
+unfolding replayed is_full
+entry_added b actor step g answer k more s =
     let e : Entry = record { actor = actor; step = step; answer = answer } in
     let first : Replayed = before_entries b.heap.config in
     let ls : List Layout = b.heap.config.layouts in
@@ -43,12 +47,13 @@ entry_added b actor step g answer k s =
     record {
       holds = subst (λ (c : Config). Holds g (after_entries c.layouts (before_entries c) (b.history ++ e ∷ [])).now (after_entries c.layouts (before_entries c) (b.history ++ e ∷ [])).at_mark) (sym s.config) holds;
       answers = subst (λ (c : Config). AnswersAre c.layouts (before_entries c) (b.history ++ e ∷ [])) (sym s.config) (answers_more ls first b.history e k.answers s.answers);
+      limit = subst (λ (c : Config). length (b.history ++ e ∷ []) ≤ c.history) (sym s.config) (omega (arith, length-append b.history (e ∷ []), not_full b.heap.config.history (length b.history) more));
     }
 
 -- a new book
 pub new_book : (c : Config) → Holds (first_heap c) (before_entries c).now (before_entries c).at_mark → IsBook (first_book c)
 unfolding replayed first_book first_heap
-new_book c k = record { holds = k; answers = tt }
+new_book c k = record { holds = k; answers = tt; limit = omega arith }
 
 -- what the law promises
 pub promises : (b : BookState) → IsBook b → KeepsPromises b
@@ -68,6 +73,6 @@ unfolding first_book
 made c h es e f law = subst (λ (g : HeapState). IsBook (record { heap = g; history = es })) (sym e) (subst (λ (xs : List Entry). IsBook (record { heap = first_heap c; history = xs })) (sym f) (new_book c (law c)))
 
 -- the parts of a book with one more entry
-pub entered_book : (b : BookState) (actor : Actor) (step : Step) (g : HeapState) (answer : Answer) (es : List Entry) → IsBook b → (let p = (replayed b).now in let p0 = (replayed b).at_mark in Holds b.heap p p0 → StepHolds b.heap p p0 actor step g answer)
+pub entered_book : (b : BookState) (actor : Actor) (step : Step) (g : HeapState) (answer : Answer) (es : List Entry) → IsBook b → is_full b ≡ false → (let p = (replayed b).now in let p0 = (replayed b).at_mark in Holds b.heap p p0 → StepHolds b.heap p p0 actor step g answer)
     → es ≡ b.history ++ record { actor = actor; step = step; answer = answer } ∷ [] → IsBook (record { heap = g; history = es })
-entered_book b actor step g answer es k s e = subst (λ (xs : List Entry). IsBook (record { heap = g; history = xs })) (sym e) (entry_added b actor step g answer k (s k.holds))
+entered_book b actor step g answer es k more s e = subst (λ (xs : List Entry). IsBook (record { heap = g; history = xs })) (sym e) (entry_added b actor step g answer k more (s k.holds))

@@ -1,5 +1,5 @@
 -- The plain heap that a history makes, and the law of books.
-use Rattle.std.specs.Prelude.{List, [], ◌∷◌}
+use Rattle.std.specs.Prelude.{◌≤◌, List, [], ◌∷◌, length}
 use Rattle.layout.specs.declared.shape.Layout.{Layout}
 use Rattle.model.specs.declared.config.Config.{Config}
 use Rattle.model.specs.Plain.{PlainHeap, plain_start, plain_step, plain_answer}
@@ -40,6 +40,7 @@ AnswersAre ls r (e ∷ es) = AnswersPlain (plain_answer r.now e.actor e.step) e.
 pub record IsBook (b : BookState) : Type 0 where
   pub holds : Holds b.heap (replayed b).now (replayed b).at_mark
   pub answers : AnswersAre b.heap.config.layouts (before_entries b.heap.config) b.history
+  pub limit : length b.history ≤ b.heap.config.history
 
 -- what it promises to threads: the heap stands for the plain heap of its history, and no register that may be used names
 -- a page without memory
