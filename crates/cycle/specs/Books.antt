@@ -14,6 +14,7 @@ use Rattle.heap.specs.declared.fault.NewFault.{NewFault}
 use Rattle.heap.specs.declared.fault.NewFault.TheVariants as faults
 use Rattle.cycle.specs.declared.book.Entry.{Entry}
 
+-- a book: its heap, and its accepted steps with their answers, oldest first
 pub record BookState : Type 0 where
   pub heap : HeapState
   pub history : List Entry
@@ -40,6 +41,7 @@ Reply = Result Answer Refusal
 abbrev pub BookOutcome : Type 0
 BookOutcome = Result (BookState × Answer) Refusal
 
+-- the book after the heap's outcome: an accepted step is entered with its answer
 abbrev pub entered : BookState → Actor → Step → Outcome → BookOutcome
 entered b actor step (Err e) = Err e
 entered b actor step (Ok x) = Ok (record { heap = x.0; history = b.history ++ record { actor = actor; step = step; answer = x.1 } ∷ [] }, x.1)

@@ -24,6 +24,7 @@ abbrev pub after_entries : List Layout → Replayed → List Entry → Replayed
 after_entries ls r [] = r
 after_entries ls r (e ∷ es) = after_entries ls (after_entry ls r e) es
 
+-- before all entries: the plain heap without births
 abbrev pub before_entries : Config → Replayed
 before_entries c = record { now = plain_start c; at_mark = plain_start c }
 

@@ -37,7 +37,7 @@ first_fault c =
 abbrev pub IsConfig : Config → Type 0
 IsConfig c = first_fault c ≡ None
 
--- what being in range says of the numbers
+-- what the code uses of being in range
 pub record IsRanged (c : Config) : Type 0 where
   pub words_low : 16 ≤ c.words
   pub words_high : c.words ≤ 4096

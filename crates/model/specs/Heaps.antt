@@ -16,6 +16,7 @@ use Rattle.model.specs.Stores.{StoreState, first_store, word_at, record_count}
 abbrev pub Reference : Type 0
 Reference = Option (ℕ × Bool)
 
+-- a thread: its registers, its buffer, whether it has crossed and is parked, and its load that isn't finished
 pub record ThreadState : Type 0 where
   pub registers : List Reference
   pub buffer : Option Buffer
@@ -23,6 +24,7 @@ pub record ThreadState : Type 0 where
   pub parked : Bool
   pub barrier : Option Barrier
 
+-- A heap: all that it keeps, and how many objects were born.
 -- Rows have a bit for each word of a page; a page's row stands where its record does in the store.
 pub record HeapState : Type 0 where
   pub config : Config
@@ -41,10 +43,12 @@ pub record HeapState : Type 0 where
 
 -- threads
 
+-- what an option in an option holds
 abbrev pub flat : {X : Type 0} → Option (Option X) → Option X
 flat None = None
 flat (Some o) = o
 
+-- the word in register r of a thread that may be missing
 abbrev pub register_in : Option ThreadState → ℕ → Reference
 register_in None r = None
 register_in (Some t) r = flat (slice_get t.registers r)
@@ -53,6 +57,7 @@ register_in (Some t) r = flat (slice_get t.registers r)
 unfoldable pub register_of : HeapState → ℕ → ℕ → Reference
 register_of h t r = register_in (slice_get h.threads t) r
 
+-- a list with the element of index i changed, which may be missing
 abbrev pub changed_at : {X : Type 0} → List X → ℕ → Option X → (X → X) → List X
 changed_at xs i None change = xs
 changed_at xs i (Some x) change = slice_set xs i (change x)
@@ -61,6 +66,7 @@ changed_at xs i (Some x) change = slice_set xs i (change x)
 abbrev pub changed : {X : Type 0} → List X → ℕ → (X → X) → List X
 changed xs i change = changed_at xs i (slice_get xs i) change
 
+-- a thread with another word in register r
 abbrev pub set_register_of : ℕ → Reference → ThreadState → ThreadState
 set_register_of r w t = record t { registers = slice_set t.registers r w }
 
@@ -68,6 +74,7 @@ set_register_of r w t = record t { registers = slice_set t.registers r w }
 unfoldable pub with_register : HeapState → ℕ → ℕ → Reference → HeapState
 with_register h t r w = record h { threads = changed h.threads t (set_register_of r w) }
 
+-- a thread with another buffer, or none
 abbrev pub set_buffer_of : Option Buffer → ThreadState → ThreadState
 set_buffer_of b t = record t { buffer = b }
 
@@ -75,6 +82,7 @@ set_buffer_of b t = record t { buffer = b }
 unfoldable pub with_buffer : HeapState → ℕ → Option Buffer → HeapState
 with_buffer h t b = record h { threads = changed h.threads t (set_buffer_of b) }
 
+-- the buffer of a thread that may be missing
 abbrev pub buffer_in : Option ThreadState → Option Buffer
 buffer_in None = None
 buffer_in (Some t) = t.buffer
@@ -85,6 +93,7 @@ buffer_of_thread h t = buffer_in (slice_get h.threads t)
 
 -- rows
 
+-- a row of the same length with all bits clear
 abbrev pub blank_row : List Bool → List Bool
 blank_row row = replicate (length row) false
 
@@ -92,15 +101,18 @@ blank_row row = replicate (length row) false
 abbrev pub opened_rows : Buffer → List (List Bool) → List (List Bool)
 opened_rows b rows = if b.next == 0 then changed rows (b.page - 1) blank_row else rows
 
+-- a row with the bit of offset o set or cleared
 abbrev pub put_bit : ℕ → Bool → List Bool → List Bool
 put_bit o bit row = slice_set row o bit
 
 -- objects
 
+-- the layout of a number that may be missing
 abbrev pub layout_in : List Layout → Option ℕ → Option Layout
 layout_in layouts None = None
 layout_in layouts (Some l) = slice_get layouts l
 
+-- the layout's number in a header that may be missing
 abbrev pub header_layout : Option ℕ → Option ℕ
 header_layout None = None
 header_layout (Some bits) = Some (bits / 2 ^ 32)
@@ -119,12 +131,15 @@ fresh_object birth number l = header_bits (record { birth = birth; layout = numb
 
 -- the first state
 
+-- a thread as a heap begins: its registers are null, it has crossed, and it runs
 abbrev pub blank_thread : ℕ → ThreadState
 blank_thread registers = record { registers = replicate registers None; buffer = None; crossed = true; parked = false; barrier = None }
 
+-- a row with all bits clear for each page record
 abbrev pub blank_rows : Config → List (List Bool)
 blank_rows c = replicate (record_count c.frames c.pages) (replicate c.words false)
 
+-- an empty side array for each page record
 abbrev pub no_sides : Config → List (List Forwarding)
 no_sides c = replicate (record_count c.frames c.pages) []
 

@@ -9,6 +9,7 @@ use Rattle.model.specs.Heaps.{HeapState, ThreadState}
 abbrev pub FillsIn : StoreState → ThreadState → Type 0
 FillsIn s t = IfSome t.buffer (LiesIn s)
 
+-- what holds of every heap, beside what holds of its store
 pub record IsHeap (h : HeapState) : Type 0 where
   pub config : IsRanged h.config
   pub births : h.births ≤ h.config.births

@@ -21,6 +21,7 @@ use Rattle.model.specs.Refusing.{◌>>=◌, or_refuse, Outcome}
 
 -- registers that may be used
 
+-- a thread that may be missing has crossed the open checkpoint
 abbrev pub has_crossed : Option ThreadState → Bool
 has_crossed None = true
 has_crossed (Some t) = t.crossed
@@ -35,6 +36,7 @@ held_back _ _ = Err refusals.Stale
 unfoldable pub let_through : HeapState → ℕ → ℕ → Result Unit Refusal
 let_through h t address = if is_protected (state_at h.store (address / h.store.words)) then held_back h.phase (has_crossed (slice_get h.threads t)) else Ok tt
 
+-- the address of a word, if it names an object that thread t may use
 abbrev pub use_word : HeapState → ℕ → Reference → Result ℕ Refusal
 use_word h t None = Err refusals.Null
 use_word h t (Some w) = do
@@ -45,6 +47,7 @@ use_word h t (Some w) = do
 unfoldable pub usable : HeapState → ℕ → ℕ → Result ℕ Refusal
 usable h t r = use_word h t (register_of h t r)
 
+-- the same, and none where the word is null
 abbrev pub use_or_null : HeapState → ℕ → Reference → Result (Option ℕ) Refusal
 use_or_null h t None = Ok None
 use_or_null h t (Some w) = do
@@ -57,6 +60,7 @@ usable_or_null h t r = use_or_null h t (register_of h t r)
 
 -- data
 
+-- where data word j of the object at an address stands, if its layout is there and has so many
 abbrev pub datum_place : ℕ → ℕ → Option Layout → Option ℕ
 datum_place address j None = None
 datum_place address j (Some l) = if nat_lt j l.nums then Some (datum_address address l j) else None
@@ -65,6 +69,7 @@ datum_place address j (Some l) = if nat_lt j l.nums then Some (datum_address add
 unfoldable pub datum_at : HeapState → ℕ → ℕ → Option ℕ
 datum_at h address j = datum_place address j (layout_at h address)
 
+-- the row of Datum
 unfoldable pub datum_outcome : HeapState → ℕ → ℕ → ℕ → Outcome
 datum_outcome h t object j = do
   address ← usable h t object
@@ -72,6 +77,7 @@ datum_outcome h t object j = do
   value ← or_refuse (word_at h.store place) refusals.BadIndex
   Ok (h, answers.Datum value)
 
+-- the row of SetDatum
 unfoldable pub set_datum_outcome : HeapState → ℕ → ℕ → ℕ → ℕ → Outcome
 set_datum_outcome h t object j value = do
   address ← usable h t object
@@ -80,23 +86,28 @@ set_datum_outcome h t object j value = do
 
 -- registers
 
+-- both are none, or they are one address
 abbrev pub same_address : Option ℕ → Option ℕ → Bool
 same_address None None = true
 same_address (Some a) (Some b) = a == b
 same_address _ _ = false
 
+-- the row of Same
 unfoldable pub same_outcome : HeapState → ℕ → ℕ → ℕ → Outcome
 same_outcome h t left right = do
   a ← usable_or_null h t left
   b ← usable_or_null h t right
   Ok (h, answers.Truth (same_address a b))
 
+-- the row of IsNull
 unfoldable pub is_null_outcome : HeapState → ℕ → ℕ → Outcome
 is_null_outcome h t r = Ok (h, answers.Truth (is_none (register_of h t r)))
 
+-- the row of CopyReg
 unfoldable pub copy_register_outcome : HeapState → ℕ → ℕ → ℕ → Outcome
 copy_register_outcome h t target source = Ok (with_register h t target (register_of h t source), answers.Done)
 
+-- the row of ClearReg
 unfoldable pub clear_register_outcome : HeapState → ℕ → ℕ → Outcome
 clear_register_outcome h t target = Ok (with_register h t target None, answers.Done)
 
@@ -113,19 +124,23 @@ lent h t s b = record h {
   threads = changed h.threads t (set_buffer_of (Some b));
 }
 
+-- thread t gets what the store gave, or is refused as the store refuses
 abbrev pub took : HeapState → ℕ → Result (StoreState × Buffer) Room → Outcome
 took h t (Ok x) = Ok (lent h t x.0 x.1, answers.Lent x.1.page x.1.next)
 took h t (Err NoFrames) = Err (refusals.NoFrames 1 0)
 took h t (Err NoPages) = Err refusals.NoPages
 
+-- the row of Take
 unfoldable pub take_outcome : HeapState → ℕ → ℕ → Outcome
 take_outcome h t n = if is_some (buffer_of_thread h t) then Err refusals.HasBuffer else took h t (taken h.store n)
 
+-- the row of GiveBack
 unfoldable pub give_back_outcome : HeapState → ℕ → Outcome
 give_back_outcome h t = if is_some (buffer_of_thread h t) then Ok (with_buffer h t None, answers.Done) else Err refusals.NoRoom
 
 -- new objects
 
+-- what is left of a buffer after n of its words
 abbrev pub used_buffer : Buffer → ℕ → Buffer
 used_buffer b n = record b { next = b.next + n }
 
@@ -145,6 +160,7 @@ placed h t target number l b = record h {
   births = h.births + 1;
 }
 
+-- the row of New
 unfoldable pub new_outcome : HeapState → ℕ → ℕ → ℕ → Outcome
 new_outcome h t target number = do
   b ← or_refuse (buffer_of_thread h t) refusals.NoRoom
@@ -183,10 +199,12 @@ has_bad_index h (steps.CopyReg target source) = no_register h target || no_regis
 has_bad_index h (steps.ClearReg r) = no_register h r
 has_bad_index h _ = false
 
+-- a thread that may be missing is parked
 abbrev pub is_parked_in : Option ThreadState → Bool
 is_parked_in None = false
 is_parked_in (Some t) = t.parked
 
+-- a thread that may be missing has an open barrier
 abbrev pub is_loading_in : Option ThreadState → Bool
 is_loading_in None = false
 is_loading_in (Some t) = is_some t.barrier
@@ -199,6 +217,7 @@ thread_gate h t s =
     (if is_parked_in (slice_get h.threads t) then Err refusals.Parked else
     (if is_loading_in (slice_get h.threads t) then Err refusals.Busy else Ok tt)))
 
+-- the row of a thread's step, without the tests before it
 abbrev pub thread_row : HeapState → ℕ → Step → Outcome
 thread_row h t (steps.Take n) = take_outcome h t n
 thread_row h t steps.GiveBack = give_back_outcome h t

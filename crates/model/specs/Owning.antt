@@ -23,7 +23,7 @@ pub record IsBalanced (s : StoreState) : Type 0 where
   pub frames : count_by (λ p. has_memory p.state) s.pages + count_by is_none s.owners ≡ length s.frames
   pub leaving : count_by (λ p. is_protected p.state) s.pages ≤ length s.frames
 
--- sizes
+-- sizes are within their limits, and each list has one element for each thing that it is of
 pub record IsStoreSized (s : StoreState) : Type 0 where
   pub words_low : 0 < s.words
   pub words : s.words ≤ 4096
@@ -33,6 +33,7 @@ pub record IsStoreSized (s : StoreState) : Type 0 where
   pub pages : length s.pages ≡ record_count (length s.frames) s.count
   pub frames : Each s.frames (λ ws. length ws ≡ s.words)
 
+-- what holds of every store
 pub record IsStore (s : StoreState) : Type 0 where
   pub sized : IsStoreSized s
   pub pages : Each s.pages (IsPage s.words)

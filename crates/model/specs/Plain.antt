@@ -21,6 +21,7 @@ pub record Pending : Type 0 where
   pub target : ℕ
   pub found : Option ℕ
 
+-- a thread: the birth in each register, or none, and its load that isn't finished
 pub record PlainThread : Type 0 where
   pub registers : List (Option ℕ)
   pub pending : Option Pending
@@ -33,6 +34,7 @@ pub record PlainHeap : Type 0 where
 
 -- what is there
 
+-- the birth in register r of a thread that may be missing
 abbrev pub name_in : Option PlainThread → ℕ → Option ℕ
 name_in None r = None
 name_in (Some t) r = flat (slice_get t.registers r)
@@ -41,24 +43,29 @@ name_in (Some t) r = flat (slice_get t.registers r)
 unfoldable pub name_of : PlainHeap → ℕ → ℕ → Option ℕ
 name_of p t r = name_in (slice_get p.threads t) r
 
+-- the object of a birth that may be missing
 abbrev pub object_of : PlainHeap → Option ℕ → Option Object
 object_of p None = None
 object_of p (Some b) = slice_get p.objects b
 
+-- reference i of an object that may be missing: a birth or none
 abbrev pub field_of : Option Object → ℕ → Option (Option ℕ)
 field_of None i = None
 field_of (Some o) i = slice_get o.refs i
 
+-- datum j of an object that may be missing
 abbrev pub datum_of : Option Object → ℕ → Option ℕ
 datum_of None j = None
 datum_of (Some o) j = slice_get o.data_words j
 
+-- the load of a thread that may be missing
 abbrev pub pending_in : Option PlainThread → Option Pending
 pending_in None = None
 pending_in (Some t) = t.pending
 
 -- what changes
 
+-- a thread with another birth in register r
 abbrev pub set_name : ℕ → Option ℕ → PlainThread → PlainThread
 set_name r b t = record t { registers = slice_set t.registers r b }
 
@@ -66,6 +73,7 @@ set_name r b t = record t { registers = slice_set t.registers r b }
 unfoldable pub naming : PlainHeap → ℕ → ℕ → Option ℕ → PlainHeap
 naming p t r b = record p { threads = changed p.threads t (set_name r b) }
 
+-- a new object of a layout: its references are none, its data 0
 abbrev pub blank_object : ℕ → Layout → Object
 blank_object number l = record { layout = number; refs = replicate l.refs None; data_words = replicate l.nums 0 }
 
@@ -74,6 +82,7 @@ abbrev pub born : PlainHeap → ℕ → ℕ → ℕ → Option Layout → PlainH
 born p t r number None = p
 born p t r number (Some l) = naming (record p { objects = p.objects ++ blank_object number l ∷ [] }) t r (Some (length p.objects))
 
+-- a thread with a load for register r, which found b
 abbrev pub start_load : ℕ → Option ℕ → PlainThread → PlainThread
 start_load r b t = record t { pending = Some (record { target = r; found = b }) }
 
@@ -82,27 +91,34 @@ abbrev pub loading : PlainHeap → ℕ → ℕ → Option (Option ℕ) → Plain
 loading p t r None = p
 loading p t r (Some b) = record p { threads = changed p.threads t (start_load r b) }
 
+-- a thread whose load is done: its register has what the load found
 abbrev pub end_load : Pending → PlainThread → PlainThread
 end_load l t = record t { registers = slice_set t.registers l.target l.found; pending = None }
 
+-- the load of a thread is done; nothing, where there is none
 abbrev pub finishing : PlainHeap → ℕ → Option Pending → PlainHeap
 finishing p t None = p
 finishing p t (Some l) = record p { threads = changed p.threads t (end_load l) }
 
+-- an object with another reference i
 abbrev pub set_field : ℕ → Option ℕ → Object → Object
 set_field i b o = record o { refs = slice_set o.refs i b }
 
+-- a birth gets another reference i; nothing, where there is no birth
 abbrev pub storing : PlainHeap → Option ℕ → ℕ → Option ℕ → PlainHeap
 storing p None i b = p
 storing p (Some a) i b = record p { objects = changed p.objects a (set_field i b) }
 
+-- an object with another datum j
 abbrev pub set_datum : ℕ → ℕ → Object → Object
 set_datum j v o = record o { data_words = slice_set o.data_words j v }
 
+-- a birth gets another datum j; nothing, where there is no birth
 abbrev pub writing : PlainHeap → Option ℕ → ℕ → ℕ → PlainHeap
 writing p None j v = p
 writing p (Some a) j v = record p { objects = changed p.objects a (set_datum j v) }
 
+-- what a step of thread t does to the plain heap
 abbrev pub thread_plain : List Layout → PlainHeap → ℕ → Step → PlainHeap
 thread_plain ls p t (steps.New target layout) = born p t target layout (slice_get ls layout)
 thread_plain ls p t (steps.Load target object field) = loading p t target (field_of (object_of p (name_of p t object)) field)
@@ -120,15 +136,18 @@ unfoldable pub plain_step : List Layout → PlainHeap → Actor → Step → Pla
 plain_step ls p (Thread t) s = thread_plain ls p t s
 plain_step ls p (Worker w) s = p
 
+-- the answer that tells a datum, where there is one
 abbrev pub as_datum : Option ℕ → Option Answer
 as_datum None = None
 as_datum (Some v) = Some (answers.Datum v)
 
+-- both are none, or they are one birth
 abbrev pub same_name : Option ℕ → Option ℕ → Bool
 same_name None None = true
 same_name (Some a) (Some b) = a == b
 same_name _ _ = false
 
+-- what the plain heap answers thread t, where it says anything
 abbrev pub thread_answer : PlainHeap → ℕ → Step → Option Answer
 thread_answer p t (steps.New target layout) = Some (answers.Birth (length p.objects))
 thread_answer p t (steps.Datum object index) = as_datum (datum_of (object_of p (name_of p t object)) index)

@@ -4,11 +4,13 @@ use Rattle.model.specs.declared.steps.Refusal.{Refusal}
 use Rattle.model.specs.declared.steps.Answer.{Answer}
 use Rattle.model.specs.Heaps.{HeapState}
 
+-- the first refusal is the outcome; else what was found goes on
 infixl 10 ◌>>=◌
 abbrev pub ◌>>=◌ : {A B : Type 0} → Result A Refusal → (A → Result B Refusal) → Result B Refusal
 (Ok x) >>= f = f x
 (Err e) >>= f = Err e
 
+-- what is there, else this refusal
 abbrev pub or_refuse : {A : Type 0} → Option A → Refusal → Result A Refusal
 or_refuse None e = Err e
 or_refuse (Some x) e = Ok x

@@ -7,6 +7,7 @@ use Rattle.model.specs.declared.records.Buffer.{Buffer}
 use Rattle.model.specs.declared.records.Room.{Room}
 use Rattle.model.specs.declared.records.Room.TheVariants.{NoFrames, NoPages}
 
+-- A store: the words of a page, the number of pages, their records, and the frames with their owners.
 -- Page n has its record at n - 1 of pages; a page without a record is unused.
 -- Each frame has the words of a page, and at most one owner, the number of a page.
 pub record StoreState : Type 0 where
@@ -22,6 +23,7 @@ pub record StoreState : Type 0 where
 unfoldable pub page_at : StoreState → ℕ → Option Page
 page_at s n = if n == 0 then None else slice_get s.pages (n - 1)
 
+-- how a page is used that may have no record
 abbrev pub state_in : Option Page → PageState
 state_in None = Unused
 state_in (Some p) = p.state
@@ -30,14 +32,17 @@ state_in (Some p) = p.state
 unfoldable pub state_at : StoreState → ℕ → PageState
 state_at s n = state_in (page_at s n)
 
+-- the frame of a page that may have no record
 abbrev pub frame_in : Option Page → Option ℕ
 frame_in None = None
 frame_in (Some p) = p.frame
 
+-- buffers are taken in pages of this state
 abbrev pub is_open : PageState → Bool
 is_open Open = true
 is_open _ = false
 
+-- pages of this state may be opened
 abbrev pub is_unused : PageState → Bool
 is_unused Unused = true
 is_unused _ = false
@@ -56,6 +61,7 @@ is_protected _ = false
 
 -- words
 
+-- offset o of a frame that may be missing
 abbrev pub at_offset : Option ℕ → ℕ → Option (ℕ × ℕ)
 at_offset None o = None
 at_offset (Some f) o = Some (f, o)
@@ -64,6 +70,7 @@ at_offset (Some f) o = Some (f, o)
 unfoldable pub spot_of : StoreState → ℕ → Option (ℕ × ℕ)
 spot_of s address = at_offset (frame_in (page_at s (address / s.words))) (address % s.words)
 
+-- the word at a frame and an offset that may be missing
 abbrev pub word_in : List (List ℕ) → Option (ℕ × ℕ) → Option ℕ
 word_in frames None = None
 word_in frames (Some x) = option_and_then (λ ws. slice_get ws x.1) (slice_get frames x.0)
@@ -72,10 +79,12 @@ word_in frames (Some x) = option_and_then (λ ws. slice_get ws x.1) (slice_get f
 unfoldable pub word_at : StoreState → ℕ → Option ℕ
 word_at s address = word_in s.frames (spot_of s address)
 
+-- frames with other words in frame f, which may be missing
 abbrev pub changed_frame : List (List ℕ) → ℕ → Option (List ℕ) → (List ℕ → List ℕ) → List (List ℕ)
 changed_frame frames f None change = frames
 changed_frame frames f (Some ws) change = slice_set frames f (change ws)
 
+-- the same, where it may be that there is no f
 abbrev pub changed_in : List (List ℕ) → Option ℕ → (List ℕ → List ℕ) → List (List ℕ)
 changed_in frames None change = frames
 changed_in frames (Some f) change = changed_frame frames f (slice_get frames f) change
@@ -110,6 +119,7 @@ page_with_room words n pages = position (has_room words n) pages
 unfoldable pub free_frame : List (Option ℕ) → Option ℕ
 free_frame owners = position is_none owners
 
+-- the index that was found, else that of the first page past the list, if there is one
 abbrev pub unused_in : ℕ → List Page → Option ℕ → Option ℕ
 unused_in count pages (Some i) = Some i
 unused_in count pages None = if nat_lt (length pages) count then Some (length pages) else None
@@ -118,6 +128,7 @@ unused_in count pages None = if nat_lt (length pages) count then Some (length pa
 unfoldable pub unused_page : ℕ → List Page → Option ℕ
 unused_page count pages = unused_in count pages (position (λ p. is_unused p.state) pages)
 
+-- a page that was just opened on frame f
 abbrev pub fresh_page : ℕ → Page
 fresh_page f = record { state = Open; frame = Some f; top = 0 }
 
@@ -125,14 +136,17 @@ fresh_page f = record { state = Open; frame = Some f; top = 0 }
 unfoldable pub opened : StoreState → ℕ → ℕ → StoreState
 opened s i f = record s { pages = slice_set s.pages i (fresh_page f); frames = slice_set s.frames f (replicate s.words 0); owners = slice_set s.owners f (Some (i + 1)) }
 
+-- how many words were given out of a page that may have no record
 abbrev pub top_in : Option Page → ℕ
 top_in None = 0
 top_in (Some p) = p.top
 
+-- records with n more words given out of the page of index i, which may be missing
 abbrev pub raised : List Page → ℕ → Option Page → ℕ → List Page
 raised pages i None n = pages
 raised pages i (Some p) n = slice_set pages i (record p { top = p.top + n })
 
+-- n words from top on of the page of index i
 abbrev pub buffer_of : ℕ → ℕ → ℕ → Buffer
 buffer_of i top n = record { page = i + 1; next = top; end = top + n }
 
@@ -140,11 +154,13 @@ buffer_of i top n = record { page = i + 1; next = top; end = top + n }
 unfoldable pub given : StoreState → ℕ → ℕ → StoreState × Buffer
 given s i n = (record s { pages = raised s.pages i (slice_get s.pages i) n }, buffer_of i (top_in (slice_get s.pages i)) n)
 
+-- n words of a fresh page, of this index and on this frame, where there are both
 abbrev pub taken_fresh : StoreState → ℕ → Option ℕ → Option ℕ → Result (StoreState × Buffer) Room
 taken_fresh s n None i = Err NoFrames
 taken_fresh s n (Some f) None = Err NoPages
 taken_fresh s n (Some f) (Some i) = Ok (given (opened s i f) i n)
 
+-- n words of the open page of this index, else of a fresh page
 abbrev pub taken_at : StoreState → ℕ → Option ℕ → Result (StoreState × Buffer) Room
 taken_at s n (Some i) = Ok (given s i n)
 taken_at s n None = taken_fresh s n (free_frame s.owners) (unused_page s.count s.pages)
@@ -158,6 +174,7 @@ abbrev pub Takes : StoreState → Result Buffer Room → StoreState → Result (
 Takes old (Ok b) new outcome = outcome ≡ Ok (new, b)
 Takes old (Err e) new outcome = (outcome ≡ Err e) × (new ≡ old)
 
+-- a page that was never used
 abbrev pub blank_page : Page
 blank_page = record { state = Unused; frame = None; top = 0 }
 

@@ -5,18 +5,22 @@ use Rattle.model.specs.Owning.{Each}
 use Rattle.model.specs.Plain.{PlainHeap, Object, Pending, name_of, pending_in}
 use Rattle.laws.specs.BirthHeap.{BirthHeap}
 
+-- the number of the layout of an object that may be missing
 abbrev pub layout_in : Option Object → ℕ
 layout_in None = 0
 layout_in (Some o) = o.layout
 
+-- the references of an object that may be missing
 abbrev pub refs_in : Option Object → List (Option ℕ)
 refs_in None = []
 refs_in (Some o) = o.refs
 
+-- the data of an object that may be missing
 abbrev pub data_in : Option Object → List ℕ
 data_in None = []
 data_in (Some o) = o.data_words
 
+-- a load, as the laws speak of it
 abbrev pub as_pair : Pending → ℕ × Option ℕ
 as_pair l = (l.target, l.found)
 

@@ -23,6 +23,7 @@ pub record Extent : Type 0 where
   pub from : ℕ
   pub upto : ℕ
 
+-- how many words an object has: its header, its references and its data
 abbrev pub object_size : HeapObject → ℕ
 object_size o = 1 + length o.refs + length o.data_words
 
@@ -30,16 +31,20 @@ object_size o = 1 + length o.refs + length o.data_words
 abbrev pub size_at : HeapState → ℕ → Option ℕ
 size_at h a = option_map object_size (object_at h a)
 
+-- n addresses from a on
 abbrev pub sized_extent : ℕ → ℕ → Extent
 sized_extent a n = record { from = a; upto = a + n }
 
+-- where an object of this size will be copied to, if it is planned
 abbrev pub planned_extent : SideEntry → Option ℕ → Option Extent
 planned_extent (Planned to) size = option_map (sized_extent to) size
 planned_extent _ size = None
 
+-- the rest of a buffer, in pages of so many words
 abbrev pub buffer_extent : ℕ → Buffer → Extent
 buffer_extent words b = record { from = b.page * words + b.next; upto = b.page * words + b.end }
 
+-- the words of page n that were not given out, if it is open
 abbrev pub end_extent : ℕ → ℕ → Option Page → Option Extent
 end_extent words n None = None
 end_extent words n (Some p) = if is_open p.state then Some (record { from = n * words + p.top; upto = n * words + words }) else None
@@ -51,6 +56,7 @@ extent h (OfBuffer t) = option_map (buffer_extent h.store.words) (buffer_of_thre
 extent h (OfPlan a) = planned_extent ((world_of h).side_entry a) (size_at h a)
 extent h (OfEnd n) = end_extent h.store.words n (page_at h.store n)
 
+-- one ends where the other begins, or before
 abbrev pub AreApart : Extent → Extent → Type 0
 AreApart x y = (x.upto ≤ y.from) ⊎ (y.upto ≤ x.from)
 

@@ -67,6 +67,7 @@ of_page xs (suc i) = get_or xs i []
 abbrev pub bit_at : List (List Bool) → ℕ → ℕ → Bool
 bit_at rows words a = get_or (of_page rows (a / words)) (a % words) false
 
+-- the entry of an object that goes to an address: copied, or planned
 abbrev pub forwarded : Bool → ℕ → SideEntry
 forwarded true to = Copied to
 forwarded false to = Planned to
@@ -78,28 +79,35 @@ entry_at (f ∷ fs) offset = if f.offset == offset then forwarded f.copied f.to 
 
 -- threads, workers and globals
 
+-- the place of a load, as the laws speak of it
 abbrev pub as_place : Place → LoadPlace
 as_place (places.Field object index) = AtField object index
 as_place (places.Global index) = AtGlobal index
 
+-- a load that isn't finished, as the laws speak of it
 abbrev pub as_barrier : Barrier → OpenBarrier
 as_barrier b = record { target = b.target; place = as_place b.place; raw = as_word b.raw; now = as_word b.now; healed = b.healed }
 
+-- what a worker scans, as the laws speak of it
 abbrev pub as_scan : Scan → WorkerScan
 as_scan s = record { address = s.object; next = s.next }
 
+-- the load of a thread that may be missing
 abbrev pub barrier_in : Option ThreadState → Option OpenBarrier
 barrier_in None = None
 barrier_in (Some t) = option_map as_barrier t.barrier
 
+-- what a worker scans that may be missing
 abbrev pub scan_in : Option (Option Scan) → Option WorkerScan
 scan_in None = None
 scan_in (Some s) = option_map as_scan s
 
+-- the word of a global that may be missing
 abbrev pub global_in : Option Global → Word
 global_in None = Null
 global_in (Some g) = as_word g.word
 
+-- a global that may be missing is still to be marked
 abbrev pub todo_in : Option Global → Bool
 todo_in None = false
 todo_in (Some g) = g.todo

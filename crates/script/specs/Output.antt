@@ -25,9 +25,11 @@ texts_from f i (x ∷ xs) = f i x ++ texts_from f (i + 1) xs
 abbrev pub used_frames : HeapState → ℕ
 used_frames h = count_by is_some h.store.owners
 
+-- the first line: the phase, the clean NMT bit, the births, the used frames of all
 abbrev pub head_line : HeapState → List ℕ
 head_line h = codes "phase " ++ phase_text h.phase ++ codes " nmt " ++ bit_text h.nmt ++ codes " births " ++ decimal h.births ++ codes " frames " ++ decimal (used_frames h) ++ codes "/" ++ decimal (length h.store.frames) ++ 10 ∷ []
 
+-- how many bits are set in a row that may be missing
 abbrev pub bits_of_row : Option (List Bool) → ℕ
 bits_of_row None = 0
 bits_of_row (Some row) = count_by (λ b. b) row
@@ -46,18 +48,23 @@ used_page_line number p objects live =
 unfoldable pub page_line : HeapState → ℕ → Page → List ℕ
 page_line h i p = if is_unused p.state then [] else used_page_line (i + 1) p (bits_in h.starts i) (bits_in h.live i)
 
+-- the number of register r and what it names
 abbrev pub register_text : ℕ → ℕ → Reference → List ℕ
 register_text page_words r w = codes " r" ++ decimal r ++ codes " " ++ word_text page_words w
 
+-- that of all registers
 abbrev pub registers_text : ℕ → List Reference → List ℕ
 registers_text page_words ws = texts_from (register_text page_words) 0 ws
 
+-- what a thread does
 abbrev pub state_text : ThreadState → List ℕ
 state_text t = if t.parked then codes "parked" else (if is_some t.barrier then codes "loading" else codes "running")
 
+-- the line of thread n
 abbrev pub thread_line : ℕ → ℕ → ThreadState → List ℕ
 thread_line page_words n t = codes "thread " ++ decimal n ++ codes " " ++ state_text t ++ codes " buffer " ++ buffer_text t.buffer ++ registers_text page_words t.registers ++ 10 ∷ []
 
+-- the line of global n
 abbrev pub global_line : ℕ → ℕ → Global → List ℕ
 global_line page_words n g = codes "global " ++ decimal n ++ codes " " ++ word_text page_words g.word ++ 10 ∷ []
 
@@ -85,10 +92,12 @@ report_text h history =
 
 -- the commands
 
+-- the answer or the refusal of an outcome
 abbrev pub reply_of : BookOutcome → Reply
 reply_of (Ok x) = Ok x.1
 reply_of (Err e) = Err e
 
+-- the book after an outcome: as it was, where the step was refused
 abbrev pub book_of : BookState → BookOutcome → BookState
 book_of b (Ok x) = x.0
 book_of b (Err e) = b
@@ -107,6 +116,7 @@ unfoldable pub book_after : BookState → List Command → BookState
 book_after b [] = b
 book_after b (c ∷ cs) = book_after (book_of b (done b c)) cs
 
+-- the report of a book
 abbrev pub report_of : BookState → List ℕ
 report_of b = report_text b.heap b.history
 
