@@ -17,7 +17,7 @@ pub trait Stepping {
 
 impl Stepping for Heap {
     /// Does exactly what the step's row says: refuses it by the first test that holds, and else
-    /// gives its answer and has its effect. It takes no memory.
+    /// gives its answer and has its effect. It never answers `Memory`.
     ///
     /// Where the heap stands for a plain heap, which never moves or frees an object, it does so
     /// after an accepted step, and the answer is the plain heap's.

@@ -19,6 +19,11 @@ use std::marker::Model;
 ///
 /// A contract sees all of it as plain data. It keeps, beside what its store keeps, that each
 /// thread's buffer lies in an open page, and that births stay within their limit.
+///
+/// `take`, `give_back`, `new_object`, `datum`, `set_datum`, `same`, `is_null`, `copy_register` and
+/// `clear_register` do a step's row alone: the tests before each row (the thread is there, numbers
+/// are in range, it isn't parked and has no open barrier) are made by `cycle`, whose `Stepping`
+/// has the whole step. Threads and registers count from 0.
 #[derive(Drop)]
 pub struct Heap {
     config: Config,
@@ -78,21 +83,21 @@ impl Heap {
         &self.starts
     }
 
-    /// Which objects the last mark found to live (Mark phase).
+    /// Which objects the last mark found to live (the paper's Mark phase).
     pub fn live(&self) -> &Rows
         ensures { result.now ≡ self.now.live }
     {
         &self.live
     }
 
-    /// Which objects the running mark has marked (Mark phase).
+    /// Which objects the running mark has marked (the paper's Mark phase).
     pub fn mark(&self) -> &Rows
         ensures { result.now ≡ self.now.mark }
     {
         &self.mark
     }
 
-    /// Which marked objects are still to be scanned (Mark phase).
+    /// Which marked objects are still to be scanned (the paper's Mark phase).
     pub fn todo(&self) -> &Rows
         ensures { result.now ≡ self.now.todo }
     {
@@ -106,7 +111,7 @@ impl Heap {
         &self.threads
     }
 
-    /// What each worker scans, by number from 0 (Mark phase).
+    /// What each worker scans, by number from 0 (the paper's Mark phase).
     pub fn workers(&self) -> &[Option<Scan>]
         ensures { result.now ≡ self.now.workers }
     {
@@ -127,7 +132,7 @@ impl Heap {
         self.phase
     }
 
-    /// The not-marked-through bit of words that are marked through (read barrier).
+    /// The not-marked-through bit of words that are marked through (the paper's read barrier).
     pub fn nmt(&self) -> bool
         ensures { result ≡ self.now.nmt }
     {

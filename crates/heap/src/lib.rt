@@ -1,7 +1,7 @@
 //! The heap: pages, threads, workers, globals and the collector's state, and the steps of threads.
 //!
-//! A comment that names a section means the paper of Click, Tene and Wolf, "The Pauseless GC
-//! Algorithm" (VEE 2005); all else is ours.
+//! The paper is Click, Tene and Wolf, "The Pauseless GC Algorithm" (VEE 2005). A comment that names
+//! one of its sections tells a rule of that section; all else is ours.
 #![tactic(auto)]
 
 mod fault;

@@ -22,7 +22,7 @@ impl Model for Row {
 }
 
 impl Row {
-    /// So many bits, all clear. Fails only by memory.
+    /// So many bits, all clear: in a heap 16 to 4,096, the words of a page. Fails only by memory.
     pub fn new(alloc: Global, words: u32) -> Result<Row, AllocError>
         ensures { IfOk result (λ r. r ≡ replicate words false) }
     {
@@ -70,7 +70,8 @@ impl Model for Rows {
 }
 
 impl Rows {
-    /// So many rows of so many bits, all clear. Fails only by memory.
+    /// So many rows of so many bits, all clear: in a heap at most 8,192 rows, of 16 to 4,096 bits.
+    /// Fails only by memory.
     pub fn new(alloc: Global, count: u32, words: u32) -> Result<Rows, AllocError>
         ensures { IfOk result (λ r. r ≡ replicate count (replicate words false)) }
     {

@@ -28,8 +28,8 @@ impl Model for Thread {
 }
 
 impl Thread {
-    /// A thread of so many registers, which are null. It has crossed, and it runs. Fails only by
-    /// memory.
+    /// A thread of so many registers, in a heap 1 to 16, which are null. It has crossed, and it
+    /// runs. Fails only by memory.
     pub fn new(alloc: Global, registers: u32) -> Result<Thread, AllocError>
         ensures { IfOk result (λ t. t ≡ blank_thread registers) }
     {
@@ -78,7 +78,7 @@ impl Thread {
         self.barrier
     }
 
-    /// The word in a register, null where there is no such register.
+    /// The word in a register, by its number from 0; null where there is no such register.
     pub fn register(&self, number: u32) -> Word
         ensures { result ≡ flat (slice_get self.now.registers number) }
     {
@@ -88,7 +88,7 @@ impl Thread {
         }
     }
 
-    /// Writes a register, if it is there.
+    /// Writes a register, by its number from 0, if it is there.
     pub fn set_register(&mut self, number: u32, word: Word)
         ensures { self.new ≡ set_register_of number word self.old }
     {

@@ -9,15 +9,15 @@ use Rattle.model.specs.Phases.{is_marking, is_mark_crossing}
 use Rattle.laws.specs.AddressHeap.{AddressHeap, HeapObject, Word, Null, To, SideEntry, NoEntry, Copied, OpenBarrier, WorkerScan, put, put_at, resolve}
 use Rattle.laws.specs.BirthHeap.{BirthHeap}
 
--- a page's state after a mark: an open page without a lent buffer closes, and a protected page is unused again (the paper's
--- Remap phase: no word names the old place any more)
+-- a page's state after a mark: an open page without a lent buffer closes (ours), and a protected page is unused again
+-- (the paper's Remap phase: its number is free only after the mark has corrected all references to it)
 abbrev pub state_after_mark : Bool → PageState → PageState
 state_after_mark lent Open = cond lent Open Closed
 state_after_mark lent Closed = Closed
 state_after_mark lent _ = Unused
 
--- a mark ends: what it marked is live, the objects of protected pages and all side arrays are given up (the end of the
--- paper's Mark phase, with which its Remap phase ends too)
+-- a mark ends: what it marked is live, the objects of protected pages and all side arrays are given up (that this is
+-- one step is ours; that it comes after the mark has corrected all references is the paper's Remap phase)
 abbrev pub end_mark : (ℕ → Bool) → AddressHeap → AddressHeap
 end_mark lent w = record w {
   page_state = λ a. state_after_mark (lent a) (w.page_state a);

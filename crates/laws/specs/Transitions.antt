@@ -36,7 +36,7 @@ pub record IsScanning (w : AddressHeap) : Type 0 where
   pub runs : is_marking w.phase ≡ true
   pub crossed : (t : ℕ) → w.crossed t ≡ true
 
--- a mark may end: nothing is left to be scanned or marked, and no barrier is open
+-- a mark may end: nothing is left to be scanned or marked, and no barrier is open (ours)
 pub record MayEndMark (w : AddressHeap) : Type 0 where
   pub scans : IsScanning w
   pub todo : (a : ℕ) → w.todo a ≡ false
@@ -50,8 +50,9 @@ pub record MayStartMark (w : AddressHeap) (c : ℕ → Bool) : Type 0 where
   pub waits : (t : ℕ) × (c t ≡ false)
   pub no_thread : (t r : ℕ) → c t ≡ true → w.register t r ≡ Null
 
--- closed pages may be protected, with a plan that has a free place of its own for each of their live objects, on pages
--- that open for it; c is true of the numbers that are no thread's (the paper's Relocate phase)
+-- pages may be protected (the paper's Relocate phase), closed ones alone (ours), with a plan that has a free place of
+-- its own for each of their live objects, on pages that open for it (ours); c is true of the numbers that are no
+-- thread's
 pub record MayProtect (w : AddressHeap) (states : ℕ → PageState) (entries : ℕ → SideEntry) (c : ℕ → Bool) : Type 0 where
   pub phase : w.phase ≡ Idle
   pub changes : (a : ℕ)
@@ -106,22 +107,25 @@ pub data Transition (w : AddressHeap) (p p0 : BirthHeap) : AddressHeap → Birth
   TrapMoved : (t : ℕ) (k : OpenBarrier) (a n : ℕ) (b : Bool) → w.barrier t ≡ Some k → k.now ≡ To a b
       → w.side_entry a ≡ Copied n
       → Transition w p p0 (set_barrier t (record k { now = To n b }) w) p p0
-  -- a GC trap, whose object wasn't copied: the thread copies it, once all have crossed (ours), and forwards the word
+  -- a GC trap, whose object wasn't copied: the word is forwarded (the paper's read barrier); that the thread copies the
+  -- object itself, and once all have crossed, is ours
   TrapCopied : (t : ℕ) (k : OpenBarrier) (a n : ℕ) (b : Bool) (o : HeapObject) → w.barrier t ≡ Some k → k.now ≡ To a b
       → w.side_entry a ≡ Planned n → w.object_at a ≡ Some o → w.phase ≢ ProtectCrossing
       → Transition w p p0 (set_barrier t (record k { now = To n b }) (copy_object a n o w)) p p0
   -- an NMT trap: the object is marked, and the word becomes clean (the paper's read barrier)
   TrapMarked : (t : ℕ) (k : OpenBarrier) → w.barrier t ≡ Some k → is_marking w.phase ≡ true
       → Transition w p p0 (set_barrier t (record k { now = marked_word w k.now }) (mark_word k.now w)) p p0
-  -- the repaired word is written back to its global, which still holds what was loaded (the paper's read barrier)
+  -- the repaired word is written back to its global (the paper's read barrier), where that still holds what was loaded
+  -- (ours)
   HealGlobal : (t : ℕ) (k : OpenBarrier) (g : ℕ) → w.barrier t ≡ Some k → k.place ≡ AtGlobal g → w.global g ≡ k.raw
       → nmt_trap_due w t k.now ≡ false
       → Transition w p p0 (set_barrier t (record k { healed = true }) (set_global g k.now w)) p p0
-  -- the repaired word is written back to its field, which still holds what was loaded (the paper's read barrier)
+  -- the repaired word is written back to its field (the paper's read barrier), where that still holds what was loaded
+  -- (ours)
   HealField : (t : ℕ) (k : OpenBarrier) (a j : ℕ) (o : HeapObject) → w.barrier t ≡ Some k → k.place ≡ AtField a j
       → w.object_at a ≡ Some o → field o j ≡ k.raw → nmt_trap_due w t k.now ≡ false
       → Transition w p p0 (set_barrier t (record k { healed = true }) (set_object a (with_field o j k.now) w)) p p0
-  -- the place holds another word by now, and nothing is written
+  -- the place holds another word by now, and nothing is written (ours)
   HealChanged : (t : ℕ) (k : OpenBarrier) → w.barrier t ≡ Some k
       → Transition w p p0 (set_barrier t (record k { healed = true }) w) p p0
   -- a load ends, and its register gets the repaired word
@@ -185,7 +189,7 @@ pub data Transition (w : AddressHeap) (p p0 : BirthHeap) : AddressHeap → Birth
   -- a worker marks global g, and writes it back clean (the paper's Mark phase)
   ScanGlobal : (g : ℕ) → w.is_global g ≡ true → IsScanning w
       → Transition w p p0 (end_global_scan g (set_global g (marked_word w (w.global g)) (mark_word (w.global g) w))) p p0
-  -- a mark ends; lent is true of the addresses of pages in which a buffer is lent (the paper's Mark and Remap phases)
+  -- a mark ends (ours); lent is true of the addresses of pages in which a buffer is lent
   EndMark : (lent : ℕ → Bool) → MayEndMark w
       → Transition w p p0 (end_mark lent w) p p0
   -- pages are protected (the paper's Relocate phase)

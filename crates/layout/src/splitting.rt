@@ -33,8 +33,9 @@ pub fn split_header(part: &mut [u64]) -> Option<(&mut u64, &mut [u64])>
     part.split_first_mut()
 }
 
-/// The references and the data of the words behind a header; `None` exactly where there are
-/// fewer than the references. When the borrow ends, the words are the two, one behind the other.
+/// Of the words behind a header the references, and the words behind them; `None` exactly where
+/// there are fewer words than references. When the borrow ends, the words are the two, one behind
+/// the other.
 pub fn split_parts<'a>(
     body: &'a mut [u64],
     layout: Layout,

@@ -58,13 +58,14 @@ pub enum Room {
 pub enum Phase {
     /// No mark runs, and no page is protected.
     Idle,
-    /// A mark has begun, and some thread hasn't crossed its checkpoint (Mark).
+    /// A mark has begun, and some thread hasn't crossed its checkpoint (the paper's Mark phase).
     MarkCrossing,
-    /// A mark runs, and all threads have crossed (Mark).
+    /// A mark runs, and all threads have crossed (the paper's Mark phase).
     Scanning,
-    /// Pages are protected, and some thread hasn't crossed the checkpoint (Relocate).
+    /// Pages are protected, and some thread hasn't crossed the checkpoint (the paper's Relocate
+    /// phase).
     ProtectCrossing,
-    /// Pages are protected, and all threads have crossed (Relocate).
+    /// Pages are protected, and all threads have crossed (the paper's Relocate phase).
     Relocating,
 }
 

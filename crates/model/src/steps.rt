@@ -54,8 +54,11 @@ impl PageList {
 /// What an actor does in one hold of the heap. What the steps are is ours; a section of the paper
 /// is named where a step does its rule.
 ///
-/// Registers, globals, fields, data words, layouts and entries of a side array count from 0, pages
-/// from 1; offsets and sizes are in words. A number that names nothing is refused (`BadIndex`).
+/// `target`, `object`, `source`, `left`, `right` and the numbers of `IsNull`, `ClearReg` and
+/// `Scrub` are numbers of the thread's registers, from 0: `object` is the register that names the
+/// object. `field` and `index` count from 0 within the object, references and data each; `global`,
+/// `layout`, `entry` of a side array and the thread of `CrossFor` count from 0, pages from 1;
+/// offsets and sizes are in words. A number that names nothing is refused (`BadIndex`).
 #[derive(Debug, Drop)]
 pub enum Step {
     /// A buffer of so many words is taken: 1 to the words of a page.
@@ -67,22 +70,24 @@ pub enum Step {
         target: u32,
         layout: u32,
     },
-    /// A reference field is loaded: a barrier opens (read barrier).
+    /// A reference field is loaded: a barrier opens (the paper's read barrier).
     Load {
         target: u32,
         object: u32,
         field: u32,
     },
-    /// A global is loaded: a barrier opens (read barrier).
+    /// A global is loaded: a barrier opens (the paper's read barrier).
     LoadGlobal {
         target: u32,
         global: u32,
     },
-    /// The word in the barrier is corrected or marked (read barrier).
+    /// The word in the barrier is corrected or marked (the paper's read barrier; that the thread
+    /// copies an object that isn't copied yet is ours).
     Trap,
-    /// The place of the load gets the word in the barrier, if it hasn't changed (read barrier).
+    /// The place of the load gets the word in the barrier (the paper's read barrier), if it hasn't
+    /// changed (ours).
     Heal,
-    /// The register gets the word in the barrier, which closes (read barrier).
+    /// The register gets the word in the barrier, which closes (the paper's read barrier).
     Finish,
     /// A reference field gets a register's word.
     Store {
@@ -120,38 +125,41 @@ pub enum Step {
     },
     /// A register becomes null.
     ClearReg(u32),
-    /// The thread crosses the open checkpoint (checkpoints).
+    /// The thread crosses the open checkpoint (the paper's checkpoints).
     Cross,
-    /// A register that names a protected page is corrected.
+    /// A register that names a protected page is corrected (ours).
     Scrub(u32),
     /// The thread blocks, and does nothing but `Unpark`.
     Park,
     /// The thread runs again.
     Unpark,
-    /// A mark starts (Mark).
+    /// A mark starts (the paper's Mark phase).
     StartMark,
-    /// The worker takes an object to scan (Mark).
+    /// The worker takes an object to scan (the paper's Mark phase).
     Pick {
         page: u32,
         offset: u32,
     },
-    /// The worker scans the next field of its object, and corrects it (Mark, Remap).
+    /// The worker scans the next field of its object, and corrects it (the paper's Mark and Remap
+    /// phases).
     ScanField,
-    /// A global is marked, and corrected (Mark, Remap).
+    /// A global is marked, and corrected (the paper's Mark and Remap phases).
     ScanGlobal(u32),
-    /// The mark ends, and pages that were emptied become unused (ours).
+    /// The mark ends, and pages that were emptied become unused (ours; that a page's number is free
+    /// only after a mark has corrected all references to it is the paper's Remap phase).
     EndMark,
-    /// Pages are protected, and it is planned where their live objects go (Relocate; the
-    /// plan is ours).
+    /// Pages are protected, and it is planned where their live objects go (the paper's Relocate
+    /// phase; the plan, and that only closed pages can be protected, are ours).
     Protect(PageList),
-    /// An object of a protected page is copied (Relocate).
+    /// An object of a protected page is copied (the paper's Relocate phase; that nothing is copied
+    /// before all threads have crossed is ours).
     Copy {
         page: u32,
         entry: u32,
     },
-    /// A protected page gives its frame back (Relocate).
+    /// A protected page gives its frame back (the paper's Relocate phase).
     Release(u32),
-    /// A parked thread is crossed (checkpoints).
+    /// A parked thread is crossed (the paper's checkpoints).
     CrossFor(u32),
 }
 
@@ -164,11 +172,11 @@ pub enum Answer {
     Birth(u32),
     /// A barrier is open.
     Loaded,
-    /// The word names the copy now (read barrier).
+    /// The word names the copy now (the paper's read barrier).
     Moved,
-    /// The word was marked (read barrier).
+    /// The word was marked (the paper's read barrier).
     Marked,
-    /// No trap was due (read barrier).
+    /// No trap was due (the paper's read barrier).
     Clear,
     /// The place of the load was written.
     Healed,
@@ -207,7 +215,7 @@ pub enum Refusal {
     Parked,
     /// The thread isn't parked.
     NotParked,
-    /// A barrier is open.
+    /// A barrier is open, or it can't go on yet: a trap is due, or its word isn't healed.
     Busy,
     /// No barrier is open.
     NotBusy,

@@ -279,7 +279,9 @@ impl Store {
     }
 
     /// A buffer of `n` words: in the lowest open page that has room, else in the lowest unused
-    /// page, opened on the lowest free frame (ours). `n` is 1 to the words of a page.
+    /// page, opened on the lowest free frame (ours). `n` is 1 to the words of a page. It searches
+    /// the page records and the frames from the lowest on, so its cost grows with them (an index is
+    /// to come).
     ///
     /// Answers `NoFrames` where no frame is free, else `NoPages` where no page is unused; the
     /// store is then as it was.

@@ -53,7 +53,8 @@ fn note_start(starts: &mut Rows, mark: &mut Rows, todo: &mut Rows, phase: Phase,
 
 impl Heap {
     /// A thread makes an object in its buffer, with null references and data of 0, and a
-    /// register gets its word, which is marked through.
+    /// register gets its word, which is marked through. Does the row alone: `cycle` makes the
+    /// tests before it.
     ///
     /// Refused where there is no buffer, or it has fewer words left than the object
     /// (`NoRoom`); `BadIndex` where there is no such layout; `Births` where no more may be born.

@@ -20,7 +20,7 @@ fn open_row(rows: &mut Rows, buffer: Buffer)
 }
 
 impl Heap {
-    /// The buffer of a thread, if it has one.
+    /// The buffer of a thread, by its number from 0, if it has one.
     pub fn buffer(&self, thread: u32) -> Option<Buffer>
         ensures value { result ≡ buffer_of_thread self.now thread }
         ensures lies { IfSome result (LiesIn self.now.store) }
@@ -48,7 +48,7 @@ impl Heap {
     }
 
     /// A thread takes a buffer of 1 to the words of a page, in the lowest open page with room,
-    /// else in a fresh page (ours).
+    /// else in a fresh page (ours). Does the row alone: `cycle` makes the tests before it.
     ///
     /// Refused where it has one (`HasBuffer`); where no page has room and no frame is free
     /// (`NoFrames`); where no page number is unused (`NoPages`).
@@ -75,6 +75,7 @@ impl Heap {
     }
 
     /// A thread gives its buffer back, whose rest is lost. Refused where it has none (`NoRoom`).
+    /// Does the row alone: `cycle` makes the tests before it.
     #[tactic(auto, unfolding(model::specs::Outcome::give_back_outcome, model::specs::Heaps::with_buffer))]
     pub fn give_back(&mut self, thread: u32) -> Result<Answer, Refusal>
         ensures { Does self.old result self.new (give_back_outcome self.old thread) }

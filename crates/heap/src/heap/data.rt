@@ -35,7 +35,7 @@ impl Heap {
     }
 
     /// Reads a data word, by its number from 0. Refused as `usable` is, then `BadIndex` where the
-    /// object has no such word.
+    /// object has no such word. Does the row alone: `cycle` makes the tests before it.
     #[tactic(auto, unfolding(model::specs::Outcome::datum_outcome))]
     pub fn datum(&self, thread: u32, object: u32, index: u32) -> Result<Answer, Refusal>
         ensures { Does self.now result self.now (datum_outcome self.now thread object index) }
@@ -50,7 +50,8 @@ impl Heap {
         Ok(Answer::Datum(value))
     }
 
-    /// Writes a data word. Refused as `datum` is.
+    /// Writes a data word, by its number from 0. Refused as `datum` is. Does the row alone: `cycle`
+    /// makes the tests before it.
     #[tactic(auto, unfolding(model::specs::Outcome::set_datum_outcome))]
     pub fn set_datum(
         &mut self,

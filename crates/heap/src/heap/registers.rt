@@ -10,7 +10,8 @@ use model::{Answer, PageState, Phase, Refusal};
 use refword::{Addr, Word};
 
 impl Heap {
-    /// The word in a register, null where there is no such register.
+    /// The word in a register, null where there is no such register. Threads and registers count
+    /// from 0.
     #[tactic(auto, unfolding(model::specs::Heaps::register_of))]
     pub fn register(&self, thread: u32, register: u32) -> Word
         ensures { result ≡ register_of self.now thread register }
@@ -66,7 +67,8 @@ impl Heap {
         }
     }
 
-    /// The address in a register that names an object and may be used.
+    /// The address in a register that names an object and may be used. Threads and registers count
+    /// from 0.
     ///
     /// Refused where it is null (`Null`); on a protected page `Stall`, where pages are being
     /// protected and the thread has crossed, and in other phases `Stale` (ours).
@@ -95,7 +97,7 @@ impl Heap {
     }
 
     /// Whether two registers name the same object, or both none; their NMT bits don't count.
-    /// Refused as `usable_or_null` is.
+    /// Refused as `usable_or_null` is. Does the row alone: `cycle` makes the tests before it.
     #[tactic(auto, unfolding(model::specs::Outcome::same_outcome))]
     pub fn same(&self, thread: u32, left: u32, right: u32) -> Result<Answer, Refusal>
         ensures { Does self.now result self.now (same_outcome self.now thread left right) }
@@ -105,7 +107,8 @@ impl Heap {
         Ok(Answer::Truth(left == right))
     }
 
-    /// Whether a register is null. Never refused here.
+    /// Whether a register is null. Does the row alone, which refuses nothing: `cycle` makes the
+    /// tests before it.
     #[tactic(auto, unfolding(model::specs::Outcome::is_null_outcome))]
     pub fn is_null(&self, thread: u32, register: u32) -> Result<Answer, Refusal>
         ensures { Does self.now result self.now (is_null_outcome self.now thread register) }
@@ -113,7 +116,8 @@ impl Heap {
         Ok(Answer::Truth(self.register(thread, register).is_null()))
     }
 
-    /// A register gets another one's word. Never refused here.
+    /// A register gets another one's word. Does the row alone, which refuses nothing: `cycle` makes
+    /// the tests before it.
     #[tactic(auto, unfolding(model::specs::Outcome::copy_register_outcome))]
     pub fn copy_register(
         &mut self,
@@ -128,7 +132,8 @@ impl Heap {
         Ok(Answer::Done)
     }
 
-    /// A register becomes null. Never refused here.
+    /// A register becomes null. Does the row alone, which refuses nothing: `cycle` makes the tests
+    /// before it.
     #[tactic(auto, unfolding(model::specs::Outcome::clear_register_outcome))]
     pub fn clear_register(&mut self, thread: u32, target: u32) -> Result<Answer, Refusal>
         ensures { Does self.old result self.new (clear_register_outcome self.old thread target) }
