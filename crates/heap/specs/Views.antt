@@ -3,6 +3,7 @@ use Rattle.model.specs.Heaps.{HeapState, no_sides}
 use Rattle.model.specs.Holding.{IsHeap}
 use Rattle.heap.specs.declared.heap.Heap.TheInside.{Inside}
 
+-- its records as plain data; no page has a side array yet
 abbrev pub heap_of : Inside → HeapState
 heap_of h = record {
   config = h.config;
@@ -20,5 +21,6 @@ heap_of h = record {
   births = h.births;
 }
 
+-- what a heap keeps, of that data
 abbrev pub IsHeapInside : Inside → Type 0
 IsHeapInside h = IsHeap (heap_of h)

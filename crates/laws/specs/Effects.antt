@@ -62,7 +62,8 @@ with_datum o j v = record o { data_words = set o.data_words j v }
 abbrev pub new_barrier : ℕ → LoadPlace → Word → OpenBarrier
 new_barrier d place v = record { target = d; place = place; raw = v; now = v; healed = false }
 
--- a mark runs that the thread has crossed, so that its loads trap on words that aren't clean
+-- a mark runs that the thread has crossed, so that its loads trap on words that aren't clean (the paper's read barrier;
+-- that they do so before all threads have crossed is ours)
 abbrev pub may_nmt_trap : Phase → Bool → Bool
 may_nmt_trap Scanning crossed = true
 may_nmt_trap MarkCrossing crossed = crossed

@@ -13,7 +13,7 @@ use Rattle.laws.specs.BirthHeap.{BirthHeap}
 use Rattle.laws.specs.Edits.{set_object, set_barrier, plain_set_pending, end_load, set_global, plain_set_global, copy_object, mark_word, marked_word, end_global_scan, set_scan, end_scan, start_mark, cross_checkpoint, release_page, protect_pages, open_page, set_parked, born, plain_born, end_mark}
 use Rattle.laws.specs.Effects.{plain_store, plain_datum, plain_load_field, plain_finish, plain_set_register, set_register, with_field, with_datum, new_barrier, nmt_trap_due, mark_registers, scan_field}
 
--- the address of a usable register: its page isn't protected, or the thread has still to cross (the paper's checkpoints)
+-- the address of a usable register: its page isn't protected, or the thread has still to cross (ours)
 abbrev pub IsUsable : AddressHeap → ℕ → ℕ → Type 0
 IsUsable w t a = is_protected (w.page_state a) ≡ true → (w.phase ≡ ProtectCrossing) × (w.crossed t ≡ false)
 

@@ -4,6 +4,7 @@ use Rattle.model.specs.Stores.{StoreState}
 use Rattle.model.specs.Owning.{IsStore}
 use Rattle.page.specs.declared.store.Store.TheInside.{Inside}
 
+-- its records as plain data; the number of free frames isn't in it
 abbrev pub store_of : Inside → StoreState
 store_of s = record { words = s.words; count = s.count; pages = s.pages.items; frames = s.frames.items; owners = s.owners.items }
 

@@ -43,7 +43,7 @@ impl Heap {
     }
 
     /// Whether a thread may use an address: not on a protected page, unless the thread has still
-    /// to cross the checkpoint at which pages are being protected (the paper's checkpoints).
+    /// to cross the checkpoint at which pages are being protected (ours).
     #[tactic(auto, unfolding(model::specs::Outcome::let_through))]
     fn let_through(&self, thread: u32, address: Addr) -> Result<(), Refusal>
         ensures { result ≡ let_through self.now thread address }
