@@ -15,8 +15,10 @@ pub record IsPage (words : ℕ) (p : Page) : Type 0 where
 
 -- the page of an index has the frame exactly where it is the frame's owner
 pub record OwnsAlike (s : StoreState) : Type 0 where
-  pub owned : (i f : ℕ) (p : Page) → slice_get s.pages i ≡ Some p → p.frame ≡ Some f → slice_get s.owners f ≡ Some (Some (i + 1))
-  pub owner : (f n : ℕ) → slice_get s.owners f ≡ Some (Some n) → (i : ℕ) × (p : Page) × (n ≡ i + 1) × (slice_get s.pages i ≡ Some p) × (p.frame ≡ Some f)
+  pub owned : (i f : ℕ) (p : Page) → slice_get s.pages i ≡ Some p → p.frame ≡ Some f
+      → slice_get s.owners f ≡ Some (Some (i + 1))
+  pub owner : (f n : ℕ) → slice_get s.owners f ≡ Some (Some n)
+      → (i : ℕ) × (p : Page) × (n ≡ i + 1) × (slice_get s.pages i ≡ Some p) × (p.frame ≡ Some f)
 
 -- pages with memory and free frames add up to the frames, and no more pages are left than there are frames
 pub record IsBalanced (s : StoreState) : Type 0 where

@@ -47,7 +47,8 @@ buffer_extent words b = record { from = b.page * words + b.next; upto = b.page *
 -- the words of page n that were not given out, if it is open
 abbrev pub end_extent : ℕ → ℕ → Option Page → Option Extent
 end_extent words n None = None
-end_extent words n (Some p) = if is_open p.state then Some (record { from = n * words + p.top; upto = n * words + words }) else None
+end_extent words n (Some p) =
+    if is_open p.state then Some (record { from = n * words + p.top; upto = n * words + words }) else None
 
 -- the addresses that a claim has
 abbrev pub extent : HeapState → Claim → Option Extent
@@ -97,12 +98,15 @@ pub record IsLaid (h : HeapState) : Type 0 where
   pub sides : AreSides h.store h.sides
   pub registers : Each h.threads (λ t. length t.registers ≡ h.config.registers)
   -- where an object is said to start on a page with memory, there is one
-  pub objects : (a : ℕ) → bit_at h.starts h.store.words a ≡ true → has_memory ((world_of h).page_state a) ≡ true → (o : HeapObject) × (object_at h a ≡ Some o)
+  pub objects : (a : ℕ) → bit_at h.starts h.store.words a ≡ true → has_memory ((world_of h).page_state a) ≡ true
+      → (o : HeapObject) × (object_at h a ≡ Some o)
   pub apart : Apart (extent h)
   -- a planned place lies in one page
-  pub planned : (a n : ℕ) (o : HeapObject) → (world_of h).side_entry a ≡ Planned n → object_at h a ≡ Some o → n % h.store.words + object_size o ≤ h.store.words
+  pub planned : (a n : ℕ) (o : HeapObject) → (world_of h).side_entry a ≡ Planned n → object_at h a ≡ Some o
+      → n % h.store.words + object_size o ≤ h.store.words
   -- what is live on a page with memory is an object
-  pub live_objects : (a : ℕ) → bit_at h.live h.store.words a ≡ true → has_memory ((world_of h).page_state a) ≡ true → (o : HeapObject) × (object_at h a ≡ Some o)
+  pub live_objects : (a : ℕ) → bit_at h.live h.store.words a ≡ true → has_memory ((world_of h).page_state a) ≡ true
+      → (o : HeapObject) × (object_at h a ≡ Some o)
   -- nothing is live on an unused page
   pub unused : (a : ℕ) → (world_of h).page_state a ≡ Unused → bit_at h.live h.store.words a ≡ false
 

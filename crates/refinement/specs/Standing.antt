@@ -35,7 +35,8 @@ kept_at_mark p p0 steps.StartMark = p
 kept_at_mark p p0 _ = p0
 
 -- after an accepted step the heap stands for the plain heap after its step, and the answer is the plain heap's
-pub record StepHolds (h : HeapState) (p p0 : PlainHeap) (actor : Actor) (step : Step) (g : HeapState) (answer : Answer) : Type 0 where
+pub record StepHolds (h : HeapState) (p p0 : PlainHeap) (actor : Actor) (step : Step) (g : HeapState) (answer : Answer)
+    : Type 0 where
   pub config : g.config ≡ h.config
   pub holds : Holds g (plain_step h.config.layouts p actor step) (kept_at_mark p p0 step)
   pub answers : AnswersPlain (plain_answer p actor step) answer
@@ -54,4 +55,5 @@ StepsHold =
 -- what a call that gave this result keeps: where the heap stood for a plain heap, it does after an accepted step, whose
 -- answer is the plain heap's
 abbrev pub KeepsStanding : HeapState → Actor → Step → Result Answer Refusal → HeapState → Type 0
-KeepsStanding old actor step result new = (p p0 : PlainHeap) → Holds old p p0 → IfOk result (λ answer. StepHolds old p p0 actor step new answer)
+KeepsStanding old actor step result new =
+    (p p0 : PlainHeap) → Holds old p p0 → IfOk result (λ answer. StepHolds old p p0 actor step new answer)
