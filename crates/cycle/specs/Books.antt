@@ -1,5 +1,5 @@
 -- Books: a heap and the history of its accepted steps.
-use Rattle.std.specs.Prelude.{◌≡◌, Bool, List, [], ◌∷◌, ◌++◌, length, nat_le, Result, Ok, Err, Some, None, if◌then◌else◌, ◌⊎◌}
+use Rattle.std.specs.Prelude.{◌≡◌, Bool, false, List, [], ◌∷◌, ◌++◌, length, nat_le, Result, Ok, Err, Some, None, if◌then◌else◌, ◌⊎◌}
 use Rattle.model.specs.declared.config.Config.{Config}
 use Rattle.model.specs.declared.steps.Actor.{Actor}
 use Rattle.model.specs.declared.steps.Step.{Step}
@@ -50,10 +50,10 @@ entered b actor step (Ok x) = Ok (record { heap = x.0; history = b.history ++ re
 unfoldable pub acted : BookState → Actor → Step → BookOutcome
 acted b actor step = if is_full b then Err refusals.HistoryFull else entered b actor step (outcome b.heap actor step)
 
--- a call did what the outcome says, or memory ran out; a refused one changed nothing
+-- a call did what the outcome says, or, where the history is not full, memory ran out; a refused one changed nothing
 abbrev pub Acts : BookState → Reply → BookState → BookOutcome → Type 0
 Acts old (Ok answer) new outcome = outcome ≡ Ok (new, answer)
-Acts old (Err e) new outcome = ((e ≡ refusals.Memory) ⊎ (outcome ≡ Err e)) × (new ≡ old)
+Acts old (Err e) new outcome = (((is_full old ≡ false) × (e ≡ refusals.Memory)) ⊎ (outcome ≡ Err e)) × (new ≡ old)
 
 -- one reply for each step, in order, each step done on the book that the one before left
 abbrev pub Ran : BookState → List (Actor × Step) → List Reply → BookState → Type 0
