@@ -45,7 +45,11 @@ impl Model for Book {
 }
 
 impl Book {
-    /// What holds of every book.
+    /// What holds of every book (ours): the law of books, that its history is within the
+    /// configuration's limit, and what it promises to threads: registers, loads and globals name
+    /// what the plain heap has in their place, what can be reached has exactly one current copy,
+    /// on a page with memory, and no register that may be used names a page without memory. It
+    /// changes nothing and never fails.
     pub fn law(&self)
         ensures book { IsBook self.now }
         ensures promises { KeepsPromises self.now }

@@ -105,7 +105,7 @@ MarksEndLive =
     (is_global : ℕ → Bool) (w : AddressHeap) (p p0 : BirthHeap) → Run (first is_global) plain_first plain_first w p p0 → MayEndMark w → (lent : ℕ → Bool)
     → ReachableIsLive (end_mark lent w) p × LiveWasReachable (end_mark lent w) p0
 
--- a mark can end: from a first heap, transitions lead to where one may
+-- a mark can end: from the first heap without globals, transitions lead to where one may
 pub record MarksCanEnd : Type 0 where
   pub heap : AddressHeap
   pub run : Run (first (λ g. false)) plain_first plain_first heap plain_first plain_first

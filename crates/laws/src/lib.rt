@@ -45,6 +45,6 @@ pub fn law()
     // where a mark ends after such a run, all that can be reached is live, and what is live could
     // be reached when the mark began, or is born since
     ensures ended { MarksEndLive }
-    // and marks can end
+    // and marks can end: shown by one run, of a heap without globals, in which nothing is born
     ensures ends { MarksCanEnd }
 {}

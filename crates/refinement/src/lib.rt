@@ -1,6 +1,7 @@
-//! The heap's state stands for the heap by addresses, and each step that it accepts is one of the
-//! transitions that the laws allow. There is no code here. One function without a body has this as
-//! its clauses, and a crate that needs them calls it.
+//! The heap's state stands for a plain heap, by the heap by addresses that the laws speak of, and
+//! each accepted step keeps it so and answers what the plain heap answers. It is proved by the
+//! laws' transitions, of which such a step is one, or it changes neither heap. There is no code
+//! here. One function without a body has this as its clauses, and a crate that needs them calls it.
 //!
 //! `specs/Worlds.antt` reads the heap by addresses off the state: an object stands where a start
 //! bit says so, and is what the words of its page spell there. `specs/Claims.antt` says that the
@@ -11,7 +12,9 @@
 
 ghost use Rattle.refinement.specs.Standing.{FirstHolds, StepsHold};
 
-/// What joins the states of the code to the laws.
+/// What joins the states of the code to the laws (ours). It is said of every state that has what
+/// all heaps have, `IsStore` and `IsHeap`, for each step of each actor. A refused step is not
+/// spoken of here: it changes nothing.
 pub fn law()
     // the first state of a configuration stands for its first plain heap
     ensures first { FirstHolds }
