@@ -4,8 +4,8 @@ use Rattle.model.specs.declared.records.Phase.TheVariants.{Scanning}
 use Rattle.model.specs.declared.records.PageState.{PageState}
 use Rattle.model.specs.declared.records.PageState.TheVariants.{Unused, Open, Closed, From, Gone}
 use Rattle.model.specs.Stores.{is_protected, has_memory}
-use Rattle.model.specs.Phases.{is_marking}
-use Rattle.laws.specs.AddressHeap.{AddressHeap, HeapObject, Word, Null, To, field, current, resolve, resolve_by, names, birth_of, is_crossing, SideEntry, NoEntry, Planned, Copied}
+use Rattle.model.specs.Phases.{is_marking, is_crossing}
+use Rattle.laws.specs.AddressHeap.{AddressHeap, HeapObject, Word, Null, To, field, current, resolve, resolve_by, names, birth_of, SideEntry, NoEntry, Planned, Copied}
 use Rattle.laws.specs.BirthHeap.{BirthHeap, ref, InRegister, InGlobal, Start}
 use Rattle.laws.specs.Invariant.{IsKept, IsClean, StandsFor, Invariant}
 use Rattle.laws.specs.Transitions.{IsUsable}

@@ -3,8 +3,8 @@ use Rattle.std.proofs.Common.{◌≡◌, ◌≢◌, ◌⊎◌, ◌<◌, ◌≤�
 use Rattle.std.proofs.lemmas.List.{set-get_or, get_or_past}
 use Rattle.model.specs.declared.records.Phase.{Phase}
 use Rattle.model.specs.declared.records.Phase.TheVariants.{MarkCrossing, Scanning, ProtectCrossing, Relocating}
-use Rattle.model.specs.Phases.{is_marking}
-use Rattle.laws.specs.AddressHeap.{AddressHeap, HeapObject, Word, Null, To, put, put_at, field, current, resolve, is_crossing, Planned, WorkerScan}
+use Rattle.model.specs.Phases.{is_marking, is_crossing}
+use Rattle.laws.specs.AddressHeap.{AddressHeap, HeapObject, Word, Null, To, put, put_at, field, current, resolve, Planned, WorkerScan}
 use Rattle.laws.specs.BirthHeap.{BirthHeap, ref, Start, Next}
 use Rattle.laws.specs.Invariant.{IsKept, IsClean, Invariant}
 use Rattle.laws.specs.Edits.{set_object, set_global, end_global_scan, set_scan, end_scan, mark_word, todo_after, marked_word, copy_object, cross_checkpoint}

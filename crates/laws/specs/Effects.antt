@@ -1,7 +1,6 @@
 -- What steps do to the plain heap, and what some of them do to the heap by addresses.
 use Rattle.std.specs.Prelude.{ℕ, ◌+◌, zero, suc, Bool, true, false, not, cond, Option, Some, None, set}
-use Rattle.model.specs.declared.records.Phase.{Phase}
-use Rattle.model.specs.declared.records.Phase.TheVariants.{MarkCrossing, Scanning}
+use Rattle.model.specs.Phases.{may_nmt_trap, same_bit}
 use Rattle.laws.specs.AddressHeap.{AddressHeap, HeapObject, Word, Null, To, put_at, OpenBarrier, WorkerScan, LoadPlace, field}
 use Rattle.laws.specs.BirthHeap.{BirthHeap, ref}
 use Rattle.laws.specs.Edits.{plain_set_object, plain_set_pending, plain_end_load, set_object, mark_word, marked_word, set_scan}
@@ -61,18 +60,6 @@ with_datum o j v = record o { data_words = set o.data_words j v }
 -- the barrier of a load for register d that has just read the word v at a place (the paper's read barrier)
 abbrev pub new_barrier : ℕ → LoadPlace → Word → OpenBarrier
 new_barrier d place v = record { target = d; place = place; raw = v; now = v; healed = false }
-
--- a mark runs that the thread has crossed, so that its loads trap on words that aren't clean (the paper's read barrier;
--- that they do so before all threads have crossed is ours)
-abbrev pub may_nmt_trap : Phase → Bool → Bool
-may_nmt_trap Scanning crossed = true
-may_nmt_trap MarkCrossing crossed = crossed
-may_nmt_trap _ crossed = false
-
--- two bits are equal
-abbrev pub same_bit : Bool → Bool → Bool
-same_bit true b = b
-same_bit false b = not b
 
 -- a word has to be marked before thread t may have it: its bit isn't the clean value (the paper's read barrier, NMT trap)
 abbrev pub nmt_trap_due : AddressHeap → ℕ → Word → Bool

@@ -1,5 +1,6 @@
 -- The state of a heap, as plain data, and the edits that steps are made of.
 use Rattle.std.specs.Prelude.{ℕ, ◌+◌, ◌-◌, ◌/◌, ◌^◌, ◌==◌, Bool, true, false, List, [], ◌∷◌, length, replicate, Option, Some, None, slice_get, slice_set, if◌then◌else◌}
+use Rattle.refword.specs.Words.{read_word, bits_of}
 use Rattle.layout.specs.declared.shape.Layout.{Layout}
 use Rattle.layout.specs.Objects.{header_bits}
 use Rattle.model.specs.declared.config.Config.{Config}
@@ -10,7 +11,9 @@ use Rattle.model.specs.declared.records.Forwarding.{Forwarding}
 use Rattle.model.specs.declared.records.Global.{Global}
 use Rattle.model.specs.declared.records.Phase.{Phase}
 use Rattle.model.specs.declared.records.Phase.TheVariants.{Idle}
-use Rattle.model.specs.Stores.{StoreState, first_store, word_at, record_count}
+use Rattle.model.specs.declared.records.Place.{Place}
+use Rattle.model.specs.declared.records.Place.TheVariants as places
+use Rattle.model.specs.Stores.{StoreState, first_store, word_at, with_word, record_count}
 
 -- null, or an address with its not-marked-through bit
 abbrev pub Reference : Type 0
@@ -91,6 +94,58 @@ buffer_in (Some t) = t.buffer
 abbrev pub buffer_of_thread : HeapState → ℕ → Option Buffer
 buffer_of_thread h t = buffer_in (slice_get h.threads t)
 
+-- a thread with another barrier, or none
+abbrev pub set_barrier_of : Option Barrier → ThreadState → ThreadState
+set_barrier_of b t = record t { barrier = b }
+
+-- the heap with another barrier of a thread
+unfoldable pub with_barrier : HeapState → ℕ → Barrier → HeapState
+with_barrier h t b = record h { threads = changed h.threads t (set_barrier_of (Some b)) }
+
+-- the barrier of a thread that may be missing
+abbrev pub barrier_of : Option ThreadState → Option Barrier
+barrier_of None = None
+barrier_of (Some t) = t.barrier
+
+-- the barrier of a thread
+abbrev pub barrier_of_thread : HeapState → ℕ → Option Barrier
+barrier_of_thread h t = barrier_of (slice_get h.threads t)
+
+-- a thread whose barrier is closed, and whose register r has the word that was loaded
+abbrev pub set_loaded_of : ℕ → Reference → ThreadState → ThreadState
+set_loaded_of r w t = record t { registers = slice_set t.registers r w; barrier = None }
+
+-- the heap after a thread's load for register r has ended
+unfoldable pub with_loaded : HeapState → ℕ → ℕ → Reference → HeapState
+with_loaded h t r w = record h { threads = changed h.threads t (set_loaded_of r w) }
+
+-- a thread that is parked or runs
+abbrev pub set_parked_of : Bool → ThreadState → ThreadState
+set_parked_of b t = record t { parked = b }
+
+-- the heap with a thread parked or running
+unfoldable pub with_parked : HeapState → ℕ → Bool → HeapState
+with_parked h t b = record h { threads = changed h.threads t (set_parked_of b) }
+
+-- globals
+
+-- the word of a global that may be missing
+abbrev pub word_of_global : Option Global → Reference
+word_of_global None = None
+word_of_global (Some g) = g.word
+
+-- the word of a global, null where there is none
+unfoldable pub global_of : HeapState → ℕ → Reference
+global_of h g = word_of_global (slice_get h.globals g)
+
+-- a global with another word
+abbrev pub set_word_of : Reference → Global → Global
+set_word_of w g = record g { word = w }
+
+-- the heap with another word in a global
+unfoldable pub with_global : HeapState → ℕ → Reference → HeapState
+with_global h g w = record h { globals = changed h.globals g (set_word_of w) }
+
 -- rows
 
 -- a row of the same length with all bits clear
@@ -120,6 +175,19 @@ header_layout (Some bits) = Some (bits / 2 ^ 32)
 -- the layout of the object at an address
 unfoldable pub layout_at : HeapState → ℕ → Option Layout
 layout_at h address = layout_in h.config.layouts (header_layout (word_at h.store address))
+
+-- the reference that a number in memory is; one that is no word counts as null (ours)
+abbrev pub stored : ℕ → Reference
+stored bits = flat (read_word bits)
+
+-- the address of reference i of an object
+abbrev pub field_address : ℕ → ℕ → ℕ
+field_address address i = address + 1 + i
+
+-- the heap with another word at the place of a load
+abbrev pub with_place : HeapState → Place → Reference → HeapState
+with_place h (places.Field address i) w = record h { store = with_word h.store (field_address address i) (bits_of w) }
+with_place h (places.Global g) w = with_global h g w
 
 -- the address of data word j of an object
 abbrev pub datum_address : ℕ → Layout → ℕ → ℕ

@@ -1,22 +1,27 @@
 -- What each step does: its tests in order, its answer and its effect.
-use Rattle.std.specs.Prelude.{ℕ, ◌+◌, ◌-◌, ◌*◌, ◌/◌, ◌==◌, ◌||◌, not, Bool, true, false, length, Option, Some, None, is_some, is_none, Result, Ok, Err, nat_lt, nat_le, slice_get, if◌then◌else◌}
+use Rattle.std.specs.Prelude.{ℕ, ◌+◌, ◌-◌, ◌*◌, ◌/◌, ◌==◌, ◌&&◌, ◌||◌, not, Bool, true, false, length, Option, Some, None, is_some, is_none, Result, Ok, Err, nat_lt, nat_le, slice_get, if◌then◌else◌}
+use Rattle.refword.specs.Words.{bits_of}
 use Rattle.layout.specs.declared.shape.Layout.{Layout}
 use Rattle.layout.specs.Objects.{size_of}
 use Rattle.model.specs.declared.steps.Actor.{Actor}
 use Rattle.model.specs.declared.steps.Actor.TheVariants.{Thread, Worker}
 use Rattle.model.specs.declared.steps.Step.{Step}
 use Rattle.model.specs.declared.steps.Step.TheVariants as steps
+use Rattle.model.specs.declared.steps.Answer.{Answer}
 use Rattle.model.specs.declared.steps.Answer.TheVariants as answers
 use Rattle.model.specs.declared.steps.Refusal.{Refusal}
 use Rattle.model.specs.declared.steps.Refusal.TheVariants as refusals
 use Rattle.model.specs.declared.records.Buffer.{Buffer}
+use Rattle.model.specs.declared.records.Barrier.{Barrier}
+use Rattle.model.specs.declared.records.Place.{Place}
+use Rattle.model.specs.declared.records.Place.TheVariants as places
 use Rattle.model.specs.declared.records.Phase.{Phase}
 use Rattle.model.specs.declared.records.Phase.TheVariants.{ProtectCrossing}
 use Rattle.model.specs.declared.records.Room.{Room}
 use Rattle.model.specs.declared.records.Room.TheVariants.{NoFrames, NoPages}
-use Rattle.model.specs.Phases.{is_marking, is_mark_crossing}
+use Rattle.model.specs.Phases.{is_marking, is_mark_crossing, is_crossing, may_nmt_trap, same_bit}
 use Rattle.model.specs.Stores.{StoreState, state_at, is_protected, word_at, with_word, with_words, overlaid, taken}
-use Rattle.model.specs.Heaps.{HeapState, ThreadState, Reference, register_of, with_register, with_buffer, buffer_of_thread, changed, set_register_of, set_buffer_of, opened_rows, put_bit, layout_at, datum_address, fresh_object}
+use Rattle.model.specs.Heaps.{HeapState, ThreadState, Reference, register_of, with_register, with_buffer, buffer_of_thread, with_barrier, barrier_of_thread, with_loaded, with_parked, global_of, with_global, changed, set_register_of, set_buffer_of, opened_rows, put_bit, layout_at, stored, field_address, with_place, datum_address, fresh_object}
 use Rattle.model.specs.Refusing.{◌>>=◌, or_refuse, Outcome}
 
 -- registers that may be used
@@ -57,6 +62,110 @@ use_or_null h t (Some w) = do
 -- the address in a register, or none where it is null
 unfoldable pub usable_or_null : HeapState → ℕ → ℕ → Result (Option ℕ) Refusal
 usable_or_null h t r = use_or_null h t (register_of h t r)
+
+-- references
+
+-- where reference i of the object at an address stands, if its layout is there and has so many
+abbrev pub field_place : ℕ → ℕ → Option Layout → Option ℕ
+field_place address i None = None
+field_place address i (Some l) = if nat_lt i l.refs then Some (field_address address i) else None
+
+-- where reference i of the object at an address stands
+unfoldable pub field_at : HeapState → ℕ → ℕ → Option ℕ
+field_at h address i = field_place address i (layout_at h address)
+
+-- the row of Store
+unfoldable pub store_outcome : HeapState → ℕ → ℕ → ℕ → ℕ → Outcome
+store_outcome h t object i source = do
+  address ← usable h t object
+  place ← or_refuse (field_at h address i) refusals.BadIndex
+  _ ← usable_or_null h t source
+  Ok (record h { store = with_word h.store place (bits_of (register_of h t source)) }, answers.Done)
+
+-- the row of StoreGlobal
+unfoldable pub store_global_outcome : HeapState → ℕ → ℕ → ℕ → Outcome
+store_global_outcome h t global source = do
+  _ ← usable_or_null h t source
+  Ok (with_global h global (register_of h t source), answers.Done)
+
+-- loads
+
+-- the barrier of a load for a register, which has just read a word at a place
+abbrev pub new_barrier : ℕ → Place → Reference → Barrier
+new_barrier target place w = record { target = target; place = place; raw = w; now = w; healed = false }
+
+-- the row of Load
+unfoldable pub load_outcome : HeapState → ℕ → ℕ → ℕ → ℕ → Outcome
+load_outcome h t target object i = do
+  address ← usable h t object
+  place ← or_refuse (field_at h address i) refusals.BadIndex
+  bits ← or_refuse (word_at h.store place) refusals.BadIndex
+  Ok (with_barrier h t (new_barrier target (places.Field address i) (stored bits)), answers.Loaded)
+
+-- the row of LoadGlobal
+unfoldable pub load_global_outcome : HeapState → ℕ → ℕ → ℕ → Outcome
+load_global_outcome h t target global = Ok (with_barrier h t (new_barrier target (places.Global global) (global_of h global)), answers.Loaded)
+
+-- whether something is refused
+abbrev pub is_refused : Result Unit Refusal → Bool
+is_refused (Ok u) = false
+is_refused (Err e) = true
+
+-- a GC trap is due: the word names a page that the thread may not use (the paper's read barrier)
+abbrev pub gc_trap_due : HeapState → ℕ → Reference → Bool
+gc_trap_due h t None = false
+gc_trap_due h t (Some w) = is_refused (let_through h t w.0)
+
+-- an NMT trap is due: the word has still to be marked (the paper's read barrier)
+abbrev pub nmt_trap_due : HeapState → ℕ → Reference → Bool
+nmt_trap_due h t None = false
+nmt_trap_due h t (Some w) = if may_nmt_trap h.phase (has_crossed (slice_get h.threads t)) then not (same_bit w.1 h.nmt) else false
+
+-- a trap is due for a word
+unfoldable pub trap_due : HeapState → ℕ → Reference → Bool
+trap_due h t w = gc_trap_due h t w || nmt_trap_due h t w
+
+-- The row of Trap. No heap comes to a trap that is due before there are marks, and what it does comes with them.
+unfoldable pub trap_outcome : HeapState → ℕ → Outcome
+trap_outcome h t = do
+  b ← or_refuse (barrier_of_thread h t) refusals.NotBusy
+  if trap_due h t b.now then Err refusals.NoActor else Ok (h, answers.Clear)
+
+-- the bits at the place of a load
+abbrev pub bits_at : HeapState → Place → Option ℕ
+bits_at h (places.Field address i) = word_at h.store (field_address address i)
+bits_at h (places.Global g) = Some (bits_of (global_of h g))
+
+-- bits that may be missing are those of a word
+abbrev pub are_bits_of : Option ℕ → Reference → Bool
+are_bits_of None w = false
+are_bits_of (Some bits) w = bits == bits_of w
+
+-- a barrier whose place is healed
+abbrev pub healed : Barrier → Barrier
+healed b = record b { healed = true }
+
+-- a place is healed where it still has what was loaded
+unfoldable pub heal_place : HeapState → ℕ → Barrier → HeapState × Answer
+heal_place h t b =
+    if are_bits_of (bits_at h b.place) b.raw then (with_barrier (with_place h b.place b.now) t (healed b), answers.Healed)
+    else (with_barrier h t (healed b), answers.Changed)
+
+-- the row of Heal
+unfoldable pub heal_outcome : HeapState → ℕ → Outcome
+heal_outcome h t = do
+  b ← or_refuse (barrier_of_thread h t) refusals.NotBusy
+  if trap_due h t b.now then Err refusals.Busy else Ok (heal_place h t b)
+
+-- a load may end: its word is the one that was loaded, or its place is healed
+abbrev pub may_finish : Barrier → Bool
+may_finish b = b.healed || (bits_of b.now == bits_of b.raw)
+
+-- the row of Finish
+unfoldable pub finish_outcome : HeapState → ℕ → Outcome
+finish_outcome h t = do
+  b ← or_refuse (barrier_of_thread h t) refusals.NotBusy
+  if trap_due h t b.now || not (may_finish b) then Err refusals.Busy else Ok (with_loaded h t b.target b.now, answers.Done)
 
 -- data
 
@@ -168,6 +277,36 @@ new_outcome h t target number = do
   if nat_lt (b.end - b.next) (size_of l) then Err refusals.NoRoom else
       (if nat_le h.config.births h.births then Err refusals.Births else Ok (placed h t target number l b, answers.Birth h.births))
 
+-- checkpoints
+
+-- The row of Cross. No checkpoint opens before there are marks, and what a crossing does comes with them.
+unfoldable pub cross_outcome : HeapState → Outcome
+cross_outcome h = Err (if is_crossing h.phase then refusals.NoActor else refusals.Phase)
+
+-- what Scrub says of a register's word; what it does to one that names a page that is emptied comes with moves
+abbrev pub scrub_word : HeapState → ℕ → Reference → Outcome
+scrub_word h t None = Err refusals.Null
+scrub_word h t (Some w) = do
+  _ ← let_through h t w.0
+  Ok (h, answers.Clean)
+
+-- the row of Scrub
+unfoldable pub scrub_outcome : HeapState → ℕ → ℕ → Outcome
+scrub_outcome h t r = scrub_word h t (register_of h t r)
+
+-- the row of Park
+unfoldable pub park_outcome : HeapState → ℕ → Outcome
+park_outcome h t = Ok (with_parked h t true, answers.Done)
+
+-- a thread that may be missing is parked
+abbrev pub is_parked_in : Option ThreadState → Bool
+is_parked_in None = false
+is_parked_in (Some t) = t.parked
+
+-- the row of Unpark
+unfoldable pub unpark_outcome : HeapState → ℕ → Outcome
+unpark_outcome h t = if is_parked_in (slice_get h.threads t) then Ok (with_parked h t false, answers.Done) else Err refusals.NotParked
+
 -- the tests before a row
 
 -- a thread does such a step
@@ -175,34 +314,61 @@ abbrev pub is_for_threads : Step → Bool
 is_for_threads (steps.Take n) = true
 is_for_threads steps.GiveBack = true
 is_for_threads (steps.New target layout) = true
+is_for_threads (steps.Load target object field) = true
+is_for_threads (steps.LoadGlobal target global) = true
+is_for_threads steps.Trap = true
+is_for_threads steps.Heal = true
+is_for_threads steps.Finish = true
+is_for_threads (steps.Store object field source) = true
+is_for_threads (steps.StoreGlobal global source) = true
 is_for_threads (steps.Datum object index) = true
 is_for_threads (steps.SetDatum object index value) = true
 is_for_threads (steps.Same left right) = true
 is_for_threads (steps.IsNull r) = true
 is_for_threads (steps.CopyReg target source) = true
 is_for_threads (steps.ClearReg r) = true
+is_for_threads steps.Cross = true
+is_for_threads (steps.Scrub r) = true
+is_for_threads steps.Park = true
+is_for_threads steps.Unpark = true
 is_for_threads _ = false
+
+-- a parked thread may do such a step
+abbrev pub is_for_parked : Step → Bool
+is_for_parked steps.Unpark = true
+is_for_parked _ = false
+
+-- a thread with an open barrier may do such a step
+abbrev pub is_for_loading : Step → Bool
+is_for_loading steps.Trap = true
+is_for_loading steps.Heal = true
+is_for_loading steps.Finish = true
+is_for_loading _ = false
 
 -- there is no such register
 unfoldable pub no_register : HeapState → ℕ → Bool
 no_register h r = nat_le h.config.registers r
 
+-- there is no such global
+unfoldable pub no_global : HeapState → ℕ → Bool
+no_global h g = nat_le (length h.globals) g
+
 -- a number of the step names nothing
 abbrev pub has_bad_index : HeapState → Step → Bool
 has_bad_index h (steps.Take n) = (n == 0) || nat_lt h.store.words n
 has_bad_index h (steps.New target layout) = no_register h target || nat_le (length h.config.layouts) layout
+has_bad_index h (steps.Load target object field) = no_register h target || no_register h object
+has_bad_index h (steps.LoadGlobal target global) = no_register h target || no_global h global
+has_bad_index h (steps.Store object field source) = no_register h object || no_register h source
+has_bad_index h (steps.StoreGlobal global source) = no_global h global || no_register h source
 has_bad_index h (steps.Datum object index) = no_register h object
 has_bad_index h (steps.SetDatum object index value) = no_register h object
 has_bad_index h (steps.Same left right) = no_register h left || no_register h right
 has_bad_index h (steps.IsNull r) = no_register h r
 has_bad_index h (steps.CopyReg target source) = no_register h target || no_register h source
 has_bad_index h (steps.ClearReg r) = no_register h r
+has_bad_index h (steps.Scrub r) = no_register h r
 has_bad_index h _ = false
-
--- a thread that may be missing is parked
-abbrev pub is_parked_in : Option ThreadState → Bool
-is_parked_in None = false
-is_parked_in (Some t) = t.parked
 
 -- a thread that may be missing has an open barrier
 abbrev pub is_loading_in : Option ThreadState → Bool
@@ -214,20 +380,31 @@ unfoldable pub thread_gate : HeapState → ℕ → Step → Result Unit Refusal
 thread_gate h t s =
     if nat_le (length h.threads) t || not (is_for_threads s) then Err refusals.NoActor else
     (if has_bad_index h s then Err refusals.BadIndex else
-    (if is_parked_in (slice_get h.threads t) then Err refusals.Parked else
-    (if is_loading_in (slice_get h.threads t) then Err refusals.Busy else Ok tt)))
+    (if is_parked_in (slice_get h.threads t) && not (is_for_parked s) then Err refusals.Parked else
+    (if is_loading_in (slice_get h.threads t) && not (is_for_loading s) then Err refusals.Busy else Ok tt)))
 
 -- the row of a thread's step, without the tests before it
 abbrev pub thread_row : HeapState → ℕ → Step → Outcome
 thread_row h t (steps.Take n) = take_outcome h t n
 thread_row h t steps.GiveBack = give_back_outcome h t
 thread_row h t (steps.New target layout) = new_outcome h t target layout
+thread_row h t (steps.Load target object field) = load_outcome h t target object field
+thread_row h t (steps.LoadGlobal target global) = load_global_outcome h t target global
+thread_row h t steps.Trap = trap_outcome h t
+thread_row h t steps.Heal = heal_outcome h t
+thread_row h t steps.Finish = finish_outcome h t
+thread_row h t (steps.Store object field source) = store_outcome h t object field source
+thread_row h t (steps.StoreGlobal global source) = store_global_outcome h t global source
 thread_row h t (steps.Datum object index) = datum_outcome h t object index
 thread_row h t (steps.SetDatum object index value) = set_datum_outcome h t object index value
 thread_row h t (steps.Same left right) = same_outcome h t left right
 thread_row h t (steps.IsNull r) = is_null_outcome h t r
 thread_row h t (steps.CopyReg target source) = copy_register_outcome h t target source
 thread_row h t (steps.ClearReg target) = clear_register_outcome h t target
+thread_row h t steps.Cross = cross_outcome h
+thread_row h t (steps.Scrub r) = scrub_outcome h t r
+thread_row h t steps.Park = park_outcome h t
+thread_row h t steps.Unpark = unpark_outcome h t
 thread_row h t _ = Err refusals.NoActor
 
 -- what every step does

@@ -1,7 +1,7 @@
 -- What the phases of the collector are.
-use Rattle.std.specs.Prelude.{Bool, true, false}
+use Rattle.std.specs.Prelude.{Bool, true, false, not}
 use Rattle.model.specs.declared.records.Phase.{Phase}
-use Rattle.model.specs.declared.records.Phase.TheVariants.{MarkCrossing, Scanning}
+use Rattle.model.specs.declared.records.Phase.TheVariants.{MarkCrossing, Scanning, ProtectCrossing}
 
 -- a mark runs (the paper's Mark phase)
 abbrev pub is_marking : Phase → Bool
@@ -13,3 +13,21 @@ is_marking _ = false
 abbrev pub is_mark_crossing : Phase → Bool
 is_mark_crossing MarkCrossing = true
 is_mark_crossing _ = false
+
+-- a checkpoint is open: some thread has still to cross it (the paper's checkpoints)
+abbrev pub is_crossing : Phase → Bool
+is_crossing MarkCrossing = true
+is_crossing ProtectCrossing = true
+is_crossing _ = false
+
+-- a mark runs that the thread has crossed, so that its loads trap on words that aren't clean (the paper's read barrier;
+-- that they do so before all threads have crossed is ours)
+abbrev pub may_nmt_trap : Phase → Bool → Bool
+may_nmt_trap Scanning crossed = true
+may_nmt_trap MarkCrossing crossed = crossed
+may_nmt_trap _ crossed = false
+
+-- two bits are equal
+abbrev pub same_bit : Bool → Bool → Bool
+same_bit true b = b
+same_bit false b = not b

@@ -1,7 +1,6 @@
 -- The heap by addresses that a heap's state stands for: its objects, read off the words of its pages, and all else read
 -- off its records.
 use Rattle.std.specs.Prelude.{ℕ, ◌+◌, ◌/◌, ◌%◌, ◌^◌, ◌==◌, zero, suc, Bool, true, false, List, [], ◌∷◌, length, take, drop, map, get_or, Option, Some, None, option_map, nat_le, nat_lt, slice_get, if◌then◌else◌}
-use Rattle.refword.specs.Words.{word_of}
 use Rattle.layout.specs.declared.shape.Layout.{Layout}
 use Rattle.layout.specs.Objects.{size_of}
 use Rattle.model.specs.declared.records.Forwarding.{Forwarding}
@@ -11,7 +10,7 @@ use Rattle.model.specs.declared.records.Global.{Global}
 use Rattle.model.specs.declared.records.Place.{Place}
 use Rattle.model.specs.declared.records.Place.TheVariants as places
 use Rattle.model.specs.Stores.{state_at, words_at}
-use Rattle.model.specs.Heaps.{HeapState, ThreadState, Reference, register_of}
+use Rattle.model.specs.Heaps.{HeapState, ThreadState, Reference, register_of, stored}
 use Rattle.model.specs.Outcome.{has_crossed, is_parked_in}
 use Rattle.laws.specs.AddressHeap.{AddressHeap, HeapObject, Word, Null, To, SideEntry, NoEntry, Planned, Copied, LoadPlace, AtField, AtGlobal, OpenBarrier, WorkerScan}
 
@@ -22,9 +21,9 @@ abbrev pub as_word : Reference → Word
 as_word None = Null
 as_word (Some w) = To w.0 w.1
 
--- the reference that a word in memory is
+-- what a word in memory is
 abbrev pub word_in_memory : ℕ → Word
-word_in_memory bits = as_word (word_of bits)
+word_in_memory bits = as_word (stored bits)
 
 -- objects
 
