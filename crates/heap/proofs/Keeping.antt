@@ -9,13 +9,6 @@ use Rattle.model.specs.Holding.{IsHeap, FillsIn}
 use Rattle.model.specs.Heaps.{HeapState, ThreadState, changed, changed_at}
 use Rattle.model.proofs.Lists.{each_set}
 
-pub each_changed : {X : Type 0} (P : X → Type 0) (xs : List X) (i : ℕ) (change : X → X) → Each xs P → ((x : X) → P x → P (change x)) → Each (changed xs i change) P
-each_changed {X} P xs i change h k = by_element (slice_get xs i) refl
-  where
-    by_element : (o : Option X) → slice_get xs i ≡ o → Each (changed_at xs i o change) P
-    by_element None e = h
-    by_element (Some x) e = each_set P xs i (change x) h (k x (h i x e))
-
 pub thread_keeps : (h : HeapState) (t : ℕ) (x : ThreadState) → IsHeap h → FillsIn h.store x → IsHeap (record h { threads = set h.threads t x })
 thread_keeps h t x i f = record { config = i.config; births = i.births; buffers = each_set (FillsIn h.store) h.threads t x i.buffers f }
 

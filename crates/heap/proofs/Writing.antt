@@ -13,7 +13,6 @@ use Rattle.model.specs.declared.records.Buffer.{Buffer}
 use Rattle.model.specs.Stores.{StoreState, overlaid, with_words, words_at, page_at, frame_in, changed_in, changed_frame, record_count}
 use Rattle.model.specs.Owning.{IsStore, LiesIn}
 use Rattle.model.proofs.Memory.{words_in, words_sized}
-use Rattle.page.proofs.Lying.{lies_at}
 
 -- two changes that do the same to a page's words
 same_words : (s : StoreState) (n : ℕ) (f g : List ℕ → List ℕ) → IfSome (words_at s n) (λ ws. f ws ≡ g ws) → with_words s n f ≡ with_words s n g
@@ -72,20 +71,6 @@ written_object s b part final header others h l room e k =
   where
     one : (n : ℕ) → suc n ≡ 1 + n
     one n = omega arith
-
--- where a buffer's next object starts is an address
-pub buffer_address : (s : StoreState) (b : Buffer) → IsStore s → LiesIn s b → b.next < b.end → IsAddress (b.page * s.words + b.next)
-buffer_address s b h l room =
-    let (page, p, at, is_so) = lies_at s b l in
-    let within = slice_get_within s.pages (b.page - 1) p at in
-    let records : length s.pages ≤ 65535 = rw h.sized.pages (few (length s.frames) s.count h.sized.count) in
-    let next : b.next < s.words = omega (arith, l.end, room) in
-    let low : b.page * 1 ≤ b.page * s.words = mul-le-mul_left b.page h.sized.words_low in
-    let high = mul-add-lt b.page s.words b.next 65536 (omega (arith, within, records)) next in
-    record { above = omega (arith, low, page); below = omega (arith, high, h.sized.words) }
-  where
-    few : (frames count : ℕ) → count ≤ 65535 → record_count frames count ≤ 65535
-    few frames count k = grind (arith, nat_tests)
 
 pub address_found : (o : Option ℕ) (n : ℕ) → (IsAddress n → o ≡ Some n) → IsAddress n → IsSome o
 address_found o n h a = ap is_some (h a)

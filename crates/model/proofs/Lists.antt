@@ -1,5 +1,5 @@
 -- Lists with one element replaced, and lists of equal elements.
-use Rattle.std.proofs.Common.{◌≡◌, ◌≢◌, ◌⊎◌, inl, inr, ℕ, zero, suc, ◌+◌, ◌<◌, Bool, true, false, List, [], ◌∷◌, length, Some, None, replicate, set, count_by, cond, get_or, position, nat_lt, ◌*◌, ◌≤◌, ◌||◌, refl, sym, ◌∙◌, ap, subst, arith}
+use Rattle.std.proofs.Common.{◌≡◌, ◌≢◌, ◌⊎◌, inl, inr, ℕ, zero, suc, ◌+◌, ◌<◌, Bool, true, false, List, [], ◌∷◌, length, Option, Some, None, replicate, set, count_by, cond, get_or, position, nat_lt, ◌*◌, ◌≤◌, ◌||◌, refl, sym, ◌∙◌, ap, subst, arith}
 use Rattle.std.specs.List.{slice_get, position_or_len}
 use Rattle.std.proofs.lemmas.Option.{get_or_from_slice_get, slice_get_within, slice_get_read}
 use Rattle.std.proofs.lemmas.List.Sums.{sum_by-set, sum_by-cons, fails_before_first}
@@ -7,6 +7,7 @@ use Rattle.std.proofs.lemmas.List.Folds.{sum_by-replicate}
 use Rattle.std.proofs.lemmas.List.Quantifiers.{position-Some}
 use Rattle.std.proofs.lemmas.Bool.Decides.{nat_tests}
 use Rattle.model.specs.Owning.{Each}
+use Rattle.model.specs.Heaps.{changed, changed_at}
 
 pub same_or_not : (x a : ℕ) → (x ≡ a) ⊎ (x ≢ a)
 same_or_not x a = grind arith
@@ -41,6 +42,13 @@ each_set P xs i v h p j y e = go (get_set xs i j v y e)
     go : ((j ≡ i) × (v ≡ y)) ⊎ ((j ≢ i) × (slice_get xs j ≡ Some y)) → P y
     go (inl a) = subst P a.1 p
     go (inr a) = h j y a.1
+
+pub each_changed : {X : Type 0} (P : X → Type 0) (xs : List X) (i : ℕ) (change : X → X) → Each xs P → ((x : X) → P x → P (change x)) → Each (changed xs i change) P
+each_changed {X} P xs i change h k = by_element (slice_get xs i) refl
+  where
+    by_element : (o : Option X) → slice_get xs i ≡ o → Each (changed_at xs i o change) P
+    by_element None e = h
+    by_element (Some x) e = each_set P xs i (change x) h (k x (h i x e))
 
 pub get_replicate : {X : Type 0} (n : ℕ) (x : X) (i : ℕ) (y : X) → slice_get (replicate n x) i ≡ Some y → x ≡ y
 get_replicate zero x i y h = absurd (cc)

@@ -1,12 +1,12 @@
 -- The words of pages: where they stand, and what a change of one page's words does to them and to those of others.
-use Rattle.std.proofs.Common.{◌≡◌, ◌≢◌, ℕ, ◌+◌, ◌-◌, cond, Bool, true, false, nat_eq, is_some, List, length, Option, Some, None, refl, sym, ◌∙◌, ap, arith}
+use Rattle.std.proofs.Common.{◌≡◌, ◌≢◌, ℕ, ◌+◌, ◌-◌, ◌/◌, ◌%◌, cond, Bool, true, false, nat_eq, is_some, List, length, Option, Some, None, refl, sym, ◌∙◌, ap, arith}
 use Rattle.std.specs.List.{slice_get}
 use Rattle.std.specs.Option.{option_and_then}
 use Rattle.std.proofs.lemmas.Option.{slice_get_within}
 use Rattle.model.specs.declared.records.Page.{Page}
 use Rattle.model.specs.declared.records.PageState.{PageState}
 use Rattle.model.specs.declared.records.PageState.TheVariants.{Unused, Open, Closed, From, Gone}
-use Rattle.model.specs.Stores.{StoreState, page_at, frame_in, state_at, state_in, has_memory, is_open, is_unused, words_at, with_words, changed_in, changed_frame}
+use Rattle.model.specs.Stores.{StoreState, page_at, frame_in, state_at, state_in, has_memory, is_open, is_unused, word_at, word_in, spot_of, at_offset, words_at, with_words, changed_in, changed_frame}
 use Rattle.model.specs.Owning.{IsStore}
 use Rattle.model.proofs.Lists.{get_set_same, get_set_other, get_within}
 
@@ -73,6 +73,18 @@ words_kept s m n f h d = by_frame (frame_in (page_at s n)) refl (frame_in (page_
     by_frame None a q b = refl
     by_frame (Some x) a None b = refl
     by_frame (Some x) a (Some y) b = by_words x y (slice_get s.frames x) (λ e. d (own_frame s m n x h (b ∙ ap Some e) a))
+
+-- the word at an address is one of its page's
+pub word_on_page : (s : StoreState) (a : ℕ) → word_at s a ≡ option_and_then (λ ws. slice_get ws (a % s.words)) (words_at s (a / s.words))
+unfolding word_at spot_of words_at
+word_on_page s a = by_frame (frame_in (page_at s (a / s.words)))
+  where
+    by_words : (o : Option (List ℕ)) → option_and_then (λ ws. slice_get ws (a % s.words)) o ≡ option_and_then (λ ws. slice_get ws (a % s.words)) o
+    by_words o = refl
+
+    by_frame : (o : Option ℕ) → word_in s.frames (at_offset o (a % s.words)) ≡ option_and_then (λ ws. slice_get ws (a % s.words)) (option_and_then (slice_get s.frames) o)
+    by_frame None = refl
+    by_frame (Some f) = refl
 
 -- a page that is there has its record one place below its number
 pub page_there : (s : StoreState) (n : ℕ) (p : Page) → page_at s n ≡ Some p → (n ≡ n - 1 + 1) × (slice_get s.pages (n - 1) ≡ Some p)

@@ -7,14 +7,14 @@ use Rattle.std.proofs.Math.ListN.{length-set}
 use Rattle.layout.specs.declared.shape.Layout.{Layout}
 use Rattle.model.specs.Heaps.{HeapState, flat, changed}
 use Rattle.model.specs.Plain.{PlainHeap, PlainThread, Object, name_of, name_in, naming, set_name, born, blank_object, writing, set_datum, pending_in}
-use Rattle.model.proofs.Lists.{get_set_same, get_set_other, get_within}
+use Rattle.model.proofs.Lists.{get_set_same, get_set_other, get_within, each_changed}
 use Rattle.laws.specs.AddressHeap.{put, put_at}
 use Rattle.laws.specs.Edits.{plain_born}
 use Rattle.laws.specs.Effects.{plain_set_register, datum_at}
 use Rattle.laws.proofs.Basics.{put_all, put_same, put_other, put_id}
 use Rattle.refinement.specs.Births.{births_of, layout_in, refs_in, data_in, as_pair, HasRootsOf}
 use Rattle.refinement.proofs.Runs.{get_second}
-use Rattle.refinement.proofs.Changes.{get_changed, kept_of, length_changed, each_changed}
+use Rattle.refinement.proofs.Changes.{get_changed, kept_of, length_changed}
 
 -- registers
 

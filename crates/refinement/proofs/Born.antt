@@ -16,7 +16,7 @@ use Rattle.model.specs.Stores.{words_at, with_words, state_at, state_in, page_at
 use Rattle.model.specs.Owning.{IsStore, LiesIn}
 use Rattle.model.specs.Heaps.{HeapState, ThreadState, register_of, buffer_in, changed, put_bit, fresh_object}
 use Rattle.model.specs.Outcome.{placed, handed, used_buffer, has_crossed, is_parked_in}
-use Rattle.model.proofs.Lists.{get_within}
+use Rattle.model.proofs.Lists.{get_within, each_changed}
 use Rattle.model.proofs.Memory.{some_in, open_state, words_sized, memory_words, page_there}
 use Rattle.laws.specs.AddressHeap.{HeapObject, Word, Null, SideEntry, NoEntry, Planned, Copied, put}
 use Rattle.laws.specs.Invariant.{SoundObjects}
@@ -27,7 +27,7 @@ use Rattle.refinement.specs.Claims.{IsLaid, AreRows, AreApart, Claim, OfObject, 
 use Rattle.refinement.proofs.Runs.{Agree, overlaid_before, overlaid_behind, length_overlaid}
 use Rattle.refinement.proofs.Reading.{IsRead, read_fits, read_fresh, new_object}
 use Rattle.refinement.proofs.Objects.{Rewrites, there, rewritten}
-use Rattle.refinement.proofs.Changes.{get_changed, kept_of, each_changed, rows_changed, length_put, bit_put}
+use Rattle.refinement.proofs.Changes.{get_changed, kept_of, rows_changed, length_put, bit_put}
 use Rattle.refinement.proofs.Claims.{object_extent, Splits, split_apart}
 use Rattle.refinement.proofs.Registers.{register_changed}
 

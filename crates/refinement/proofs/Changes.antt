@@ -8,7 +8,7 @@ use Rattle.std.proofs.Math.ListN.{length-set, length-replicate}
 use Rattle.model.specs.Stores.{StoreState}
 use Rattle.model.specs.Owning.{Each}
 use Rattle.model.specs.Heaps.{changed, changed_at, blank_row, put_bit}
-use Rattle.model.proofs.Lists.{get_set_same, get_set_other, each_set, get_within}
+use Rattle.model.proofs.Lists.{get_set_same, get_set_other, each_set, get_within, each_changed}
 use Rattle.laws.specs.AddressHeap.{put}
 use Rattle.laws.proofs.Basics.{put_all, put_same, put_other, put_id, same_or_not}
 use Rattle.refinement.specs.Worlds.{of_page, bit_at}
@@ -30,19 +30,19 @@ kept_of {X} P xs t f h u = ap P (get_changed xs t f u) ∙ put_all (λ v y. P y 
     here None = refl
     here (Some x) = h x
 
+-- what is read of the changed element, and of the others
+pub read_changed : {X B : Type 0} (P : Option X → B) (xs : List X) (t : ℕ) (f : X → X) (x : X) (v : B) → slice_get xs t ≡ Some x → P (Some (f x)) ≡ v → (u : ℕ) → P (slice_get (changed xs t f) u) ≡ put (λ w. P (slice_get xs w)) t v u
+read_changed {X} P xs t f x v e k u = ap P (get_changed xs t f u) ∙ put_all (λ w y. P (put (slice_get xs) t now w) ≡ y) (λ w. P (slice_get xs w)) t v (ap P (put_same (slice_get xs) t now ∙ ap (option_map f) e) ∙ k) (λ w d. ap P (put_other (slice_get xs) t now w d)) u
+  where
+    now : Option X
+    now = option_map f (slice_get xs t)
+
 pub length_changed : {X : Type 0} (xs : List X) (t : ℕ) (f : X → X) → length (changed xs t f) ≡ length xs
 length_changed {X} xs t f = go (slice_get xs t)
   where
     go : (o : Option X) → length (changed_at xs t o f) ≡ length xs
     go None = refl
     go (Some x) = length-set xs t (f x)
-
-pub each_changed : {X : Type 0} (P : X → Type 0) (xs : List X) (t : ℕ) (f : X → X) → Each xs P → ((x : X) → P x → P (f x)) → Each (changed xs t f) P
-each_changed {X} P xs t f h k = go (slice_get xs t) refl
-  where
-    go : (o : Option X) → slice_get xs t ≡ o → Each (changed_at xs t o f) P
-    go None e = h
-    go (Some x) e = each_set P xs t (f x) h (k x (h t x e))
 
 -- rows
 

@@ -7,7 +7,7 @@ use Rattle.std.proofs.Math.ListN.{length-set}
 use Rattle.model.specs.declared.records.Page.{Page}
 use Rattle.model.specs.Stores.{StoreState, words_at, state_at, state_in, frame_in, page_at, has_memory, is_open, buffer_of}
 use Rattle.model.specs.Heaps.{HeapState, ThreadState, register_of, register_in, buffer_in, changed, set_buffer_of}
-use Rattle.model.proofs.Lists.{get_set_same, get_set_other}
+use Rattle.model.proofs.Lists.{get_set_same, get_set_other, each_changed}
 use Rattle.page.proofs.Keeping.{page_at_record, page_at_zero}
 use Rattle.model.proofs.Memory.{some_in}
 use Rattle.model.specs.Outcome.{has_crossed, is_parked_in}
@@ -15,7 +15,7 @@ use Rattle.laws.specs.AddressHeap.{put}
 use Rattle.laws.proofs.Basics.{put_all, put_same, put_other, same_or_not}
 use Rattle.refinement.specs.Worlds.{world_of, object_at, object_in, bit_at, as_word, barrier_in}
 use Rattle.refinement.specs.Claims.{IsLaid, AreRows, Claim, OfObject, OfBuffer, OfPlan, OfEnd, Extent, extent, object_size, sized_extent, planned_extent, buffer_extent, end_extent, size_at}
-use Rattle.refinement.proofs.Changes.{get_changed, kept_of, each_changed}
+use Rattle.refinement.proofs.Changes.{get_changed, kept_of}
 use Rattle.refinement.proofs.Claims.{Splits, split_apart}
 
 -- the pages of a store whose record of an index is replaced

@@ -28,7 +28,7 @@ use Rattle.refinement.proofs.Runs.{get_run}
 use Rattle.refinement.proofs.Reading.{read_refs, read_data}
 use Rattle.refinement.proofs.Objects.{there}
 use Rattle.refinement.proofs.Data.{datum_page, datum_offset}
-use Rattle.refinement.proofs.Verdicts.{bind_ok, found_ok, same_result, accepted, IsUsed, used_ok, used_or_null, word_on_page, datum_there}
+use Rattle.refinement.proofs.Verdicts.{bind_ok, found_ok, same_result, accepted, IsUsed, used_ok, used_or_null, datum_there}
 
 -- the object that a usable register names
 pub record NamesObject (h : HeapState) (p : PlainHeap) (t r a : ℕ) : Type 0 where

@@ -1,6 +1,7 @@
 -- Objects read off words: what a write elsewhere leaves, and what a write into one makes.
-use Rattle.std.proofs.Common.{◌≡◌, ℕ, zero, suc, ◌+◌, ◌*◌, ◌/◌, ◌%◌, ◌^◌, ◌<◌, ◌≤◌, Bool, true, false, List, ◌∷◌, length, take, drop, map, set, cond, nat_le, Option, Some, None, replicate, refl, sym, ◌∙◌, ap, ap₂, arith, leb-true}
+use Rattle.std.proofs.Common.{◌≡◌, ℕ, zero, suc, ◌+◌, ◌*◌, ◌/◌, ◌%◌, ◌^◌, ◌<◌, ◌≤◌, Bool, true, false, List, [], ◌∷◌, length, take, drop, map, set, cond, nat_le, Option, Some, None, replicate, refl, sym, ◌∙◌, ap, ap₂, arith, leb-true}
 use Rattle.std.specs.List.{slice_get}
+use Rattle.std.specs.Option.{option_map}
 use Rattle.std.proofs.Math.ListN.{length-set, length-replicate}
 use Rattle.std.proofs.lemmas.List.{length-map, drop-set-add}
 use Rattle.std.proofs.Math.Seq.{take-set-lt}
@@ -12,10 +13,10 @@ use Rattle.model.specs.Heaps.{fresh_object}
 use Rattle.model.proofs.Lists.{get_set_other}
 use Rattle.model.proofs.Memory.{some_in}
 use Rattle.laws.specs.AddressHeap.{HeapObject, Word, Null}
-use Rattle.laws.specs.Effects.{with_datum}
+use Rattle.laws.specs.Effects.{with_datum, with_field}
 use Rattle.refinement.specs.Worlds.{run, object_of, object_laid, object_headed, word_in_memory}
 use Rattle.refinement.specs.Claims.{object_size}
-use Rattle.refinement.proofs.Runs.{Agree, run_same, run_all, length_run, overlaid_in, length_overlaid}
+use Rattle.refinement.proofs.Runs.{Agree, run_same, run_all, get_run, length_run, overlaid_in, length_overlaid}
 
 -- what an object that was read has to do with the words
 pub record IsRead (ls : List Layout) (ws : List ℕ) (o : ℕ) (q : HeapObject) : Type 0 where
@@ -28,6 +29,9 @@ pub record IsRead (ls : List Layout) (ws : List ℕ) (o : ℕ) (q : HeapObject) 
 
 abbrev object : ℕ → ℕ → List Word → List ℕ → HeapObject
 object b n xs ds = record { birth = b; layout = n; refs = xs; data_words = ds }
+
+abbrev parted : ℕ → List Word → List ℕ → HeapObject
+parted header xs ds = record { birth = header % 2 ^ 32; layout = header / 2 ^ 32; refs = xs; data_words = ds }
 
 abbrev built : ℕ → List ℕ → List ℕ → HeapObject
 built header xs ds = record { birth = header % 2 ^ 32; layout = header / 2 ^ 32; refs = map word_in_memory xs; data_words = ds }
@@ -99,6 +103,38 @@ read_datum ls ws o q r j v h =
       fits = omega (arith, size, r.fits);
       is = ap (λ z. with_datum z j v) r.is ∙ ap₂ (built r.header) (sym refs) (sym nums);
     }
+
+map_set : (xs : List ℕ) (i v : ℕ) → map word_in_memory (set xs i v) ≡ set (map word_in_memory xs) i (word_in_memory v)
+map_set [] i v = refl
+map_set (x ∷ xs) zero v = refl
+map_set (x ∷ xs) (suc i) v = ap (λ ys. word_in_memory x ∷ ys) (map_set xs i v)
+
+-- a reference is written
+pub read_field : (ls : List Layout) (ws : List ℕ) (o : ℕ) (q : HeapObject) (r : IsRead ls ws o q) (i v : ℕ) → i < r.shape.refs → IsRead ls (set ws (o + 1 + i) v) o (with_field q i (word_in_memory v))
+read_field ls ws o q r i v h =
+    let m : ℕ = o + 1 + i in
+    let size : length (set ws m v) ≡ length ws = length-set ws m v in
+    let refs : run (set ws m v) (o + 1) r.shape.refs ≡ set (run ws (o + 1) r.shape.refs) i v =
+    ap (take r.shape.refs) (drop-set-add (o + 1) ws i v) ∙ take-set-lt r.shape.refs (drop (o + 1) ws) i v h in
+    let nums = run_same ws (set ws m v) (o + 1 + r.shape.refs) r.shape.nums size (omega (arith, r.fits)) (λ n l k. get_set_other ws m n v (λ e. absurd (omega (arith, e, l, h)))) in
+    record {
+      header = r.header;
+      shape = r.shape;
+      at = get_set_other ws m o v (λ e. absurd (omega (arith, e))) ∙ r.at;
+      known = r.known;
+      fits = omega (arith, size, r.fits);
+      is = ap (λ z. with_field z i (word_in_memory v)) r.is ∙ ap₂ (parted r.header) (sym (ap (map word_in_memory) refs ∙ map_set (run ws (o + 1) r.shape.refs) i v)) (sym nums);
+    }
+
+-- a reference is read
+pub field_of_read : (ls : List Layout) (ws : List ℕ) (o : ℕ) (q : HeapObject) (r : IsRead ls ws o q) (i bits : ℕ) → i < r.shape.refs → slice_get ws (o + 1 + i) ≡ Some bits → slice_get q.refs i ≡ Some (word_in_memory bits)
+field_of_read ls ws o q r i bits h e =
+    ap (λ (z : HeapObject). slice_get z.refs i) r.is ∙ get_map (run ws (o + 1) r.shape.refs) i ∙ ap (option_map word_in_memory) (get_run ws (o + 1) r.shape.refs i h ∙ e)
+  where
+    get_map : (xs : List ℕ) (i : ℕ) → slice_get (map word_in_memory xs) i ≡ option_map word_in_memory (slice_get xs i)
+    get_map [] i = refl
+    get_map (x ∷ xs) zero = refl
+    get_map (x ∷ xs) (suc i) = get_map xs i
 
 -- the object that is made anew
 abbrev pub new_object : ℕ → ℕ → Layout → HeapObject

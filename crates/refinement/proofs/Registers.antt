@@ -6,14 +6,14 @@ use Rattle.std.specs.Option.{option_map}
 use Rattle.std.proofs.Math.ListN.{length-set}
 use Rattle.model.specs.declared.records.Buffer.{Buffer}
 use Rattle.model.specs.Heaps.{HeapState, ThreadState, Reference, flat, register_of, register_in, with_register, with_buffer, changed, set_register_of, set_buffer_of, buffer_in}
-use Rattle.model.proofs.Lists.{get_set_same, get_set_other, get_within}
+use Rattle.model.proofs.Lists.{get_set_same, get_set_other, get_within, each_changed}
 use Rattle.model.specs.Outcome.{has_crossed, is_parked_in}
 use Rattle.laws.specs.AddressHeap.{put, put_at}
 use Rattle.laws.specs.Effects.{set_register}
 use Rattle.laws.proofs.Basics.{put_all, put_same, put_other, same_or_not}
 use Rattle.refinement.specs.Worlds.{world_of, as_word, barrier_in}
 use Rattle.refinement.specs.Claims.{IsLaid, Claim, OfObject, OfBuffer, OfPlan, OfEnd, extent, Extent, buffer_extent}
-use Rattle.refinement.proofs.Changes.{get_changed, kept_of, each_changed}
+use Rattle.refinement.proofs.Changes.{get_changed, kept_of}
 use Rattle.refinement.proofs.Claims.{extents_same}
 
 -- the registers of threads, of which one has its register r changed

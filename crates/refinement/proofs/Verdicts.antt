@@ -17,6 +17,7 @@ use Rattle.model.specs.Heaps.{HeapState, ThreadState, Reference, register_of, la
 use Rattle.model.specs.Refusing.{◌>>=◌, or_refuse}
 use Rattle.model.specs.Outcome.{outcome, thread_gate, thread_row, has_bad_index, is_for_threads, is_parked_in, is_loading_in, usable, use_word, usable_or_null, use_or_null, let_through, held_back, has_crossed, datum_at, datum_place}
 use Rattle.model.proofs.Lists.{get_within}
+use Rattle.model.proofs.Memory.{word_on_page}
 use Rattle.laws.specs.AddressHeap.{HeapObject}
 use Rattle.laws.specs.Transitions.{IsUsable}
 use Rattle.refinement.specs.Worlds.{world_of}
@@ -130,18 +131,6 @@ used_or_null h t r o x at e = by_word (register_of h t r) refl e
         inr (w.0, sym (same_result (Some w.0) o is), record { bit = w.1; word = f; usable = through h t w.0 x at (pass ∙ ap accepted (one_unit u)) })
 
 -- data
-
--- the word at an address is one of its page's
-pub word_on_page : (s : StoreState) (a : ℕ) → word_at s a ≡ option_and_then (λ ws. slice_get ws (a % s.words)) (words_at s (a / s.words))
-unfolding word_at spot_of words_at
-word_on_page s a = by_frame (frame_in (page_at s (a / s.words)))
-  where
-    by_words : (o : Option (List ℕ)) → option_and_then (λ ws. slice_get ws (a % s.words)) o ≡ option_and_then (λ ws. slice_get ws (a % s.words)) o
-    by_words o = refl
-
-    by_frame : (o : Option ℕ) → word_in s.frames (at_offset o (a % s.words)) ≡ option_and_then (λ ws. slice_get ws (a % s.words)) (option_and_then (slice_get s.frames) o)
-    by_frame None = refl
-    by_frame (Some f) = refl
 
 -- where a datum of an object stands
 pub datum_there : (h : HeapState) (a : ℕ) (q : HeapObject) (t : IsThere h a q) (j place : ℕ) → datum_at h a j ≡ Some place → (j < t.read.shape.nums) × (a + 1 + t.read.shape.refs + j ≡ place)

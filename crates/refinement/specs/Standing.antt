@@ -15,12 +15,14 @@ use Rattle.laws.specs.Invariant.{Invariant}
 use Rattle.refinement.specs.Worlds.{world_of}
 use Rattle.refinement.specs.Births.{births_of, HasRootsOf}
 use Rattle.refinement.specs.Claims.{HasSizes, IsLaid, HasGiven}
+use Rattle.refinement.specs.Roots.{HasWords}
 
 -- a heap stands for a plain heap p; p0 is the plain heap as the last mark began
 pub record Holds (h : HeapState) (p p0 : PlainHeap) : Type 0 where
   pub sizes : HasSizes h
   pub laid : IsLaid h
   pub given : Each h.store.pages HasGiven
+  pub words : HasWords h
   pub roots : HasRootsOf h p
   pub invariant : Invariant (world_of h) (births_of p) (births_of p0)
 

@@ -2,7 +2,8 @@ use Rattle.std.proofs.Common.{◌+◌, ◌*◌, sym, subst, ap, ◌∙◌}
 use Rattle.refword.specs.Words.{IsAddress}
 use Rattle.model.specs.Heaps.{HeapState}
 use Rattle.model.specs.Owning.{LiesIn}
-use Rattle.heap.proofs.Writing.{buffer_address, address_found}
+use Rattle.page.proofs.Lying.{buffer_address}
+use Rattle.heap.proofs.Writing.{address_found}
 use Rattle.heap.proofs.heap.Heap.buffer_address.Goals as goal
 
 pub unwrap-requires : goal.unwrap-requires
