@@ -22,6 +22,8 @@ use Rattle.laws.proofs.First.{first_holds}
 use Rattle.refinement.specs.Worlds.{world_of, as_word, object_at, object_in, of_page, bit_at, entry_at, barrier_in, scan_in, global_in, todo_in}
 use Rattle.refinement.specs.Births.{births_of, as_pair}
 use Rattle.refinement.specs.Claims.{AreRising, IsLaid, AreRows, HasGiven, Claim, OfObject, OfBuffer, OfPlan, OfEnd, extent, end_extent, sized_extent, planned_extent, size_at, buffer_extent, object_size, Extent}
+use Rattle.refword.specs.Words.{IsWord}
+use Rattle.refinement.specs.Roots.{HoldsWords}
 use Rattle.refinement.specs.Standing.{Holds}
 use Rattle.refinement.proofs.Changes.{blank_bit}
 use Rattle.refinement.proofs.Writers.{moved}
@@ -179,6 +181,10 @@ module _ (c : Config) where
     };
     laid = first_laid;
     given = each_replicate HasGiven (record_count c.frames c.pages) blank_page (λ e. absurd (differ e));
+    words = record {
+      threads = each_replicate (HoldsWords c.registers) c.threads (blank_thread c.registers) (record { registers_hold = each_replicate IsWord c.registers None tt; barrier = tt });
+      globals = each_replicate (λ g. IsWord g.word) c.globals (record { word = None; todo = false }) tt;
+    };
     roots = record {
       threads = length-replicate c.threads _ ∙ sym (length-replicate c.threads _);
       registers = each_replicate (λ t. length t.registers ≡ c.registers) c.threads _ (length-replicate c.registers None);

@@ -27,7 +27,7 @@ use Rattle.refinement.specs.Standing.{Holds, StepHolds, AnswersPlain}
 use Rattle.refinement.proofs.Runs.{get_run}
 use Rattle.refinement.proofs.Reading.{read_refs, read_data}
 use Rattle.refinement.proofs.Objects.{there}
-use Rattle.refinement.proofs.Data.{datum_page, datum_offset}
+use Rattle.refinement.proofs.Written.{word_there}
 use Rattle.refinement.proofs.Verdicts.{bind_ok, found_ok, same_result, accepted, IsUsed, used_ok, used_or_null, datum_there}
 
 -- the object that a usable register names
@@ -126,10 +126,7 @@ module _ (h : HeapState) (p p0 : PlainHeap) (s : IsStore h.store) (k : Holds h p
       let nums = read_data h.config.layouts r.words (a % h.store.words) q r.read in
       let within : j < length q.data_words = omega (arith, m, nums) in
       let spot : a + 1 + r.read.shape.refs + j ≡ a + (1 + length q.refs + j) = omega (arith, refs) in
-      let page = datum_page h s k.laid a q e j v within in
-      let offset = datum_offset h s k.laid a q e j v within in
-      let word : word_at h.store (a + (1 + length q.refs + j)) ≡ slice_get r.words (a % h.store.words + (1 + length q.refs + j)) =
-      word_on_page h.store (a + (1 + length q.refs + j)) ∙ ap₂ (λ o n. option_and_then (λ ws. slice_get ws n) o) (ap (words_at h.store) page ∙ r.page) offset in
+      let word : word_at h.store (a + (1 + length q.refs + j)) ≡ slice_get r.words (a % h.store.words + (1 + length q.refs + j)) = word_there h s k.laid a q e (1 + length q.refs + j) 0 (omega (arith, within)) in
       let number : slice_get q.data_words j ≡ slice_get r.words (a % h.store.words + 1 + r.read.shape.refs + j) = ap (λ (z : HeapObject). slice_get z.data_words j) r.read.is ∙ get_run r.words (a % h.store.words + 1 + r.read.shape.refs) r.read.shape.nums j m in
       number ∙ ap (slice_get r.words) (omega (arith, refs)) ∙ sym word ∙ ap (word_at h.store) (sym spot) ∙ f
 

@@ -19,14 +19,16 @@ use Rattle.model.specs.Holding.{IsHeap}
 use Rattle.model.specs.Heaps.{HeapState, ThreadState, buffer_of_thread, buffer_in, changed, set_buffer_of, opened_rows, blank_row}
 use Rattle.model.specs.Outcome.{take_outcome, took, lent}
 use Rattle.model.specs.Plain.{PlainHeap, plain_step, plain_answer}
-use Rattle.model.proofs.Lists.{each_set, get_set, get_set_other}
+use Rattle.model.proofs.Lists.{each_set, each_changed, get_set, get_set_other}
 use Rattle.page.proofs.Keeping.{given_at, opened_at}
 use Rattle.laws.specs.Transitions.{TakeFresh}
 use Rattle.laws.proofs.Runs.{transition_keeps}
 use Rattle.refinement.specs.Worlds.{world_of}
 use Rattle.refinement.specs.Births.{births_of}
 use Rattle.refinement.specs.Claims.{HasGiven}
+use Rattle.refinement.specs.Roots.{HoldsWords, HasWords}
 use Rattle.refinement.specs.Standing.{Holds, StepHolds}
+use Rattle.refinement.proofs.Rooted.{buffer_holds_words}
 use Rattle.refinement.proofs.Changes.{length_changed}
 use Rattle.refinement.proofs.Sizes.{sizes_stay}
 use Rattle.refinement.proofs.Taken.{InOpenPage, InFreshPage, ways}
@@ -69,11 +71,15 @@ lent_fresh h t i f n = λ z. record (granted (opened_heap h i f) t i (fresh_page
 }
 
 module _ (h : HeapState) (p p0 : PlainHeap) (s : IsStore h.store) (d : IsHeap h) (k : Holds h p p0) (t n : ℕ) (x : ThreadState) (at : slice_get h.threads t ≡ Some x) (had : x.buffer ≡ None) (low : 0 < n) where
+  taken_words : (b : Buffer) → HasWords (record h { threads = changed h.threads t (set_buffer_of (Some b)) })
+  taken_words b = record { threads = each_changed (HoldsWords h.config.registers) h.threads t (set_buffer_of (Some b)) k.words.threads (buffer_holds_words h.config.registers (Some b)); globals = k.words.globals }
+
   in_open : (i : ℕ) (q : Page) → slice_get h.store.pages i ≡ Some q → is_open q.state ≡ true → q.top + n ≤ h.store.words → Holds (granted h t i q n) p p0
   in_open i q there is_so room = record {
     sizes = sizes_stay h (granted h t i q n) k.sizes refl refl refl refl (length_changed h.threads t (set_buffer_of (Some (buffer_of i q.top n)))) refl refl;
     laid = granted_laid h k.laid t i q n x there is_so room at had;
     given = each_set HasGiven h.store.pages i (with_more q n) k.given (λ e. omega (arith, low));
+    words = record { threads = (taken_words (buffer_of i q.top n)).threads; globals = k.words.globals };
     roots = moved_roots h (granted h t i q n) p (length_changed h.threads t (set_buffer_of (Some (buffer_of i q.top n)))) refl refl k.roots;
     invariant = moved (world_of h) (world_of (granted h t i q n)) (births_of p) (births_of p) (births_of p0) (granted_world h k.laid t i q n x there is_so room at had) refl k.invariant;
   }
@@ -91,6 +97,7 @@ module _ (h : HeapState) (p p0 : PlainHeap) (s : IsStore h.store) (d : IsHeap h)
         sizes = sizes_stay h (granted (opened_heap h i f) t i (fresh_page f) n) k.sizes refl refl (length-set h.store.frames f (replicate h.store.words 0)) refl (length_changed h.threads t (set_buffer_of (Some (buffer_of i 0 n)))) refl refl;
         laid = granted_laid (opened_heap h i f) laid t i (fresh_page f) n x fresh refl one at had;
         given = each_set_again HasGiven h.store.pages i (fresh_page f) (with_more (fresh_page f) n) k.given (λ e. omega (arith, low));
+        words = record { threads = (taken_words (buffer_of i 0 n)).threads; globals = k.words.globals };
         roots = moved_roots h (granted (opened_heap h i f) t i (fresh_page f) n) p (length_changed h.threads t (set_buffer_of (Some (buffer_of i 0 n)))) refl refl k.roots;
         invariant = moved _ _ _ _ (births_of p0) (granted_world (opened_heap h i f) laid t i (fresh_page f) n x fresh refl one at had ∙ opened_world h s d k.laid o m i f q there unused free) refl step;
       }

@@ -1,5 +1,5 @@
 -- What an accepted step has passed: the tests before its row, and those of the row.
-use Rattle.std.proofs.Common.{◌≡◌, ◌⊎◌, inl, inr, ℕ, ◌+◌, ◌/◌, ◌%◌, ◌<◌, ◌||◌, Bool, true, false, not, cond, List, length, nat_le, nat_lt, is_some, Option, Some, None, refl, sym, ◌∙◌, ap, subst, arith}
+use Rattle.std.proofs.Common.{◌≡◌, ◌⊎◌, inl, inr, ℕ, ◌+◌, ◌/◌, ◌%◌, ◌<◌, ◌&&◌, ◌||◌, Bool, true, false, not, cond, List, length, nat_le, nat_lt, is_some, Option, Some, None, refl, sym, ◌∙◌, ap, subst, arith}
 use Rattle.std.specs.Prelude.{Result, Ok, Err}
 use Rattle.std.specs.List.{slice_get}
 use Rattle.std.specs.Option.{option_and_then}
@@ -13,9 +13,9 @@ use Rattle.model.specs.declared.records.Barrier.{Barrier}
 use Rattle.model.specs.declared.records.Phase.{Phase}
 use Rattle.model.specs.declared.records.Phase.TheVariants.{Idle, MarkCrossing, Scanning, ProtectCrossing, Relocating}
 use Rattle.model.specs.Stores.{StoreState, word_at, word_in, spot_of, at_offset, words_at, page_at, frame_in}
-use Rattle.model.specs.Heaps.{HeapState, ThreadState, Reference, register_of, layout_at, layout_in, header_layout, datum_address}
+use Rattle.model.specs.Heaps.{HeapState, ThreadState, Reference, register_of, layout_at, layout_in, header_layout, field_address, datum_address}
 use Rattle.model.specs.Refusing.{◌>>=◌, or_refuse}
-use Rattle.model.specs.Outcome.{outcome, thread_gate, thread_row, has_bad_index, is_for_threads, is_parked_in, is_loading_in, usable, use_word, usable_or_null, use_or_null, let_through, held_back, has_crossed, datum_at, datum_place}
+use Rattle.model.specs.Outcome.{outcome, thread_gate, thread_row, has_bad_index, is_for_threads, is_for_parked, is_for_loading, is_parked_in, is_loading_in, usable, use_word, usable_or_null, use_or_null, let_through, held_back, has_crossed, field_at, field_place, datum_at, datum_place}
 use Rattle.model.proofs.Lists.{get_within}
 use Rattle.model.proofs.Memory.{word_on_page}
 use Rattle.laws.specs.AddressHeap.{HeapObject}
@@ -49,7 +49,8 @@ pub record Passed (h : HeapState) (t : ℕ) (s : Step) : Type 0 where
   pub thread : ThreadState
   pub there : slice_get h.threads t ≡ Some thread
   pub indices : has_bad_index h s ≡ false
-  pub closed : thread.barrier ≡ None
+  pub awake : is_for_parked s ≡ false → thread.parked ≡ false
+  pub closed : is_for_loading s ≡ false → thread.barrier ≡ None
 
 both_false : (a b : Bool) → a || b ≡ false → a ≡ false
 both_false false b e = refl
@@ -65,6 +66,12 @@ second_false true b e = absurd (cc)
 pub not_le : (m n : ℕ) → nat_le m n ≡ false → n < m
 not_le m n e = grind (arith, nat_tests)
 
+-- a test that only some steps pass
+unless : (a b : Bool) → a && not b ≡ false → b ≡ false → a ≡ false
+unless false b e f = refl
+unless true true e f = absurd (cc)
+unless true false e f = absurd (cc)
+
 no_barrier : (b : Option Barrier) → is_some b ≡ false → b ≡ None
 no_barrier None e = refl
 no_barrier (Some b) e = absurd (cc)
@@ -75,10 +82,16 @@ passed h t s x e =
     let (u, gate, row) = bind_ok (thread_gate h t s) (λ u. thread_row h t s) x e in
     let (a, rest) = not_refused (nat_le (length h.threads) t || not (is_for_threads s)) refusals.NoActor _ u gate in
     let (b, rest2) = not_refused (has_bad_index h s) refusals.BadIndex _ u rest in
-    let (c, rest3) = not_refused (is_parked_in (slice_get h.threads t)) refusals.Parked _ u rest2 in
-    let (d, rest4) = not_refused (is_loading_in (slice_get h.threads t)) refusals.Busy _ u rest3 in
+    let (c, rest3) = not_refused (is_parked_in (slice_get h.threads t) && not (is_for_parked s)) refusals.Parked _ u rest2 in
+    let (d, rest4) = not_refused (is_loading_in (slice_get h.threads t) && not (is_for_loading s)) refusals.Busy _ u rest3 in
     let (y, at) = get_within h.threads t (not_le (length h.threads) t (both_false (nat_le (length h.threads) t) (not (is_for_threads s)) a)) in
-    (record { thread = y; there = at; indices = b; closed = no_barrier y.barrier (ap is_loading_in (sym at) ∙ d) }, row)
+    (record {
+      thread = y;
+      there = at;
+      indices = b;
+      awake = λ f. ap is_parked_in (sym at) ∙ unless (is_parked_in (slice_get h.threads t)) (is_for_parked s) c f;
+      closed = λ f. no_barrier y.barrier (ap is_loading_in (sym at) ∙ unless (is_loading_in (slice_get h.threads t)) (is_for_loading s) d f);
+    }, row)
 
 -- registers that may be used
 
@@ -132,17 +145,28 @@ used_or_null h t r o x at e = by_word (register_of h t r) refl e
 
 -- data
 
+-- the layout of an object that is there
+shape_there : (h : HeapState) (a : ℕ) (q : HeapObject) (t : IsThere h a q) → layout_at h a ≡ Some t.read.shape
+unfolding layout_at
+shape_there h a q t = ap (λ o. layout_in h.config.layouts (header_layout o)) (word_on_page h.store a ∙ ap (option_and_then (λ ws. slice_get ws (a % h.store.words))) t.page ∙ t.read.at) ∙ t.read.known
+
+less : (m n : ℕ) → nat_lt m n ≡ true → m < n
+less m n e = grind (arith, nat_tests)
+
+-- where a reference of an object stands
+pub field_there : (h : HeapState) (a : ℕ) (q : HeapObject) (t : IsThere h a q) (i place : ℕ) → field_at h a i ≡ Some place → (i < t.read.shape.refs) × (a + 1 + i ≡ place)
+unfolding field_at
+field_there h a q t i place e = by_test (nat_lt i t.read.shape.refs) refl (sym (ap (field_place a i) (shape_there h a q t)) ∙ e)
+  where
+    by_test : (b : Bool) → nat_lt i t.read.shape.refs ≡ b → cond b (Some (field_address a i)) None ≡ Some place → (i < t.read.shape.refs) × (a + 1 + i ≡ place)
+    by_test true f k = (less i t.read.shape.refs f, cc)
+    by_test false f k = absurd (cc)
+
 -- where a datum of an object stands
 pub datum_there : (h : HeapState) (a : ℕ) (q : HeapObject) (t : IsThere h a q) (j place : ℕ) → datum_at h a j ≡ Some place → (j < t.read.shape.nums) × (a + 1 + t.read.shape.refs + j ≡ place)
-unfolding datum_at layout_at
-datum_there h a q t j place e = by_test (nat_lt j t.read.shape.nums) refl (sym (ap (datum_place a j) shape) ∙ e)
+unfolding datum_at
+datum_there h a q t j place e = by_test (nat_lt j t.read.shape.nums) refl (sym (ap (datum_place a j) (shape_there h a q t)) ∙ e)
   where
-    shape : layout_in h.config.layouts (header_layout (word_at h.store a)) ≡ Some t.read.shape
-    shape = ap (λ o. layout_in h.config.layouts (header_layout o)) (word_on_page h.store a ∙ ap (option_and_then (λ ws. slice_get ws (a % h.store.words))) t.page ∙ t.read.at) ∙ t.read.known
-
-    less : (m n : ℕ) → nat_lt m n ≡ true → m < n
-    less m n e = grind (arith, nat_tests)
-
     by_test : (b : Bool) → nat_lt j t.read.shape.nums ≡ b → cond b (Some (datum_address a t.read.shape j)) None ≡ Some place → (j < t.read.shape.nums) × (a + 1 + t.read.shape.refs + j ≡ place)
     by_test true f k = (less j t.read.shape.nums f, cc)
     by_test false f k = absurd (cc)

@@ -21,20 +21,26 @@ use Rattle.model.specs.Heaps.{HeapState, ThreadState, Reference, register_of, wi
 use Rattle.model.specs.Refusing.{◌>>=◌, or_refuse}
 use Rattle.model.specs.Outcome.{set_datum_outcome, copy_register_outcome, clear_register_outcome, give_back_outcome, new_outcome, placed, no_register, usable, datum_at, handed, used_buffer}
 use Rattle.model.specs.Plain.{PlainHeap, PlainThread, plain_step, plain_answer, name_of, naming, writing, born}
-use Rattle.model.proofs.Lists.{get_within}
+use Rattle.refword.specs.Words.{IsWord}
+use Rattle.model.proofs.Lists.{get_within, each_changed}
+use Rattle.page.proofs.Lying.{buffer_address}
 use Rattle.model.proofs.Memory.{some_in}
 use Rattle.laws.specs.AddressHeap.{AddressHeap, HeapObject, Word, Null}
 use Rattle.laws.specs.BirthHeap.{BirthHeap}
 use Rattle.laws.specs.Invariant.{Invariant}
+use Rattle.laws.specs.Effects.{with_datum}
 use Rattle.laws.specs.Transitions.{SetDatum, CopyReg, ClearReg, New, MayBeBorn, Uses}
 use Rattle.laws.proofs.Runs.{transition_keeps}
 use Rattle.refinement.specs.Worlds.{world_of, as_barrier, barrier_in}
 use Rattle.refinement.specs.Births.{births_of, HasRootsOf}
+use Rattle.refinement.specs.Roots.{HoldsWords}
 use Rattle.refinement.specs.Standing.{Holds, StepHolds}
+use Rattle.refinement.proofs.Rooted.{register_word, register_holds_words, buffer_holds_words, handed_holds_words}
 use Rattle.refinement.proofs.Reading.{read_refs, read_data, new_object}
 use Rattle.refinement.proofs.Objects.{there}
 use Rattle.refinement.proofs.Changes.{length_changed}
-use Rattle.refinement.proofs.Data as written
+use Rattle.refinement.proofs.Written.{datum_write}
+use Rattle.refinement.proofs.Written as written
 use Rattle.refinement.proofs.Born as births
 use Rattle.refinement.proofs.Sizes.{frames_stay, sizes_stay}
 use Rattle.refinement.proofs.Registers.{register_world, register_laid, buffer_world, given_back_laid}
@@ -78,6 +84,7 @@ module _ (h : HeapState) (p p0 : PlainHeap) (s : IsStore h.store) (d : IsHeap h)
           sizes = sizes_stay h (with_buffer h t None) k.sizes refl refl refl refl (length_changed h.threads t (set_buffer_of None)) refl refl;
           laid = given_back_laid h k.laid t;
           given = k.given;
+          words = record { threads = each_changed (HoldsWords h.config.registers) h.threads t (set_buffer_of None) k.words.threads (buffer_holds_words h.config.registers None); globals = k.words.globals };
           roots = moved_roots h (with_buffer h t None) p (length_changed h.threads t (set_buffer_of None)) refl refl k.roots;
           invariant = moved (world_of h) (world_of (with_buffer h t None)) (births_of p) (births_of p) (births_of p0) (buffer_world h k.laid t None) refl k.invariant;
         };
@@ -85,14 +92,15 @@ module _ (h : HeapState) (p p0 : PlainHeap) (s : IsStore h.store) (d : IsHeap h)
       })
 
   -- a register gets another's word, or null
-  register_holds : (r : ℕ) (w : Reference) (v : Option ℕ) (x : ThreadState) → slice_get h.threads t ≡ Some x → r < h.config.registers
+  register_holds : (r : ℕ) (w : Reference) (v : Option ℕ) (x : ThreadState) → IsWord w → slice_get h.threads t ≡ Some x → r < h.config.registers
       → Invariant (world_of (with_register h t r w)) (births_of (naming p t r v)) (births_of p0)
       → Holds (with_register h t r w) (naming p t r v) p0
   unfolding with_register
-  register_holds r w v x at low i = record {
+  register_holds r w v x word at low i = record {
     sizes = sizes_stay h (with_register h t r w) k.sizes refl refl refl refl (length_changed h.threads t (set_register_of r w)) refl refl;
     laid = register_laid h k.laid t r w;
     given = k.given;
+    words = record { threads = each_changed (HoldsWords h.config.registers) h.threads t (set_register_of r w) k.words.threads (λ y. register_holds_words h.config.registers r w y word); globals = k.words.globals };
     roots = moved_roots h (with_register h t r w) (naming p t r v) (length_changed h.threads t (set_register_of r w)) refl refl (naming_roots h p t r v k.roots);
     invariant = i;
   }
@@ -105,10 +113,10 @@ module _ (h : HeapState) (p p0 : PlainHeap) (s : IsStore h.store) (d : IsHeap h)
   copy_holds r q g y e =
       let low : r < h.config.registers = not_le h.config.registers r (first_false (no_register h r) (no_register h q) g.indices) in
       let (z, there, size) = plain_thread g.thread g.there in
-      let i = transition_keeps (world_of h) (births_of p) (births_of p0) _ _ _ k.invariant (CopyReg t r q (closed_barrier g.thread g.there g.closed)) in
+      let i = transition_keeps (world_of h) (births_of p) (births_of p0) _ _ _ k.invariant (CopyReg t r q (closed_barrier g.thread g.there (g.closed refl))) in
       subst (λ (z : HeapState × Answer). StepHolds h p p0 (Thread t) (steps.CopyReg r q) z.0 z.1) (same_result (with_register h t r (register_of h t q), answers.Done) y e) (record {
         config = refl;
-        holds = register_holds r (register_of h t q) (name_of p t q) g.thread g.there low
+        holds = register_holds r (register_of h t q) (name_of p t q) g.thread (register_word h t q k.words) g.there low
             (moved _ _ _ _ (births_of p0) (register_world h k.laid t r (register_of h t q) g.thread g.there (omega (arith, low, k.laid.registers t g.thread g.there))) (naming_is p t r (name_of p t q) z there (omega (arith, low, size))) i);
         answers = tt;
       })
@@ -118,10 +126,10 @@ module _ (h : HeapState) (p p0 : PlainHeap) (s : IsStore h.store) (d : IsHeap h)
   clear_holds r g y e =
       let low : r < h.config.registers = not_le h.config.registers r g.indices in
       let (z, there, size) = plain_thread g.thread g.there in
-      let i = transition_keeps (world_of h) (births_of p) (births_of p0) _ _ _ k.invariant (ClearReg t r (closed_barrier g.thread g.there g.closed)) in
+      let i = transition_keeps (world_of h) (births_of p) (births_of p0) _ _ _ k.invariant (ClearReg t r (closed_barrier g.thread g.there (g.closed refl))) in
       subst (λ (z : HeapState × Answer). StepHolds h p p0 (Thread t) (steps.ClearReg r) z.0 z.1) (same_result (with_register h t r None, answers.Done) y e) (record {
         config = refl;
-        holds = register_holds r None None g.thread g.there low
+        holds = register_holds r None None g.thread tt g.there low
             (moved _ _ _ _ (births_of p0) (register_world h k.laid t r None g.thread g.there (omega (arith, low, k.laid.registers t g.thread g.there))) (naming_is p t r None z there (omega (arith, low, size))) i);
         answers = tt;
       })
@@ -135,17 +143,20 @@ module _ (h : HeapState) (p p0 : PlainHeap) (s : IsStore h.store) (d : IsHeap h)
       let names = names_object h p p0 k t r a (used_ok h t r a g.thread g.there first) in
       by_place a names.object names.uses n (found_ok (datum_at h a j) refusals.BadIndex n second) (same_result (record h { store = with_word h.store n v }, answers.Done) y is)
     where
-      at_place : (a : ℕ) (q : HeapObject) (u : Uses (world_of h) t r a q) (m : j < length q.data_words) → StepHolds h p p0 (Thread t) (steps.SetDatum r j v) (written.after h s k.laid a q u.here j v m) answers.Done
+      at_place : (a : ℕ) (q : HeapObject) (u : Uses (world_of h) t r a q) (m : j < length q.data_words) → StepHolds h p p0 (Thread t) (steps.SetDatum r j v) (written.after h s k.laid a q u.here (1 + length q.refs + j) v) answers.Done
       at_place a q u m =
           let i = transition_keeps (world_of h) (births_of p) (births_of p0) _ _ _ k.invariant (SetDatum t r a q j v u) in
+          let n : ℕ = 1 + length q.refs + j in
+          let w = datum_write h a q u.here j v m in
           record {
             config = refl;
             holds = record {
-              sizes = sizes_stay h (written.after h s k.laid a q u.here j v m) k.sizes refl refl (frames_stay h.store _ _) refl refl refl refl;
-              laid = written.datum_laid h s k.laid a q u.here j v m;
+              sizes = sizes_stay h (written.after h s k.laid a q u.here n v) k.sizes refl refl (frames_stay h.store _ _) refl refl refl refl;
+              laid = written.written_laid h s k.laid a q u.here n v (with_datum q j v) w;
               given = k.given;
-              roots = moved_roots h (written.after h s k.laid a q u.here j v m) (writing p (name_of p t r) j v) refl refl refl (writing_roots h p (name_of p t r) j v k.roots);
-              invariant = moved _ _ _ _ (births_of p0) (written.datum_world h s k.laid a q u.here j v m) (writing_is p (name_of p t r) j v) i;
+              words = record { threads = k.words.threads; globals = k.words.globals };
+              roots = moved_roots h (written.after h s k.laid a q u.here n v) (writing p (name_of p t r) j v) refl refl refl (writing_roots h p (name_of p t r) j v k.roots);
+              invariant = moved _ _ _ _ (births_of p0) (written.written_world h s k.laid a q u.here n v (with_datum q j v) w) (writing_is p (name_of p t r) j v) i;
             };
             answers = tt;
           }
@@ -223,7 +234,7 @@ module _ (h : HeapState) (p p0 : PlainHeap) (s : IsStore h.store) (d : IsHeap h)
             refs_length = length-replicate {A = Word} l.refs Null ∙ sym (length-replicate {A = Option ℕ} l.refs None);
             layout = refl;
             data_words = refl;
-            barrier = closed_barrier g.thread g.there g.closed;
+            barrier = closed_barrier g.thread g.there (g.closed refl);
           } in
           let i = transition_keeps (world_of h) (births_of p) (births_of p0) _ _ _ k.invariant (New (b.page * h.store.words + b.next) (new_object h.births number l) t r number (replicate l.refs None) (replicate l.nums 0) fits) in
           subst (λ (z : HeapState × Answer). StepHolds h p p0 (Thread t) (steps.New r number) z.0 z.1) is (record {
@@ -232,6 +243,7 @@ module _ (h : HeapState) (p p0 : PlainHeap) (s : IsStore h.store) (d : IsHeap h)
               sizes = sizes_stay h (placed h t r number l b) k.sizes refl refl (frames_stay h.store _ _) refl (length_changed h.threads t (handed r (Some (b.page * h.store.words + b.next, h.nmt)) (used_buffer b (size_of l)))) refl refl;
               laid = births.born_laid h s k.laid t r number l b g.thread m;
               given = k.given;
+              words = record { threads = each_changed (HoldsWords h.config.registers) h.threads t (handed r (Some (b.page * h.store.words + b.next, h.nmt)) (used_buffer b (size_of l))) k.words.threads (λ y. handed_holds_words h.config.registers r (Some (b.page * h.store.words + b.next, h.nmt)) (used_buffer b (size_of l)) y (buffer_address h.store b s m.lies (omega (arith, room)))); globals = k.words.globals };
               roots = moved_roots h (placed h t r number l b) (born p t r number (Some l)) (length_changed h.threads t (handed r (Some (b.page * h.store.words + b.next, h.nmt)) (used_buffer b (size_of l)))) refl refl (born_roots h p t r number l k.roots);
               invariant = moved _ _ _ _ (births_of p0) (births.born_world h s k.laid t r number l b g.thread m) (born_is p t r number l z there (omega (arith, low, size))) i;
             });
