@@ -6,39 +6,43 @@ use Rattle.std.specs.Option.{option_map}
 use Rattle.std.proofs.Math.ListN.{length-set}
 use Rattle.layout.specs.declared.shape.Layout.{Layout}
 use Rattle.model.specs.Heaps.{HeapState, flat, changed}
-use Rattle.model.specs.Plain.{PlainHeap, PlainThread, Object, name_of, name_in, naming, set_name, born, blank_object, writing, set_datum, pending_in}
+use Rattle.model.specs.Plain.{PlainHeap, PlainThread, Object, name_of, name_in, naming, set_name, born, blank_object, storing, set_field, writing, set_datum, Pending, pending_in, loading, start_load, finishing, end_load}
 use Rattle.model.proofs.Lists.{get_set_same, get_set_other, get_within, each_changed}
 use Rattle.laws.specs.AddressHeap.{put, put_at}
-use Rattle.laws.specs.Edits.{plain_born}
-use Rattle.laws.specs.Effects.{plain_set_register, datum_at}
+use Rattle.laws.specs.Edits.{plain_born, plain_set_pending, plain_end_load, plain_set_global}
+use Rattle.laws.specs.Effects.{plain_set_register, datum_at, store_at}
 use Rattle.laws.proofs.Basics.{put_all, put_same, put_other, put_id}
 use Rattle.refinement.specs.Births.{births_of, layout_in, refs_in, data_in, as_pair, HasRootsOf}
 use Rattle.refinement.proofs.Runs.{get_second}
-use Rattle.refinement.proofs.Changes.{get_changed, kept_of, length_changed}
+use Rattle.refinement.proofs.Changes.{get_changed, kept_of, read_changed, length_changed}
 
 -- registers
 
-name_changed : (ts : List PlainThread) (t r : ℕ) (v : Option ℕ) (y : PlainThread) → slice_get ts t ≡ Some y → r < length y.registers
-    → (u s : ℕ) → name_in (slice_get (changed ts t (set_name r v)) u) s ≡ put_at (λ u s. name_in (slice_get ts u) s) t r v u s
-name_changed ts t r v y e k u s =
-    ap (λ o. name_in o s) (get_changed ts t (set_name r v) u) ∙ put_all (λ u z. (q : ℕ) → name_in (put (slice_get ts) t (option_map (set_name r v) (slice_get ts t)) u) q ≡ z q)
-    (λ u q. name_in (slice_get ts u) q) t (put (λ q. name_in (slice_get ts t) q) r v) here (λ u d q. ap (λ o. name_in o q) (put_other (slice_get ts) t (option_map (set_name r v) (slice_get ts t)) u d)) u s
+-- the registers of threads, of which one has its register r changed
+name_changed : (ts : List PlainThread) (t r : ℕ) (v : Option ℕ) (f : PlainThread → PlainThread) (y : PlainThread) → slice_get ts t ≡ Some y → r < length y.registers → (f y).registers ≡ set y.registers r v
+    → (u s : ℕ) → name_in (slice_get (changed ts t f) u) s ≡ put_at (λ u s. name_in (slice_get ts u) s) t r v u s
+name_changed ts t r v f y e k is u s =
+    ap (λ o. name_in o s) (get_changed ts t f u) ∙ put_all (λ u z. (q : ℕ) → name_in (put (slice_get ts) t now u) q ≡ z q)
+    (λ u q. name_in (slice_get ts u) q) t (put (λ q. name_in (slice_get ts t) q) r v) here (λ u d q. ap (λ o. name_in o q) (put_other (slice_get ts) t now u d)) u s
   where
     in_thread : (q : ℕ) → flat (slice_get (set y.registers r v) q) ≡ put (λ q. flat (slice_get y.registers q)) r v q
     in_thread = put_all (λ q z. flat (slice_get (set y.registers r v) q) ≡ z) (λ q. flat (slice_get y.registers q)) r v
         (let (z, there) = get_within y.registers r k in ap flat (get_set_same y.registers r z v there))
         (λ q d. ap flat (get_set_other y.registers r q v d))
 
-    here : (q : ℕ) → name_in (put (slice_get ts) t (option_map (set_name r v) (slice_get ts t)) t) q ≡ put (λ q. name_in (slice_get ts t) q) r v q
+    now : Option PlainThread
+    now = option_map f (slice_get ts t)
+
+    here : (q : ℕ) → name_in (put (slice_get ts) t now t) q ≡ put (λ q. name_in (slice_get ts t) q) r v q
     here q =
-        ap (λ o. name_in o q) (put_same (slice_get ts) t (option_map (set_name r v) (slice_get ts t)) ∙ ap (option_map (set_name r v)) e) ∙ in_thread q
+        ap (λ o. name_in o q) (put_same (slice_get ts) t now ∙ ap (option_map f) e) ∙ ap (λ l. flat (slice_get l q)) is ∙ in_thread q
         ∙ ap (λ o. put (λ q. name_in o q) r v q) (sym e)
 
 -- a register gets a birth
 pub naming_is : (p : PlainHeap) (t r : ℕ) (v : Option ℕ) (y : PlainThread) → slice_get p.threads t ≡ Some y → r < length y.registers → births_of (naming p t r v) ≡ plain_set_register t r v (births_of p)
 unfolding naming name_of
 naming_is p t r v y e k = λ z. record (births_of p) {
-  register = fun_ext (λ u. fun_ext (name_changed p.threads t r v y e k u)) z;
+  register = fun_ext (λ u. fun_ext (name_changed p.threads t r v (set_name r v) y e k refl u)) z;
   pending = fun_ext (kept_of (λ o. option_map as_pair (pending_in o)) p.threads t (set_name r v) (λ x. refl)) z;
 }
 
@@ -80,7 +84,7 @@ born_is p t r number l y e k = λ z. record (births_of p) {
   layout = fun_ext (λ b. ap layout_in (more b) ∙ put_read layout_in (slice_get p.objects) (length p.objects) (Some new) b) z;
   refs = fun_ext (λ b. ap refs_in (more b) ∙ put_read refs_in (slice_get p.objects) (length p.objects) (Some new) b) z;
   data_words = fun_ext (λ b. ap data_in (more b) ∙ put_read data_in (slice_get p.objects) (length p.objects) (Some new) b) z;
-  register = fun_ext (λ u. fun_ext (name_changed p.threads t r (Some (length p.objects)) y e k u)) z;
+  register = fun_ext (λ u. fun_ext (name_changed p.threads t r (Some (length p.objects)) (set_name r (Some (length p.objects))) y e k refl u)) z;
   pending = fun_ext (kept_of (λ o. option_map as_pair (pending_in o)) p.threads t (set_name r (Some (length p.objects))) (λ x. refl)) z;
 }
   where
@@ -119,3 +123,62 @@ writing_is p (Some b) j v = λ z. record (births_of p) {
 pub writing_roots : (h : HeapState) (p : PlainHeap) (o : Option ℕ) (j v : ℕ) → HasRootsOf h p → HasRootsOf h (writing p o j v)
 writing_roots h p None j v k = k
 writing_roots h p (Some b) j v k = record { threads = k.threads; registers = k.registers; globals = k.globals }
+
+-- a reference is written
+pub storing_is : (p : PlainHeap) (o : Option ℕ) (i : ℕ) (v : Option ℕ) → births_of (storing p o i v) ≡ store_at o i v (births_of p)
+unfolding name_of
+storing_is p None i v = refl
+storing_is p (Some b) i v = λ z. record (births_of p) {
+  births = length_changed p.objects b (set_field i v) z;
+  layout = fun_ext (kept_of layout_in p.objects b (set_field i v) (λ x. refl)) z;
+  refs = fun_ext (λ c. ap refs_in (get_changed p.objects b (set_field i v) c) ∙ put_read refs_in (slice_get p.objects) b (option_map (set_field i v) (slice_get p.objects b)) c ∙ ap (λ d. put (λ c. refs_in (slice_get p.objects c)) b d c) (set_in (slice_get p.objects b))) z;
+  data_words = fun_ext (λ c. kept_of data_in p.objects b (set_field i v) (λ x. refl) c ∙ sym (ap (λ f. f c) (put_id (λ c. data_in (slice_get p.objects c)) b (data_in (slice_get p.objects b)) refl))) z;
+}
+  where
+    set_in : (o : Option Object) → refs_in (option_map (set_field i v) o) ≡ set (refs_in o) i v
+    set_in None = refl
+    set_in (Some o) = refl
+
+pub storing_roots : (h : HeapState) (p : PlainHeap) (o : Option ℕ) (i : ℕ) (v : Option ℕ) → HasRootsOf h p → HasRootsOf h (storing p o i v)
+storing_roots h p None i v k = k
+storing_roots h p (Some b) i v k = record { threads = k.threads; registers = k.registers; globals = k.globals }
+
+-- a global gets a birth
+pub global_is : (p : PlainHeap) (g : ℕ) (v : Option ℕ) → g < length p.globals → births_of (record p { globals = set p.globals g v }) ≡ plain_set_global g v (births_of p)
+unfolding name_of
+global_is p g v k = λ z. record (births_of p) { global = fun_ext globals z }
+  where
+    globals : (n : ℕ) → flat (slice_get (set p.globals g v) n) ≡ put (λ n. flat (slice_get p.globals n)) g v n
+    globals = put_all (λ n y. flat (slice_get (set p.globals g v) n) ≡ y) (λ n. flat (slice_get p.globals n)) g v
+        (let (z, there) = get_within p.globals g k in ap flat (get_set_same p.globals g z v there))
+        (λ n d. ap flat (get_set_other p.globals g n v d))
+
+-- a load begins
+pub loading_is : (p : PlainHeap) (t r : ℕ) (b : Option ℕ) (y : PlainThread) → slice_get p.threads t ≡ Some y → births_of (loading p t r (Some b)) ≡ plain_set_pending t (r, b) (births_of p)
+unfolding name_of
+loading_is p t r b y e = λ z. record (births_of p) {
+  register = fun_ext (λ u. fun_ext (λ s. kept_of (λ o. name_in o s) p.threads t (start_load r b) (λ x. refl) u)) z;
+  pending = fun_ext (read_changed (λ o. option_map as_pair (pending_in o)) p.threads t (start_load r b) y (Some (r, b)) e refl) z;
+}
+
+pub loading_roots : (h : HeapState) (p : PlainHeap) (t r : ℕ) (b : Option ℕ) → HasRootsOf h p → HasRootsOf h (loading p t r (Some b))
+loading_roots h p t r b k = record {
+  threads = length_changed p.threads t (start_load r b) ∙ k.threads;
+  registers = each_changed (λ y. length y.registers ≡ h.config.registers) p.threads t (start_load r b) k.registers (λ y e. e);
+  globals = k.globals;
+}
+
+-- a load ends
+pub finishing_is : (p : PlainHeap) (t : ℕ) (l : Pending) (y : PlainThread) → slice_get p.threads t ≡ Some y → l.target < length y.registers → births_of (finishing p t (Some l)) ≡ plain_end_load t l.target l.found (births_of p)
+unfolding name_of
+finishing_is p t l y e k = λ z. record (births_of p) {
+  register = fun_ext (λ u. fun_ext (name_changed p.threads t l.target l.found (end_load l) y e k refl u)) z;
+  pending = fun_ext (read_changed (λ o. option_map as_pair (pending_in o)) p.threads t (end_load l) y None e refl) z;
+}
+
+pub finishing_roots : (h : HeapState) (p : PlainHeap) (t : ℕ) (l : Pending) → HasRootsOf h p → HasRootsOf h (finishing p t (Some l))
+finishing_roots h p t l k = record {
+  threads = length_changed p.threads t (end_load l) ∙ k.threads;
+  registers = each_changed (λ y. length y.registers ≡ h.config.registers) p.threads t (end_load l) k.registers (λ y e. length-set y.registers l.target l.found ∙ e);
+  globals = k.globals;
+}

@@ -19,7 +19,7 @@ use Rattle.laws.specs.AddressHeap.{HeapObject, Null, To}
 use Rattle.laws.specs.Transitions.{Uses}
 use Rattle.laws.specs.Promises.{ReadsPlain}
 use Rattle.laws.proofs.Basics.{current_there}
-use Rattle.laws.proofs.Reading.{used}
+use Rattle.laws.proofs.Reading.{At, at, register_kept, used}
 use Rattle.laws.proofs.Promises.{reads, same, null_is_none}
 use Rattle.refinement.specs.Worlds.{world_of, as_word, object_at}
 use Rattle.refinement.specs.Births.{births_of, data_in}
@@ -35,6 +35,7 @@ pub record NamesObject (h : HeapState) (p : PlainHeap) (t r a : ℕ) : Type 0 wh
   pub object : HeapObject
   pub uses : Uses (world_of h) t r a object
   pub reads : ReadsPlain (world_of h) (births_of p) t r a object
+  pub holds : At (world_of h) (births_of p) a object
 
 pub names_object : (h : HeapState) (p p0 : PlainHeap) → Holds h p p0 → (t r a : ℕ) → IsUsed h t r a → NamesObject h p t r a
 unfolding name_of
@@ -43,7 +44,7 @@ names_object h p p0 k t r a u =
     let d = used (world_of h) (births_of p) (births_of p0) k.invariant t r a u.bit word u.usable in
     let here : object_at h a ≡ Some d.object = current_there (world_of h) a d.object d.here in
     let uses : Uses (world_of h) t r a d.object = record { bit = u.bit; word = word; usable = u.usable; here = here } in
-    record { object = d.object; uses = uses; reads = reads (world_of h) (births_of p) (births_of p0) k.invariant t r a d.object uses }
+    record { object = d.object; uses = uses; reads = reads (world_of h) (births_of p) (births_of p0) k.invariant t r a d.object uses; holds = at (world_of h) (births_of p) (births_of p0) k.invariant a d.object d.here (register_kept (world_of h) (births_of p) t r d.object.birth d.birth) }
 
 none_none : (o : Option ℕ) (w : Reference) → (as_word w ≡ Null) ↔ (o ≡ None) → is_none w ≡ is_none o
 none_none None None e = refl
@@ -60,7 +61,7 @@ none_none (Some b) None e = absurd (no (e.0 refl))
 no_word : (w : Reference) → w ≡ None → as_word w ≡ Null
 no_word w e = ap as_word e
 
-module _ (h : HeapState) (p p0 : PlainHeap) (s : IsStore h.store) (k : Holds h p p0) (t : ℕ) (x : ThreadState) (at : slice_get h.threads t ≡ Some x) where
+module _ (h : HeapState) (p p0 : PlainHeap) (s : IsStore h.store) (k : Holds h p p0) (t : ℕ) (x : ThreadState) (there_is : slice_get h.threads t ≡ Some x) where
   pub is_null_holds : (r : ℕ) (y : HeapState × Answer) → is_null_outcome h t r ≡ accepted y → StepHolds h p p0 (Thread t) (steps.IsNull r) y.0 y.1
   unfolding is_null_outcome plain_step plain_answer name_of register_of
   is_null_holds r y e = subst (λ (z : HeapState × Answer). StepHolds h p p0 (Thread t) (steps.IsNull r) z.0 z.1) (same_result (h, answers.Truth (is_none (register_of h t r))) y e)
@@ -109,7 +110,7 @@ module _ (h : HeapState) (p p0 : PlainHeap) (s : IsStore h.store) (k : Holds h p
       let (a, first, rest) = bind_ok (usable_or_null h t l) (λ a. usable_or_null h t r >>= λ b. Ok (h, answers.Truth (same_address a b))) y e in
       let (b, second, is) = bind_ok (usable_or_null h t r) (λ b. Ok (h, answers.Truth (same_address a b))) y rest in
       subst (λ (z : HeapState × Answer). StepHolds h p p0 (Thread t) (steps.Same l r) z.0 z.1) (same_result (h, answers.Truth (same_address a b)) y is)
-      (record { config = refl; holds = k; answers = ap answers.Truth (same_truth l r a b (used_or_null h t l a x at first) (used_or_null h t r b x at second)) })
+      (record { config = refl; holds = k; answers = ap answers.Truth (same_truth l r a b (used_or_null h t l a x there_is first) (used_or_null h t r b x there_is second)) })
 
   datum_answer : (o : Option Object) (ds : List ℕ) (j v : ℕ) → ds ≡ data_in o → slice_get ds j ≡ Some v → as_datum (datum_of o j) ≡ Some (answers.Datum v)
   datum_answer None ds j v e f = absurd (no (sym (ap (λ l. slice_get l j) e) ∙ f))
@@ -136,7 +137,7 @@ module _ (h : HeapState) (p p0 : PlainHeap) (s : IsStore h.store) (k : Holds h p
       let (a, first, rest) = bind_ok (usable h t r) (λ a. or_refuse (datum_at h a j) refusals.BadIndex >>= λ n. or_refuse (word_at h.store n) refusals.BadIndex >>= λ v. Ok (h, answers.Datum v)) y e in
       let (n, second, rest2) = bind_ok (or_refuse (datum_at h a j) refusals.BadIndex) (λ n. or_refuse (word_at h.store n) refusals.BadIndex >>= λ v. Ok (h, answers.Datum v)) y rest in
       let (v, third, is) = bind_ok (or_refuse (word_at h.store n) refusals.BadIndex) (λ v. Ok (h, answers.Datum v)) y rest2 in
-      let names = names_object h p p0 k t r a (used_ok h t r a x at first) in
+      let names = names_object h p p0 k t r a (used_ok h t r a x there_is first) in
       let q = names.object in
       let here = names.uses.here in
       let (m, spot) = datum_there h a q (there h a q here) j n (found_ok (datum_at h a j) refusals.BadIndex n second) in

@@ -62,7 +62,7 @@ moved_roots h g p e f n k = record {
 
 module _ (h : HeapState) (p p0 : PlainHeap) (s : IsStore h.store) (d : IsHeap h) (k : Holds h p p0) (t : ℕ) where
   -- the plain heap has the thread
-  plain_thread : (x : ThreadState) → slice_get h.threads t ≡ Some x → (y : PlainThread) × (slice_get p.threads t ≡ Some y) × (length y.registers ≡ h.config.registers)
+  pub plain_thread : (x : ThreadState) → slice_get h.threads t ≡ Some x → (y : PlainThread) × (slice_get p.threads t ≡ Some y) × (length y.registers ≡ h.config.registers)
   plain_thread x at =
       let (y, e) = get_within p.threads t (omega (arith, within h.threads t at, k.roots.threads)) in
       (y, e, k.roots.registers t y e)
@@ -105,7 +105,7 @@ module _ (h : HeapState) (p p0 : PlainHeap) (s : IsStore h.store) (d : IsHeap h)
     invariant = i;
   }
 
-  closed_barrier : (x : ThreadState) → slice_get h.threads t ≡ Some x → x.barrier ≡ None → (world_of h).barrier t ≡ None
+  pub closed_barrier : (x : ThreadState) → slice_get h.threads t ≡ Some x → x.barrier ≡ None → (world_of h).barrier t ≡ None
   closed_barrier x at e = ap barrier_in at ∙ ap (option_map as_barrier) e
 
   pub copy_holds : (r q : ℕ) (g : Passed h t (steps.CopyReg r q)) (y : HeapState × Answer) → copy_register_outcome h t r q ≡ accepted y → StepHolds h p p0 (Thread t) (steps.CopyReg r q) y.0 y.1
