@@ -84,14 +84,16 @@ passed h t s x e =
     let (b, rest2) = not_refused (has_bad_index h s) refusals.BadIndex _ u rest in
     let (c, rest3) = not_refused (is_parked_in (slice_get h.threads t) && not (is_for_parked s)) refusals.Parked _ u rest2 in
     let (d, rest4) = not_refused (is_loading_in (slice_get h.threads t) && not (is_for_loading s)) refusals.Busy _ u rest3 in
-    let (y, at) = get_within h.threads t (not_le (length h.threads) t (both_false (nat_le (length h.threads) t) (not (is_for_threads s)) a)) in
-    (record {
-      thread = y;
-      there = at;
-      indices = b;
-      awake = λ f. ap is_parked_in (sym at) ∙ unless (is_parked_in (slice_get h.threads t)) (is_for_parked s) c f;
-      closed = λ f. no_barrier y.barrier (ap is_loading_in (sym at) ∙ unless (is_loading_in (slice_get h.threads t)) (is_for_loading s) d f);
-    }, row)
+    let (y, at) = get_within h.threads t (not_le (length h.threads) t (both_false (nat_le (length h.threads) t) (not (is_for_threads s)) a)) in (
+      record {
+        thread = y;
+        there = at;
+        indices = b;
+        awake = λ f. ap is_parked_in (sym at) ∙ unless (is_parked_in (slice_get h.threads t)) (is_for_parked s) c f;
+        closed = λ f. no_barrier y.barrier (ap is_loading_in (sym at) ∙ unless (is_loading_in (slice_get h.threads t)) (is_for_loading s) d f);
+      },
+      row,
+    )
 
 -- registers that may be used
 
