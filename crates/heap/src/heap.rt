@@ -3,7 +3,9 @@ mod birth;
 mod buffers;
 mod data;
 mod making;
+pub mod references;
 mod registers;
+mod threads;
 
 ghost use Rattle.std.specs.Prelude.{◌≡◌};
 ghost use Rattle.model.specs.Owning.{IsStore};

@@ -10,6 +10,7 @@ mod rows;
 mod thread;
 
 pub use fault::NewFault;
+pub use heap::references::stored;
 pub use heap::Heap;
 pub use model::{Config, ConfigFault, Refusal};
 pub use rows::{Row, Rows};

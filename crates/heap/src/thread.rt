@@ -1,7 +1,7 @@
 //! The record of a mutator thread.
 
 ghost use Rattle.std.specs.Prelude.{◌≡◌, ◌<◌, length, slice_get, slice_set, IfOk};
-ghost use Rattle.model.specs.Heaps.{blank_thread, set_register_of, set_buffer_of, flat};
+ghost use Rattle.model.specs.Heaps.{blank_thread, set_register_of, set_buffer_of, set_barrier_of, set_loaded_of, set_parked_of, flat};
 
 use model::{Barrier, Buffer};
 use page::many;
@@ -102,5 +102,28 @@ impl Thread {
         ensures { self.new ≡ set_buffer_of buffer self.old }
     {
         self.buffer = buffer;
+    }
+
+    /// Opens or changes its barrier, or closes it (the paper's read barrier).
+    pub fn set_barrier(&mut self, barrier: Option<Barrier>)
+        ensures { self.new ≡ set_barrier_of barrier self.old }
+    {
+        self.barrier = barrier;
+    }
+
+    /// Ends its load: a register, by its number from 0, gets the word, if it is there, and the
+    /// barrier closes (the paper's read barrier).
+    pub fn set_loaded(&mut self, number: u32, word: Word)
+        ensures { self.new ≡ set_loaded_of number word self.old }
+    {
+        self.set_register(number, word);
+        self.barrier = None;
+    }
+
+    /// Parks it, or lets it run.
+    pub fn set_parked(&mut self, parked: bool)
+        ensures { self.new ≡ set_parked_of parked self.old }
+    {
+        self.parked = parked;
     }
 }

@@ -161,11 +161,15 @@ heal_outcome h t = do
 abbrev pub may_finish : Barrier → Bool
 may_finish b = b.healed || (bits_of b.now == bits_of b.raw)
 
+-- a load ends, whose word has no trap due
+unfoldable pub end_load : HeapState → ℕ → Barrier → Outcome
+end_load h t b = if may_finish b then Ok (with_loaded h t b.target b.now, answers.Done) else Err refusals.Busy
+
 -- the row of Finish
 unfoldable pub finish_outcome : HeapState → ℕ → Outcome
 finish_outcome h t = do
   b ← or_refuse (barrier_of_thread h t) refusals.NotBusy
-  if trap_due h t b.now || not (may_finish b) then Err refusals.Busy else Ok (with_loaded h t b.target b.now, answers.Done)
+  if trap_due h t b.now then Err refusals.Busy else end_load h t b
 
 -- data
 
@@ -283,16 +287,11 @@ new_outcome h t target number = do
 unfoldable pub cross_outcome : HeapState → Outcome
 cross_outcome h = Err (if is_crossing h.phase then refusals.NoActor else refusals.Phase)
 
--- what Scrub says of a register's word; what it does to one that names a page that is emptied comes with moves
-abbrev pub scrub_word : HeapState → ℕ → Reference → Outcome
-scrub_word h t None = Err refusals.Null
-scrub_word h t (Some w) = do
-  _ ← let_through h t w.0
-  Ok (h, answers.Clean)
-
--- the row of Scrub
+-- The row of Scrub. What it does to a register that names a page that is emptied comes with moves; no page is before.
 unfoldable pub scrub_outcome : HeapState → ℕ → ℕ → Outcome
-scrub_outcome h t r = scrub_word h t (register_of h t r)
+scrub_outcome h t r = do
+  _ ← usable h t r
+  Ok (h, answers.Clean)
 
 -- the row of Park
 unfoldable pub park_outcome : HeapState → ℕ → Outcome

@@ -1,7 +1,7 @@
 //! The records of a heap's state. Offsets and sizes count words.
 
 ghost use Rattle.std.specs.Prelude.{◌≡◌};
-ghost use Rattle.model.specs.Phases.{is_marking, is_mark_crossing};
+ghost use Rattle.model.specs.Phases.{is_marking, is_mark_crossing, is_crossing, may_nmt_trap};
 
 use refword::{Addr, Word};
 
@@ -75,6 +75,26 @@ impl Phase {
         ensures { result ≡ is_marking self }
     {
         matches!(self, Phase::MarkCrossing | Phase::Scanning)
+    }
+
+    /// Whether a checkpoint is open: some thread has still to cross it (the paper's checkpoints).
+    pub fn is_crossing(self) -> bool
+        ensures { result ≡ is_crossing self }
+    {
+        matches!(self, Phase::MarkCrossing | Phase::ProtectCrossing)
+    }
+
+    /// Whether the loads of a thread trap on words that aren't marked through: a mark runs, and the
+    /// thread has crossed (the paper's read barrier; that they do so before all threads have
+    /// crossed is ours).
+    pub fn may_nmt_trap(self, crossed: bool) -> bool
+        ensures { result ≡ may_nmt_trap self crossed }
+    {
+        match self {
+            Phase::Scanning => true,
+            Phase::MarkCrossing => crossed,
+            _ => false,
+        }
     }
 
     /// Whether a mark waits for threads to cross (the paper's checkpoints).

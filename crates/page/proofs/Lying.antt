@@ -1,5 +1,5 @@
 -- Buffers lie in open pages, whatever is done to the store.
-use Rattle.std.proofs.Common.{◌≡◌, ◌≢◌, ◌⊎◌, inl, inr, ℕ, ◌+◌, ◌-◌, ◌*◌, ◌/◌, ◌<◌, ◌≤◌, Bool, true, false, ◌&&◌, List, length, position, Option, Some, None, set, refl, sym, ◌∙◌, ap, subst, arith, rules}
+use Rattle.std.proofs.Common.{◌≡◌, ◌≢◌, ◌⊎◌, inl, inr, ℕ, zero, suc, ◌+◌, ◌-◌, ◌*◌, ◌/◌, ◌^◌, ◌<◌, ◌≤◌, Bool, true, false, ◌&&◌, List, [], ◌∷◌, length, position, Option, Some, None, set, refl, sym, ◌∙◌, ap, subst, arith, rules}
 use Rattle.std.specs.List.{slice_get}
 use Rattle.std.specs.Prelude.{Ok, Err, Result, IfOk}
 use Rattle.std.proofs.Math.Nat.{mul-le-mul_left}
@@ -11,7 +11,7 @@ use Rattle.model.specs.declared.records.Page.{Page}
 use Rattle.model.specs.declared.records.Room.{Room}
 use Rattle.model.specs.declared.records.Room.TheVariants.{NoFrames, NoPages}
 use Rattle.model.specs.declared.records.Buffer.{Buffer}
-use Rattle.model.specs.Stores.{StoreState, is_open, is_unused, state_in, opened, given, buffer_of, Takes, with_words, with_word, fresh_page, taken, page_with_room, free_frame, unused_page, record_count}
+use Rattle.model.specs.Stores.{StoreState, is_open, is_unused, state_in, opened, given, buffer_of, Takes, with_words, with_word, fresh_page, frame_in, page_at, taken, page_with_room, free_frame, unused_page, record_count}
 use Rattle.model.specs.Owning.{IsStore, LiesIn, TakesWell}
 use Rattle.model.proofs.Lists.{get_set_same, get_set_other, same_or_not, get_within}
 use Rattle.page.proofs.Found.{position_within, room_left, free_counts, free_within, room_within, room_passes}
@@ -145,16 +145,28 @@ pub word_lies : (s : StoreState) (address v : ℕ) (b : Buffer) → LiesIn s b �
 unfolding with_word
 word_lies s address v b h = words_lie s (address / s.words) _ b h
 
+-- a store has few records
+pub records_few : (s : StoreState) → IsStore s → length s.pages ≤ 65535
+records_few s h = rw h.sized.pages (few (length s.frames) s.count h.sized.count)
+  where
+    few : (frames count : ℕ) → count ≤ 65535 → record_count frames count ≤ 65535
+    few frames count k = grind (arith, nat_tests)
+
 -- where a buffer's next object starts is an address
 pub buffer_address : (s : StoreState) (b : Buffer) → IsStore s → LiesIn s b → b.next < b.end → IsAddress (b.page * s.words + b.next)
 buffer_address s b h l room =
     let (page, p, at, is_so) = lies_at s b l in
     let within = slice_get_within s.pages (b.page - 1) p at in
-    let records : length s.pages ≤ 65535 = rw h.sized.pages (few (length s.frames) s.count h.sized.count) in
     let next : b.next < s.words = omega (arith, l.end, room) in
     let low : b.page * 1 ≤ b.page * s.words = mul-le-mul_left b.page h.sized.words_low in
-    let high = mul-add-lt b.page s.words b.next 65536 (omega (arith, within, records)) next in
+    let high = mul-add-lt b.page s.words b.next 65536 (omega (arith, within, records_few s h)) next in
     record { above = omega (arith, low, page); below = omega (arith, high, h.sized.words) }
+
+-- no page has a number past 32 bits
+pub far_frame : (s : StoreState) (n : ℕ) → IsStore s → 2 ^ 32 ≤ n → frame_in (page_at s n) ≡ None
+far_frame s n h low = ap frame_in (page_at_record s n (λ e. absurd (omega (arith, e, low))) ∙ past s.pages (n - 1) (omega (arith, low, records_few s h)))
   where
-    few : (frames count : ℕ) → count ≤ 65535 → record_count frames count ≤ 65535
-    few frames count k = grind (arith, nat_tests)
+    past : (ps : List Page) (i : ℕ) → length ps ≤ i → slice_get ps i ≡ None
+    past [] i k = refl
+    past (p ∷ ps) zero k = absurd (omega (arith, k))
+    past (p ∷ ps) (suc i) k = past ps i (omega (arith, k))

@@ -174,20 +174,22 @@ impl Store {
     }
 
     /// The frame and the offset behind an address, if its page has memory.
-    #[tactic(auto, unfolding(model::specs::Stores::spot_of))]
+    #[tactic(auto, unfolding(model::specs::Stores::spot_of), using(crate::proofs::Lying::far_frame))]
     fn spot(&self, address: u64) -> Option<(u32, usize)>
-        requires { address < 2 ^ 32 }
         ensures { result ≡ spot_of self.now address }
     {
         let words = u64::from(self.words);
-        let frame = self.frame((address / words) as u32)?;
+        let page = address / words;
+        if page > u64::from(u32::MAX) {
+            return None;
+        }
+        let frame = self.frame(page as u32)?;
         Some((frame, (address % words) as usize))
     }
 
-    /// The word at an address, which is below 2^32, if its page has memory.
+    /// The word at an address, if its page has memory.
     #[tactic(auto, unfolding(model::specs::Stores::word_at))]
     pub fn word(&self, address: u64) -> Option<u64>
-        requires { address < 2 ^ 32 }
         ensures { result ≡ word_at self.now address }
     {
         let (frame, offset) = self.spot(address)?;
@@ -205,10 +207,9 @@ impl Store {
         Some(frame.words())
     }
 
-    /// Writes the word at an address, which is below 2^32, if its page has memory.
+    /// Writes the word at an address, if its page has memory.
     #[tactic(auto, unfolding(model::specs::Stores::with_word, model::specs::Stores::with_words, model::specs::Stores::spot_of))]
     pub fn set_word(&mut self, address: u64, value: u64)
-        requires { address < 2 ^ 32 }
         ensures { self.new ≡ with_word self.old address value }
     {
         if let Some((frame, offset)) = self.spot(address) {

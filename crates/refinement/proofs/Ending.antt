@@ -18,13 +18,14 @@ use Rattle.model.specs.Owning.{IsStore}
 use Rattle.model.specs.Holding.{IsHeap}
 use Rattle.model.specs.Heaps.{HeapState, ThreadState, Reference, register_of, barrier_of, barrier_of_thread, with_barrier, with_loaded, set_loaded_of, with_global, set_word_of, with_place, field_address, global_of, stored}
 use Rattle.model.specs.Refusing.{◌>>=◌, or_refuse}
-use Rattle.model.specs.Outcome.{trap_outcome, heal_outcome, heal_place, finish_outcome, trap_due, gc_trap_due, nmt_trap_due, may_finish, bits_at, are_bits_of, healed}
+use Rattle.model.specs.Outcome.{trap_outcome, heal_outcome, heal_place, end_load, finish_outcome, trap_due, gc_trap_due, nmt_trap_due, may_finish, bits_at, are_bits_of, healed}
 use Rattle.model.specs.Plain.{PlainHeap, PlainThread, Pending, plain_step, plain_answer, pending_in, finishing}
 use Rattle.model.proofs.Lists.{get_within, each_changed}
 use Rattle.model.proofs.Memory.{some_in}
 use Rattle.laws.specs.AddressHeap.{HeapObject, OpenBarrier, AtField, AtGlobal, field}
 use Rattle.laws.specs.Invariant.{Invariant, IsPlace}
-use Rattle.laws.specs.Edits.{set_barrier, set_object, end_load}
+use Rattle.laws.specs.Edits.{set_barrier, set_object}
+use Rattle.laws.specs.Edits as edits
 use Rattle.laws.specs.Effects.{with_field, finish_at}
 use Rattle.laws.specs.Effects as effects
 use Rattle.laws.specs.Transitions.{HealGlobal, HealField, HealChanged, Finish}
@@ -146,7 +147,7 @@ module _ (h : HeapState) (p p0 : PlainHeap) (s : IsStore h.store) (d : IsHeap h)
         n : ℕ
         n = h.config.registers
 
-        step : Invariant (end_load t b.target (as_word b.now) (world_of h)) (effects.plain_finish t (births_of p)) (births_of p0)
+        step : Invariant (edits.end_load t b.target (as_word b.now) (world_of h)) (effects.plain_finish t (births_of p)) (births_of p0)
         step = transition_keeps (world_of h) (births_of p) (births_of p0) _ _ _ k.invariant (Finish t (as_barrier b) in_world (unmarked clear))
 
         by_pending : (o : Option Pending) → pending_in (slice_get p.threads t) ≡ o → Holds (with_loaded h t b.target b.now) (finishing p t o) p0
@@ -191,9 +192,13 @@ module _ (h : HeapState) (p p0 : PlainHeap) (s : IsStore h.store) (d : IsHeap h)
 
   -- a load ends
   pub finish_holds : (y : HeapState × Answer) → finish_outcome h t ≡ accepted y → StepHolds h p p0 (Thread t) steps.Finish y.0 y.1
-  unfolding finish_outcome plain_step plain_answer with_loaded
+  unfolding finish_outcome end_load plain_step plain_answer with_loaded
   finish_holds y e =
-      let (b, first, rest) = bind_ok (or_refuse (barrier_of_thread h t) refusals.NotBusy) (λ b. cond (trap_due h t b.now || not (may_finish b)) (Err refusals.Busy) (Ok (with_loaded h t b.target b.now, answers.Done))) y e in
-      let (clear, is) = not_refused (trap_due h t b.now || not (may_finish b)) refusals.Busy (Ok (with_loaded h t b.target b.now, answers.Done)) y rest in
-      subst (λ (z : HeapState × Answer). StepHolds h p p0 (Thread t) steps.Finish z.0 z.1) (same_result (with_loaded h t b.target b.now, answers.Done) y is)
-      (record { config = refl; holds = loaded_holds b (found_ok (barrier_of_thread h t) refusals.NotBusy b first) (first_false (trap_due h t b.now) (not (may_finish b)) clear); answers = tt })
+      let (b, first, rest) = bind_ok (or_refuse (barrier_of_thread h t) refusals.NotBusy) (λ b. cond (trap_due h t b.now) (Err refusals.Busy) (end_load h t b)) y e in
+      let (clear, is) = not_refused (trap_due h t b.now) refusals.Busy (end_load h t b) y rest in
+      by_test b (found_ok (barrier_of_thread h t) refusals.NotBusy b first) clear (may_finish b) is
+    where
+      by_test : (b : Barrier) → barrier_of_thread h t ≡ Some b → trap_due h t b.now ≡ false → (c : Bool) → cond c (Ok (with_loaded h t b.target b.now, answers.Done)) (Err refusals.Busy) ≡ accepted y → StepHolds h p p0 (Thread t) steps.Finish y.0 y.1
+      by_test b first clear false f = absurd (cc)
+      by_test b first clear true f = subst (λ (z : HeapState × Answer). StepHolds h p p0 (Thread t) steps.Finish z.0 z.1) (same_result (with_loaded h t b.target b.now, answers.Done) y f)
+          (record { config = refl; holds = loaded_holds b first clear; answers = tt })

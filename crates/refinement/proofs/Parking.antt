@@ -10,9 +10,9 @@ use Rattle.model.specs.declared.steps.Answer.TheVariants as answers
 use Rattle.model.specs.declared.steps.Refusal.TheVariants as refusals
 use Rattle.model.specs.Owning.{IsStore}
 use Rattle.model.specs.Holding.{IsHeap}
-use Rattle.model.specs.Heaps.{HeapState, Reference, register_of, with_parked, set_parked_of}
+use Rattle.model.specs.Heaps.{HeapState, with_parked, set_parked_of}
 use Rattle.model.specs.Refusing.{◌>>=◌}
-use Rattle.model.specs.Outcome.{park_outcome, unpark_outcome, is_parked_in, scrub_outcome, scrub_word, let_through}
+use Rattle.model.specs.Outcome.{park_outcome, unpark_outcome, is_parked_in, scrub_outcome, usable}
 use Rattle.model.specs.Plain.{PlainHeap, plain_step, plain_answer}
 use Rattle.model.proofs.Lists.{each_changed}
 use Rattle.laws.specs.Transitions.{Park}
@@ -61,11 +61,7 @@ module _ (h : HeapState) (p p0 : PlainHeap) (s : IsStore h.store) (d : IsHeap h)
   -- a register is clean
   pub scrub_holds : (r : ℕ) (y : HeapState × Answer) → scrub_outcome h t r ≡ accepted y → StepHolds h p p0 (Thread t) (steps.Scrub r) y.0 y.1
   unfolding scrub_outcome plain_step plain_answer
-  scrub_holds r y e = by_word (register_of h t r) e
-    where
-      by_word : (w : Reference) → scrub_word h t w ≡ accepted y → StepHolds h p p0 (Thread t) (steps.Scrub r) y.0 y.1
-      by_word None f = absurd (cc)
-      by_word (Some w) f =
-          let (u, pass, is) = bind_ok (let_through h t w.0) (λ u. Ok (h, answers.Clean)) y f in
-          subst (λ (z : HeapState × Answer). StepHolds h p p0 (Thread t) (steps.Scrub r) z.0 z.1) (same_result (h, answers.Clean) y is)
-          (record { config = refl; holds = k; answers = tt })
+  scrub_holds r y e =
+      let (a, first, is) = bind_ok (usable h t r) (λ a. Ok (h, answers.Clean)) y e in
+      subst (λ (z : HeapState × Answer). StepHolds h p p0 (Thread t) (steps.Scrub r) z.0 z.1) (same_result (h, answers.Clean) y is)
+      (record { config = refl; holds = k; answers = tt })

@@ -1,6 +1,7 @@
 //! Data words of objects.
 
-ghost use Rattle.std.specs.Prelude.{◌≡◌, ◌<◌, ◌^◌, IfSome};
+ghost use Rattle.std.specs.Prelude.{◌≡◌};
+ghost use Rattle.model.specs.Stores.{with_word};
 ghost use Rattle.model.specs.Heaps.{layout_at};
 ghost use Rattle.model.specs.Refusing.{Does};
 ghost use Rattle.model.specs.Outcome.{datum_at, datum_outcome, set_datum_outcome};
@@ -24,14 +25,20 @@ impl Heap {
     /// Where a data word of the object at an address stands.
     #[tactic(auto, unfolding(model::specs::Outcome::datum_at))]
     fn datum_at(&self, address: Addr, index: u32) -> Option<u64>
-        ensures value { result ≡ datum_at self.now address index }
-        ensures range { IfSome result (λ place. place < 2 ^ 32) }
+        ensures { result ≡ datum_at self.now address index }
     {
         let layout = self.layout_at(address)?;
         if index >= u32::from(layout.nums) {
             return None;
         }
         Some(address.number() + 1 + u64::from(layout.refs) + u64::from(index))
+    }
+
+    /// Writes the word at an address, if its page has memory.
+    pub(crate) fn set_word(&mut self, address: u64, value: u64)
+        ensures { self.new ≡ record self.old { store = with_word self.old.store address value } }
+    {
+        self.store.set_word(address, value);
     }
 
     /// Reads a data word, by its number from 0. Refused as `usable` is, then `BadIndex` where the
@@ -66,7 +73,7 @@ impl Heap {
         let Some(place) = self.datum_at(address, index) else {
             return Err(Refusal::BadIndex);
         };
-        self.store.set_word(place, value);
+        self.set_word(place, value);
         Ok(Answer::Done)
     }
 }

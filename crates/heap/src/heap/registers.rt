@@ -1,9 +1,9 @@
 //! Registers, and the steps on them alone.
 
-ghost use Rattle.std.specs.Prelude.{◌≡◌, slice_get, is_none};
+ghost use Rattle.std.specs.Prelude.{◌≡◌, is_none};
 ghost use Rattle.model.specs.Heaps.{register_of, with_register};
 ghost use Rattle.model.specs.Refusing.{Does};
-ghost use Rattle.model.specs.Outcome.{has_crossed, let_through, usable, usable_or_null, same_outcome, is_null_outcome, copy_register_outcome, clear_register_outcome};
+ghost use Rattle.model.specs.Outcome.{let_through, usable, usable_or_null, same_outcome, is_null_outcome, copy_register_outcome, clear_register_outcome};
 
 use crate::heap::Heap;
 use model::{Answer, PageState, Phase, Refusal};
@@ -33,19 +33,11 @@ impl Heap {
         }
     }
 
-    fn has_crossed(&self, thread: u32) -> bool
-        ensures { result ≡ has_crossed (slice_get self.now.threads thread) }
-    {
-        match self.threads.get(thread as usize) {
-            None => true,
-            Some(record) => record.crossed(),
-        }
-    }
-
-    /// Whether a thread may use an address: not on a protected page, unless the thread has still
-    /// to cross the checkpoint at which pages are being protected (ours).
+    /// Whether a thread, by its number from 0, may use an address: not on a protected page, unless
+    /// the thread has still to cross the checkpoint at which pages are being protected (ours).
+    /// Refused as `Stall` where it has crossed that checkpoint, and in other phases as `Stale`.
     #[tactic(auto, unfolding(model::specs::Outcome::let_through))]
-    fn let_through(&self, thread: u32, address: Addr) -> Result<(), Refusal>
+    pub fn let_through(&self, thread: u32, address: Addr) -> Result<(), Refusal>
         ensures { result ≡ let_through self.now thread address }
     {
         let page = address.number() / u64::from(self.store.page_words());

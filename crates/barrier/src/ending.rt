@@ -1,0 +1,102 @@
+//! Places are healed, and loads end.
+
+ghost use Rattle.std.specs.Prelude.{◌≡◌};
+ghost use Rattle.model.specs.Refusing.{Does};
+ghost use Rattle.model.specs.Outcome.{are_bits_of, healed, heal_place, heal_outcome, may_finish, end_load, finish_outcome};
+
+use crate::traps::trap_due;
+use heap::Heap;
+use model::{Answer, Barrier, Refusal};
+use refword::Word;
+
+/// Whether bits are there, and are those of a word.
+fn are_bits_of(bits: Option<u64>, word: Word) -> bool
+    ensures { result ≡ are_bits_of bits word }
+{
+    match bits {
+        None => false,
+        Some(bits) => bits == word.bits(),
+    }
+}
+
+fn healed(barrier: Barrier) -> Barrier
+    ensures { result ≡ healed barrier }
+{
+    Barrier {
+        target: barrier.target,
+        place: barrier.place,
+        raw: barrier.raw,
+        now: barrier.now,
+        healed: true,
+    }
+}
+
+/// Writes the word of a barrier back, where its place still has what was loaded.
+#[tactic(auto, unfolding(model::specs::Outcome::heal_place))]
+fn heal_place(heap: &mut Heap, thread: u32, barrier: Barrier) -> Answer
+    ensures { heal_place heap.old thread barrier ≡ (heap.new, result) }
+{
+    if are_bits_of(heap.bits_at(barrier.place), barrier.raw) {
+        heap.set_place(barrier.place, barrier.now);
+        heap.set_barrier(thread, healed(barrier));
+        Answer::Healed
+    } else {
+        heap.set_barrier(thread, healed(barrier));
+        Answer::Changed
+    }
+}
+
+/// The place of a thread's load gets the word in its barrier (the paper's read barrier), where it
+/// still has what was loaded (ours): `Healed`, else `Changed`. Threads count from 0. Does the row
+/// alone: `cycle` makes the tests before it.
+///
+/// Refused where no barrier is open (`NotBusy`), and where a trap is due (`Busy`).
+#[tactic(auto, unfolding(model::specs::Outcome::heal_outcome))]
+pub fn heal(heap: &mut Heap, thread: u32) -> Result<Answer, Refusal>
+    ensures { Does heap.old result heap.new (heal_outcome heap.old thread) }
+{
+    let Some(barrier) = heap.barrier(thread) else {
+        return Err(Refusal::NotBusy);
+    };
+    if trap_due(heap, thread, barrier.now) {
+        return Err(Refusal::Busy);
+    }
+    Ok(heal_place(heap, thread, barrier))
+}
+
+/// Whether a load may end: its word is the one that was loaded, or its place is healed.
+fn may_finish(barrier: &Barrier) -> bool
+    ensures { result ≡ may_finish barrier.entry.now }
+{
+    barrier.healed || barrier.now.bits() == barrier.raw.bits()
+}
+
+/// Ends a load for whose word no trap is due.
+#[tactic(auto, unfolding(model::specs::Outcome::end_load))]
+fn end_load(heap: &mut Heap, thread: u32, barrier: Barrier) -> Result<Answer, Refusal>
+    ensures { Does heap.old result heap.new (end_load heap.old thread barrier) }
+{
+    if !may_finish(&barrier) {
+        return Err(Refusal::Busy);
+    }
+    heap.set_loaded(thread, barrier.target, barrier.now);
+    Ok(Answer::Done)
+}
+
+/// A thread's load ends: its register gets the word in the barrier, which closes (the paper's read
+/// barrier). Threads count from 0. Does the row alone: `cycle` makes the tests before it.
+///
+/// Refused where no barrier is open (`NotBusy`); `Busy` where a trap is due, or the word was
+/// corrected and its place isn't healed.
+#[tactic(auto, unfolding(model::specs::Outcome::finish_outcome))]
+pub fn finish(heap: &mut Heap, thread: u32) -> Result<Answer, Refusal>
+    ensures { Does heap.old result heap.new (finish_outcome heap.old thread) }
+{
+    let Some(barrier) = heap.barrier(thread) else {
+        return Err(Refusal::NotBusy);
+    };
+    if trap_due(heap, thread, barrier.now) {
+        return Err(Refusal::Busy);
+    }
+    end_load(heap, thread, barrier)
+}

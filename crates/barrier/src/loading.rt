@@ -1,0 +1,69 @@
+//! Loads begin.
+
+ghost use Rattle.std.specs.Prelude.{◌≡◌};
+ghost use Rattle.model.specs.Refusing.{Does};
+ghost use Rattle.model.specs.Outcome.{new_barrier, load_outcome, load_global_outcome};
+
+use heap::{stored, Heap};
+use model::{Answer, Barrier, Place, Refusal};
+use refword::Word;
+
+/// The barrier of a load that has just read a word.
+fn new_barrier(target: u32, place: Place, word: Word) -> Barrier
+    ensures { result ≡ new_barrier target place word }
+{
+    Barrier {
+        target,
+        place,
+        raw: word,
+        now: word,
+        healed: false,
+    }
+}
+
+/// A thread begins to load a reference of an object for a register (the paper's read barrier).
+/// Threads, registers and references count from 0. Does the row alone: `cycle` makes the tests
+/// before it.
+///
+/// Refused as `Heap::usable` is for the object; `BadIndex` where it has no such reference.
+#[tactic(auto, unfolding(model::specs::Outcome::load_outcome))]
+pub fn load(
+    heap: &mut Heap,
+    thread: u32,
+    target: u32,
+    object: u32,
+    field: u32,
+) -> Result<Answer, Refusal>
+    ensures { Does heap.old result heap.new (load_outcome heap.old thread target object field) }
+{
+    let address = heap.usable(thread, object)?;
+    let Some(place) = heap.field_at(address, field) else {
+        return Err(Refusal::BadIndex);
+    };
+    let Some(bits) = heap.store().word(place) else {
+        return Err(Refusal::BadIndex);
+    };
+    let place = Place::Field {
+        object: address,
+        index: field,
+    };
+    heap.set_barrier(thread, new_barrier(target, place, stored(bits)));
+    Ok(Answer::Loaded)
+}
+
+/// A thread begins to load a global for a register (the paper's read barrier). Threads, registers
+/// and globals count from 0. Does the row alone, which refuses nothing: `cycle` makes the tests
+/// before it.
+#[tactic(auto, unfolding(model::specs::Outcome::load_global_outcome))]
+pub fn load_global(
+    heap: &mut Heap,
+    thread: u32,
+    target: u32,
+    global: u32,
+) -> Result<Answer, Refusal>
+    ensures { Does heap.old result heap.new (load_global_outcome heap.old thread target global) }
+{
+    let word = heap.global(global);
+    heap.set_barrier(thread, new_barrier(target, Place::Global(global), word));
+    Ok(Answer::Loaded)
+}

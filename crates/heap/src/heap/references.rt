@@ -1,0 +1,124 @@
+//! References of objects, and globals.
+
+ghost use Rattle.std.specs.Prelude.{◌≡◌};
+ghost use Rattle.model.specs.Heaps.{stored, global_of, with_global, with_place};
+ghost use Rattle.model.specs.Refusing.{Does};
+ghost use Rattle.model.specs.Outcome.{field_at, bits_at, store_outcome, store_global_outcome};
+
+use crate::heap::Heap;
+use model::{Answer, Place, Refusal};
+use refword::{Addr, Word};
+
+/// The reference that 64 bits in memory are; bits that are no word's count as null (ours).
+pub fn stored(bits: u64) -> Word
+    ensures { result ≡ stored bits }
+{
+    match Word::read(bits) {
+        None => Word::null(),
+        Some(word) => word,
+    }
+}
+
+impl Heap {
+    /// Where a reference of the object at an address stands, by the reference's number from 0;
+    /// none where the object has no such reference.
+    #[tactic(auto, unfolding(model::specs::Outcome::field_at))]
+    pub fn field_at(&self, address: Addr, index: u32) -> Option<u64>
+        ensures { result ≡ field_at self.now address index }
+    {
+        let layout = self.layout_at(address)?;
+        if index >= u32::from(layout.refs) {
+            return None;
+        }
+        Some(address.number() + 1 + u64::from(index))
+    }
+
+    /// The word in a global, by its number from 0; null where there is no such global.
+    #[tactic(auto, unfolding(model::specs::Heaps::global_of))]
+    pub fn global(&self, number: u32) -> Word
+        ensures { result ≡ global_of self.now number }
+    {
+        match self.globals.get(number as usize) {
+            None => Word::null(),
+            Some(global) => global.word,
+        }
+    }
+
+    /// Writes a global, by its number from 0, if it is there.
+    #[tactic(auto, unfolding(model::specs::Heaps::with_global))]
+    pub fn set_global(&mut self, number: u32, word: Word)
+        ensures { self.new ≡ with_global self.old number word }
+    {
+        if (number as usize) < self.globals.len() {
+            let global = &mut self.globals[number as usize];
+            global.word = word;
+        }
+    }
+
+    /// The bits at the place of a load; none where its page has no memory.
+    pub fn bits_at(&self, place: Place) -> Option<u64>
+        ensures { result ≡ bits_at self.now place }
+    {
+        match place {
+            Place::Field { object, index } => {
+                self.store.word(object.number() + 1 + u64::from(index))
+            }
+            Place::Global(number) => Some(self.global(number).bits()),
+        }
+    }
+
+    /// Writes the place of a load, if it has memory.
+    pub fn set_place(&mut self, place: Place, word: Word)
+        ensures { self.new ≡ with_place self.old place word }
+    {
+        match place {
+            Place::Field { object, index } => {
+                let address = object.number() + 1 + u64::from(index);
+                self.set_word(address, word.bits());
+            }
+            Place::Global(number) => self.set_global(number, word),
+        }
+    }
+
+    /// Stores a register's word in a reference of an object, by the reference's number from 0.
+    /// Does the row alone: `cycle` makes the tests before it.
+    ///
+    /// Refused as `usable` is for the object; `BadIndex` where it has no such reference; as
+    /// `usable_or_null` is for the source.
+    #[tactic(auto, unfolding(model::specs::Outcome::store_outcome))]
+    pub fn store_reference(
+        &mut self,
+        thread: u32,
+        object: u32,
+        field: u32,
+        source: u32,
+    ) -> Result<Answer, Refusal>
+        ensures { Does self.old result self.new (store_outcome self.old thread object field source) }
+    {
+        let address = self.usable(thread, object)?;
+        let Some(place) = self.field_at(address, field) else {
+            return Err(Refusal::BadIndex);
+        };
+        self.usable_or_null(thread, source)?;
+        let word = self.register(thread, source);
+        self.set_word(place, word.bits());
+        Ok(Answer::Done)
+    }
+
+    /// Stores a register's word in a global, by the global's number from 0. Refused as
+    /// `usable_or_null` is. Does the row alone: `cycle` makes the tests before it.
+    #[tactic(auto, unfolding(model::specs::Outcome::store_global_outcome))]
+    pub fn store_global(
+        &mut self,
+        thread: u32,
+        global: u32,
+        source: u32,
+    ) -> Result<Answer, Refusal>
+        ensures { Does self.old result self.new (store_global_outcome self.old thread global source) }
+    {
+        self.usable_or_null(thread, source)?;
+        let word = self.register(thread, source);
+        self.set_global(global, word);
+        Ok(Answer::Done)
+    }
+}
