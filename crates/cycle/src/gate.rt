@@ -1,7 +1,7 @@
 //! The tests that come before those of a step's own row.
 
 ghost use Rattle.std.specs.Prelude.{◌≡◌, length, nat_le, slice_get};
-ghost use Rattle.model.specs.Outcome.{no_register, has_bad_index, is_for_threads, is_parked_in, is_loading_in, thread_gate};
+ghost use Rattle.model.specs.Outcome.{no_register, no_global, has_bad_index, is_for_threads, is_for_parked, is_for_loading, is_loading_in, thread_gate};
 
 use heap::Heap;
 use model::{Refusal, Step};
@@ -19,6 +19,13 @@ fn no_layout(heap: &Heap, layout: u32) -> bool
     layout as usize >= heap.config().layouts.len()
 }
 
+#[tactic(auto, unfolding(model::specs::Outcome::no_global))]
+fn no_global(heap: &Heap, global: u32) -> bool
+    ensures { result ≡ no_global heap.now global }
+{
+    global as usize >= heap.globals().len()
+}
+
 /// Whether a number in a step names nothing.
 fn has_bad_index(heap: &Heap, step: &Step) -> bool
     ensures { result ≡ has_bad_index heap.now step.now }
@@ -26,6 +33,18 @@ fn has_bad_index(heap: &Heap, step: &Step) -> bool
     match step {
         Step::Take(n) => *n == 0 || *n > heap.store().page_words(),
         Step::New { target, layout } => no_register(heap, *target) || no_layout(heap, *layout),
+        Step::Load { target, object, .. } => {
+            no_register(heap, *target) || no_register(heap, *object)
+        }
+        Step::LoadGlobal { target, global } => {
+            no_register(heap, *target) || no_global(heap, *global)
+        }
+        Step::Store { object, source, .. } => {
+            no_register(heap, *object) || no_register(heap, *source)
+        }
+        Step::StoreGlobal { global, source } => {
+            no_global(heap, *global) || no_register(heap, *source)
+        }
         Step::Datum { object, .. } => no_register(heap, *object),
         Step::SetDatum { object, .. } => no_register(heap, *object),
         Step::Same { left, right } => no_register(heap, *left) || no_register(heap, *right),
@@ -34,6 +53,7 @@ fn has_bad_index(heap: &Heap, step: &Step) -> bool
             no_register(heap, *target) || no_register(heap, *source)
         }
         Step::ClearReg(register) => no_register(heap, *register),
+        Step::Scrub(register) => no_register(heap, *register),
         _ => false,
     }
 }
@@ -47,35 +67,49 @@ fn is_for_threads(step: &Step) -> bool
         Step::Take(_)
             | Step::GiveBack
             | Step::New { .. }
+            | Step::Load { .. }
+            | Step::LoadGlobal { .. }
+            | Step::Trap
+            | Step::Heal
+            | Step::Finish
+            | Step::Store { .. }
+            | Step::StoreGlobal { .. }
             | Step::Datum { .. }
             | Step::SetDatum { .. }
             | Step::Same { .. }
             | Step::IsNull(_)
             | Step::CopyReg { .. }
             | Step::ClearReg(_)
+            | Step::Cross
+            | Step::Scrub(_)
+            | Step::Park
+            | Step::Unpark
     )
 }
 
-fn is_parked(heap: &Heap, thread: u32) -> bool
-    ensures { result ≡ is_parked_in (slice_get heap.now.threads thread) }
+/// Whether a parked thread may do such a step.
+fn is_for_parked(step: &Step) -> bool
+    ensures { result ≡ is_for_parked step.now }
 {
-    match heap.threads().get(thread as usize) {
-        None => false,
-        Some(record) => record.parked(),
-    }
+    matches!(step, Step::Unpark)
+}
+
+/// Whether a thread with an open barrier may do such a step.
+fn is_for_loading(step: &Step) -> bool
+    ensures { result ≡ is_for_loading step.now }
+{
+    matches!(step, Step::Trap | Step::Heal | Step::Finish)
 }
 
 fn is_loading(heap: &Heap, thread: u32) -> bool
     ensures { result ≡ is_loading_in (slice_get heap.now.threads thread) }
 {
-    match heap.threads().get(thread as usize) {
-        None => false,
-        Some(record) => record.barrier().is_some(),
-    }
+    heap.barrier(thread).is_some()
 }
 
 /// The tests of every step of a thread, in their order: no such thread, or no step of a thread;
-/// a number that names nothing; a parked thread; an open barrier.
+/// a number that names nothing; a parked thread, unless it is to run again; an open barrier, unless
+/// the step is one of its own.
 #[tactic(auto, unfolding(model::specs::Outcome::thread_gate))]
 pub fn thread_gate(heap: &Heap, thread: u32, step: &Step) -> Result<(), Refusal>
     ensures { result ≡ thread_gate heap.now thread step.now }
@@ -86,10 +120,10 @@ pub fn thread_gate(heap: &Heap, thread: u32, step: &Step) -> Result<(), Refusal>
     if has_bad_index(heap, step) {
         return Err(Refusal::BadIndex);
     }
-    if is_parked(heap, thread) {
+    if heap.is_parked(thread) && !is_for_parked(step) {
         return Err(Refusal::Parked);
     }
-    if is_loading(heap, thread) {
+    if is_loading(heap, thread) && !is_for_loading(step) {
         return Err(Refusal::Busy);
     }
     Ok(())

@@ -54,6 +54,23 @@ fn thread_row(heap: &mut Heap, thread: u32, step: &Step) -> Result<Answer, Refus
         Step::Take(words) => heap.take(thread, *words),
         Step::GiveBack => heap.give_back(thread),
         Step::New { target, layout } => heap.new_object(thread, *target, *layout),
+        Step::Load {
+            target,
+            object,
+            field,
+        } => barrier::load(heap, thread, *target, *object, *field),
+        Step::LoadGlobal { target, global } => {
+            barrier::load_global(heap, thread, *target, *global)
+        }
+        Step::Trap => barrier::trap(heap, thread),
+        Step::Heal => barrier::heal(heap, thread),
+        Step::Finish => barrier::finish(heap, thread),
+        Step::Store {
+            object,
+            field,
+            source,
+        } => heap.store_reference(thread, *object, *field, *source),
+        Step::StoreGlobal { global, source } => heap.store_global(thread, *global, *source),
         Step::Datum { object, index } => heap.datum(thread, *object, *index),
         Step::SetDatum {
             object,
@@ -64,6 +81,10 @@ fn thread_row(heap: &mut Heap, thread: u32, step: &Step) -> Result<Answer, Refus
         Step::IsNull(register) => heap.is_null(thread, *register),
         Step::CopyReg { target, source } => heap.copy_register(thread, *target, *source),
         Step::ClearReg(register) => heap.clear_register(thread, *register),
+        Step::Cross => checkpoint::cross(heap),
+        Step::Scrub(register) => checkpoint::scrub(heap, thread, *register),
+        Step::Park => checkpoint::park(heap, thread),
+        Step::Unpark => checkpoint::unpark(heap, thread),
         _ => Err(Refusal::NoActor),
     }
 }
