@@ -92,11 +92,11 @@ fn end_load(heap: &mut Heap, thread: u32, barrier: Barrier) -> Result<Answer, Re
 pub fn finish(heap: &mut Heap, thread: u32) -> Result<Answer, Refusal>
     ensures { Does heap.old result heap.new (finish_outcome heap.old thread) }
 {
-    let Some(barrier) = heap.barrier(thread) else {
+    let Some(open) = heap.barrier(thread) else {
         return Err(Refusal::NotBusy);
     };
-    if trap_due(heap, thread, barrier.now) {
+    if trap_due(heap, thread, open.now) {
         return Err(Refusal::Busy);
     }
-    end_load(heap, thread, barrier)
+    end_load(heap, thread, open)
 }

@@ -30,7 +30,7 @@ impl Model for Thread {
 impl Thread {
     /// A thread of so many registers, in a heap 1 to 16, which are null. It has crossed, and it
     /// runs. Fails only by memory.
-    pub fn new(alloc: Global, registers: u32) -> Result<Thread, AllocError>
+    pub(crate) fn new(alloc: Global, registers: u32) -> Result<Thread, AllocError>
         ensures { IfOk result (λ t. t ≡ blank_thread registers) }
     {
         Ok(Thread {
@@ -89,7 +89,7 @@ impl Thread {
     }
 
     /// Writes a register, by its number from 0, if it is there.
-    pub fn set_register(&mut self, number: u32, word: Word)
+    pub(crate) fn set_register(&mut self, number: u32, word: Word)
         ensures { self.new ≡ set_register_of number word self.old }
     {
         if (number as usize) < self.registers.len() {
@@ -98,14 +98,14 @@ impl Thread {
     }
 
     /// Sets its buffer.
-    pub fn set_buffer(&mut self, buffer: Option<Buffer>)
+    pub(crate) fn set_buffer(&mut self, buffer: Option<Buffer>)
         ensures { self.new ≡ set_buffer_of buffer self.old }
     {
         self.buffer = buffer;
     }
 
     /// Opens or changes its barrier, or closes it (the paper's read barrier).
-    pub fn set_barrier(&mut self, barrier: Option<Barrier>)
+    pub(crate) fn set_barrier(&mut self, barrier: Option<Barrier>)
         ensures { self.new ≡ set_barrier_of barrier self.old }
     {
         self.barrier = barrier;
@@ -113,7 +113,7 @@ impl Thread {
 
     /// Ends its load: a register, by its number from 0, gets the word, if it is there, and the
     /// barrier closes (the paper's read barrier).
-    pub fn set_loaded(&mut self, number: u32, word: Word)
+    pub(crate) fn set_loaded(&mut self, number: u32, word: Word)
         ensures { self.new ≡ set_loaded_of number word self.old }
     {
         self.set_register(number, word);
@@ -121,7 +121,7 @@ impl Thread {
     }
 
     /// Parks it, or lets it run.
-    pub fn set_parked(&mut self, parked: bool)
+    pub(crate) fn set_parked(&mut self, parked: bool)
         ensures { self.new ≡ set_parked_of parked self.old }
     {
         self.parked = parked;

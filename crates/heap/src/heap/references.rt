@@ -112,12 +112,12 @@ impl Heap {
         &mut self,
         thread: u32,
         global: u32,
-        source: u32,
+        register: u32,
     ) -> Result<Answer, Refusal>
-        ensures { Does self.old result self.new (store_global_outcome self.old thread global source) }
+        ensures { Does self.old result self.new (store_global_outcome self.old thread global register) }
     {
-        self.usable_or_null(thread, source)?;
-        let word = self.register(thread, source);
+        self.usable_or_null(thread, register)?;
+        let word = self.register(thread, register);
         self.set_global(global, word);
         Ok(Answer::Done)
     }
