@@ -1,5 +1,5 @@
 #!/bin/sh
-# The whole test command: 'rt ci', then the program on the examples, and with
+# The whole test command: 'rt ci', then the program on all scripts, and with
 # each of its requests for memory refused. 'make test' runs it at
 # the top of the repository. The last line is 'N passed, M failed', and the
 # exit status is 0 where M is 0.
@@ -38,7 +38,7 @@ count() {
 count 'rt ci' "$RT" ci
 
 if "$MAKE" pauseless; then
-    count 'the examples' sh tests/examples.sh
+    count 'the scripts' sh tests/scripts.sh
     count 'refused memory' sh tests/memory.sh
 else
     echo 'failed: the program could not be built'

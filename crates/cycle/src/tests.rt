@@ -133,145 +133,12 @@ fn a_run_replies_in_order(rt: HostRuntime) -> Result<(), Fail> {
 }
 
 #[test]
-fn objects_and_registers(rt: HostRuntime) -> Result<(), Fail> {
-    let alloc = rt.alloc();
-    let mut book = Book::new(alloc, small(alloc, 1, 1)?)?;
-    let rows = vec![in alloc;
-        act(0, Step::Same { left: 0, right: 1 }, Ok(Answer::Truth(true))),
-        act(0, Step::IsNull(0), Ok(Answer::Truth(true))),
-        act(
-            0,
-            Step::Datum {
-                object: 0,
-                index: 0
-            },
-            Err(Refusal::Null)
-        ),
-        act(0, Step::GiveBack, Err(Refusal::NoRoom)),
-        act(
-            0,
-            Step::New {
-                target: 0,
-                layout: 0
-            },
-            Err(Refusal::NoRoom)
-        ),
-        act(0, Step::Take(16), Ok(Answer::Lent { page: 1, offset: 0 })),
-        act(0, Step::Take(16), Err(Refusal::HasBuffer)),
-        act(
-            0,
-            Step::New {
-                target: 0,
-                layout: 0
-            },
-            Ok(Answer::Birth(0))
-        ),
-        act(
-            0,
-            Step::New {
-                target: 1,
-                layout: 0
-            },
-            Ok(Answer::Birth(1))
-        ),
-        act(
-            0,
-            Step::Same { left: 0, right: 1 },
-            Ok(Answer::Truth(false))
-        ),
-        act(
-            0,
-            Step::SetDatum {
-                object: 1,
-                index: 0,
-                value: 7
-            },
-            Ok(Answer::Done)
-        ),
-        act(
-            0,
-            Step::Datum {
-                object: 0,
-                index: 0
-            },
-            Ok(Answer::Datum(0))
-        ),
-        act(
-            0,
-            Step::Datum {
-                object: 1,
-                index: 1
-            },
-            Err(Refusal::BadIndex)
-        ),
-        act(
-            0,
-            Step::CopyReg {
-                target: 0,
-                source: 1
-            },
-            Ok(Answer::Done)
-        ),
-        act(0, Step::Same { left: 0, right: 1 }, Ok(Answer::Truth(true))),
-        act(
-            0,
-            Step::Datum {
-                object: 0,
-                index: 0
-            },
-            Ok(Answer::Datum(7))
-        ),
-        act(0, Step::ClearReg(1), Ok(Answer::Done)),
-        act(0, Step::IsNull(1), Ok(Answer::Truth(true))),
-        act(
-            0,
-            Step::Same { left: 0, right: 1 },
-            Ok(Answer::Truth(false))
-        ),
-        act(
-            0,
-            Step::New {
-                target: 1,
-                layout: 0
-            },
-            Ok(Answer::Birth(2))
-        ),
-        act(
-            0,
-            Step::New {
-                target: 1,
-                layout: 0
-            },
-            Ok(Answer::Birth(3))
-        ),
-        act(
-            0,
-            Step::New {
-                target: 1,
-                layout: 0
-            },
-            Ok(Answer::Birth(4))
-        ),
-        act(
-            0,
-            Step::New {
-                target: 1,
-                layout: 0
-            },
-            Err(Refusal::NoRoom)
-        ),
-    ]?;
-    play(&rt, &mut book, rows);
-    Ok(())
-}
-
-#[test]
 fn numbers_that_name_nothing(rt: HostRuntime) -> Result<(), Fail> {
     let alloc = rt.alloc();
     let mut book = Book::new(alloc, small(alloc, 0, 2)?)?;
     let rows = vec![in alloc;
         act(1, Step::Take(0), Err(Refusal::NoActor)),
-        act(0, Step::Park, Err(Refusal::NoActor)),
+        act(0, Step::StartMark, Err(Refusal::NoActor)),
         act(0, Step::Take(0), Err(Refusal::BadIndex)),
         act(0, Step::Take(17), Err(Refusal::BadIndex)),
         act(
@@ -355,6 +222,40 @@ fn numbers_that_name_nothing(rt: HostRuntime) -> Result<(), Fail> {
 }
 
 #[test]
+fn references_that_name_nothing(rt: HostRuntime) -> Result<(), Fail> {
+    let alloc = rt.alloc();
+    let mut book = Book::new(alloc, small(alloc, 1, 1)?)?;
+    let steps = vec![in alloc;
+        Step::Load {
+            target: 2,
+            object: 0,
+            field: 0
+        },
+        Step::LoadGlobal {
+            target: 0,
+            global: 0
+        },
+        Step::Store {
+            object: 0,
+            field: 0,
+            source: 2
+        },
+        Step::StoreGlobal {
+            global: 0,
+            source: 0
+        },
+        Step::Scrub(2),
+    ]?;
+    for step in steps {
+        assert_eq!(rt;
+            book.act(Actor::Thread(0), step),
+            Err(Refusal::BadIndex)
+        );
+    }
+    Ok(())
+}
+
+#[test]
 fn limits_are_kept(rt: HostRuntime) -> Result<(), Fail> {
     let alloc = rt.alloc();
     let mut config = small(alloc, 0, 2)?;
@@ -386,72 +287,6 @@ fn limits_are_kept(rt: HostRuntime) -> Result<(), Fail> {
     play(&rt, &mut book, rows);
     assert_eq!(rt; book.history().len(), 3);
     assert!(rt; book.heap().threads().len() == 1);
-    Ok(())
-}
-
-#[test]
-fn threads_share_pages(rt: HostRuntime) -> Result<(), Fail> {
-    let alloc = rt.alloc();
-    let mut config = small(alloc, 1, 1)?;
-    config.frames = 2;
-    config.pages = 2;
-    config.threads = 2;
-    let mut book = Book::new(alloc, config)?;
-    let rows = vec![in alloc;
-        act(0, Step::Take(9), Ok(Answer::Lent { page: 1, offset: 0 })),
-        act(1, Step::Take(7), Ok(Answer::Lent { page: 1, offset: 9 })),
-        act(
-            0,
-            Step::New {
-                target: 0,
-                layout: 0
-            },
-            Ok(Answer::Birth(0))
-        ),
-        act(
-            1,
-            Step::New {
-                target: 0,
-                layout: 0
-            },
-            Ok(Answer::Birth(1))
-        ),
-        act(
-            1,
-            Step::SetDatum {
-                object: 0,
-                index: 0,
-                value: 5
-            },
-            Ok(Answer::Done)
-        ),
-        act(
-            0,
-            Step::Datum {
-                object: 0,
-                index: 0
-            },
-            Ok(Answer::Datum(0))
-        ),
-        act(
-            1,
-            Step::Datum {
-                object: 0,
-                index: 0
-            },
-            Ok(Answer::Datum(5))
-        ),
-        act(1, Step::GiveBack, Ok(Answer::Done)),
-        act(1, Step::Take(1), Ok(Answer::Lent { page: 2, offset: 0 })),
-        act(0, Step::GiveBack, Ok(Answer::Done)),
-        act(
-            0,
-            Step::Take(16),
-            Err(Refusal::NoFrames { need: 1, free: 0 })
-        ),
-        act(0, Step::Take(15), Ok(Answer::Lent { page: 2, offset: 1 })),
-    ]?;
-    play(&rt, &mut book, rows);
     Ok(())
 }
 

@@ -1,5 +1,6 @@
 #!/bin/sh
-# Runs the program on each script of examples/ and compares what it does:
+# Runs the program on each script of examples/ and of tests/scripts/, and
+# compares what it does:
 # standard output with NAME.expected, standard error with NAME.error and the
 # exit status with NAME.status. Where NAME.error or NAME.status isn't there,
 # standard error is to be empty and the status 0. The program is ./pauseless,
@@ -22,7 +23,7 @@ differs() {
     return 0
 }
 
-for script in examples/*.script; do
+for script in examples/*.script tests/scripts/*.script; do
     base=${script%.script}
     if [ -f "$base.error" ]; then cp "$base.error" "$kept/error"; else : > "$kept/error"; fi
     if [ -f "$base.status" ]; then cp "$base.status" "$kept/status"; else echo 0 > "$kept/status"; fi
