@@ -1,3 +1,4 @@
 pub mod Found
 pub mod Keeping
 pub mod Lying
+pub mod Trees

@@ -3,6 +3,7 @@
 
 mod copies;
 mod frame;
+mod index;
 mod search;
 mod store;
 
