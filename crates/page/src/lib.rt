@@ -4,7 +4,6 @@
 mod copies;
 mod frame;
 mod index;
-mod search;
 mod store;
 
 pub use copies::many;
