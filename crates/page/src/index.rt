@@ -137,3 +137,6 @@ impl Tournament {
         Some(descend(&self.nodes, self.depth, n) - self.width)
     }
 }
+
+#[cfg(test)]
+mod tests;
