@@ -1,4 +1,4 @@
--- Trees in a list: what a changed node leaves, and the way from the root to a leaf.
+-- Trees in a list: the way from the root to a leaf, and what a list's leaves are.
 use Rattle.std.proofs.Common.{◌≡◌, ◌≢◌, ◌⊎◌, inl, inr, ℕ, zero, suc, ◌+◌, ◌-◌, ◌*◌, ◌/◌, ◌^◌, ◌<◌, ◌≤◌, max, List, length, length-append, take, drop, set, replicate, ◌++◌, [], ◌∷◌, get_or, position, nat_le, Some, None, false, true, refl, sym, ◌∙◌, ap, subst, arith}
 use Rattle.std.specs.List.{position_or_len}
 use Rattle.std.proofs.Math.Nat.{le-max_left, le-max_right, one-le-pow, pow-succ', pow-le-pow_right}
@@ -7,20 +7,7 @@ use Rattle.std.proofs.lemmas.List.{get_or-set_other, get_or-drop, get_or-take, l
 use Rattle.std.proofs.lemmas.List.Sums.{position_or_len_is}
 use Rattle.std.proofs.lemmas.Bool.Decides.{nat_tests}
 use Rattle.model.proofs.Lists.{same_or_not}
-use Rattle.page.specs.Tournaments.{IsWinner, IsTree, IsTreeBut, IsFirstFrom}
-
--- a changed leaf
-
-winner_other : (xs : List ℕ) (i j v : ℕ) → j ≢ i → 2 * j ≢ i → 2 * j + 1 ≢ i → IsWinner xs j → IsWinner (set xs i v) j
-winner_other xs i j v a b c h =
-    let here = get_or-set_other xs i j v 0 a in
-    let left = get_or-set_other xs i (2 * j) v 0 b in
-    let right = get_or-set_other xs i (2 * j + 1) v 0 c in
-    here ∙ h ∙ ap (λ z. max z (get_or xs (2 * j + 1) 0)) (sym left) ∙ ap (max (get_or (set xs i v) (2 * j) 0)) (sym right)
-
-pub leaf_changed : (xs : List ℕ) (width leaf v : ℕ) → width ≤ leaf → IsTree xs width → IsTreeBut (set xs leaf v) width (leaf / 2)
-leaf_changed xs width leaf v le t = λ i a b other.
-    winner_other xs leaf i v (λ e. absurd (omega (arith, e))) (λ e. other (omega (arith, e))) (λ e. other (omega (arith, e))) (t i a b)
+use Rattle.page.specs.Tournaments.{IsWinner, IsTree, IsFirstFrom}
 
 -- the way down
 
@@ -78,7 +65,9 @@ twice k = let e : k + 1 ≡ suc k = omega arith in ap (λ z. 2 ^ z) e ∙ pow-su
 
 -- a node of a level that isn't the last stands above the leaves
 pub inner_node : (depth level node : ℕ) → level < depth → node < 2 * 2 ^ level → node < 2 ^ depth
-inner_node depth level node deep high = let more : 2 ^ (level + 1) ≤ 2 ^ depth = pow-le-pow_right (omega arith) (omega arith) in omega (arith, twice level)
+inner_node depth level node deep high =
+    let more : 2 ^ (level + 1) ≤ 2 ^ depth = pow-le-pow_right (omega arith) (omega arith) in
+    omega (arith, twice level)
 
 pub at_root : (xs : List ℕ) (depth n : ℕ) → n ≤ get_or xs 1 0 → IsReached xs depth n 0 1
 at_root xs depth n h = record {
@@ -99,7 +88,8 @@ above depth level j h =
 greater : (a b c n : ℕ) → c ≡ max a b → n ≤ c → a < n → n ≤ b
 greater a b c n e h less = omega arith
 
-pub to_left : (xs : List ℕ) (depth n level node next : ℕ) → level < depth → IsReached xs depth n level node → next ≡ 2 * node → n ≤ get_or xs next 0 → IsReached xs depth n (level + 1) next
+pub to_left : (xs : List ℕ) (depth n level node next : ℕ) → level < depth → IsReached xs depth n level node
+    → next ≡ 2 * node → n ≤ get_or xs next 0 → IsReached xs depth n (level + 1) next
 to_left xs depth n level node next deep h e there = record {
   low = omega (arith, twice level, h.low);
   high = omega (arith, twice level, h.high);
@@ -107,7 +97,8 @@ to_left xs depth n level node next deep h e there = record {
   left = λ j a b c. h.left j a b (omega (arith, above depth level j deep, c));
 }
 
-pub to_right : (xs : List ℕ) (depth n level node next : ℕ) → IsTree xs (2 ^ depth) → level < depth → IsReached xs depth n level node → next ≡ 2 * node → get_or xs next 0 < n → IsReached xs depth n (level + 1) (next + 1)
+pub to_right : (xs : List ℕ) (depth n level node next : ℕ) → IsTree xs (2 ^ depth) → level < depth → IsReached xs depth n level node
+    → next ≡ 2 * node → get_or xs next 0 < n → IsReached xs depth n (level + 1) (next + 1)
 to_right xs depth n level node next t deep h e less = record {
   low = omega (arith, twice level, h.low);
   high = omega (arith, twice level, h.high);
@@ -149,14 +140,17 @@ fails n v h = grind (arith, nat_tests)
 passes : (n v : ℕ) → n ≤ v → nat_le n v ≡ true
 passes n v h = grind (arith, nat_tests)
 
-position_at : (n : ℕ) (vs : List ℕ) (i : ℕ) → i < length vs → n ≤ get_or vs i 0 → ((k : ℕ) → k < i → get_or vs k 0 < n) → Some i ≡ position (λ v. nat_le n v) vs
+position_at : (n : ℕ) (vs : List ℕ) (i : ℕ) → i < length vs → n ≤ get_or vs i 0 → ((k : ℕ) → k < i → get_or vs k 0 < n)
+    → Some i ≡ position (λ v. nat_le n v) vs
 position_at n vs i within there before =
-    let at : position_or_len (λ v. nat_le n v) vs ≡ i = position_or_len_is (λ v. nat_le n v) vs i 0 (omega arith) (λ k h. fails n (get_or vs k 0) (before k h)) (λ h. passes n (get_or vs i 0) there) in
+    let at : position_or_len (λ v. nat_le n v) vs ≡ i =
+    position_or_len_is (λ v. nat_le n v) vs i 0 (omega arith) (λ k h. fails n (get_or vs k 0) (before k h)) (λ h. passes n (get_or vs i 0) there) in
     grind (arith, nat_tests, at)
 
 position_nowhere : (n : ℕ) (vs : List ℕ) → ((k : ℕ) → k < length vs → get_or vs k 0 < n) → None ≡ position (λ v. nat_le n v) vs
 position_nowhere n vs before =
-    let at : position_or_len (λ v. nat_le n v) vs ≡ length vs = position_or_len_is (λ v. nat_le n v) vs (length vs) 0 (omega arith) (λ k h. fails n (get_or vs k 0) (before k h)) (λ h. absurd (omega arith)) in
+    let at : position_or_len (λ v. nat_le n v) vs ≡ length vs =
+    position_or_len_is (λ v. nat_le n v) vs (length vs) 0 (omega arith) (λ k h. fails n (get_or vs k 0) (before k h)) (λ h. absurd (omega arith)) in
     grind (arith, nat_tests, at)
 
 pub length_numbers : (xs : List ℕ) (width count : ℕ) → length xs ≡ 2 * width → count ≤ width → length (take count (drop width xs)) ≡ count
@@ -166,8 +160,8 @@ number_at : (xs : List ℕ) (width count k : ℕ) → k < count → get_or (take
 number_at xs width count k h = get_or-take count (drop width xs) k 0 h ∙ get_or-drop width xs k 0
 
 -- the root is too low, so all numbers are
-pub found_nowhere : (xs : List ℕ) (depth width count n : ℕ) → width ≡ 2 ^ depth → length xs ≡ 2 * width → count ≤ width → IsTree xs width → get_or xs 1 0 < n
-    → None ≡ position (λ v. nat_le n v) (take count (drop width xs))
+pub found_nowhere : (xs : List ℕ) (depth width count n : ℕ) → width ≡ 2 ^ depth → length xs ≡ 2 * width → count ≤ width
+    → IsTree xs width → get_or xs 1 0 < n → None ≡ position (λ v. nat_le n v) (take count (drop width xs))
 found_nowhere xs depth width count n e len le t less =
     position_nowhere n (take count (drop width xs)) (λ k h. each k (omega (arith, length_numbers xs width count len le)))
   where
@@ -180,14 +174,16 @@ found_nowhere xs depth width count n e len le t less =
         omega (arith, number_at xs width count k h, rises xs width depth (width + k) t (omega arith) (omega arith), same, less)
 
 -- the leaf that was found has the number
-pub found_first : (xs : List ℕ) (width count n leaf : ℕ) → 0 < n → length xs ≡ 2 * width → count ≤ width → ((i : ℕ) → width + count ≤ i → get_or xs i 0 ≡ 0) → IsFirstFrom xs width n leaf
+pub found_first : (xs : List ℕ) (width count n leaf : ℕ) → 0 < n → length xs ≡ 2 * width → count ≤ width
+    → ((i : ℕ) → width + count ≤ i → get_or xs i 0 ≡ 0) → IsFirstFrom xs width n leaf
     → Some (leaf - width) ≡ position (λ v. nat_le n v) (take count (drop width xs))
 found_first xs width count n leaf low len le rest h =
-    position_at n (take count (drop width xs)) (leaf - width) (omega (arith, length_numbers xs width count len le, within (nat_cases leaf (width + count)))) (there (within (nat_cases leaf (width + count))))
-    (λ k b. before k b (within (nat_cases leaf (width + count))))
+    let inside : leaf - width < count = within (below_or_not leaf (width + count)) in
+    let size = length_numbers xs width count len le in
+    position_at n (take count (drop width xs)) (leaf - width) (omega (arith, size)) (there inside) (λ k b. before k b inside)
   where
-    nat_cases : (a b : ℕ) → (a < b) ⊎ (b ≤ a)
-    nat_cases a b = grind arith
+    below_or_not : (a b : ℕ) → (a < b) ⊎ (b ≤ a)
+    below_or_not a b = grind arith
 
     within : (leaf < width + count) ⊎ (width + count ≤ leaf) → leaf - width < count
     within (inl a) = omega (arith, h.low)
@@ -207,14 +203,19 @@ found_first xs width count n leaf low len le rest h =
 pub leaf_same : (xs ys : List ℕ) (width i : ℕ) → drop width ys ≡ drop width xs → width ≤ i → get_or ys i 0 ≡ get_or xs i 0
 leaf_same xs ys width i e le =
     let back : width + (i - width) ≡ i = omega arith in
-    let at : get_or ys (width + (i - width)) 0 ≡ get_or xs (width + (i - width)) 0 = sym (get_or-drop width ys (i - width) 0) ∙ ap (λ zs. get_or zs (i - width) 0) e ∙ get_or-drop width xs (i - width) 0 in
+    let at : get_or ys (width + (i - width)) 0 ≡ get_or xs (width + (i - width)) 0 =
+    sym (get_or-drop width ys (i - width) 0) ∙ ap (λ zs. get_or zs (i - width) 0) e ∙ get_or-drop width xs (i - width) 0 in
     subst (λ z. get_or ys z 0 ≡ get_or xs z 0) back at
 
-pub rest_same : (xs ys : List ℕ) (width count index v i : ℕ) → drop width ys ≡ drop width (set xs (width + index) v) → index < count → width + count ≤ i → get_or xs i 0 ≡ 0 → get_or ys i 0 ≡ 0
-rest_same xs ys width count index v i e within le zeros = leaf_same (set xs (width + index) v) ys width i e (omega arith) ∙ get_or-set_other xs (width + index) i v 0 (λ z. absurd (omega (arith, z))) ∙ zeros
+pub rest_same : (xs ys : List ℕ) (width count index v i : ℕ) → drop width ys ≡ drop width (set xs (width + index) v) → index < count
+    → width + count ≤ i → get_or xs i 0 ≡ 0 → get_or ys i 0 ≡ 0
+rest_same xs ys width count index v i e within le zeros =
+    leaf_same (set xs (width + index) v) ys width i e (omega arith) ∙ get_or-set_other xs (width + index) i v 0 (λ z. absurd (omega (arith, z))) ∙ zeros
 
-pub number_set : (xs ys : List ℕ) (width count index v : ℕ) → drop width ys ≡ drop width (set xs (width + index) v) → index < count → take count (drop width ys) ≡ set (take count (drop width xs)) index v
-number_set xs ys width count index v e within = ap (take count) (e ∙ drop-set-add width xs index v) ∙ take-set-lt count (drop width xs) index v within
+pub number_set : (xs ys : List ℕ) (width count index v : ℕ) → drop width ys ≡ drop width (set xs (width + index) v) → index < count
+    → take count (drop width ys) ≡ set (take count (drop width xs)) index v
+number_set xs ys width count index v e within =
+    ap (take count) (e ∙ drop-set-add width xs index v) ∙ take-set-lt count (drop width xs) index v within
 
 -- a new list
 
@@ -229,7 +230,13 @@ past_first (x ∷ xs) n zero h = absurd (omega arith)
 past_first (x ∷ xs) n (suc i) h = past_first xs n i (omega arith)
 
 -- zeros, copies of a number, and zeros again, as three fillings make them
-pub rest_zero : (width count v i : ℕ) (xs ys zs : List ℕ) → length xs ≡ width → ys ≡ take (width + count) xs ++ replicate (width + count - width) v
+pub rest_zero : (width count v i : ℕ) (xs ys zs : List ℕ) → length xs ≡ width
+    → ys ≡ take (width + count) xs ++ replicate (width + count - width) v
     → zs ≡ take (2 * width) ys ++ replicate (2 * width - (width + count)) 0 → width + count ≤ i → get_or zs i 0 ≡ 0
-rest_zero width count v i xs ys zs len more all le =
-    rw all (past_first (take (2 * width) ys) (2 * width - (width + count)) i (omega (arith, length-take (2 * width) ys, ap length more, length-append (take (width + count) xs) (replicate (width + count - width) v), length-take (width + count) xs, length-replicate (width + count - width) v)))
+rest_zero width count v i xs ys zs len more all le = rw all (past_first (take (2 * width) ys) (2 * width - (width + count)) i filled)
+  where
+    filled : length (take (2 * width) ys) ≤ i
+    filled =
+        let copies = replicate (width + count - width) v in
+        let size = ap length more ∙ length-append (take (width + count) xs) copies in
+        omega (arith, length-take (2 * width) ys, size, length-take (width + count) xs, length-replicate (width + count - width) v)

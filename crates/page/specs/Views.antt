@@ -1,4 +1,4 @@
--- A store as contracts see it.
+-- A store and its indexes as contracts see them.
 use Rattle.std.specs.Prelude.{◌≡◌, ◌+◌, ◌-◌, ◌*◌, ◌^◌, ◌≤◌, ℕ, Bool, if◌then◌else◌, List, take, drop, map, length, slice_index, count_by, is_none}
 use Rattle.model.specs.declared.records.Page.{Page}
 use Rattle.model.specs.Stores.{StoreState, is_open, is_unused}
@@ -15,7 +15,7 @@ numbers_of t = take t.count (drop t.width t.nodes.items)
 pub record IsTournament (t : index.Inside) : Type 0 where
   pub width : t.width ≡ 2 ^ t.depth
   pub range : t.width ≤ 16384
-  pub length : length t.nodes.items ≡ 2 * t.width
+  pub sized : length t.nodes.items ≡ 2 * t.width
   pub count : t.count ≤ t.width
   pub tree : IsTree t.nodes.items t.width
   pub rest : (i : ℕ) → t.width + t.count ≤ i → slice_index t.nodes.items i ≡ 0

@@ -16,7 +16,7 @@ invariant_of-result c =
     record {
       width = c.size_for-depth.ensures.width;
       range = c.size_for-depth.ensures.range;
-      length = rw same (omega (arith, len, c.in_ok-resize-3.ensures.len));
+      sized = rw same (omega (arith, len, c.in_ok-resize-3.ensures.len));
       count = c.size_for-depth.ensures.room;
       tree = rw same c.link.ensures.tree;
       rest = rw same (λ i le. leaf_same filled.items c.link.new.nodes width i leaves (omega arith)
