@@ -19,6 +19,12 @@ From these come nanoseconds a command:
   step     (whole - full) / commands, an estimate: a refusal's text has
            another length than the answer's, so it can even be below zero
   all      (whole - head) / commands
+
+Then one script of takes, objects, reads and gives runs on heaps of few and of
+many pages. A step's cost must not grow with the heap, so the ratios that are
+printed at the end should be about 1. Once all frames are used up a take is
+refused, after it has looked for a page and a frame in vain; with more pages
+more takes succeed.
 """
 
 import os
@@ -30,6 +36,13 @@ import time
 RUNS = 5
 COMMANDS = [50_000, 100_000, 200_000]
 WORDS = [16, 4096]
+
+# Heaps of several sizes, all with pages of so many words.
+PAGES = [16, 1_024, 65_535]
+MOST_FRAMES = 4_096
+HEAP_WORDS = 16
+HEAP_COMMANDS = 200_000
+HEAP_BODY = ["t0 take 4", "t0 new r0 0", "t0 datum r0 1", "t0 give"]
 
 
 class Mix:
@@ -132,6 +145,56 @@ def measure(program, folder, mix, words, count):
             each("whole", "full"), each("whole", "head"))
 
 
+def heap_head(pages):
+    """The heap line and the layout line of a heap of so many pages."""
+    frames = min(pages, MOST_FRAMES)
+    return [f"heap words {HEAP_WORDS} frames {frames} pages {pages} threads 1"
+            " workers 1 registers 4 globals 0", "layout 0 2"]
+
+
+def has_pages(program, folder):
+    """Whether the program knows heaps of several pages."""
+    path = os.path.join(folder, "pages.script")
+    write(path, heap_head(PAGES[0]))
+    done = subprocess.run([program, "run", path],
+                          stdout=subprocess.DEVNULL, stderr=subprocess.DEVNULL)
+    return done.returncode == 0
+
+
+def measure_heaps(program, folder):
+    """Nanoseconds a command of one script, for each number of pages."""
+    commands = repeated(HEAP_BODY, HEAP_COMMANDS)
+    took = {}
+    for pages in PAGES:
+        for form, lines in (("head", []), ("whole", commands)):
+            write(os.path.join(folder, f"{form}{pages}.script"), heap_head(pages) + lines)
+            took[form, pages] = float("inf")
+    for _ in range(RUNS):
+        for form, pages in took:
+            path = os.path.join(folder, f"{form}{pages}.script")
+            took[form, pages] = min(took[form, pages], timed(program, path, 0))
+    return {pages: (took["whole", pages] - took["head", pages]) / HEAP_COMMANDS * 1e9
+            for pages in PAGES}
+
+
+def print_heaps(program, folder):
+    """Times the same script on heaps of several sizes."""
+    if not has_pages(program, folder):
+        print("This edition has no heaps of several pages.")
+        return
+    costs = measure_heaps(program, folder)
+    print("| Pages | Frames | Commands | all |")
+    print("|---|---|---|---|")
+    for pages, cost in costs.items():
+        print(f"| {pages:,} | {min(pages, MOST_FRAMES):,} | {HEAP_COMMANDS:,} | {cost:.1f} |")
+    print()
+    print(f"A command's cost on a heap of more pages, over that on one of {PAGES[0]:,}:")
+    print()
+    for pages in PAGES[1:]:
+        ratio = costs[pages] / costs[PAGES[0]] if costs[PAGES[0]] > 0 else 0.0
+        print(f"- {pages:,} pages: {ratio:.2f}")
+
+
 def main():
     program = os.path.abspath(sys.argv[1] if len(sys.argv) > 1 else "./pauseless")
     if not os.access(program, os.X_OK):
@@ -156,6 +219,9 @@ def main():
     print()
     for name, words, ratio in growth:
         print(f"- {name}, {words} words a page: {ratio:.2f}")
+    print()
+    with tempfile.TemporaryDirectory() as folder:
+        print_heaps(program, folder)
 
 
 if __name__ == "__main__":

@@ -1,13 +1,17 @@
 -- What is done to a heap keeps its invariant.
-use Rattle.std.proofs.Common.{◌≡◌, ℕ, Bool, ◌-◌, ◌<◌, ◌≤◌, ◌+◌, List, Option, Some, None, refl, arith, set}
+use Rattle.std.proofs.Common.{◌≡◌, ℕ, Bool, ◌-◌, ◌<◌, ◌≤◌, ◌+◌, List, Option, Some, None, replicate, refl, arith, rules, set}
 use Rattle.std.specs.List.{slice_get}
 use Rattle.std.specs.Option.{IfSome}
 use Rattle.model.specs.declared.records.Buffer.{Buffer}
 use Rattle.model.specs.Stores.{StoreState}
 use Rattle.model.specs.Owning.{Each, LiesIn}
 use Rattle.model.specs.Holding.{IsHeap, FillsIn}
-use Rattle.model.specs.Heaps.{HeapState, ThreadState, changed, changed_at}
-use Rattle.model.proofs.Lists.{each_set}
+use Rattle.model.specs.Heaps.{HeapState, ThreadState, blank_thread}
+use Rattle.model.proofs.Lists.{each_set, each_replicate}
+
+-- threads of a new heap have no buffers
+pub first_fills : (s : StoreState) (n registers : ℕ) (threads : List ThreadState) → threads ≡ replicate n (blank_thread registers) → Each threads (FillsIn s)
+first_fills s n registers threads e = rw e (each_replicate (FillsIn s) n (blank_thread registers) (search rules))
 
 pub thread_keeps : (h : HeapState) (t : ℕ) (x : ThreadState) → IsHeap h → FillsIn h.store x → IsHeap (record h { threads = set h.threads t x })
 thread_keeps h t x i f = record { config = i.config; births = i.births; buffers = each_set (FillsIn h.store) h.threads t x i.buffers f }

@@ -1,11 +1,11 @@
 -- What a search for a page or a frame has found.
-use Rattle.std.proofs.Common.{◌≡◌, ℕ, ◌+◌, ◌-◌, ◌<◌, ◌≤◌, ◌&&◌, Bool, true, false, cond, List, [], ◌∷◌, length, Option, Some, None, is_some, is_none, position, count_by, nat_le, refl, ◌∙◌, ap, arith}
+use Rattle.std.proofs.Common.{◌≡◌, ℕ, ◌+◌, ◌-◌, ◌<◌, ◌≤◌, ◌&&◌, Bool, true, false, cond, List, [], ◌∷◌, length, Option, Some, None, is_some, is_none, position, count_by, nat_le, IfSome, refl, sym, ◌∙◌, ap, arith, rules}
 use Rattle.std.specs.List.{slice_get}
 use Rattle.std.proofs.lemmas.Bool.Decides.{nat_tests}
 use Rattle.std.proofs.lemmas.List.Sums.{sum_by-cons}
 use Rattle.std.proofs.lemmas.List.Quantifiers.{position-Some}
 use Rattle.model.specs.declared.records.Page.{Page}
-use Rattle.model.specs.Stores.{has_room, is_open, is_unused, top_in, page_with_room, free_frame}
+use Rattle.model.specs.Stores.{has_room, is_open, is_unused, state_in, top_in, blank_page, page_with_room, free_frame}
 use Rattle.model.proofs.Lists.{position_passes, get_within, count_positive}
 use Rattle.page.specs.Records.{is_unused_in}
 
@@ -15,6 +15,10 @@ position_within p xs i e x = (position-Some p xs i x e).0
 pub room_left : (words n top : ℕ) (is_so : Bool) → 0 < n → is_so && nat_le n (words - top) ≡ true → top + n ≤ words
 room_left words n top true low e = grind (arith, nat_tests)
 room_left words n top false low e = absurd (cc)
+
+pub and_left : (a b : Bool) → a && b ≡ true → a ≡ true
+and_left true b e = refl
+and_left false b e = absurd (cc)
 
 none_is : (o : Option ℕ) → is_none o ≡ true → o ≡ None
 none_is None e = refl
@@ -52,6 +56,30 @@ room_within words n pages i e p = position_within (has_room words n) pages i e p
 pub room_passes : (words n : ℕ) (pages : List Page) (i : ℕ) → page_with_room words n pages ≡ Some i → (p : Page) → slice_get pages i ≡ Some p → has_room words n p ≡ true
 unfolding page_with_room
 room_passes words n pages i e p at = position_passes (has_room words n) pages i p e at
+
+-- the same, of a search that may have found nothing
+
+pub room_open : (words n : ℕ) (pages : List Page) (r : Option ℕ) → r ≡ page_with_room words n pages → IfSome r (λ i. is_open (state_in (slice_get pages i)) ≡ true)
+room_open words n pages None e = search rules
+room_open words n pages (Some i) e =
+    let found = get_within pages i (room_within words n pages i (sym e) blank_page) in
+    rw found.1 (and_left (is_open found.0.state) _ (room_passes words n pages i (sym e) found.0 found.1))
+
+pub room_enough : (words n : ℕ) (pages : List Page) (r : Option ℕ) → 0 < n → r ≡ page_with_room words n pages → IfSome r (λ i. top_in (slice_get pages i) + n ≤ words)
+room_enough words n pages None low e = search rules
+room_enough words n pages (Some i) low e = room_found words n pages i low (room_within words n pages i (sym e) blank_page) (sym e)
+
+pub free_is : (owners : List (Option ℕ)) (r : Option ℕ) → r ≡ free_frame owners → IfSome r (λ f. slice_get owners f ≡ Some None)
+free_is owners None e = search rules
+free_is owners (Some f) e = free_found owners f (free_within owners f (sym e)) (sym e)
+
+pub free_some : (owners : List (Option ℕ)) (r : Option ℕ) → r ≡ free_frame owners → IfSome r (λ f. 0 < count_by is_none owners)
+free_some owners None e = search rules
+free_some owners (Some f) e = free_counts owners f (free_within owners f (sym e)) (sym e)
+
+pub unused_is : (pages : List Page) (r : Option ℕ) → r ≡ position (λ (p : Page). is_unused p.state) pages → IfSome r (λ i. is_unused_in (slice_get pages i) ≡ true)
+unused_is pages None e = search rules
+unused_is pages (Some i) e = unused_found pages i (position_within (λ (p : Page). is_unused p.state) pages i (sym e) blank_page) (sym e)
 
 -- each frame is owned or free
 pub count_owned : (owners : List (Option ℕ)) → count_by is_some owners + count_by is_none owners ≡ length owners

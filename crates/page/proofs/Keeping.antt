@@ -293,6 +293,10 @@ pub opened_top : (s : StoreState) (i f : ℕ) → i < length s.pages → top_in 
 unfolding opened
 opened_top s i f h = let p = get_within s.pages i h in rw (get_set_same s.pages i p.0 (fresh_page f) p.1) refl
 
+pub opened_open : (s : StoreState) (i f : ℕ) → i < length s.pages → is_open (state_in (slice_get (opened s i f).pages i)) ≡ true
+unfolding opened
+opened_open s i f h = let p = get_within s.pages i h in rw (get_set_same s.pages i p.0 (fresh_page f) p.1) refl
+
 pub opened_words : (s : StoreState) (i f : ℕ) → (opened s i f).words ≡ s.words
 unfolding opened
 opened_words s i f = refl

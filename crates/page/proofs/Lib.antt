@@ -1,3 +1,5 @@
 pub mod Found
+pub mod Indexes
 pub mod Keeping
 pub mod Lying
+pub mod Trees

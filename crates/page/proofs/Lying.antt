@@ -14,7 +14,7 @@ use Rattle.model.specs.declared.records.Buffer.{Buffer}
 use Rattle.model.specs.Stores.{StoreState, is_open, is_unused, state_in, opened, given, buffer_of, Takes, with_words, with_word, fresh_page, frame_in, page_at, taken, page_with_room, free_frame, unused_page, record_count}
 use Rattle.model.specs.Owning.{IsStore, LiesIn, TakesWell}
 use Rattle.model.proofs.Lists.{get_set_same, get_set_other, same_or_not, get_within}
-use Rattle.page.proofs.Found.{position_within, room_left, free_counts, free_within, room_within, room_passes}
+use Rattle.page.proofs.Found.{and_left, position_within, room_left, free_counts, free_within, room_within, room_passes}
 use Rattle.page.proofs.Keeping.{unused_as, page_at_record, page_at_zero, opened_words, opened_at, given_at}
 
 false_true : false ≡ true → ⊥
@@ -86,10 +86,6 @@ same_ok x y e = cc
 
 err_ok : (r : Room) (y : StoreState × Buffer) → ◌≡◌ {A = Taken} (Err r) (Ok y) → ⊥
 err_ok r y e = cc
-
-and_left : (a b : Bool) → a && b ≡ true → a ≡ true
-and_left true b e = refl
-and_left false b e = absurd (cc)
 
 taken_given : (s : StoreState) (n i : ℕ) → page_with_room s.words n s.pages ≡ Some i → taken s n ≡ Ok (given s i n)
 unfolding taken

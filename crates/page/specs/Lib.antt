@@ -1,3 +1,4 @@
 pub mod Lending
 pub mod Records
+pub mod Tournaments
 pub mod Views

@@ -1,14 +1,41 @@
--- A store as contracts see it.
-use Rattle.std.specs.Prelude.{◌≡◌, count_by, is_none}
-use Rattle.model.specs.Stores.{StoreState}
+-- A store and its indexes as contracts see them.
+use Rattle.std.specs.Prelude.{◌≡◌, ◌+◌, ◌-◌, ◌*◌, ◌^◌, ◌≤◌, ℕ, Bool, if◌then◌else◌, List, take, drop, map, length, slice_index, count_by, is_none}
+use Rattle.model.specs.declared.records.Page.{Page}
+use Rattle.model.specs.Stores.{StoreState, is_open, is_unused}
 use Rattle.model.specs.Owning.{IsStore}
+use Rattle.page.specs.Tournaments.{IsTree}
+use Rattle.page.specs.declared.index.Tournament.TheInside as index
 use Rattle.page.specs.declared.store.Store.TheInside.{Inside}
 
--- its records as plain data; the number of free frames isn't in it
+-- the numbers of a tree's leaves, as far as they are in use
+abbrev pub numbers_of : index.Inside → List ℕ
+numbers_of t = take t.count (drop t.width t.nodes.items)
+
+-- the tree has as many levels as it says, and leaves that aren't in use are 0
+pub record IsTournament (t : index.Inside) : Type 0 where
+  pub width : t.width ≡ 2 ^ t.depth
+  pub range : t.width ≤ 16384
+  pub sized : length t.nodes.items ≡ 2 * t.width
+  pub count : t.count ≤ t.width
+  pub tree : IsTree t.nodes.items t.width
+  pub rest : (i : ℕ) → t.width + t.count ≤ i → slice_index t.nodes.items i ≡ 0
+
+-- the words that a page can still give out: none where it isn't open
+abbrev pub left_in : ℕ → Page → ℕ
+left_in words p = if is_open p.state then words - p.top else 0
+
+-- 1 where something holds, and 0 where it doesn't
+abbrev pub mark : Bool → ℕ
+mark b = if b then 1 else 0
+
+-- its records as plain data; the number of free frames and the indexes aren't in it
 abbrev pub store_of : Inside → StoreState
 store_of s = record { words = s.words; count = s.count; pages = s.pages.items; frames = s.frames.items; owners = s.owners.items }
 
--- the store is one, and its number of free frames is kept beside it
+-- the store is one, and the number of its free frames and three indexes are kept beside it
 pub record IsStoreInside (s : Inside) : Type 0 where
   pub store : IsStore (store_of s)
   pub free : s.free ≡ count_by is_none s.owners.items
+  pub rooms : s.rooms ≡ map (left_in s.words) s.pages.items
+  pub unused : s.unused ≡ map (λ p. mark (is_unused p.state)) s.pages.items
+  pub spare : s.spare ≡ map (λ o. mark (is_none o)) s.owners.items

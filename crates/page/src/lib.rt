@@ -3,7 +3,7 @@
 
 mod copies;
 mod frame;
-mod search;
+mod index;
 mod store;
 
 pub use copies::many;

@@ -3,14 +3,14 @@
 ghost use Rattle.std.specs.Prelude.{◌≡◌, ◌≤◌, ◌<◌, ◌+◌, ◌-◌, ◌^◌, length, slice_get, slice_set, slice_range, replicate, IfOk, IfSome, count_by, is_some, is_none, Some, None, true};
 ghost use Rattle.std.specs.Option.{option_map};
 ghost use Rattle.std.specs.Borrow.{sem};
-ghost use Rattle.model.specs.Stores.{first_store, page_at, state_at, state_in, spot_of, word_at, with_word, words_at, taken, Takes, given, opened, top_in, is_open, is_unused, unused_page, frame_in, record_count};
+ghost use Rattle.model.specs.Stores.{first_store, page_at, state_at, state_in, spot_of, word_at, with_word, words_at, taken, Takes, given, opened, top_in, is_open, page_with_room, free_frame, unused_page, frame_in, record_count};
 ghost use Rattle.model.specs.Owning.{IsStore, LiesIn, TakesWell};
 ghost use Rattle.page.specs.Lending.{LendsPart};
 ghost use Rattle.page.specs.Records.{is_unused_in};
 
 use crate::copies::many;
 use crate::frame::Frame;
-use crate::search::{free_frame, page_with_room, unused_record};
+use crate::index::Tournament;
 use model::{Buffer, Page, PageState, Room};
 use std::alloc::{AllocError, Global};
 use std::marker::Model;
@@ -20,6 +20,9 @@ use std::marker::Model;
 /// Each open, closed or protected page owns one frame, no other page owns any, and each frame
 /// has one owner or is free: this is the invariant of the type. Pages have records only as far
 /// as they can ever be in use at once, which is twice the number of frames; the others are unused.
+///
+/// Beside them it keeps three indexes, which hold the same as pages and owners do: the words left
+/// of each open page, 1 for each unused page and 1 for each free frame, and 0 for all others.
 #[derive(Drop)]
 pub struct Store {
     words: u32,
@@ -28,6 +31,9 @@ pub struct Store {
     frames: Vec<Frame, Global>,
     owners: Vec<Option<u32>, Global>,
     free: u32,
+    rooms: Tournament,
+    unused: Tournament,
+    spare: Tournament,
 }
 
 impl Model for Store {
@@ -81,13 +87,17 @@ impl Store {
             frame: None,
             top: 0,
         };
+        let records = record_count(frames, pages);
         Ok(Store {
             words,
             count: pages,
-            pages: many(alloc, record_count(frames, pages), blank)?,
+            pages: many(alloc, records, blank)?,
             frames: blank_frames(alloc, frames, words)?,
             owners: many(alloc, frames, None)?,
             free: frames,
+            rooms: Tournament::new(alloc, records, 0)?,
+            unused: Tournament::new(alloc, records, 1)?,
+            spare: Tournament::new(alloc, frames, 1)?,
         })
     }
 
@@ -232,16 +242,18 @@ impl Store {
         words.run_mut(buffer.next as usize, buffer.end as usize)
     }
 
-    /// Gives out `n` words of the page of an index.
+    /// Gives out `n` words of the open page of an index.
     #[tactic(auto, unfolding(model::specs::Stores::given))]
     fn give(&mut self, index: usize, n: u32) -> Buffer
         requires there { index < length self.old.pages }
+        requires open { is_open (state_in (slice_get self.old.pages index)) ≡ true }
         requires room { top_in (slice_get self.old.pages index) + n ≤ self.old.words }
         ensures { given self.old index n ≡ (self.new, result) }
     {
         let page = &mut self.pages[index];
         let top = page.top;
         page.top = top + n;
+        self.rooms.set(index, self.words - (top + n));
         Buffer {
             page: (index + 1) as u32,
             next: top,
@@ -265,8 +277,32 @@ impl Store {
             top: 0,
         };
         self.owners[frame] = Some((index + 1) as u32);
+        self.rooms.set(index, self.words);
+        self.unused.set(index, 0);
+        self.spare.set(frame, 0);
         let words = &mut self.frames[frame];
         words.clear();
+    }
+
+    /// The index of the lowest open page with room for `n` words.
+    fn page_with_room(&self, n: u32) -> Option<usize>
+        requires { 0 < n }
+        ensures first { result ≡ page_with_room self.now.words n self.now.pages }
+        ensures there { IfSome result (λ i. i < length self.now.pages) }
+        ensures open { IfSome result (λ i. is_open (state_in (slice_get self.now.pages i)) ≡ true) }
+        ensures room { IfSome result (λ i. top_in (slice_get self.now.pages i) + n ≤ self.now.words) }
+    {
+        self.rooms.first_at_least(n)
+    }
+
+    /// The number, from 0, of the lowest free frame.
+    fn free_frame(&self) -> Option<usize>
+        ensures first { result ≡ free_frame self.now.owners }
+        ensures there { IfSome result (λ f. f < length self.now.owners) }
+        ensures free { IfSome result (λ f. slice_get self.now.owners f ≡ Some None) }
+        ensures some { IfSome result (λ _. 0 < count_by is_none self.now.owners) }
+    {
+        self.spare.first_at_least(1)
     }
 
     /// The index of the lowest unused page.
@@ -276,13 +312,13 @@ impl Store {
         ensures there { IfSome result (λ i. i < length self.now.pages) }
         ensures unused { IfSome result (λ i. is_unused_in (slice_get self.now.pages i) ≡ true) }
     {
-        unused_record(&self.pages)
+        self.unused.first_at_least(1)
     }
 
     /// A buffer of `n` words: in the lowest open page that has room, else in the lowest unused
-    /// page, opened on the lowest free frame (ours). `n` is 1 to the words of a page. It searches
-    /// the page records and the frames from the lowest on, so its cost grows with them (an index is
-    /// to come).
+    /// page, opened on the lowest free frame (ours). `n` is 1 to the words of a page. It finds them
+    /// in some 14 steps at most, as many as the number of records has binary digits; where it opens
+    /// a page it also writes the page's words.
     ///
     /// Answers `NoFrames` where no frame is free, else `NoPages` where no page is unused; the
     /// store is then as it was.
@@ -303,10 +339,10 @@ impl Store {
         requires high { n ≤ self.old.words }
         ensures { Takes self.old result self.new (taken self.old n) }
     {
-        if let Some(index) = page_with_room(&self.pages, self.words, n) {
+        if let Some(index) = self.page_with_room(n) {
             return Ok(self.give(index, n));
         }
-        let Some(frame) = free_frame(&self.owners) else {
+        let Some(frame) = self.free_frame() else {
             return Err(Room::NoFrames);
         };
         let Some(index) = self.unused_page() else {

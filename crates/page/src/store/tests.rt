@@ -51,6 +51,44 @@ fn refuses_for_want_of_pages(rt: HostRuntime) -> Result<(), Fail> {
 }
 
 #[test]
+fn fills_many_pages(rt: HostRuntime) -> Result<(), Fail> {
+    let mut store = Store::new(rt.alloc(), 4, 300, 700)?;
+    // Each first buffer leaves one word, so that the next needs a page of its own; then the words
+    // that were left are given out from the lowest page on.
+    for (n, next) in [(3, 0), (1, 3)] {
+        for page in 1..301 {
+            let buffer = take(&rt, &mut store, n)?;
+            assert_eq!(rt; (buffer.page, buffer.next), (page, next), "for {n} words");
+        }
+    }
+    assert_eq!(rt; take(&rt, &mut store, 1), Err(Room::NoFrames));
+    assert_eq!(rt; store.free_frames(), 0);
+    Ok(())
+}
+
+#[test]
+fn takes_in_a_lower_page_that_has_room(rt: HostRuntime) -> Result<(), Fail> {
+    let mut store = Store::new(rt.alloc(), 16, 5, 5)?;
+    for (n, page, next) in [
+        (10, 1, 0),
+        (12, 2, 0),
+        (14, 3, 0),
+        (5, 1, 10),
+        (4, 2, 12),
+        (2, 3, 14),
+        (1, 1, 15),
+        (1, 4, 0),
+        (16, 5, 0),
+        (15, 4, 1),
+    ] {
+        let buffer = take(&rt, &mut store, n)?;
+        assert_eq!(rt; (buffer.page, buffer.next), (page, next), "for {n} words");
+    }
+    assert_eq!(rt; take(&rt, &mut store, 1), Err(Room::NoFrames));
+    Ok(())
+}
+
+#[test]
 fn writes_where_a_buffer_is(rt: HostRuntime) -> Result<(), Fail> {
     let mut store = Store::new(rt.alloc(), 16, 2, 8)?;
     let first = take(&rt, &mut store, 3)?;

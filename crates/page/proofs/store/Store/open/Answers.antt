@@ -1,8 +1,10 @@
-use Rattle.std.proofs.Common.{◌≡◌, ◌<◌, ◌+◌, ◌∙◌, length, is_none, None, Some, replicate, sym, subst, ap, refl, arith, true}
+use Rattle.std.proofs.Common.{◌≡◌, ℕ, ◌<◌, ◌+◌, ◌∙◌, length, set, is_none, Option, None, Some, replicate, sym, subst, ap, refl, arith, true}
 use Rattle.std.specs.List.{slice_get}
-use Rattle.model.specs.Stores.{StoreState, opened}
+use Rattle.model.specs.declared.records.Page.{Page}
+use Rattle.model.specs.Stores.{StoreState, opened, is_unused, fresh_page}
 use Rattle.model.proofs.Lists.{get_read, count_positive, count_set}
-use Rattle.page.specs.Views.{store_of}
+use Rattle.page.specs.Views.{store_of, left_in, mark}
+use Rattle.page.proofs.Indexes.{set_mapped}
 use Rattle.page.specs.Records.{is_unused_in}
 use Rattle.page.proofs.Keeping.{opened_with, opened_as, frame_of_owner}
 use Rattle.page.proofs.store.Store.open.Goals as goal
@@ -25,6 +27,11 @@ invariant_of-self c =
     record {
       store = opened_with s c.args.index c.args.frame c.clear.new.self c.self.invariant.store page unused free zeros;
       free = omega (arith, c.self.invariant.free, count_set is_none s.owners c.args.frame None (Some (c.args.index + 1)) free);
+      rooms = c.set.ensures ∙ ap (λ ns. set ns c.args.index s.words) c.self.invariant.rooms ∙ set_mapped (left_in s.words) s.pages c.args.index (fresh_page c.args.frame) s.words (omega arith);
+      unused = c.set-2.ensures ∙ ap (λ ns. set ns c.args.index 0) c.self.invariant.unused
+          ∙ set_mapped (λ (p : Page). mark (is_unused p.state)) s.pages c.args.index (fresh_page c.args.frame) 0 refl;
+      spare = c.set-3.ensures ∙ ap (λ ns. set ns c.args.frame 0) c.self.invariant.spare
+          ∙ set_mapped (λ (o : Option ℕ). mark (is_none o)) s.owners c.args.frame (Some (c.args.index + 1)) 0 refl;
     }
 
 pub returns : goal.returns

@@ -13,6 +13,9 @@ invariant_of-self-lent c = λ w.
     record {
       store = frame_keeps s c.open_frame-frame.result _ c.self.invariant.store (length-overlaid c.index_mut-words.result.now c.args.buffer.now.next w ∙ sized);
       free = c.self.invariant.free;
+      rooms = c.self.invariant.rooms;
+      unused = c.self.invariant.unused;
+      spare = c.self.invariant.spare;
     }
 
 pub returns : goal.returns
