@@ -37,9 +37,13 @@ step_err b c o reply e next rs more is says put =
     let more_is : more ≡ rs ++ Err e ∷ [] = put ∙ ap (λ (x : Reply). rs ++ x ∷ []) is in
     rw (h.0, h.1, more_is) refl
 
--- where nothing follows
-pub nothing_more : (c : BookState) (rs : List Reply) → behind rs (told c []) ≡ told c rs
+nothing_more : (c : BookState) (rs : List Reply) → behind rs (told c []) ≡ told c rs
 nothing_more c rs = ap (told c) (append-nil rs)
+
+-- a step that nothing follows
+pub last_step : (b c : BookState) (o : BookOutcome) (reply : Reply) (rs more : List Reply) → Says b reply c o → more ≡ rs ++ reply ∷ [] → behind rs (stepped b o (λ d answer. told d [])) ≡ told c more
+last_step b c o (Ok a) rs more says put = step_ok b c o (Ok a) a (λ d answer. told d []) rs more (told c more) refl says put (nothing_more c more)
+last_step b c o (Err e) rs more says put = step_err b c o (Err e) e (λ d answer. told d []) rs more refl says put
 
 pub healed_due : (due : Bool) (b : BookState) (actor : Actor) (rs : List Reply) (t : Told) → due ≡ true →
     behind rs (stepped b (acted b actor steps.Heal) (λ c answer. finished c actor)) ≡ t → behind rs (healed due b actor) ≡ t
