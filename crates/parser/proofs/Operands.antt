@@ -13,10 +13,20 @@ use Rattle.parser.specs.declared.fault.Flaw.{Flaw}
 use Rattle.parser.specs.declared.heading.Sizes.{Sizes}
 use Rattle.parser.specs.declared.order.Order.{Order}
 use Rattle.parser.specs.declared.order.Order.TheVariants as orders
-use Rattle.parser.specs.declared.order.Keyword.{Keyword}
-use Rattle.parser.specs.declared.order.Keyword.TheVariants as keywords
+use Rattle.parser.specs.declared.keywords.Keyword.{Keyword}
+use Rattle.parser.specs.declared.keywords.Keyword.TheVariants as keywords
+use Rattle.parser.specs.declared.keywords.Bare.{Bare}
+use Rattle.parser.specs.declared.keywords.Bare.TheVariants as bare
+use Rattle.parser.specs.declared.keywords.OfRegisters.{OfRegisters}
+use Rattle.parser.specs.declared.keywords.OfRegisters.TheVariants as of_registers
+use Rattle.parser.specs.declared.keywords.OfSlot.{OfSlot}
+use Rattle.parser.specs.declared.keywords.OfSlot.TheVariants as of_slot
+use Rattle.parser.specs.declared.keywords.OfField.{OfField}
+use Rattle.parser.specs.declared.keywords.OfField.TheVariants as of_field
+use Rattle.parser.specs.declared.keywords.Mixed.{Mixed}
+use Rattle.parser.specs.declared.keywords.Mixed.TheVariants as mixed
 use Rattle.parser.specs.Words.{or_flaw, flaw, word_or, number_at, small_at, named_at, end_at}
-use Rattle.parser.specs.Orders.{thread_keyword, keyword_in, register_at, slot_at, pair_at, first_byte, actor_at, operands_at, order_at}
+use Rattle.parser.specs.Orders.{thread_keyword, register_keyword, slot_keyword, field_keyword, mixed_keyword, keyword_in, register_at, slot_at, pair_at, field_at, first_byte, actor_at, bare_order, slot_order, field_order, registers_at, mixed_at, operands_at, order_at}
 use Rattle.parser.specs.Headings.{config_of}
 use Rattle.parser.specs.Spelling.{actor_word, register_word, order_words, IsActor, IsFor, IsOrder}
 use Rattle.parser.proofs.Places.{words_from, words_whole, Reads}
@@ -81,54 +91,131 @@ pair_again sizes line at r n ws fits left right h =
     let b = register_again sizes line a.0 n ws fits right a.2 in
     (b.0, rw (a.1, b.1) refl, b.2)
 
+-- two registers and a number are the words at a place
+record IsFieldAt (sizes : Sizes) (line : List ℕ) (at : ℕ) (v : (ℕ × (ℕ × ℕ)) × ℕ) : Type 0 where
+  spelled : words_from line at ≡ register_word v.0.0 ∷ register_word v.0.1.0 ∷ decimal v.0.1.1 ∷ words_from line v.1
+  target : v.0.0 < sizes.registers
+  object : v.0.1.0 < sizes.registers
+  small : v.0.1.1 < 2 ^ 32
+
+field_ok : (sizes : Sizes) (line : List ℕ) (at : ℕ) (v : (ℕ × (ℕ × ℕ)) × ℕ) → sizes.registers < 2 ^ 64 → field_at sizes line at ≡ Ok v → IsFieldAt sizes line at v
+unfolding field_at
+field_ok sizes line at v fits h =
+    let a = bind_ok (register_at sizes line at) _ v h in
+    let b = bind_ok (slot_at sizes line a.0.1) _ v a.2 in
+    let r = register_ok sizes line at a.0 fits a.1 in
+    let s = slot_ok sizes line a.0.1 b.0 fits b.1 in
+    subst (λ (x : (ℕ × (ℕ × ℕ)) × ℕ). IsFieldAt sizes line at x) (ok_is ((a.0.0, b.0.0), b.0.1) v b.2)
+    (record { spelled = r.spelled ∙ ap (λ (t : List (List ℕ)). register_word a.0.0 ∷ t) s.spelled; target = r.below; object = s.below; small = s.small })
+
+field_again : (sizes : Sizes) (line : List ℕ) (at target object n : ℕ) (ws : List (List ℕ)) → sizes.registers < 2 ^ 64 → target < sizes.registers → object < sizes.registers → n < 2 ^ 32 →
+    words_from line at ≡ register_word target ∷ register_word object ∷ decimal n ∷ ws → Reads line (field_at sizes line at) (target, (object, n)) ws
+unfolding field_at
+field_again sizes line at target object n ws fits below there small h =
+    let a = register_again sizes line at target (register_word object ∷ decimal n ∷ ws) fits below h in
+    let b = slot_again sizes line a.0 object n ws fits there small a.2 in
+    (b.0, rw (a.1, b.1) refl, b.2)
+
 -- ---- orders
 
 -- the word of a keyword
 abbrev keyword_text : Keyword → List ℕ
-keyword_text keywords.Take = codes "take"
-keyword_text keywords.Give = codes "give"
-keyword_text keywords.New = codes "new"
-keyword_text keywords.Datum = codes "datum"
-keyword_text keywords.Set = codes "set"
-keyword_text keywords.Same = codes "same"
-keyword_text keywords.Null = codes "null"
-keyword_text keywords.Move = codes "mov"
-keyword_text keywords.Clear = codes "clear"
+keyword_text (keywords.Mixed mixed.Take) = codes "take"
+keyword_text (keywords.Bare bare.Give) = codes "give"
+keyword_text (keywords.Slot of_slot.New) = codes "new"
+keyword_text (keywords.Field of_field.Load) = codes "load"
+keyword_text (keywords.Slot of_slot.LoadGlobal) = codes "loadg"
+keyword_text (keywords.Bare bare.Trap) = codes "trap"
+keyword_text (keywords.Bare bare.Heal) = codes "heal"
+keyword_text (keywords.Bare bare.Finish) = codes "finish"
+keyword_text (keywords.Mixed mixed.Store) = codes "store"
+keyword_text (keywords.Mixed mixed.StoreGlobal) = codes "storeg"
+keyword_text (keywords.Slot of_slot.Datum) = codes "datum"
+keyword_text (keywords.Mixed mixed.Set) = codes "set"
+keyword_text (keywords.Registers of_registers.Same) = codes "same"
+keyword_text (keywords.Registers of_registers.Null) = codes "null"
+keyword_text (keywords.Registers of_registers.Move) = codes "mov"
+keyword_text (keywords.Registers of_registers.Clear) = codes "clear"
+keyword_text (keywords.Bare bare.Cross) = codes "cross"
+keyword_text (keywords.Registers of_registers.Scrub) = codes "scrub"
+keyword_text (keywords.Bare bare.Park) = codes "park"
+keyword_text (keywords.Bare bare.Unpark) = codes "unpark"
+keyword_text (keywords.Field of_field.Get) = codes "get"
+keyword_text (keywords.Slot of_slot.GetGlobal) = codes "getg"
 
 -- the keyword of an order
 abbrev keyword_of : Order → Keyword
-keyword_of (orders.Take n) = keywords.Take
-keyword_of orders.Give = keywords.Give
-keyword_of (orders.New target layout) = keywords.New
-keyword_of (orders.Datum object index) = keywords.Datum
-keyword_of (orders.Set object index value) = keywords.Set
-keyword_of (orders.Same left right) = keywords.Same
-keyword_of (orders.Null r) = keywords.Null
-keyword_of (orders.Move target source) = keywords.Move
-keyword_of (orders.Clear r) = keywords.Clear
+keyword_of (orders.Take n) = keywords.Mixed mixed.Take
+keyword_of orders.Give = keywords.Bare bare.Give
+keyword_of (orders.New target layout) = keywords.Slot of_slot.New
+keyword_of (orders.Load target object index) = keywords.Field of_field.Load
+keyword_of (orders.LoadGlobal target global) = keywords.Slot of_slot.LoadGlobal
+keyword_of orders.Trap = keywords.Bare bare.Trap
+keyword_of orders.Heal = keywords.Bare bare.Heal
+keyword_of orders.Finish = keywords.Bare bare.Finish
+keyword_of (orders.Store object index source) = keywords.Mixed mixed.Store
+keyword_of (orders.StoreGlobal global source) = keywords.Mixed mixed.StoreGlobal
+keyword_of (orders.Datum object index) = keywords.Slot of_slot.Datum
+keyword_of (orders.Set object index value) = keywords.Mixed mixed.Set
+keyword_of (orders.Same left right) = keywords.Registers of_registers.Same
+keyword_of (orders.Null r) = keywords.Registers of_registers.Null
+keyword_of (orders.Move target source) = keywords.Registers of_registers.Move
+keyword_of (orders.Clear r) = keywords.Registers of_registers.Clear
+keyword_of orders.Cross = keywords.Bare bare.Cross
+keyword_of (orders.Scrub r) = keywords.Registers of_registers.Scrub
+keyword_of orders.Park = keywords.Bare bare.Park
+keyword_of orders.Unpark = keywords.Bare bare.Unpark
+keyword_of (orders.Get target object index) = keywords.Field of_field.Get
+keyword_of (orders.GetGlobal target global) = keywords.Slot of_slot.GetGlobal
 
 -- the words behind an order's name
 abbrev operand_words : Order → List (List ℕ)
 operand_words (orders.Take n) = decimal n ∷ []
 operand_words orders.Give = []
 operand_words (orders.New target layout) = register_word target ∷ decimal layout ∷ []
+operand_words (orders.Load target object index) = register_word target ∷ register_word object ∷ decimal index ∷ []
+operand_words (orders.LoadGlobal target global) = register_word target ∷ decimal global ∷ []
+operand_words orders.Trap = []
+operand_words orders.Heal = []
+operand_words orders.Finish = []
+operand_words (orders.Store object index source) = register_word object ∷ decimal index ∷ register_word source ∷ []
+operand_words (orders.StoreGlobal global source) = decimal global ∷ register_word source ∷ []
 operand_words (orders.Datum object index) = register_word object ∷ decimal index ∷ []
 operand_words (orders.Set object index value) = register_word object ∷ decimal index ∷ decimal value ∷ []
 operand_words (orders.Same left right) = register_word left ∷ register_word right ∷ []
 operand_words (orders.Null r) = register_word r ∷ []
 operand_words (orders.Move target source) = register_word target ∷ register_word source ∷ []
 operand_words (orders.Clear r) = register_word r ∷ []
+operand_words orders.Cross = []
+operand_words (orders.Scrub r) = register_word r ∷ []
+operand_words orders.Park = []
+operand_words orders.Unpark = []
+operand_words (orders.Get target object index) = register_word target ∷ register_word object ∷ decimal index ∷ []
+operand_words (orders.GetGlobal target global) = register_word target ∷ decimal global ∷ []
 
 words_are : (o : Order) → order_words o ≡ keyword_text (keyword_of o) ∷ operand_words o
 words_are (orders.Take n) = refl
 words_are orders.Give = refl
 words_are (orders.New target layout) = refl
+words_are (orders.Load target object index) = refl
+words_are (orders.LoadGlobal target global) = refl
+words_are orders.Trap = refl
+words_are orders.Heal = refl
+words_are orders.Finish = refl
+words_are (orders.Store object index source) = refl
+words_are (orders.StoreGlobal global source) = refl
 words_are (orders.Datum object index) = refl
 words_are (orders.Set object index value) = refl
 words_are (orders.Same left right) = refl
 words_are (orders.Null r) = refl
 words_are (orders.Move target source) = refl
 words_are (orders.Clear r) = refl
+words_are orders.Cross = refl
+words_are (orders.Scrub r) = refl
+words_are orders.Park = refl
+words_are orders.Unpark = refl
+words_are (orders.Get target object index) = refl
+words_are (orders.GetGlobal target global) = refl
 
 -- an order of the keyword is spelled from a place on, behind its name
 record IsOrderAt (sizes : Sizes) (line : List ℕ) (at : ℕ) (k : Keyword) (v : Order × ℕ) : Type 0 where
@@ -136,51 +223,108 @@ record IsOrderAt (sizes : Sizes) (line : List ℕ) (at : ℕ) (k : Keyword) (v :
   spelled : words_from line at ≡ operand_words v.0 ++ words_from line v.1
   fits : IsOrder sizes.registers v.0
 
-operands_ok : (sizes : Sizes) (line : List ℕ) (at : ℕ) (k : Keyword) (v : Order × ℕ) → sizes.registers < 2 ^ 64 → operands_at sizes line at k ≡ Ok v → IsOrderAt sizes line at k v
-unfolding operands_at
-operands_ok sizes line at keywords.Take v fits h =
+bare_ok : (sizes : Sizes) (line : List ℕ) (at : ℕ) (k : Bare) → IsOrderAt sizes line at (keywords.Bare k) (bare_order k, at)
+bare_ok sizes line at bare.Give = record { keyword = refl; spelled = refl; fits = tt }
+bare_ok sizes line at bare.Trap = record { keyword = refl; spelled = refl; fits = tt }
+bare_ok sizes line at bare.Heal = record { keyword = refl; spelled = refl; fits = tt }
+bare_ok sizes line at bare.Finish = record { keyword = refl; spelled = refl; fits = tt }
+bare_ok sizes line at bare.Cross = record { keyword = refl; spelled = refl; fits = tt }
+bare_ok sizes line at bare.Park = record { keyword = refl; spelled = refl; fits = tt }
+bare_ok sizes line at bare.Unpark = record { keyword = refl; spelled = refl; fits = tt }
+
+slot_order_ok : (sizes : Sizes) (line : List ℕ) (at : ℕ) (k : OfSlot) (s : (ℕ × ℕ) × ℕ) → IsSlotAt sizes line at s → IsOrderAt sizes line at (keywords.Slot k) (slot_order k s.0.0 s.0.1, s.1)
+slot_order_ok sizes line at of_slot.New s h = record { keyword = refl; spelled = h.spelled; fits = (h.below, h.small) }
+slot_order_ok sizes line at of_slot.Datum s h = record { keyword = refl; spelled = h.spelled; fits = (h.below, h.small) }
+slot_order_ok sizes line at of_slot.LoadGlobal s h = record { keyword = refl; spelled = h.spelled; fits = (h.below, h.small) }
+slot_order_ok sizes line at of_slot.GetGlobal s h = record { keyword = refl; spelled = h.spelled; fits = (h.below, h.small) }
+
+field_order_ok : (sizes : Sizes) (line : List ℕ) (at : ℕ) (k : OfField) (f : (ℕ × (ℕ × ℕ)) × ℕ) → IsFieldAt sizes line at f → IsOrderAt sizes line at (keywords.Field k) (field_order k f.0.0 f.0.1.0 f.0.1.1, f.1)
+field_order_ok sizes line at of_field.Load f h = record { keyword = refl; spelled = h.spelled; fits = ((h.target, h.object), h.small) }
+field_order_ok sizes line at of_field.Get f h = record { keyword = refl; spelled = h.spelled; fits = ((h.target, h.object), h.small) }
+
+registers_ok : (sizes : Sizes) (line : List ℕ) (at : ℕ) (k : OfRegisters) (v : Order × ℕ) → sizes.registers < 2 ^ 64 → registers_at sizes line at k ≡ Ok v → IsOrderAt sizes line at (keywords.Registers k) v
+unfolding registers_at
+registers_ok sizes line at of_registers.Same v fits h =
+    let a = bind_ok (pair_at sizes line at) _ v h in
+    let p = pair_ok sizes line at a.0 fits a.1 in
+    subst (λ (x : Order × ℕ). IsOrderAt sizes line at (keywords.Registers of_registers.Same) x) (ok_is (orders.Same a.0.0.0 a.0.0.1, a.0.1) v a.2) (record { keyword = refl; spelled = p.spelled; fits = (p.left, p.right) })
+registers_ok sizes line at of_registers.Null v fits h =
+    let a = bind_ok (register_at sizes line at) _ v h in
+    let r = register_ok sizes line at a.0 fits a.1 in
+    subst (λ (x : Order × ℕ). IsOrderAt sizes line at (keywords.Registers of_registers.Null) x) (ok_is (orders.Null a.0.0, a.0.1) v a.2) (record { keyword = refl; spelled = r.spelled; fits = r.below })
+registers_ok sizes line at of_registers.Move v fits h =
+    let a = bind_ok (pair_at sizes line at) _ v h in
+    let p = pair_ok sizes line at a.0 fits a.1 in
+    subst (λ (x : Order × ℕ). IsOrderAt sizes line at (keywords.Registers of_registers.Move) x) (ok_is (orders.Move a.0.0.0 a.0.0.1, a.0.1) v a.2) (record { keyword = refl; spelled = p.spelled; fits = (p.left, p.right) })
+registers_ok sizes line at of_registers.Clear v fits h =
+    let a = bind_ok (register_at sizes line at) _ v h in
+    let r = register_ok sizes line at a.0 fits a.1 in
+    subst (λ (x : Order × ℕ). IsOrderAt sizes line at (keywords.Registers of_registers.Clear) x) (ok_is (orders.Clear a.0.0, a.0.1) v a.2) (record { keyword = refl; spelled = r.spelled; fits = r.below })
+registers_ok sizes line at of_registers.Scrub v fits h =
+    let a = bind_ok (register_at sizes line at) _ v h in
+    let r = register_ok sizes line at a.0 fits a.1 in
+    subst (λ (x : Order × ℕ). IsOrderAt sizes line at (keywords.Registers of_registers.Scrub) x) (ok_is (orders.Scrub a.0.0, a.0.1) v a.2) (record { keyword = refl; spelled = r.spelled; fits = r.below })
+
+mixed_ok : (sizes : Sizes) (line : List ℕ) (at : ℕ) (k : Mixed) (v : Order × ℕ) → sizes.registers < 2 ^ 64 → mixed_at sizes line at k ≡ Ok v → IsOrderAt sizes line at (keywords.Mixed k) v
+unfolding mixed_at
+mixed_ok sizes line at mixed.Take v fits h =
     let a = bind_ok (small_at line at) _ v h in
     let n = small_ok line at a.0 a.1 in
-    subst (λ (x : Order × ℕ). IsOrderAt sizes line at keywords.Take x) (ok_is (orders.Take a.0.0, a.0.1) v a.2) (record { keyword = refl; spelled = n.spelled; fits = omega (arith, n.below) })
-operands_ok sizes line at keywords.Give v fits h =
-    subst (λ (x : Order × ℕ). IsOrderAt sizes line at keywords.Give x) (ok_is (orders.Give, at) v h) (record { keyword = refl; spelled = refl; fits = tt })
-operands_ok sizes line at keywords.New v fits h =
-    let a = bind_ok (slot_at sizes line at) _ v h in
-    let s = slot_ok sizes line at a.0 fits a.1 in
-    subst (λ (x : Order × ℕ). IsOrderAt sizes line at keywords.New x) (ok_is (orders.New a.0.0.0 a.0.0.1, a.0.1) v a.2) (record { keyword = refl; spelled = s.spelled; fits = (s.below, s.small) })
-operands_ok sizes line at keywords.Datum v fits h =
-    let a = bind_ok (slot_at sizes line at) _ v h in
-    let s = slot_ok sizes line at a.0 fits a.1 in
-    subst (λ (x : Order × ℕ). IsOrderAt sizes line at keywords.Datum x) (ok_is (orders.Datum a.0.0.0 a.0.0.1, a.0.1) v a.2) (record { keyword = refl; spelled = s.spelled; fits = (s.below, s.small) })
-operands_ok sizes line at keywords.Set v fits h =
+    subst (λ (x : Order × ℕ). IsOrderAt sizes line at (keywords.Mixed mixed.Take) x) (ok_is (orders.Take a.0.0, a.0.1) v a.2) (record { keyword = refl; spelled = n.spelled; fits = omega (arith, n.below) })
+mixed_ok sizes line at mixed.Set v fits h =
     let a = bind_ok (slot_at sizes line at) _ v h in
     let s = slot_ok sizes line at a.0 fits a.1 in
     let b = bind_ok (number_at line a.0.1 0 18446744073709551615) _ v a.2 in
     let n = number_ok line a.0.1 0 18446744073709551615 b.0 (lit< tt) b.1 in
-    subst (λ (x : Order × ℕ). IsOrderAt sizes line at keywords.Set x) (ok_is (orders.Set a.0.0.0 a.0.0.1 b.0.0, b.0.1) v b.2)
+    subst (λ (x : Order × ℕ). IsOrderAt sizes line at (keywords.Mixed mixed.Set) x) (ok_is (orders.Set a.0.0.0 a.0.0.1 b.0.0, b.0.1) v b.2)
     (record { keyword = refl; spelled = s.spelled ∙ ap (λ (t : List (List ℕ)). register_word a.0.0.0 ∷ decimal a.0.0.1 ∷ t) n.spelled; fits = ((s.below, s.small), omega (arith, n.below)) })
-operands_ok sizes line at keywords.Same v fits h =
-    let a = bind_ok (pair_at sizes line at) _ v h in
-    let p = pair_ok sizes line at a.0 fits a.1 in
-    subst (λ (x : Order × ℕ). IsOrderAt sizes line at keywords.Same x) (ok_is (orders.Same a.0.0.0 a.0.0.1, a.0.1) v a.2) (record { keyword = refl; spelled = p.spelled; fits = (p.left, p.right) })
-operands_ok sizes line at keywords.Null v fits h =
-    let a = bind_ok (register_at sizes line at) _ v h in
-    let r = register_ok sizes line at a.0 fits a.1 in
-    subst (λ (x : Order × ℕ). IsOrderAt sizes line at keywords.Null x) (ok_is (orders.Null a.0.0, a.0.1) v a.2) (record { keyword = refl; spelled = r.spelled; fits = r.below })
-operands_ok sizes line at keywords.Move v fits h =
-    let a = bind_ok (pair_at sizes line at) _ v h in
-    let p = pair_ok sizes line at a.0 fits a.1 in
-    subst (λ (x : Order × ℕ). IsOrderAt sizes line at keywords.Move x) (ok_is (orders.Move a.0.0.0 a.0.0.1, a.0.1) v a.2) (record { keyword = refl; spelled = p.spelled; fits = (p.left, p.right) })
-operands_ok sizes line at keywords.Clear v fits h =
-    let a = bind_ok (register_at sizes line at) _ v h in
-    let r = register_ok sizes line at a.0 fits a.1 in
-    subst (λ (x : Order × ℕ). IsOrderAt sizes line at keywords.Clear x) (ok_is (orders.Clear a.0.0, a.0.1) v a.2) (record { keyword = refl; spelled = r.spelled; fits = r.below })
+mixed_ok sizes line at mixed.Store v fits h =
+    let a = bind_ok (slot_at sizes line at) _ v h in
+    let s = slot_ok sizes line at a.0 fits a.1 in
+    let b = bind_ok (register_at sizes line a.0.1) _ v a.2 in
+    let r = register_ok sizes line a.0.1 b.0 fits b.1 in
+    subst (λ (x : Order × ℕ). IsOrderAt sizes line at (keywords.Mixed mixed.Store) x) (ok_is (orders.Store a.0.0.0 a.0.0.1 b.0.0, b.0.1) v b.2)
+    (record { keyword = refl; spelled = s.spelled ∙ ap (λ (t : List (List ℕ)). register_word a.0.0.0 ∷ decimal a.0.0.1 ∷ t) r.spelled; fits = ((s.below, s.small), r.below) })
+mixed_ok sizes line at mixed.StoreGlobal v fits h =
+    let a = bind_ok (small_at line at) _ v h in
+    let n = small_ok line at a.0 a.1 in
+    let b = bind_ok (register_at sizes line a.0.1) _ v a.2 in
+    let r = register_ok sizes line a.0.1 b.0 fits b.1 in
+    subst (λ (x : Order × ℕ). IsOrderAt sizes line at (keywords.Mixed mixed.StoreGlobal) x) (ok_is (orders.StoreGlobal a.0.0 b.0.0, b.0.1) v b.2)
+    (record { keyword = refl; spelled = n.spelled ∙ ap (λ (t : List (List ℕ)). decimal a.0.0 ∷ t) r.spelled; fits = (omega (arith, n.below), r.below) })
+
+operands_ok : (sizes : Sizes) (line : List ℕ) (at : ℕ) (k : Keyword) (v : Order × ℕ) → sizes.registers < 2 ^ 64 → operands_at sizes line at k ≡ Ok v → IsOrderAt sizes line at k v
+unfolding operands_at
+operands_ok sizes line at (keywords.Bare k) v fits h = subst (λ (x : Order × ℕ). IsOrderAt sizes line at (keywords.Bare k) x) (ok_is (bare_order k, at) v h) (bare_ok sizes line at k)
+operands_ok sizes line at (keywords.Registers k) v fits h = registers_ok sizes line at k v fits h
+operands_ok sizes line at (keywords.Slot k) v fits h =
+    let a = bind_ok (slot_at sizes line at) _ v h in
+    let s = slot_order_ok sizes line at k a.0 (slot_ok sizes line at a.0 fits a.1) in
+    subst (λ (x : Order × ℕ). IsOrderAt sizes line at (keywords.Slot k) x) (ok_is (slot_order k a.0.0.0 a.0.0.1, a.0.1) v a.2) s
+operands_ok sizes line at (keywords.Field k) v fits h =
+    let a = bind_ok (field_at sizes line at) _ v h in
+    let f = field_order_ok sizes line at k a.0 (field_ok sizes line at a.0 fits a.1) in
+    subst (λ (x : Order × ℕ). IsOrderAt sizes line at (keywords.Field k) x) (ok_is (field_order k a.0.0.0 a.0.0.1.0 a.0.0.1.1, a.0.1) v a.2) f
+operands_ok sizes line at (keywords.Mixed k) v fits h = mixed_ok sizes line at k v fits h
 
 operands_again : (sizes : Sizes) (line : List ℕ) (at : ℕ) (o : Order) (ws : List (List ℕ)) → sizes.registers < 2 ^ 64 → IsOrder sizes.registers o → words_from line at ≡ operand_words o ++ ws → Reads line (operands_at sizes line at (keyword_of o)) o ws
-unfolding operands_at
+unfolding operands_at registers_at mixed_at
 operands_again sizes line at (orders.Take n) ws fits is h = let a = small_again line at n ws is h in (a.0, rw a.1 refl, a.2)
 operands_again sizes line at orders.Give ws fits is h = (at, refl, h)
 operands_again sizes line at (orders.New target layout) ws fits is h = let a = slot_again sizes line at target layout ws fits is.0 is.1 h in (a.0, rw a.1 refl, a.2)
+operands_again sizes line at (orders.Load target object index) ws fits is h = let a = field_again sizes line at target object index ws fits is.0.0 is.0.1 is.1 h in (a.0, rw a.1 refl, a.2)
+operands_again sizes line at (orders.LoadGlobal target global) ws fits is h = let a = slot_again sizes line at target global ws fits is.0 is.1 h in (a.0, rw a.1 refl, a.2)
+operands_again sizes line at orders.Trap ws fits is h = (at, refl, h)
+operands_again sizes line at orders.Heal ws fits is h = (at, refl, h)
+operands_again sizes line at orders.Finish ws fits is h = (at, refl, h)
+operands_again sizes line at (orders.Store object index source) ws fits is h =
+    let a = slot_again sizes line at object index (register_word source ∷ ws) fits is.0.0 is.0.1 h in
+    let b = register_again sizes line a.0 source ws fits is.1 a.2 in
+    (b.0, rw (a.1, b.1) refl, b.2)
+operands_again sizes line at (orders.StoreGlobal global source) ws fits is h =
+    let a = small_again line at global (register_word source ∷ ws) is.0 h in
+    let b = register_again sizes line a.0 source ws fits is.1 a.2 in
+    (b.0, rw (a.1, b.1) refl, b.2)
 operands_again sizes line at (orders.Datum object index) ws fits is h = let a = slot_again sizes line at object index ws fits is.0 is.1 h in (a.0, rw a.1 refl, a.2)
 operands_again sizes line at (orders.Set object index value) ws fits is h =
     let a = slot_again sizes line at object index (decimal value ∷ ws) fits is.0.0 is.0.1 h in
@@ -190,6 +334,12 @@ operands_again sizes line at (orders.Same left right) ws fits is h = let a = pai
 operands_again sizes line at (orders.Null r) ws fits is h = let a = register_again sizes line at r ws fits is h in (a.0, rw a.1 refl, a.2)
 operands_again sizes line at (orders.Move target source) ws fits is h = let a = pair_again sizes line at target source ws fits is.0 is.1 h in (a.0, rw a.1 refl, a.2)
 operands_again sizes line at (orders.Clear r) ws fits is h = let a = register_again sizes line at r ws fits is h in (a.0, rw a.1 refl, a.2)
+operands_again sizes line at orders.Cross ws fits is h = (at, refl, h)
+operands_again sizes line at (orders.Scrub r) ws fits is h = let a = register_again sizes line at r ws fits is h in (a.0, rw a.1 refl, a.2)
+operands_again sizes line at orders.Park ws fits is h = (at, refl, h)
+operands_again sizes line at orders.Unpark ws fits is h = (at, refl, h)
+operands_again sizes line at (orders.Get target object index) ws fits is h = let a = field_again sizes line at target object index ws fits is.0.0 is.0.1 is.1 h in (a.0, rw a.1 refl, a.2)
+operands_again sizes line at (orders.GetGlobal target global) ws fits is h = let a = slot_again sizes line at target global ws fits is.0 is.1 h in (a.0, rw a.1 refl, a.2)
 
 -- one test of a keyword: the word is its text, or a later test tells
 key_ok : (w text : List ℕ) (this k : Keyword) (rest : Option Keyword) → cond (bytes_eq w text) (Some this) rest ≡ Some k → ((w ≡ text) × (this ≡ k)) ⊎ (rest ≡ Some k)
@@ -202,58 +352,85 @@ key_ok w text this k rest h = chosen (bytes_eq w text) (bytes_eq-Decides w text)
 named_by : (w text : List ℕ) (this k : Keyword) → keyword_text this ≡ text → (w ≡ text) × (this ≡ k) → w ≡ keyword_text k
 named_by w text this k e p = p.0 ∙ sym e ∙ ap keyword_text p.1
 
-keyword_ok : (w : List ℕ) (k : Keyword) → thread_keyword w ≡ Some k → w ≡ keyword_text k
+-- a word is the text of the keyword that this test or a later one tells
+key_or : (w text : List ℕ) (this k : Keyword) (rest : Option Keyword) → keyword_text this ≡ text → (rest ≡ Some k → w ≡ keyword_text k) → cond (bytes_eq w text) (Some this) rest ≡ Some k → w ≡ keyword_text k
+key_or w text this k rest e later h = elim (key_ok w text this k rest h) [ inl p ↦ named_by w text this k e p | inr next ↦ later next ]
+
+mixed_key_ok : (w : List ℕ) (k : Keyword) → mixed_keyword w ≡ Some k → w ≡ keyword_text k
+unfolding mixed_keyword
+mixed_key_ok w k =
+    key_or w (codes "take") (keywords.Mixed mixed.Take) k _ refl
+    (key_or w (codes "set") (keywords.Mixed mixed.Set) k _ refl
+    (key_or w (codes "store") (keywords.Mixed mixed.Store) k _ refl
+    (key_or w (codes "storeg") (keywords.Mixed mixed.StoreGlobal) k _ refl
+    (λ none. absurd cc))))
+
+field_key_ok : (w : List ℕ) (k : Keyword) → field_keyword w ≡ Some k → w ≡ keyword_text k
+unfolding field_keyword
+field_key_ok w k =
+    key_or w (codes "load") (keywords.Field of_field.Load) k _ refl
+    (key_or w (codes "get") (keywords.Field of_field.Get) k _ refl
+    (mixed_key_ok w k))
+
+slot_key_ok : (w : List ℕ) (k : Keyword) → slot_keyword w ≡ Some k → w ≡ keyword_text k
+unfolding slot_keyword
+slot_key_ok w k =
+    key_or w (codes "new") (keywords.Slot of_slot.New) k _ refl
+    (key_or w (codes "datum") (keywords.Slot of_slot.Datum) k _ refl
+    (key_or w (codes "loadg") (keywords.Slot of_slot.LoadGlobal) k _ refl
+    (key_or w (codes "getg") (keywords.Slot of_slot.GetGlobal) k _ refl
+    (field_key_ok w k))))
+
+register_key_ok : (w : List ℕ) (k : Keyword) → register_keyword w ≡ Some k → w ≡ keyword_text k
+unfolding register_keyword
+register_key_ok w k =
+    key_or w (codes "same") (keywords.Registers of_registers.Same) k _ refl
+    (key_or w (codes "null") (keywords.Registers of_registers.Null) k _ refl
+    (key_or w (codes "mov") (keywords.Registers of_registers.Move) k _ refl
+    (key_or w (codes "clear") (keywords.Registers of_registers.Clear) k _ refl
+    (key_or w (codes "scrub") (keywords.Registers of_registers.Scrub) k _ refl
+    (slot_key_ok w k)))))
+
+thread_key_ok : (w : List ℕ) (k : Keyword) → thread_keyword w ≡ Some k → w ≡ keyword_text k
 unfolding thread_keyword
-keyword_ok w k h =
-    elim (key_ok w (codes "take") keywords.Take k _ h) [
-      | inl p ↦ named_by w _ _ k refl p
-      | inr h2 ↦
-          elim (key_ok w (codes "give") keywords.Give k _ h2) [
-            | inl p ↦ named_by w _ _ k refl p
-            | inr h3 ↦
-                elim (key_ok w (codes "new") keywords.New k _ h3) [
-                  | inl p ↦ named_by w _ _ k refl p
-                  | inr h4 ↦
-                      elim (key_ok w (codes "datum") keywords.Datum k _ h4) [
-                        | inl p ↦ named_by w _ _ k refl p
-                        | inr h5 ↦
-                            elim (key_ok w (codes "set") keywords.Set k _ h5) [
-                              | inl p ↦ named_by w _ _ k refl p
-                              | inr h6 ↦
-                                  elim (key_ok w (codes "same") keywords.Same k _ h6) [
-                                    | inl p ↦ named_by w _ _ k refl p
-                                    | inr h7 ↦
-                                        elim (key_ok w (codes "null") keywords.Null k _ h7) [
-                                          | inl p ↦ named_by w _ _ k refl p
-                                          | inr h8 ↦
-                                              elim (key_ok w (codes "mov") keywords.Move k _ h8) [
-                                                | inl p ↦ named_by w _ _ k refl p
-                                                | inr h9 ↦
-                                                    elim (key_ok w (codes "clear") keywords.Clear k _ h9) [ inl p ↦ named_by w _ _ k refl p | inr h10 ↦ absurd cc ]
-                                              ]
-                                        ]
-                                  ]
-                            ]
-                      ]
-                ]
-          ]
-    ]
+thread_key_ok w k =
+    key_or w (codes "give") (keywords.Bare bare.Give) k _ refl
+    (key_or w (codes "trap") (keywords.Bare bare.Trap) k _ refl
+    (key_or w (codes "heal") (keywords.Bare bare.Heal) k _ refl
+    (key_or w (codes "finish") (keywords.Bare bare.Finish) k _ refl
+    (key_or w (codes "cross") (keywords.Bare bare.Cross) k _ refl
+    (key_or w (codes "park") (keywords.Bare bare.Park) k _ refl
+    (key_or w (codes "unpark") (keywords.Bare bare.Unpark) k _ refl
+    (register_key_ok w k)))))))
 
 keyword_again : (k : Keyword) → thread_keyword (keyword_text k) ≡ Some k
-unfolding thread_keyword
-keyword_again keywords.Take = refl
-keyword_again keywords.Give = refl
-keyword_again keywords.New = refl
-keyword_again keywords.Datum = refl
-keyword_again keywords.Set = refl
-keyword_again keywords.Same = refl
-keyword_again keywords.Null = refl
-keyword_again keywords.Move = refl
-keyword_again keywords.Clear = refl
+unfolding thread_keyword register_keyword slot_keyword field_keyword mixed_keyword
+keyword_again (keywords.Mixed mixed.Take) = refl
+keyword_again (keywords.Bare bare.Give) = refl
+keyword_again (keywords.Slot of_slot.New) = refl
+keyword_again (keywords.Field of_field.Load) = refl
+keyword_again (keywords.Slot of_slot.LoadGlobal) = refl
+keyword_again (keywords.Bare bare.Trap) = refl
+keyword_again (keywords.Bare bare.Heal) = refl
+keyword_again (keywords.Bare bare.Finish) = refl
+keyword_again (keywords.Mixed mixed.Store) = refl
+keyword_again (keywords.Mixed mixed.StoreGlobal) = refl
+keyword_again (keywords.Slot of_slot.Datum) = refl
+keyword_again (keywords.Mixed mixed.Set) = refl
+keyword_again (keywords.Registers of_registers.Same) = refl
+keyword_again (keywords.Registers of_registers.Null) = refl
+keyword_again (keywords.Registers of_registers.Move) = refl
+keyword_again (keywords.Registers of_registers.Clear) = refl
+keyword_again (keywords.Bare bare.Cross) = refl
+keyword_again (keywords.Registers of_registers.Scrub) = refl
+keyword_again (keywords.Bare bare.Park) = refl
+keyword_again (keywords.Bare bare.Unpark) = refl
+keyword_again (keywords.Field of_field.Get) = refl
+keyword_again (keywords.Slot of_slot.GetGlobal) = refl
 
 -- who may give the keyword's order
 actor_keyword : (actor : Actor) (w : List ℕ) (k : Keyword) (o : Order) → keyword_in actor w ≡ Some k → IsFor actor o × (w ≡ keyword_text k)
-actor_keyword (Thread t) w k o h = (tt, keyword_ok w k h)
+actor_keyword (Thread t) w k o h = (tt, thread_key_ok w k h)
 actor_keyword (Worker t) w k o h = absurd cc
 
 -- an order's name, its operands, and no more words

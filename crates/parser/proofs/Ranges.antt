@@ -9,7 +9,6 @@ use Rattle.model.specs.declared.config.ConfigFault.{ConfigFault}
 use Rattle.model.specs.Configs.{is_page_size, is_outside, fits_page, first_fault, IsConfig}
 use Rattle.parser.specs.declared.heading.Sizes.{Sizes}
 use Rattle.parser.specs.Headings.{config_of}
-use Rattle.parser.specs.Spelling.{IsOffered}
 use Rattle.parser.proofs.HeapLines.{IsSizes}
 
 -- the sizes in a configuration
@@ -28,9 +27,9 @@ inside n low high a b = grind (arith, nat_tests)
 pub config_in_range : (s : Sizes) (ls : List Layout) → IsSizes s → AreLayouts s.words ls → IsConfig (config_of s ls)
 unfolding first_fault
 config_in_range s ls r l =
-    let frames = inside s.frames 1 4096 r.frames (omega (arith, r.frames_most)) in
-    let pages = inside s.pages s.frames 65535 r.pages (omega (arith, r.pages_most)) in
-    let threads = inside s.threads 1 64 r.threads (omega (arith, r.threads_most)) in
+    let frames = inside s.frames 1 4096 r.frames r.frames_most in
+    let pages = inside s.pages s.frames 65535 r.pages r.pages_most in
+    let threads = inside s.threads 1 64 r.threads r.threads_most in
     let workers = inside s.workers 1 16 r.workers r.workers_most in
     let registers = inside s.registers 1 16 r.registers r.registers_most in
     let globals = inside s.globals 0 64 (omega arith) r.globals_most in
@@ -59,9 +58,9 @@ pub record IsInRange (c : Config) : Type 0 where
   pub sizes : IsSizes (sizes_in c)
   pub layouts : AreLayouts c.words c.layouts
 
-pub config_tells : (c : Config) → IsConfig c → IsOffered c → IsInRange c
+pub config_tells : (c : Config) → IsConfig c → IsInRange c
 unfolding first_fault
-config_tells c h o =
+config_tells c h =
     let w = no_fault (not (is_page_size c.words)) _ _ h in
     let f = no_fault (is_outside c.frames 1 4096) _ _ w.1 in
     let p = no_fault (is_outside c.pages c.frames 65535) _ _ f.1 in
@@ -86,11 +85,11 @@ config_tells c h o =
       sizes = record {
         words = not_false (is_page_size c.words) w.0;
         frames = frames.0;
-        frames_most = o.frames;
+        frames_most = frames.1;
         pages = pages.0;
-        pages_most = o.pages;
+        pages_most = pages.1;
         threads = threads.0;
-        threads_most = o.threads;
+        threads_most = threads.1;
         workers = workers.0;
         workers_most = workers.1;
         registers = registers.0;

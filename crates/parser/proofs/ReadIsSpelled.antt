@@ -1,13 +1,14 @@
 -- What is read is a script that all limits allow, and is spelled by the bytes.
-use Rattle.std.proofs.Common.{◌≡◌, ℕ, ◌+◌, ◌<◌, ◌≤◌, Bool, true, false, cond, nat_lt, List, [], ◌∷◌, ◌++◌, length, Option, Some, None, refl, sym, ap, subst, ◌∙◌, arith, inl, inr, append-nil, append_assoc, length-append}
-use Rattle.std.specs.Prelude.{Result, Ok, Err, ◌==◌, ◌&&◌, nat_le, codes, ◌⊎◌, map, filter}
+use Rattle.std.proofs.Common.{◌≡◌, ℕ, ◌+◌, ◌<◌, ◌≤◌, Bool, true, false, cond, nat_lt, ◌*◌, List, [], ◌∷◌, ◌++◌, length, Option, Some, None, refl, sym, ap, subst, ◌∙◌, arith, inl, inr, lit<, append-nil, append_assoc, length-append}
+use Rattle.std.specs.Prelude.{Result, Ok, Err, ◌==◌, ◌&&◌, not, codes, ◌⊎◌, map, filter}
 use Rattle.std.specs.Str.{bytes_eq}
-use Rattle.std.specs.List.{AllByRecursion, list_all, slice_split, join_with_byte}
+use Rattle.std.specs.Fmt.{decimal}
+use Rattle.std.specs.List.{AllByRecursion, list_all, slice_split, join_with_byte, flat_map, repeat}
 use Rattle.std.proofs.lemmas.List.{map-append}
 use Rattle.std.proofs.lemmas.List.Folds.{list_all-append}
 use Rattle.std.proofs.lemmas.List.Splits.{join_with_byte-slice_split}
 use Rattle.std.proofs.lemmas.Slice.Eq.{bytes_eq-Decides}
-use Rattle.std.proofs.lemmas.Bool.{ltb-true}
+use Rattle.std.proofs.lemmas.Bool.{ltb-true, ltb-false}
 use Rattle.std.proofs.lemmas.Bool.Decides.{nat_tests}
 use Rattle.layout.specs.declared.shape.Layout.{Layout}
 use Rattle.model.specs.Configs.{fits_page}
@@ -16,18 +17,19 @@ use Rattle.parser.specs.declared.fault.Flaw.{Flaw}
 use Rattle.parser.specs.declared.fault.LineFault.{LineFault}
 use Rattle.parser.specs.declared.heading.Sizes.{Sizes}
 use Rattle.parser.specs.declared.order.Command.{Command}
-use Rattle.parser.specs.declared.reading.TheConstants.{MOST_COMMANDS, MOST_LAYOUTS}
-use Rattle.parser.specs.Words.{word_at}
+use Rattle.parser.specs.declared.reading.TheConstants.{MOST_COMMANDS, MOST_LAYOUTS, MOST_TURNS}
+use Rattle.parser.specs.Words.{word_at, number_at, end_at}
 use Rattle.parser.specs.Headings.{config_of, heap_in, layout_in}
 use Rattle.parser.specs.Orders.{actor_at, order_at}
-use Rattle.parser.specs.Reading.{ScriptValue, script_of, ReadSoFar, nothing, newline, is_idle, first_word_in, first_word, heap_line, layout_line, command_line, later_line, line_after, line_in, in_line, goes_on, fault_at_start, whole, finished, last_line, lines_in, script_in}
-use Rattle.parser.specs.Spelling.{line_of, actor_word, order_words, command_line_of, layout_line_of, SpellsHeap, says_something, Spells, IsLayout, IsCommand, IsScript}
+use Rattle.parser.specs.Reading.{ScriptValue, script_of, ReadSoFar, nothing, newline, is_idle, first_word_in, first_word, heap_line, layout_line, is_full, with_command, command_line, times_in, times_line, end_in, end_line, part_line, later_line, line_after, line_in, in_line, goes_on, fault_at_start, closed, whole, finished, last_line, lines_in, script_in}
+use Rattle.parser.specs.Spelling.{line_of, actor_word, order_words, command_line_of, layout_line_of, Part, One, Times, times_line_of, part_lines, part_commands, IsPart, SpellsHeap, says_something, Spells, IsLayout, IsCommand, IsScript}
 use Rattle.parser.proofs.Splitting.{split_cons}
 use Rattle.parser.proofs.Places.{words_from, word_is, no_word_is, words_whole}
-use Rattle.parser.proofs.Pieces.{bind_ok, guard_ok, test_ok, ok_is}
+use Rattle.parser.proofs.Pieces.{bind_ok, guard_ok, test_ok, ok_is, number_ok, end_ok}
 use Rattle.parser.proofs.Operands.{AreFew, order_ok, actor_ok, line_is}
 use Rattle.parser.proofs.HeapLines.{IsSizes, heap_ok, layout_ok}
 use Rattle.parser.proofs.Ranges.{AreLayouts, config_in_range}
+use Rattle.parser.proofs.Parts.{open_lines, HasTurns, say_one, say_inside, say_times, say_end, more_commands, all_both, all_repeated, repeated_length}
 use Rattle.parser.proofs.Lists.{all_push, all_front, told, filter_told, joined_lines, split_lines, all_from, lines_from, HasNoNewlines}
 
 -- ---- the first word
@@ -48,18 +50,29 @@ line_by_words line w ws first rest =
 
 -- ---- what was read so far
 
+-- before a command or a block has begun there is none
+record IsFresh (r : ReadSoFar) (parts : List Part) : Type 0 where
+  no_parts : parts ≡ []
+  no_block : r.turns ≡ None
+
 -- behind the heap line: the lines that said something spell what was read, and it is in range
 record IsBehind (said : List (List ℕ)) (r : ReadSoFar) : Type 0 where
   sizes : Sizes
   sizes_is : r.sizes ≡ Some sizes
   heap : List ℕ
   heap_spelled : SpellsHeap heap (config_of sizes [])
-  said_is : said ≡ heap ∷ map layout_line_of r.layouts ++ map command_line_of r.commands
+  parts : List Part
+  said_is : said ≡ (heap ∷ map layout_line_of r.layouts) ++ (flat_map part_lines parts ++ open_lines r.turns r.body)
+  commands_are : r.commands ≡ flat_map part_commands parts
+  turns : AllByRecursion IsPart parts
+  block_turns : HasTurns r.turns
+  fresh : r.begun ≡ false → IsFresh r parts
   range : IsSizes sizes
   layouts : AllByRecursion IsLayout r.layouts
   room : list_all (fits_page sizes.words) r.layouts ≡ true
   few : length r.layouts ≤ 64
   commands : AllByRecursion (IsCommand (config_of sizes [])) r.commands
+  body : AllByRecursion (IsCommand (config_of sizes [])) r.body
   count : length r.commands ≤ MOST_COMMANDS
 
 -- before the heap line nothing was said
@@ -85,23 +98,26 @@ heap_step line t h =
       sizes_is = refl;
       heap = line;
       heap_spelled = record { births = sizes.births; history = sizes.history; births_spelled = sizes.births_spelled; history_spelled = sizes.history_spelled; line_is = line_by_words line (codes "heap") _ first sizes.spelled };
+      parts = [];
       said_is = refl;
+      commands_are = refl;
+      turns = tt;
+      block_turns = tt;
+      fresh = λ _. record { no_parts = refl; no_block = refl };
       range = sizes.range;
       layouts = tt;
       room = refl;
       few = omega arith;
       commands = tt;
+      body = tt;
       count = omega arith;
     })
 
-add_layout : (heap : List ℕ) (ls : List Layout) (l : Layout) (said : List (List ℕ)) (line : List ℕ) (cs : List Command) → cs ≡ [] → line ≡ layout_line_of l → said ≡ heap ∷ map layout_line_of ls ++ map command_line_of cs →
-    said ++ line ∷ [] ≡ heap ∷ map layout_line_of (ls ++ l ∷ []) ++ map command_line_of cs
-add_layout heap ls l said line cs none is h =
-    rw (h, none, is, append-nil (map layout_line_of ls), append-nil (map layout_line_of (ls ++ l ∷ [])), map-append layout_line_of ls (l ∷ [])) refl
-
-add_command : (front : List (List ℕ)) (c : Command) (said : List (List ℕ)) (line : List ℕ) (cs : List Command) → line ≡ command_line_of c → said ≡ front ++ map command_line_of cs →
-    said ++ line ∷ [] ≡ front ++ map command_line_of (cs ++ c ∷ [])
-add_command front c said line cs is h = rw (h, is, map-append command_line_of cs (c ∷ [])) (append_assoc front (map command_line_of cs) (command_line_of c ∷ []))
+add_layout : (heap : List ℕ) (ls : List Layout) (l : Layout) (said : List (List ℕ)) (line : List ℕ) (parts : List Part) (o : Option ℕ) (body : List Command) → parts ≡ [] → o ≡ None → line ≡ layout_line_of l →
+    said ≡ (heap ∷ map layout_line_of ls) ++ (flat_map part_lines parts ++ open_lines o body) →
+    said ++ line ∷ [] ≡ (heap ∷ map layout_line_of (ls ++ l ∷ [])) ++ (flat_map part_lines parts ++ open_lines o body)
+add_layout heap ls l said line parts o body none no_block is h =
+    rw (h, none, no_block, is, append-nil (map layout_line_of ls), append-nil (map layout_line_of (ls ++ l ∷ [])), map-append layout_line_of ls (l ∷ [])) refl
 
 both_true : (a b : Bool) → (a && b) ≡ true → (a ≡ true) × (b ≡ true)
 both_true true b h = (refl, h)
@@ -112,9 +128,10 @@ room_more words ls l h room =
     let fits : fits_page words l ≡ true = grind (arith, nat_tests) in
     list_all-append (fits_page words) ls (l ∷ []) ∙ (rw (h, fits) refl)
 
-layout_step : (said : List (List ℕ)) (r t : ReadSoFar) (b : IsBehind said r) (line : List ℕ) → (first_word line).0 ≡ codes "layout" → r.commands ≡ [] → length r.layouts < MOST_LAYOUTS → layout_line r b.sizes line ≡ Ok t → IsBehind (said ++ line ∷ []) t
+layout_step : (said : List (List ℕ)) (r t : ReadSoFar) (b : IsBehind said r) (line : List ℕ) → (first_word line).0 ≡ codes "layout" → r.begun ≡ false → length r.layouts < MOST_LAYOUTS → layout_line r b.sizes line ≡ Ok t → IsBehind (said ++ line ∷ []) t
 unfolding layout_line
-layout_step said r t b line first none few h =
+layout_step said r t b line first not_begun few h =
+    let fresh = b.fresh not_begun in
     let l = bind_ok (layout_in b.sizes line (first_word line).1) _ t h in
     let layout = layout_ok b.sizes line (first_word line).1 l.0 l.1 in
     let line_is_layout : line ≡ layout_line_of l.0 = line_by_words line (codes "layout") _ first layout.spelled in
@@ -123,64 +140,174 @@ layout_step said r t b line first none few h =
       sizes_is = b.sizes_is;
       heap = b.heap;
       heap_spelled = b.heap_spelled;
-      said_is = add_layout b.heap r.layouts l.0 said line r.commands none line_is_layout b.said_is;
+      parts = b.parts;
+      said_is = add_layout b.heap r.layouts l.0 said line b.parts r.turns r.body fresh.no_parts fresh.no_block line_is_layout b.said_is;
+      commands_are = b.commands_are;
+      turns = b.turns;
+      block_turns = b.block_turns;
+      fresh = λ _. record { no_parts = fresh.no_parts; no_block = fresh.no_block };
       range = b.range;
       layouts = all_push IsLayout r.layouts l.0 b.layouts layout.is;
       room = room_more b.sizes.words r.layouts l.0 b.room layout.room;
       few = omega (arith, length-append r.layouts (l.0 ∷ []));
       commands = b.commands;
+      body = b.body;
       count = b.count;
     })
+
+-- ---- commands and blocks
+
+command_behind : (said : List (List ℕ)) (r : ReadSoFar) (b : IsBehind said r) (c : Command) (line : List ℕ) → line ≡ command_line_of c → IsCommand (config_of b.sizes []) c → (o : Option ℕ) → r.turns ≡ o → is_full o r.commands ≡ false → IsBehind (said ++ line ∷ []) (with_command r o c)
+command_behind said r b c line is own None none room =
+    let fits : length r.commands < MOST_COMMANDS = grind (arith, nat_tests) in
+    record {
+      sizes = b.sizes;
+      sizes_is = b.sizes_is;
+      heap = b.heap;
+      heap_spelled = b.heap_spelled;
+      parts = b.parts ++ One c ∷ [];
+      said_is = say_one (b.heap ∷ map layout_line_of r.layouts) b.parts c said line r.turns r.body none is b.said_is;
+      commands_are = more_commands b.parts (One c) r.commands b.commands_are;
+      turns = all_push IsPart b.parts (One c) b.turns tt;
+      block_turns = b.block_turns;
+      fresh = λ e. absurd cc;
+      range = b.range;
+      layouts = b.layouts;
+      room = b.room;
+      few = b.few;
+      commands = all_push (IsCommand (config_of b.sizes [])) r.commands c b.commands own;
+      body = b.body;
+      count = omega (arith, length-append r.commands (c ∷ []));
+    }
+command_behind said r b c line is own (Some turns) some room = record {
+  sizes = b.sizes;
+  sizes_is = b.sizes_is;
+  heap = b.heap;
+  heap_spelled = b.heap_spelled;
+  parts = b.parts;
+  said_is = say_inside (b.heap ∷ map layout_line_of r.layouts) b.parts turns c said line r.turns r.body some is b.said_is;
+  commands_are = b.commands_are;
+  turns = b.turns;
+  block_turns = b.block_turns;
+  fresh = λ e. let none = (b.fresh e).no_block in absurd cc;
+  range = b.range;
+  layouts = b.layouts;
+  room = b.room;
+  few = b.few;
+  commands = b.commands;
+  body = all_push (IsCommand (config_of b.sizes [])) r.body c b.body own;
+  count = b.count;
+}
 
 command_step : (said : List (List ℕ)) (r t : ReadSoFar) (b : IsBehind said r) (line : List ℕ) → command_line r b.sizes line ≡ Ok t → IsBehind (said ++ line ∷ []) t
 unfolding command_line
 command_step said r t b line h =
     let few = few_actors b.sizes b.range in
     let a = bind_ok (actor_at b.sizes line) _ t h in
-    let g = guard_ok (nat_le MOST_COMMANDS (length r.commands)) _ _ t a.2 in
+    let g = guard_ok (is_full r.turns r.commands) _ _ t a.2 in
     let o = bind_ok (order_at b.sizes line a.0.0 a.0.1) _ t g.1 in
     let actor = actor_ok b.sizes line a.0 few a.1 in
     let order = order_ok b.sizes line a.0.0 a.0.1 o.0 few.registers o.1 in
     let command : Command = record { actor = a.0.0; order = o.0 } in
     let line_is_command : line ≡ command_line_of command = line_is line (actor_word a.0.0 ∷ order_words o.0) (actor.spelled ∙ ap (λ (t : List (List ℕ)). actor_word a.0.0 ∷ t) order.spelled) in
-    let below = g.0 in
-    let room : length r.commands < MOST_COMMANDS = grind (arith, nat_tests) in
-    subst (λ (x : ReadSoFar). IsBehind (said ++ line ∷ []) x) (ok_is (record r { commands = r.commands ++ command ∷ [] }) t o.2) (record {
+    let own : IsCommand (config_of b.sizes []) command = record { actor = actor.there; own = order.own; order = order.fits } in
+    subst (λ (x : ReadSoFar). IsBehind (said ++ line ∷ []) x) (ok_is (with_command r r.turns command) t o.2) (command_behind said r b command line line_is_command own r.turns refl g.0)
+
+times_behind : (said : List (List ℕ)) (r t : ReadSoFar) (b : IsBehind said r) (line : List ℕ) → (first_word line).0 ≡ codes "times" → (o : Option ℕ) → r.turns ≡ o → times_in r o line ≡ Ok t → IsBehind (said ++ line ∷ []) t
+times_behind said r t b line first (Some turns) some h = absurd cc
+times_behind said r t b line first None none h =
+    let n = bind_ok (number_at line (first_word line).1 1 MOST_TURNS) _ t h in
+    let e = bind_ok (end_at line n.0.1) _ t n.2 in
+    let number = number_ok line (first_word line).1 1 MOST_TURNS n.0 (lit< tt) n.1 in
+    let last = end_ok line n.0.1 e.0 e.1 in
+    let line_is_times : line ≡ times_line_of n.0.0 = line_by_words line (codes "times") _ first (number.spelled ∙ ap (λ (x : List (List ℕ)). decimal n.0.0 ∷ x) last) in
+    subst (λ (x : ReadSoFar). IsBehind (said ++ line ∷ []) x) (ok_is (record r { begun = true; turns = Some n.0.0; body = [] }) t e.2) (record {
       sizes = b.sizes;
       sizes_is = b.sizes_is;
       heap = b.heap;
       heap_spelled = b.heap_spelled;
-      said_is = add_command (b.heap ∷ map layout_line_of r.layouts) command said line r.commands line_is_command b.said_is;
+      parts = b.parts;
+      said_is = say_times (b.heap ∷ map layout_line_of r.layouts) b.parts n.0.0 said line r.turns r.body none line_is_times b.said_is;
+      commands_are = b.commands_are;
+      turns = b.turns;
+      block_turns = (number.above, number.below);
+      fresh = λ f. absurd cc;
       range = b.range;
       layouts = b.layouts;
       room = b.room;
       few = b.few;
-      commands = all_push (IsCommand (config_of b.sizes [])) r.commands command b.commands (record { actor = actor.there; own = order.own; order = order.fits });
-      count = omega (arith, length-append r.commands (command ∷ []));
+      commands = b.commands;
+      body = tt;
+      count = b.count;
     })
+
+times_step : (said : List (List ℕ)) (r t : ReadSoFar) (b : IsBehind said r) (line : List ℕ) → (first_word line).0 ≡ codes "times" → times_line r line ≡ Ok t → IsBehind (said ++ line ∷ []) t
+unfolding times_line
+times_step said r t b line first h = times_behind said r t b line first r.turns refl h
+
+end_behind : (said : List (List ℕ)) (r t : ReadSoFar) (b : IsBehind said r) (line : List ℕ) → (first_word line).0 ≡ codes "end" → (o : Option ℕ) → r.turns ≡ o → end_in r o line ≡ Ok t → IsBehind (said ++ line ∷ []) t
+end_behind said r t b line first None none h = absurd cc
+end_behind said r t b line first (Some turns) some h =
+    let g = guard_ok (nat_lt MOST_COMMANDS (length r.commands + turns * length r.body)) _ _ t h in
+    let e = bind_ok (end_at line (first_word line).1) _ t g.1 in
+    let last = end_ok line (first_word line).1 e.0 e.1 in
+    let line_is_end : line ≡ codes "end" = line_by_words line (codes "end") _ first last in
+    let has : HasTurns (Some turns) = subst HasTurns some b.block_turns in
+    let fits : length r.commands + turns * length r.body ≤ MOST_COMMANDS = ltb-false MOST_COMMANDS (length r.commands + turns * length r.body) g.0 in
+    subst (λ (x : ReadSoFar). IsBehind (said ++ line ∷ []) x) (ok_is (record r { commands = r.commands ++ repeat turns r.body; turns = None; body = [] }) t e.2) (record {
+      sizes = b.sizes;
+      sizes_is = b.sizes_is;
+      heap = b.heap;
+      heap_spelled = b.heap_spelled;
+      parts = b.parts ++ Times turns r.body ∷ [];
+      said_is = say_end (b.heap ∷ map layout_line_of r.layouts) b.parts turns said line r.turns r.body some line_is_end b.said_is;
+      commands_are = more_commands b.parts (Times turns r.body) r.commands b.commands_are;
+      turns = all_push IsPart b.parts (Times turns r.body) b.turns has;
+      block_turns = tt;
+      fresh = λ f. let none = (b.fresh f).no_block in absurd cc;
+      range = b.range;
+      layouts = b.layouts;
+      room = b.room;
+      few = b.few;
+      commands = all_both (IsCommand (config_of b.sizes [])) r.commands (repeat turns r.body) b.commands (all_repeated (IsCommand (config_of b.sizes [])) turns r.body b.body);
+      body = tt;
+      count = omega (arith, length-append r.commands (repeat turns r.body), repeated_length turns r.body, fits);
+    })
+
+end_step : (said : List (List ℕ)) (r t : ReadSoFar) (b : IsBehind said r) (line : List ℕ) → (first_word line).0 ≡ codes "end" → end_line r line ≡ Ok t → IsBehind (said ++ line ∷ []) t
+unfolding end_line
+end_step said r t b line first h = end_behind said r t b line first r.turns refl h
 
 one_of : {A : Type 0} (b : Bool) (x y : Result A Flaw) (z : A) → cond b x y ≡ Ok z → ((b ≡ true) × (x ≡ Ok z)) ⊎ ((b ≡ false) × (y ≡ Ok z))
 one_of true x y z h = inl (refl, h)
 one_of false x y z h = inr (refl, h)
 
-no_length : {A : Type 0} (xs : List A) → (length xs == 0) ≡ true → xs ≡ []
-no_length [] h = refl
-no_length (x ∷ xs) h = absurd (grind (arith, nat_tests))
+part_step : (said : List (List ℕ)) (r t : ReadSoFar) (b : IsBehind said r) (line : List ℕ) → part_line r b.sizes line ≡ Ok t → IsBehind (said ++ line ∷ []) t
+unfolding part_line
+part_step said r t b line h =
+    elim (one_of (bytes_eq (first_word line).0 (codes "times")) _ _ t h) [
+      | inl p ↦ times_step said r t b line ((bytes_eq-Decides (first_word line).0 (codes "times")).0 p.0) p.1
+      | inr p ↦
+          elim (one_of (bytes_eq (first_word line).0 (codes "end")) _ _ t p.1) [
+            | inl q ↦ end_step said r t b line ((bytes_eq-Decides (first_word line).0 (codes "end")).0 q.0) q.1
+            | inr q ↦ command_step said r t b line q.1
+          ]
+    ]
+
+not_true : (a : Bool) → not a ≡ true → a ≡ false
+not_true true h = absurd cc
+not_true false h = refl
 
 later_step : (said : List (List ℕ)) (r t : ReadSoFar) (b : IsBehind said r) (line : List ℕ) → later_line r b.sizes line ≡ Ok t → IsBehind (said ++ line ∷ []) t
 unfolding later_line
 later_step said r t b line h =
-    elim (one_of (bytes_eq (first_word line).0 (codes "layout") && (length r.commands == 0) && nat_lt (length r.layouts) MOST_LAYOUTS) _ _ t h) [
+    elim (one_of (bytes_eq (first_word line).0 (codes "layout") && not r.begun && nat_lt (length r.layouts) MOST_LAYOUTS) _ _ t h) [
       | inl p ↦
-          let most = both_true (bytes_eq (first_word line).0 (codes "layout") && (length r.commands == 0)) (nat_lt (length r.layouts) MOST_LAYOUTS) p.0 in
-          let first = both_true (bytes_eq (first_word line).0 (codes "layout")) (length r.commands == 0) most.0 in
-          let below = most.1 in
-          let few : length r.layouts < MOST_LAYOUTS = ltb-true (length r.layouts) MOST_LAYOUTS below in
-          layout_step said r t b line ((bytes_eq-Decides (first_word line).0 (codes "layout")).0 first.0) (no_length r.commands first.1) few p.1
-      | inr p ↦
-          let g = guard_ok (length r.layouts == 0) _ _ t p.1 in
-          let e = guard_ok (bytes_eq (first_word line).0 (codes "end")) _ _ t g.1 in
-          command_step said r t b line e.1
+          let most = both_true (bytes_eq (first_word line).0 (codes "layout") && not r.begun) (nat_lt (length r.layouts) MOST_LAYOUTS) p.0 in
+          let first = both_true (bytes_eq (first_word line).0 (codes "layout")) (not r.begun) most.0 in
+          let few : length r.layouts < MOST_LAYOUTS = ltb-true (length r.layouts) MOST_LAYOUTS most.1 in
+          layout_step said r t b line ((bytes_eq-Decides (first_word line).0 (codes "layout")).0 first.0) (not_true r.begun first.1) few p.1
+      | inr p ↦ let g = guard_ok (length r.layouts == 0) _ _ t p.1 in part_step said r t b line g.1
     ]
 
 -- ---- a line, and the lines
@@ -206,18 +333,28 @@ record IsTold (said : List (List ℕ)) (s : ScriptValue) : Type 0 where
   script : IsScript s
   heap : List ℕ
   heap_spelled : SpellsHeap heap s.config
-  said_is : said ≡ heap ∷ map layout_line_of s.config.layouts ++ map command_line_of s.commands
+  parts : List Part
+  turns : AllByRecursion IsPart parts
+  commands_are : s.commands ≡ flat_map part_commands parts
+  said_is : said ≡ heap ∷ map layout_line_of s.config.layouts ++ flat_map part_lines parts
 
 commands_with : (s : Sizes) (ls : List Layout) (cs : List Command) → AllByRecursion (IsCommand (config_of s [])) cs → AllByRecursion (IsCommand (config_of s ls)) cs
 commands_with s ls [] h = tt
 commands_with s ls (c ∷ cs) h = (record { actor = h.0.actor; own = h.0.own; order = h.0.order }, commands_with s ls cs h.1)
 
-guard_line : {A : Type 0} (b : Bool) (d : LineFault) (x y : A) → cond b (Err d) (Ok x) ≡ Ok y → (b ≡ false) × (x ≡ y)
+guard_line : {A : Type 0} (b : Bool) (d : LineFault) (x : Result A LineFault) (y : A) → cond b (Err d) x ≡ Ok y → (b ≡ false) × (x ≡ Ok y)
 guard_line true d x y e = absurd cc
-guard_line false d x y e = (refl, cc)
+guard_line false d x y e = (refl, e)
 
 some_layouts : (ls : List Layout) → (length ls == 0) ≡ false → 1 ≤ length ls
 some_layouts ls h = grind (arith, nat_tests)
+
+closed_ok : (n : ℕ) (r : ReadSoFar) (z : Sizes) (o : Option ℕ) (s : ScriptValue) → closed n r z o ≡ Ok s → (o ≡ None) × (script_of (config_of z r.layouts) r.commands ≡ s)
+closed_ok n r z None s h = (refl, cc)
+closed_ok n r z (Some turns) s h = absurd cc
+
+all_said : (front lines said : List (List ℕ)) (o : Option ℕ) (body : List Command) → o ≡ None → said ≡ front ++ (lines ++ open_lines o body) → said ≡ front ++ lines
+all_said front lines said o body none h = h ∙ ap (λ (x : List (List ℕ)). front ++ x) (rw none (append-nil lines))
 
 finished_ok : (n : ℕ) (said : List (List ℕ)) (r : ReadSoFar) (s : ScriptValue) → Said said r → finished n r ≡ Ok s → IsTold said s
 unfolding finished
@@ -225,19 +362,22 @@ finished_ok n said r s (inl before) h =
     let e : whole n nothing None ≡ Ok s = subst (λ (x : ReadSoFar). whole n x x.sizes ≡ Ok s) before.is h in absurd cc
 finished_ok n said r s (inr b) h =
     let e : whole n r (Some b.sizes) ≡ Ok s = subst (λ (o : Option Sizes). whole n r o ≡ Ok s) b.sizes_is h in
-    let g = guard_line (length r.layouts == 0) (fault_at_start n kinds.LayoutLineExpected) (script_of (config_of b.sizes r.layouts) r.commands) s e in
+    let g = guard_line (length r.layouts == 0) (fault_at_start n kinds.LayoutLineExpected) (closed n r b.sizes r.turns) s e in
+    let c = closed_ok n r b.sizes r.turns s g.1 in
     let layouts : AreLayouts b.sizes.words r.layouts = record { some = some_layouts r.layouts g.0; few = b.few; room = b.room } in
-    subst (λ (x : ScriptValue). IsTold said x) g.1 (record {
+    subst (λ (x : ScriptValue). IsTold said x) c.1 (record {
       script = record {
         config = config_in_range b.sizes r.layouts b.range layouts;
-        offered = record { frames = b.range.frames_most; pages = b.range.pages_most; threads = b.range.threads_most };
         layouts = all_from IsLayout r.layouts b.layouts;
         commands = all_from (IsCommand (config_of b.sizes r.layouts)) r.commands (commands_with b.sizes r.layouts r.commands b.commands);
         count = b.count;
       };
       heap = b.heap;
       heap_spelled = record { births = b.heap_spelled.births; history = b.heap_spelled.history; births_spelled = b.heap_spelled.births_spelled; history_spelled = b.heap_spelled.history_spelled; line_is = b.heap_spelled.line_is };
-      said_is = b.said_is;
+      parts = b.parts;
+      turns = b.turns;
+      commands_are = b.commands_are;
+      said_is = all_said (b.heap ∷ map layout_line_of r.layouts) (flat_map part_lines b.parts) said r.turns r.body c.0 b.said_is;
     })
 
 -- the lines of what is left, and what they say behind what was said
@@ -293,6 +433,9 @@ parts_ok bytes parts s e h =
         bytes_are = sym (join_with_byte-slice_split 10 bytes) ∙ ap (join_with_byte 10) whole_split ∙ joined_lines h.lines;
         heap = h.all_told.heap;
         heap_spelled = h.all_told.heap_spelled;
+        parts = h.all_told.parts;
+        turns = all_from IsPart h.all_told.parts h.all_told.turns;
+        commands_are = h.all_told.commands_are;
         said = h.all_told.said_is;
       };
     }

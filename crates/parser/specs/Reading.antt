@@ -1,7 +1,7 @@
 -- A script from its first line to its last.
-use Rattle.std.specs.Prelude.{◌≡◌, ℕ, ◌+◌, ◌==◌, ◌&&◌, Bool, true, List, [], ◌∷◌, ◌++◌, length, take, drop, Option, Some, None, Result, Ok, Err, nat_lt, nat_le, if◌then◌else◌, codes, position}
+use Rattle.std.specs.Prelude.{◌≡◌, ℕ, ◌+◌, ◌*◌, ◌==◌, ◌&&◌, not, Bool, true, false, List, [], ◌∷◌, ◌++◌, length, take, drop, Option, Some, None, Result, Ok, Err, nat_lt, nat_le, if◌then◌else◌, codes, position}
 use Rattle.std.specs.Str.{bytes_eq}
-use Rattle.std.specs.List.{slice_split}
+use Rattle.std.specs.List.{slice_split, repeat}
 use Rattle.layout.specs.declared.shape.Layout.{Layout}
 use Rattle.model.specs.declared.config.Config.{Config}
 use Rattle.parser.specs.declared.fault.FaultKind.{FaultKind}
@@ -14,8 +14,8 @@ use Rattle.parser.specs.declared.heading.Sizes.{Sizes}
 use Rattle.parser.specs.declared.order.Command.{Command}
 use Rattle.parser.specs.declared.reading.Stop.{Stop}
 use Rattle.parser.specs.declared.reading.Stop.TheVariants as stops
-use Rattle.parser.specs.declared.reading.TheConstants.{MOST_COMMANDS, MOST_LAYOUTS}
-use Rattle.parser.specs.Words.{◌>>=◌, flaw, word_at}
+use Rattle.parser.specs.declared.reading.TheConstants.{MOST_COMMANDS, MOST_LAYOUTS, MOST_TURNS}
+use Rattle.parser.specs.Words.{◌>>=◌, flaw, word_at, number_at, end_at}
 use Rattle.parser.specs.Headings.{heap_in, layout_in, config_of}
 use Rattle.parser.specs.Orders.{actor_at, order_at}
 
@@ -28,15 +28,19 @@ pub record ScriptValue : Type 0 where
 abbrev pub script_of : Config → List Command → ScriptValue
 script_of config commands = record { config = config; commands = commands }
 
--- what was read so far
+-- What was read so far: whether a command or a block has begun, the commands outside the open block,
+-- how often the open block is done, where one is, and its commands.
 pub record ReadSoFar : Type 0 where
   pub sizes : Option Sizes
   pub layouts : List Layout
+  pub begun : Bool
   pub commands : List Command
+  pub turns : Option ℕ
+  pub body : List Command
 
 -- nothing is read
 abbrev pub nothing : ReadSoFar
-nothing = record { sizes = None; layouts = []; commands = [] }
+nothing = record { sizes = None; layouts = []; begun = false; commands = []; turns = None; body = [] }
 
 -- the byte that ends a line
 abbrev pub newline : ℕ → Bool
@@ -68,20 +72,58 @@ layout_line s sizes line = do
   layout ← layout_in sizes line (first_word line).1
   Ok (record s { layouts = s.layouts ++ layout ∷ [] })
 
+-- outside a block no command more is taken
+abbrev pub is_full : Option ℕ → List Command → Bool
+is_full None commands = nat_le MOST_COMMANDS (length commands)
+is_full (Some turns) commands = false
+
+-- a command behind what was read: in the open block, or outside
+abbrev pub with_command : ReadSoFar → Option ℕ → Command → ReadSoFar
+with_command s None c = record s { begun = true; commands = s.commands ++ c ∷ [] }
+with_command s (Some turns) c = record s { body = s.body ++ c ∷ [] }
+
 -- a command line adds a command
 unfoldable pub command_line : ReadSoFar → Sizes → List ℕ → Result ReadSoFar Flaw
 command_line s sizes line = do
   actor ← actor_at sizes line
-  if nat_le MOST_COMMANDS (length s.commands) then Err (flaw 0 kinds.TooManyCommands) else (do
+  if is_full s.turns s.commands then Err (flaw 0 kinds.TooManyCommands) else (do
     order ← order_at sizes line actor.0 actor.1
-    Ok (record s { commands = s.commands ++ record { actor = actor.0; order = order } ∷ [] }))
+    Ok (with_command s s.turns (record { actor = actor.0; order = order })))
+
+-- a line that begins a block, where none is open
+abbrev pub times_in : ReadSoFar → Option ℕ → List ℕ → Result ReadSoFar Flaw
+times_in s (Some turns) line = Err (flaw 0 kinds.UnknownWord)
+times_in s None line = do
+  turns ← number_at line (first_word line).1 1 MOST_TURNS
+  _ ← end_at line turns.1
+  Ok (record s { begun = true; turns = Some turns.0; body = [] })
+
+-- a block begins
+unfoldable pub times_line : ReadSoFar → List ℕ → Result ReadSoFar Flaw
+times_line s line = times_in s s.turns line
+
+-- a line that closes a block, where one is open
+abbrev pub end_in : ReadSoFar → Option ℕ → List ℕ → Result ReadSoFar Flaw
+end_in s None line = Err (flaw 0 kinds.EndWithoutTimes)
+end_in s (Some turns) line = if nat_lt MOST_COMMANDS (length s.commands + turns * length s.body) then Err (flaw 0 kinds.TooManyCommands) else (do
+  _ ← end_at line (first_word line).1
+  Ok (record s { commands = s.commands ++ repeat turns s.body; turns = None; body = [] }))
+
+-- a block ends: its commands stand as often as it says
+unfoldable pub end_line : ReadSoFar → List ℕ → Result ReadSoFar Flaw
+end_line s line = end_in s s.turns line
+
+-- a line of a command or a block
+unfoldable pub part_line : ReadSoFar → Sizes → List ℕ → Result ReadSoFar Flaw
+part_line s sizes line =
+    if bytes_eq (first_word line).0 (codes "times") then times_line s line else
+    (if bytes_eq (first_word line).0 (codes "end") then end_line s line else command_line s sizes line)
 
 -- a line behind the heap line
 unfoldable pub later_line : ReadSoFar → Sizes → List ℕ → Result ReadSoFar Flaw
 later_line s sizes line =
-    if bytes_eq (first_word line).0 (codes "layout") && (length s.commands == 0) && nat_lt (length s.layouts) MOST_LAYOUTS then layout_line s sizes line else
-    (if length s.layouts == 0 then Err (flaw 0 kinds.LayoutLineExpected) else
-    (if bytes_eq (first_word line).0 (codes "end") then Err (flaw 0 kinds.EndWithoutTimes) else command_line s sizes line))
+    if bytes_eq (first_word line).0 (codes "layout") && not s.begun && nat_lt (length s.layouts) MOST_LAYOUTS then layout_line s sizes line else
+    (if length s.layouts == 0 then Err (flaw 0 kinds.LayoutLineExpected) else part_line s sizes line)
 
 -- the first line that isn't idle is the heap line
 abbrev pub line_after : ReadSoFar → Option Sizes → List ℕ → Result ReadSoFar Flaw
@@ -106,10 +148,15 @@ goes_on (Err e) f = Err e
 abbrev pub fault_at_start : ℕ → FaultKind → LineFault
 fault_at_start n kind = record { line = n; column = 1; kind = kind }
 
+-- what was read, as a script: no block is open
+abbrev pub closed : ℕ → ReadSoFar → Sizes → Option ℕ → Result ScriptValue LineFault
+closed n s sizes (Some turns) = Err (fault_at_start n kinds.TimesWithoutEnd)
+closed n s sizes None = Ok (script_of (config_of sizes s.layouts) s.commands)
+
 -- what was read, as a script: there has to be a layout line
 abbrev pub whole : ℕ → ReadSoFar → Option Sizes → Result ScriptValue LineFault
 whole n s None = Err (fault_at_start n kinds.HeapLineExpected)
-whole n s (Some sizes) = if length s.layouts == 0 then Err (fault_at_start n kinds.LayoutLineExpected) else Ok (script_of (config_of sizes s.layouts) s.commands)
+whole n s (Some sizes) = if length s.layouts == 0 then Err (fault_at_start n kinds.LayoutLineExpected) else closed n s sizes s.turns
 
 -- what was read, where line n would be the next
 unfoldable pub finished : ℕ → ReadSoFar → Result ScriptValue LineFault

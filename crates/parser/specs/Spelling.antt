@@ -1,17 +1,16 @@
 -- The grammar: which bytes spell a configuration and commands.
 use Rattle.std.specs.Prelude.{◌≡◌, ℕ, ◌^◌, ◌<◌, ◌≤◌, ◌≢◌, Bool, not, List, [], ◌∷◌, ◌++◌, length, map, filter, codes, ◌⊎◌}
 use Rattle.std.specs.Fmt.{decimal}
-use Rattle.std.specs.List.{join_with_byte, flat_map, All}
+use Rattle.std.specs.List.{join_with_byte, flat_map, repeat, All}
 use Rattle.layout.specs.declared.shape.Layout.{Layout}
 use Rattle.model.specs.declared.config.Config.{Config}
 use Rattle.model.specs.declared.steps.Actor.{Actor}
 use Rattle.model.specs.declared.steps.Actor.TheVariants.{Thread, Worker}
 use Rattle.model.specs.Configs.{IsConfig}
-use Rattle.parser.specs.declared.heading.TheConstants.{MOST_FRAMES, MOST_PAGES, MOST_THREADS}
 use Rattle.parser.specs.declared.order.Order.{Order}
 use Rattle.parser.specs.declared.order.Order.TheVariants as orders
 use Rattle.parser.specs.declared.order.Command.{Command}
-use Rattle.parser.specs.declared.reading.TheConstants.{MOST_COMMANDS}
+use Rattle.parser.specs.declared.reading.TheConstants.{MOST_COMMANDS, MOST_TURNS}
 use Rattle.parser.specs.Reading.{ScriptValue, is_idle}
 
 -- the line of words, with one space between each two
@@ -32,12 +31,25 @@ abbrev pub order_words : Order → List (List ℕ)
 order_words (orders.Take n) = codes "take" ∷ decimal n ∷ []
 order_words orders.Give = codes "give" ∷ []
 order_words (orders.New target layout) = codes "new" ∷ register_word target ∷ decimal layout ∷ []
+order_words (orders.Load target object index) = codes "load" ∷ register_word target ∷ register_word object ∷ decimal index ∷ []
+order_words (orders.LoadGlobal target global) = codes "loadg" ∷ register_word target ∷ decimal global ∷ []
+order_words orders.Trap = codes "trap" ∷ []
+order_words orders.Heal = codes "heal" ∷ []
+order_words orders.Finish = codes "finish" ∷ []
+order_words (orders.Store object index source) = codes "store" ∷ register_word object ∷ decimal index ∷ register_word source ∷ []
+order_words (orders.StoreGlobal global source) = codes "storeg" ∷ decimal global ∷ register_word source ∷ []
 order_words (orders.Datum object index) = codes "datum" ∷ register_word object ∷ decimal index ∷ []
 order_words (orders.Set object index value) = codes "set" ∷ register_word object ∷ decimal index ∷ decimal value ∷ []
 order_words (orders.Same left right) = codes "same" ∷ register_word left ∷ register_word right ∷ []
 order_words (orders.Null r) = codes "null" ∷ register_word r ∷ []
 order_words (orders.Move target source) = codes "mov" ∷ register_word target ∷ register_word source ∷ []
 order_words (orders.Clear r) = codes "clear" ∷ register_word r ∷ []
+order_words orders.Cross = codes "cross" ∷ []
+order_words (orders.Scrub r) = codes "scrub" ∷ register_word r ∷ []
+order_words orders.Park = codes "park" ∷ []
+order_words orders.Unpark = codes "unpark" ∷ []
+order_words (orders.Get target object index) = codes "get" ∷ register_word target ∷ register_word object ∷ decimal index ∷ []
+order_words (orders.GetGlobal target global) = codes "getg" ∷ register_word target ∷ decimal global ∷ []
 
 -- the line of a command
 abbrev pub command_line_of : Command → List ℕ
@@ -65,6 +77,30 @@ pub record SpellsHeap (line : List ℕ) (config : Config) : Type 0 where
   pub history_spelled : SpellsLimit (codes "history") 1000000 config.history history
   pub line_is : line ≡ line_of (codes "heap" ∷ size_words config ++ births ++ history)
 
+-- a part of a script: one command, or a block of commands that is done so many times over
+pub data Part : Type 0 where
+  One : Command → Part
+  Times : ℕ → List Command → Part
+
+-- the line that begins a block
+abbrev pub times_line_of : ℕ → List ℕ
+times_line_of turns = line_of (codes "times" ∷ decimal turns ∷ [])
+
+-- the lines of a part
+abbrev pub part_lines : Part → List (List ℕ)
+part_lines (One c) = command_line_of c ∷ []
+part_lines (Times turns cs) = times_line_of turns ∷ map command_line_of cs ++ codes "end" ∷ []
+
+-- the commands of a part: those of a block stand as often as it says
+abbrev pub part_commands : Part → List Command
+part_commands (One c) = c ∷ []
+part_commands (Times turns cs) = repeat turns cs
+
+-- a block is done once at least, and not too often
+abbrev pub IsPart : Part → Type 0
+IsPart (One c) = Unit {0}
+IsPart (Times turns cs) = (1 ≤ turns) × (turns ≤ MOST_TURNS)
+
 -- a line that is neither empty nor a comment
 abbrev pub says_something : List ℕ → Bool
 says_something line = not (is_idle line)
@@ -78,20 +114,18 @@ abbrev pub IsLine : List ℕ → Type 0
 IsLine line = All (λ b. b ≢ 10) line
 
 -- The bytes are lines that each end in a newline. Those that say something are a heap line of the
--- configuration, then a line for each layout, then a line for each command.
+-- configuration, then a line for each layout, then the lines of parts: of single commands, and of
+-- blocks. The script's commands are those of the parts in order, a block's as often as it says.
 pub record Spells (bytes : List ℕ) (script : ScriptValue) : Type 0 where
   pub lines : List (List ℕ)
   pub each : All IsLine lines
   pub bytes_are : bytes ≡ flat_map ended lines
   pub heap : List ℕ
   pub heap_spelled : SpellsHeap heap script.config
-  pub said : filter says_something lines ≡ heap ∷ map layout_line_of script.config.layouts ++ map command_line_of script.commands
-
--- the configuration has as many frames, pages and threads as scripts may ask for
-pub record IsOffered (config : Config) : Type 0 where
-  pub frames : config.frames ≤ MOST_FRAMES
-  pub pages : config.pages ≤ MOST_PAGES
-  pub threads : config.threads ≤ MOST_THREADS
+  pub parts : List Part
+  pub turns : All IsPart parts
+  pub commands_are : script.commands ≡ flat_map part_commands parts
+  pub said : filter says_something lines ≡ heap ∷ map layout_line_of script.config.layouts ++ flat_map part_lines parts
 
 -- the numbers of a layout fit
 pub record IsLayout (l : Layout) : Type 0 where
@@ -113,12 +147,25 @@ abbrev pub IsOrder : ℕ → Order → Type 0
 IsOrder registers (orders.Take n) = n < 2 ^ 32
 IsOrder registers orders.Give = Unit {0}
 IsOrder registers (orders.New target layout) = (target < registers) × (layout < 2 ^ 32)
+IsOrder registers (orders.Load target object index) = ((target < registers) × (object < registers)) × (index < 2 ^ 32)
+IsOrder registers (orders.LoadGlobal target global) = (target < registers) × (global < 2 ^ 32)
+IsOrder registers orders.Trap = Unit {0}
+IsOrder registers orders.Heal = Unit {0}
+IsOrder registers orders.Finish = Unit {0}
+IsOrder registers (orders.Store object index source) = ((object < registers) × (index < 2 ^ 32)) × (source < registers)
+IsOrder registers (orders.StoreGlobal global source) = (global < 2 ^ 32) × (source < registers)
 IsOrder registers (orders.Datum object index) = (object < registers) × (index < 2 ^ 32)
 IsOrder registers (orders.Set object index value) = ((object < registers) × (index < 2 ^ 32)) × (value < 2 ^ 64)
 IsOrder registers (orders.Same left right) = (left < registers) × (right < registers)
 IsOrder registers (orders.Null r) = r < registers
 IsOrder registers (orders.Move target source) = (target < registers) × (source < registers)
 IsOrder registers (orders.Clear r) = r < registers
+IsOrder registers orders.Cross = Unit {0}
+IsOrder registers (orders.Scrub r) = r < registers
+IsOrder registers orders.Park = Unit {0}
+IsOrder registers orders.Unpark = Unit {0}
+IsOrder registers (orders.Get target object index) = ((target < registers) × (object < registers)) × (index < 2 ^ 32)
+IsOrder registers (orders.GetGlobal target global) = (target < registers) × (global < 2 ^ 32)
 
 -- a command is one of the configuration
 pub record IsCommand (config : Config) (c : Command) : Type 0 where
@@ -129,7 +176,6 @@ pub record IsCommand (config : Config) (c : Command) : Type 0 where
 -- a script that all limits allow
 pub record IsScript (script : ScriptValue) : Type 0 where
   pub config : IsConfig script.config
-  pub offered : IsOffered script.config
   pub layouts : All IsLayout script.config.layouts
   pub commands : All (IsCommand script.config) script.commands
   pub count : length script.commands ≤ MOST_COMMANDS

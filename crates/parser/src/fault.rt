@@ -42,6 +42,9 @@ pub enum FaultKind {
     /// A line `end` stands outside a block.
     #[error("end without times")]
     EndWithoutTimes,
+    /// A block is still open where the lines are at their end.
+    #[error("times without end")]
+    TimesWithoutEnd,
     /// There are more commands than a script may have.
     #[error("too many commands")]
     TooManyCommands,

@@ -10,24 +10,24 @@ use layout::{Layout, Layouts};
 use model::Config;
 
 /// The most frames that a heap line may ask for.
-pub const MOST_FRAMES: u64 = 1;
+pub const MOST_FRAMES: u64 = 4096;
 
 /// The most pages that a heap line may ask for.
-pub const MOST_PAGES: u64 = 1;
+pub const MOST_PAGES: u64 = 65_535;
 
 /// The most threads that a heap line may ask for.
-pub const MOST_THREADS: u64 = 1;
+pub const MOST_THREADS: u64 = 64;
 
 /// The numbers of a heap line, those that are left out among them.
 #[derive(Clone, Copy, Debug, PartialEq, Eq)]
 pub struct Sizes {
     /// The words of a page: 16 to 4,096, a power of two.
     pub words: u32,
-    /// The frames, from 1.
+    /// The frames: 1 to 4,096.
     pub frames: u32,
-    /// The pages, at least as many as frames.
+    /// The pages: as many as frames to 65,535.
     pub pages: u32,
-    /// The threads, from 1.
+    /// The threads: 1 to 64.
     pub threads: u32,
     /// The workers: 1 to 16.
     pub workers: u32,

@@ -1,8 +1,10 @@
 //! Scripts: from bytes to a configuration and commands, or to the first fault.
 #![tactic(auto)]
 
+mod commands;
 mod fault;
 mod heading;
+mod keywords;
 mod order;
 mod reading;
 mod script;

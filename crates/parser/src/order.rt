@@ -1,14 +1,12 @@
 //! Commands of a script.
 
-ghost use Rattle.std.specs.Prelude.{◌≡◌, ◌==◌};
-ghost use Rattle.parser.specs.Orders.{step_of, thread_keyword, keyword_in, register_at, slot_at, pair_at, actor_at, first_byte, operands_at, order_at};
+ghost use Rattle.std.specs.Prelude.{◌≡◌};
+ghost use Rattle.parser.specs.Orders.{step_of, is_get};
 
-use crate::fault::{FaultKind, Flaw};
-use crate::heading::Sizes;
-use crate::words::{end_at, named_at, number_at, small_at, word_or};
 use model::{Actor, Step};
 
-/// What a command asks for. Numbers that a step can refuse are as the script has them.
+/// What a command asks for. Registers count from 0 and are there; other numbers that a step can
+/// refuse are as the script has them. Scripts and their orders are ours.
 #[derive(Clone, Copy, Debug, PartialEq, Eq)]
 pub enum Order {
     /// `take n`
@@ -16,19 +14,82 @@ pub enum Order {
     /// `give`
     Give,
     /// `new rD L`
-    New { target: u32, layout: u32 },
+    New {
+        target: u32,
+        layout: u32,
+    },
+    /// `load rD rO i`
+    Load {
+        target: u32,
+        object: u32,
+        index: u32,
+    },
+    /// `loadg rD g`
+    LoadGlobal {
+        target: u32,
+        global: u32,
+    },
+    /// `trap`
+    Trap,
+    /// `heal`
+    Heal,
+    /// `finish`
+    Finish,
+    /// `store rO i rS`
+    Store {
+        object: u32,
+        index: u32,
+        source: u32,
+    },
+    /// `storeg g rS`
+    StoreGlobal {
+        global: u32,
+        source: u32,
+    },
     /// `datum rO j`
-    Datum { object: u32, index: u32 },
+    Datum {
+        object: u32,
+        index: u32,
+    },
     /// `set rO j v`
-    Set { object: u32, index: u32, value: u64 },
+    Set {
+        object: u32,
+        index: u32,
+        value: u64,
+    },
     /// `same rA rB`
-    Same { left: u32, right: u32 },
+    Same {
+        left: u32,
+        right: u32,
+    },
     /// `null rA`
     Null(u32),
     /// `mov rD rS`
-    Move { target: u32, source: u32 },
+    Move {
+        target: u32,
+        source: u32,
+    },
     /// `clear rD`
     Clear(u32),
+    /// `cross`
+    Cross,
+    /// `scrub rX`
+    Scrub(u32),
+    /// `park`
+    Park,
+    /// `unpark`
+    Unpark,
+    /// `get rD rO i`: a field is loaded, and the load goes on to its end.
+    Get {
+        target: u32,
+        object: u32,
+        index: u32,
+    },
+    /// `getg rD g`: a global is loaded, and the load goes on to its end.
+    GetGlobal {
+        target: u32,
+        global: u32,
+    },
 }
 
 /// One command of a script.
@@ -41,7 +102,7 @@ pub struct Command {
 }
 
 impl Order {
-    /// The step that it asks for.
+    /// The step that it asks for; of `get` and `getg` the first step, which opens the load.
     pub fn step(self) -> Step
         ensures { result ≡ step_of self }
     {
@@ -49,191 +110,79 @@ impl Order {
             Order::Take(words) => Step::Take(words),
             Order::Give => Step::GiveBack,
             Order::New { target, layout } => Step::New { target, layout },
+            Order::Load {
+                target,
+                object,
+                index,
+            } => load(target, object, index),
+            Order::LoadGlobal { target, global } => Step::LoadGlobal { target, global },
+            Order::Trap => Step::Trap,
+            Order::Heal => Step::Heal,
+            Order::Finish => Step::Finish,
+            Order::Store {
+                object,
+                index,
+                source,
+            } => store(object, index, source),
+            Order::StoreGlobal { global, source } => Step::StoreGlobal { global, source },
             Order::Datum { object, index } => Step::Datum { object, index },
             Order::Set {
                 object,
                 index,
                 value,
-            } => Step::SetDatum {
-                object,
-                index,
-                value,
-            },
+            } => set_datum(object, index, value),
             Order::Same { left, right } => Step::Same { left, right },
             Order::Null(register) => Step::IsNull(register),
             Order::Move { target, source } => Step::CopyReg { target, source },
             Order::Clear(register) => Step::ClearReg(register),
-        }
-    }
-}
-
-/// The word of a command.
-#[derive(Clone, Copy, Debug, PartialEq, Eq)]
-pub enum Keyword {
-    Take,
-    Give,
-    New,
-    Datum,
-    Set,
-    Same,
-    Null,
-    Move,
-    Clear,
-}
-
-#[tactic(auto, unfolding(crate::specs::Orders::thread_keyword))]
-fn thread_keyword(word: &[u8]) -> Option<Keyword>
-    ensures { result ≡ thread_keyword word.now }
-{
-    if word == b"take".as_slice() {
-        Some(Keyword::Take)
-    } else if word == b"give".as_slice() {
-        Some(Keyword::Give)
-    } else if word == b"new".as_slice() {
-        Some(Keyword::New)
-    } else if word == b"datum".as_slice() {
-        Some(Keyword::Datum)
-    } else if word == b"set".as_slice() {
-        Some(Keyword::Set)
-    } else if word == b"same".as_slice() {
-        Some(Keyword::Same)
-    } else if word == b"null".as_slice() {
-        Some(Keyword::Null)
-    } else if word == b"mov".as_slice() {
-        Some(Keyword::Move)
-    } else if word == b"clear".as_slice() {
-        Some(Keyword::Clear)
-    } else {
-        None
-    }
-}
-
-/// The keyword that a word is for an actor. A worker has no commands yet.
-fn keyword_in(actor: Actor, word: &[u8]) -> Option<Keyword>
-    ensures { result ≡ keyword_in actor word.now }
-{
-    match actor {
-        Actor::Thread(_) => thread_keyword(word),
-        Actor::Worker(_) => None,
-    }
-}
-
-#[tactic(auto, unfolding(crate::specs::Orders::register_at))]
-fn register_at(sizes: &Sizes, line: &[u8], at: usize) -> Result<(u32, usize), Flaw>
-    ensures { result ≡ register_at sizes.now line.now at }
-{
-    named_at(line, at, b'r', sizes.registers, FaultKind::NoSuchRegister)
-}
-
-/// A register and a number of 32 bits, and the place after them.
-#[tactic(auto, unfolding(crate::specs::Orders::slot_at))]
-fn slot_at(sizes: &Sizes, line: &[u8], at: usize) -> Result<((u32, u32), usize), Flaw>
-    ensures { result ≡ slot_at sizes.now line.now at }
-{
-    let (register, at) = register_at(sizes, line, at)?;
-    let (number, at) = small_at(line, at)?;
-    Ok(((register, number), at))
-}
-
-/// Two registers, and the place after them.
-#[tactic(auto, unfolding(crate::specs::Orders::pair_at))]
-fn pair_at(sizes: &Sizes, line: &[u8], at: usize) -> Result<((u32, u32), usize), Flaw>
-    ensures { result ≡ pair_at sizes.now line.now at }
-{
-    let (left, at) = register_at(sizes, line, at)?;
-    let (right, at) = register_at(sizes, line, at)?;
-    Ok(((left, right), at))
-}
-
-/// The actor at the front of a line, and the place after it.
-#[tactic(auto, unfolding(crate::specs::Orders::actor_at))]
-pub fn actor_at(sizes: &Sizes, line: &[u8]) -> Result<(Actor, usize), Flaw>
-    ensures { result ≡ actor_at sizes.now line.now }
-{
-    if begins_with_w(line) {
-        let (worker, after) = named_at(line, 0, b'w', sizes.workers, FaultKind::NoSuchActor)?;
-        Ok((Actor::Worker(worker), after))
-    } else {
-        let (thread, after) = named_at(line, 0, b't', sizes.threads, FaultKind::NoSuchActor)?;
-        Ok((Actor::Thread(thread), after))
-    }
-}
-
-fn begins_with_w(line: &[u8]) -> bool
-    ensures { result ≡ (first_byte line.now == 119) }
-{
-    match line {
-        [] => false,
-        [first, ..] => *first == b'w',
-    }
-}
-
-/// The order of a keyword, with its operands from a place on, and the place after them.
-#[tactic(auto, unfolding(crate::specs::Orders::operands_at))]
-fn operands_at(
-    sizes: &Sizes,
-    line: &[u8],
-    at: usize,
-    keyword: Keyword,
-) -> Result<(Order, usize), Flaw>
-    ensures { result ≡ operands_at sizes.now line.now at keyword }
-{
-    match keyword {
-        Keyword::Take => {
-            let (words, at) = small_at(line, at)?;
-            Ok((Order::Take(words), at))
-        }
-        Keyword::Give => Ok((Order::Give, at)),
-        Keyword::New => {
-            let ((target, layout), at) = slot_at(sizes, line, at)?;
-            Ok((Order::New { target, layout }, at))
-        }
-        Keyword::Datum => {
-            let ((object, index), at) = slot_at(sizes, line, at)?;
-            Ok((Order::Datum { object, index }, at))
-        }
-        Keyword::Set => {
-            let ((object, index), at) = slot_at(sizes, line, at)?;
-            let (value, at) = number_at(line, at, 0, u64::MAX)?;
-            let order = Order::Set {
+            Order::Cross => Step::Cross,
+            Order::Scrub(register) => Step::Scrub(register),
+            Order::Park => Step::Park,
+            Order::Unpark => Step::Unpark,
+            Order::Get {
+                target,
                 object,
                 index,
-                value,
-            };
-            Ok((order, at))
+            } => load(target, object, index),
+            Order::GetGlobal { target, global } => Step::LoadGlobal { target, global },
         }
-        Keyword::Same => {
-            let ((left, right), at) = pair_at(sizes, line, at)?;
-            Ok((Order::Same { left, right }, at))
-        }
-        Keyword::Null => {
-            let (register, at) = register_at(sizes, line, at)?;
-            Ok((Order::Null(register), at))
-        }
-        Keyword::Move => {
-            let ((target, source), at) = pair_at(sizes, line, at)?;
-            Ok((Order::Move { target, source }, at))
-        }
-        Keyword::Clear => {
-            let (register, at) = register_at(sizes, line, at)?;
-            Ok((Order::Clear(register), at))
-        }
+    }
+
+    /// Whether the order goes on to the load's end, once its first step is done: it is `get` or
+    /// `getg`.
+    pub fn is_get(self) -> bool
+        ensures { result ≡ is_get self }
+    {
+        matches!(self, Order::Get { .. } | Order::GetGlobal { .. })
     }
 }
 
-/// The order of an actor from a place to the end of the line.
-#[tactic(auto, unfolding(crate::specs::Orders::order_at))]
-pub fn order_at(sizes: &Sizes, line: &[u8], actor: Actor, at: usize) -> Result<Order, Flaw>
-    ensures { result ≡ order_at sizes.now line.now actor at }
+fn load(target: u32, object: u32, index: u32) -> Step
+    ensures { result ≡ Step.Load target object index }
 {
-    let (word, after) = word_or(line, at, FaultKind::UnknownWord)?;
-    let Some(keyword) = keyword_in(actor, word) else {
-        return Err(Flaw {
-            column: at + 1,
-            kind: FaultKind::UnknownWord,
-        });
-    };
-    let (order, end) = operands_at(sizes, line, after, keyword)?;
-    end_at(line, end)?;
-    Ok(order)
+    Step::Load {
+        target,
+        object,
+        field: index,
+    }
+}
+
+fn store(object: u32, index: u32, source: u32) -> Step
+    ensures { result ≡ Step.Store object index source }
+{
+    Step::Store {
+        object,
+        field: index,
+        source,
+    }
+}
+
+fn set_datum(object: u32, index: u32, value: u64) -> Step
+    ensures { result ≡ Step.SetDatum object index value }
+{
+    Step::SetDatum {
+        object,
+        index,
+        value,
+    }
 }

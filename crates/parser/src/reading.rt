@@ -1,19 +1,24 @@
 //! Reading a script line by line.
 
-ghost use Rattle.std.specs.Prelude.{◌≡◌, ◌<◌, ◌==◌, length, IfSome, IfNone, position};
-ghost use Rattle.parser.specs.Reading.{nothing, is_idle, first_word, heap_line, layout_line, command_line, later_line, line_in, in_line, finished, last_line, script_in, script_of, Gives, Follows, IsFlawAtStart, CutsLine, HasNoNewline};
+ghost use Rattle.std.specs.Prelude.{◌≡◌, ◌<◌, ◌==◌, ◌++◌, length, Ok, IfSome, IfNone, OnOk, position, nat_lt, ◌+◌, ◌*◌};
+ghost use Rattle.std.specs.List.{repeat};
+ghost use Rattle.parser.specs.Reading.{nothing, is_idle, is_full, with_command, first_word, heap_line, layout_line, command_line, times_line, end_line, part_line, later_line, line_in, in_line, finished, last_line, script_in, script_of, Gives, Follows, IsFlawAtStart, CutsLine, HasNoNewline};
 
+use crate::commands::{actor_at, order_at};
 use crate::fault::{FaultKind, Flaw, LineFault, ParseFault};
 use crate::heading::{Sizes, heap_in, layout_in};
-use crate::order::{Command, actor_at, order_at};
-use crate::words::word_at;
+use crate::order::Command;
+use crate::words::{end_at, number_at, word_at};
 use layout::Layout;
 use model::Config;
 use std::alloc::{AllocError, AllocFailed, Global};
 use std::marker::Model;
 
-/// The most commands of a script.
+/// The most commands of a script, with those of a block as often as it says. Each takes 32 bytes.
 pub const MOST_COMMANDS: usize = 200_000;
+
+/// The most turns of a block.
+pub const MOST_TURNS: u64 = 100_000;
 
 /// The most layouts of a script.
 pub const MOST_LAYOUTS: usize = 64;
@@ -23,7 +28,14 @@ pub const MOST_LAYOUTS: usize = 64;
 pub struct Reading {
     sizes: Option<Sizes>,
     layouts: Vec<Layout>,
+    /// Whether a command or a block has begun.
+    begun: bool,
+    /// The commands outside the open block.
     commands: Vec<Command>,
+    /// How often the open block is done, where one is.
+    turns: Option<u64>,
+    /// The commands of the open block.
+    body: Vec<Command>,
 }
 
 impl Model for Reading {
@@ -108,7 +120,10 @@ impl Reading {
         Reading {
             sizes: None,
             layouts: Vec::new(alloc),
+            begun: false,
             commands: Vec::new(alloc),
+            turns: None,
+            body: Vec::new(alloc),
         }
     }
 
@@ -136,17 +151,84 @@ impl Reading {
         Ok(())
     }
 
+    fn is_full(&self) -> bool
+        ensures { result ≡ is_full self.now.turns self.now.commands }
+    {
+        self.turns.is_none() && self.commands.len() >= MOST_COMMANDS
+    }
+
+    fn add(&mut self, command: Command) -> Result<(), Stop>
+        ensures { Follows result self.new (Ok (with_command self.old self.old.turns command)) }
+    {
+        if self.turns.is_some() {
+            self.body.push(command)?;
+        } else {
+            self.begun = true;
+            self.commands.push(command)?;
+        }
+        Ok(())
+    }
+
     #[tactic(auto, unfolding(crate::specs::Reading::command_line))]
     fn command_line(&mut self, sizes: &Sizes, line: &[u8]) -> Result<(), Stop>
         ensures { Follows result self.new (command_line self.old sizes.now line.now) }
     {
         let (actor, at) = actor_at(sizes, line)?;
-        if self.commands.len() >= MOST_COMMANDS {
+        if self.is_full() {
             return Err(flaw(FaultKind::TooManyCommands));
         }
         let order = order_at(sizes, line, actor, at)?;
-        self.commands.push(Command { actor, order })?;
+        self.add(Command { actor, order })
+    }
+
+    /// A block begins.
+    #[tactic(auto, unfolding(crate::specs::Reading::times_line))]
+    fn times_line(&mut self, line: &[u8]) -> Result<(), Stop>
+        ensures { Follows result self.new (times_line self.old line.now) }
+    {
+        if self.turns.is_some() {
+            return Err(flaw(FaultKind::UnknownWord));
+        }
+        let (_, at) = first_word(line);
+        let (turns, at) = number_at(line, at, 1, MOST_TURNS)?;
+        end_at(line, at)?;
+        self.begun = true;
+        self.turns = Some(turns);
+        self.body.clear();
         Ok(())
+    }
+
+    /// A block ends: its commands stand as often as it says.
+    #[tactic(auto, unfolding(crate::specs::Reading::end_line))]
+    fn end_line(&mut self, line: &[u8]) -> Result<(), Stop>
+        ensures { Follows result self.new (end_line self.old line.now) }
+    {
+        let Some(turns) = self.turns else {
+            return Err(flaw(FaultKind::EndWithoutTimes));
+        };
+        if passes_limit(self.commands.len(), turns, self.body.len()) {
+            return Err(flaw(FaultKind::TooManyCommands));
+        }
+        let (_, at) = first_word(line);
+        end_at(line, at)?;
+        add_turns(&mut self.commands, turns, &self.body)?;
+        self.turns = None;
+        self.body.clear();
+        Ok(())
+    }
+
+    #[tactic(auto, unfolding(crate::specs::Reading::part_line))]
+    fn part_line(&mut self, sizes: &Sizes, line: &[u8]) -> Result<(), Stop>
+        ensures { Follows result self.new (part_line self.old sizes.now line.now) }
+    {
+        let (word, _) = first_word(line);
+        if word == b"times".as_slice() {
+            self.times_line(line)
+        } else if word == b"end".as_slice() {
+            self.end_line(line)
+        } else {
+            self.command_line(sizes, line)
+        }
     }
 
     #[tactic(auto, unfolding(crate::specs::Reading::later_line))]
@@ -154,17 +236,12 @@ impl Reading {
         ensures { Follows result self.new (later_line self.old sizes.now line.now) }
     {
         let (word, _) = first_word(line);
-        if word == b"layout".as_slice()
-            && self.commands.len() == 0
-            && self.layouts.len() < MOST_LAYOUTS
-        {
+        if word == b"layout".as_slice() && !self.begun && self.layouts.len() < MOST_LAYOUTS {
             self.layout_line(sizes, line)
         } else if self.layouts.len() == 0 {
             Err(flaw(FaultKind::LayoutLineExpected))
-        } else if word == b"end".as_slice() {
-            Err(flaw(FaultKind::EndWithoutTimes))
         } else {
-            self.command_line(sizes, line)
+            self.part_line(sizes, line)
         }
     }
 
@@ -191,14 +268,19 @@ impl Reading {
             sizes,
             layouts,
             commands,
+            turns,
+            ..
         } = self;
         let kind = match sizes {
             None => FaultKind::HeapLineExpected,
             Some(sizes) => {
-                if layouts.len() != 0 {
+                if layouts.len() == 0 {
+                    FaultKind::LayoutLineExpected
+                } else if turns.is_some() {
+                    FaultKind::TimesWithoutEnd
+                } else {
                     return Ok((sizes.config(layouts), commands));
                 }
-                FaultKind::LayoutLineExpected
             }
         };
         Err(ParseFault::Line(LineFault {
@@ -230,6 +312,26 @@ impl Reading {
             })),
         }
     }
+}
+
+/// Whether commands, with a block behind them as often as it says, are more than a script may have.
+fn passes_limit(commands: usize, turns: u64, body: usize) -> bool
+    ensures { result ≡ nat_lt MOST_COMMANDS (commands + turns * body) }
+{
+    commands as u128 + turns as u128 * body as u128 > MOST_COMMANDS as u128
+}
+
+/// The commands of a block behind others, as often as the block says. An empty block takes no time.
+fn add_turns(commands: &mut Vec<Command>, turns: u64, body: &[Command]) -> Result<(), AllocError>
+    ensures { OnOk result (commands.new.items ≡ commands.old.items ++ repeat turns body.now) }
+{
+    if body.is_empty() {
+        return Ok(());
+    }
+    for _ in 0..turns {
+        commands.extend_from_slice(body)?;
+    }
+    Ok(())
 }
 
 fn first_newline(rest: &[u8]) -> Option<usize>

@@ -53,20 +53,32 @@ fn heap_lines(rt: HostRuntime) -> Result<(), Fail> {
             "line 1 column 22: number out of range",
         ),
         (
-            "heap words 16 frames 2\n",
+            "heap words 16 frames 4097\n",
             "line 1 column 22: number out of range",
+        ),
+        (
+            "heap words 16 frames 4096 pages 4095\n",
+            "line 1 column 33: number out of range",
         ),
         (
             "heap words 16 frames 1 pages 0\n",
             "line 1 column 30: number out of range",
         ),
         (
-            "heap words 16 frames 1 pages 2\n",
+            "heap words 16 frames 1 pages 65536\n",
             "line 1 column 30: number out of range",
         ),
         (
-            "heap words 16 frames 1 pages 1 threads 2\n",
+            "heap words 16 frames 1 pages 1 threads 0\n",
             "line 1 column 40: number out of range",
+        ),
+        (
+            "heap words 16 frames 1 pages 1 threads 65\n",
+            "line 1 column 40: number out of range",
+        ),
+        (
+            "heap words 4096 frames 4096 pages 65535 threads 64 workers 16 registers 17\n",
+            "line 1 column 73: number out of range",
         ),
         (
             "heap words 16 frames 1 pages 1 threads 1 workers 17\n",
@@ -112,6 +124,8 @@ fn ends_of_heap_lines(rt: HostRuntime) -> Result<(), Fail> {
         ),
         ("\n", "line 2 column 1: layout line expected"),
         ("\nt0 give\n", "line 2 column 1: layout line expected"),
+        ("\ntimes 3\n", "line 2 column 1: layout line expected"),
+        ("\nend\n", "line 2 column 1: layout line expected"),
         (
             "\n# a comment\n\nheap\n",
             "line 4 column 1: layout line expected",
@@ -172,7 +186,6 @@ fn commands(rt: HostRuntime) -> Result<(), Fail> {
         ),
         ("t00 give\n", "line 3 column 1: unknown word"),
         ("t give\n", "line 3 column 1: unknown word"),
-        ("times 3\n", "line 3 column 1: unknown word"),
         ("heap words 16\n", "line 3 column 1: unknown word"),
         ("t0 give\nlayout 0 1\n", "line 4 column 1: unknown word"),
         ("end\n", "line 3 column 1: end without times"),
@@ -191,6 +204,27 @@ fn commands(rt: HostRuntime) -> Result<(), Fail> {
             "t0 set r0 0 18446744073709551616\n",
             "line 3 column 13: number out of range",
         ),
+        ("t0 load r0 0 1\n", "line 3 column 12: unknown word"),
+        ("t0 load r0 r1\n", "line 3 column 14: number expected"),
+        ("t0 load r0 r2 0\n", "line 3 column 12: no such register"),
+        (
+            "t0 load r0 r1 0 0\n",
+            "line 3 column 17: end of line expected",
+        ),
+        (
+            "t0 loadg r0 4294967296\n",
+            "line 3 column 13: number out of range",
+        ),
+        ("t0 store r0 r1\n", "line 3 column 13: number expected"),
+        ("t0 store r0 0 1\n", "line 3 column 15: unknown word"),
+        ("t0 storeg r0 0\n", "line 3 column 11: number expected"),
+        ("t0 storeg 0 r2\n", "line 3 column 13: no such register"),
+        ("t0 scrub\n", "line 3 column 9: unknown word"),
+        ("t0 trap 1\n", "line 3 column 9: end of line expected"),
+        ("t0 get r0 r1 01\n", "line 3 column 14: number expected"),
+        ("t0 getg r0\n", "line 3 column 11: number expected"),
+        ("t0 drain\n", "line 3 column 4: unknown word"),
+        ("w0 get r0 r1 0\n", "line 3 column 4: unknown word"),
     ] {
         assert_eq!(rt;
             fault_text(rt.alloc(), HEAD, rest)?.as_str(),
@@ -198,6 +232,144 @@ fn commands(rt: HostRuntime) -> Result<(), Fail> {
             "of {rest:?}"
         );
     }
+    Ok(())
+}
+
+#[test]
+fn blocks(rt: HostRuntime) -> Result<(), Fail> {
+    for (rest, fault) in [
+        ("times 3\nt0 give\nend\n", "none"),
+        ("times 3\n\n# a comment\nt0 give\n\nend\n", "none"),
+        ("times\n", "line 3 column 6: number expected"),
+        ("times \n", "line 3 column 7: number expected"),
+        ("times 03\n", "line 3 column 7: number expected"),
+        ("times r0\n", "line 3 column 7: number expected"),
+        ("times 0\n", "line 3 column 7: number out of range"),
+        ("times 100001\n", "line 3 column 7: number out of range"),
+        ("times 3 x\n", "line 3 column 9: end of line expected"),
+        ("times 3 \n", "line 3 column 9: end of line expected"),
+        ("times 3", "line 3 column 8: newline expected"),
+        ("times 3\n", "line 4 column 1: times without end"),
+        (
+            "times 3\nt0 give\n\n# a comment\n",
+            "line 7 column 1: times without end",
+        ),
+        ("times 3\nt0 give", "line 4 column 8: newline expected"),
+        ("times 3\n# x", "line 4 column 4: newline expected"),
+        ("times 3\nend", "line 4 column 4: newline expected"),
+        ("times 3\ntimes 3\n", "line 4 column 1: unknown word"),
+        ("times 3\ntimes x\n", "line 4 column 1: unknown word"),
+        ("times 3\nt1 give\n", "line 4 column 1: no such actor"),
+        ("times 3\nlayout 0 1\n", "line 4 column 1: unknown word"),
+        (
+            "times 3\nend\nlayout 0 1\n",
+            "line 5 column 1: unknown word",
+        ),
+        (
+            "times 3\nt0 give\nend x\n",
+            "line 5 column 5: end of line expected",
+        ),
+        ("times 3\nend \n", "line 4 column 5: end of line expected"),
+        ("times 3\nend\nend\n", "line 5 column 1: end without times"),
+        (
+            "times 3\nend\nend x\n",
+            "line 5 column 1: end without times",
+        ),
+    ] {
+        assert_eq!(rt;
+            fault_text(rt.alloc(), HEAD, rest)?.as_str(),
+            fault,
+            "of {rest:?}"
+        );
+    }
+    Ok(())
+}
+
+#[test]
+fn too_many_in_blocks(rt: HostRuntime) -> Result<(), Fail> {
+    let three = "times 100000\nt0 give\nt0 give\nt0 give\n";
+    let two = "times 100000\nt0 give\nt0 give\nend\n";
+    for (front, rest, fault) in [
+        (three, "end\n", "line 7 column 1: too many commands"),
+        (three, "end x\n", "line 7 column 1: too many commands"),
+        (three, "", "line 7 column 1: times without end"),
+        (two, "", "none"),
+        (two, "times 3\nend\n", "none"),
+        (
+            two,
+            "times 1\nt0 give\nend\n",
+            "line 9 column 1: too many commands",
+        ),
+        (
+            two,
+            "times 1\nt0 take 01\n",
+            "line 8 column 9: number expected",
+        ),
+        (two, "t0 take 01\n", "line 7 column 1: too many commands"),
+        (two, "t0 mark\n", "line 7 column 1: too many commands"),
+        (two, "t1 give\n", "line 7 column 1: no such actor"),
+        (two, "x\n", "line 7 column 1: unknown word"),
+    ] {
+        let mut text = String::from_str(rt.alloc(), HEAD)?;
+        text.push_str(front)?;
+        assert_eq!(rt;
+            fault_text(rt.alloc(), text.as_str(), rest)?.as_str(),
+            fault,
+            "of {front:?} and {rest:?}"
+        );
+    }
+    Ok(())
+}
+
+#[test]
+fn blocks_written_out(rt: HostRuntime) -> Result<(), Fail> {
+    let rest = "t0 give\ntimes 2\nt0 trap\n\n# a comment\nt0 heal\nend\ntimes 9\nend\n\
+        times 1\nt0 finish\nend\nt0 cross\n";
+    let orders = [
+        Order::Give,
+        Order::Trap,
+        Order::Heal,
+        Order::Trap,
+        Order::Heal,
+        Order::Finish,
+        Order::Cross,
+    ];
+    let script = parse_parts(rt.alloc(), HEAD, rest)?;
+    let commands = script.commands();
+    assert_eq!(rt; commands.len(), orders.len());
+    for (command, order) in commands.iter().zip(orders.iter()) {
+        assert_eq!(rt; command.order, *order);
+    }
+    Ok(())
+}
+
+#[test]
+fn steps_of_orders(rt: HostRuntime) -> Result<(), Fail> {
+    let rest = "t0 load r0 r1 2\nt0 loadg r1 3\nt0 store r1 2 r0\nt0 storeg 3 r1\n\
+        t0 scrub r1\nt0 park\nt0 unpark\nt0 get r0 r1 2\nt0 getg r1 3\n";
+    let script = parse_parts(rt.alloc(), HEAD, rest)?;
+    let commands = script.commands();
+    let texts = [
+        "Load { target: 0, object: 1, field: 2 } false",
+        "LoadGlobal { target: 1, global: 3 } false",
+        "Store { object: 1, field: 2, source: 0 } false",
+        "StoreGlobal { global: 3, source: 1 } false",
+        "Scrub(1) false",
+        "Park false",
+        "Unpark false",
+        "Load { target: 0, object: 1, field: 2 } true",
+        "LoadGlobal { target: 1, global: 3 } true",
+    ];
+    assert_eq!(rt; commands.len(), texts.len());
+    for (command, text) in commands.iter().zip(texts.iter()) {
+        let step = command.order.step();
+        let is_get = command.order.is_get();
+        assert_eq!(rt;
+            format!(in rt.alloc(); "{step:?} {is_get}")?.as_str(),
+            *text
+        );
+    }
+    assert_eq!(rt; std::mem::size_of::<Command>(), 32);
     Ok(())
 }
 
@@ -312,6 +484,11 @@ fn too_many_commands(rt: HostRuntime) -> Result<(), Fail> {
         ("# a comment\n", "none"),
         ("t0 take x\n", "line 200003 column 1: too many commands"),
         ("t1 give\n", "line 200003 column 1: no such actor"),
+        ("times 3\nend\n", "none"),
+        (
+            "times 3\nt0 give\nend x\n",
+            "line 200005 column 1: too many commands",
+        ),
     ] {
         assert_eq!(rt;
             fault_text(rt.alloc(), text.as_str(), rest)?.as_str(),

@@ -8,7 +8,7 @@ use Rattle.cycle.specs.Books.{BookState, Reply}
 use Rattle.parser.specs.declared.order.Command.{Command}
 use Rattle.text.specs.Texts.{Leads, line_text}
 use Rattle.text.proofs.Leading.{leads_step, leads_end}
-use Rattle.script.specs.Output.{texts_from, cycles_from, cycle_line, next_cycle, lines_text, book_after, book_of, reply_of, done}
+use Rattle.script.specs.Output.{texts_from, cycles_from, cycle_line, next_cycle, lines_text, book_after, done}
 
 split : {X : Type 0} (xs : List X) (i : ℕ) (d : X) → i < length xs → drop i xs ≡ get_or xs i d ∷ drop (i + 1) xs
 split xs i d h = rw (add-one, drop-cons xs i d) refl
@@ -60,15 +60,15 @@ cycles_told k i es old c all h le = let there : Leads old c [] all = rw (← cyc
 -- commands
 
 lines_next : (n i : ℕ) (b : BookState) (cs : List Command) (d : Command) → i < length cs →
-    lines_text n b (drop i cs) ≡ line_text n (get_or cs i d).actor (reply_of (done b (get_or cs i d))) ++ lines_text (n + 1) (book_of b (done b (get_or cs i d))) (drop (i + 1) cs)
+    lines_text n b (drop i cs) ≡ line_text n (get_or cs i d).actor (done b (get_or cs i d)).replies ++ lines_text (n + 1) (done b (get_or cs i d)).book (drop (i + 1) cs)
 unfolding lines_text
 lines_next n i b cs d h = rw (split cs i d h) refl
 
-pub line_told : (n i : ℕ) (b e : BookState) (cs : List Command) (d : Command) (reply : Reply) (old c new : Option (List ℕ)) (all : List ℕ) →
-    Leads old c (lines_text n b (drop i cs)) all → i < length cs → reply ≡ reply_of (done b (get_or cs i d)) → e ≡ book_of b (done b (get_or cs i d)) →
-    Appends c new (line_text n (get_or cs i d).actor reply) → Leads old new (lines_text (n + 1) e (drop (i + 1) cs)) all
-line_told n i b e cs d reply old c new all h le r k a =
-    let there : Leads old c (line_text n (get_or cs i d).actor reply ++ lines_text (n + 1) e (drop (i + 1) cs)) all = rw (r, k, ← lines_next n i b cs d le) h in
+pub line_told : (n i : ℕ) (b e : BookState) (cs : List Command) (d : Command) (replies : List Reply) (old c new : Option (List ℕ)) (all : List ℕ) →
+    Leads old c (lines_text n b (drop i cs)) all → i < length cs → replies ≡ (done b (get_or cs i d)).replies → e ≡ (done b (get_or cs i d)).book →
+    Appends c new (line_text n (get_or cs i d).actor replies) → Leads old new (lines_text (n + 1) e (drop (i + 1) cs)) all
+line_told n i b e cs d replies old c new all h le r k a =
+    let there : Leads old c (line_text n (get_or cs i d).actor replies ++ lines_text (n + 1) e (drop (i + 1) cs)) all = rw (r, k, ← lines_next n i b cs d le) h in
     leads_step old c new _ _ all there a
 
 lines_end : (n i : ℕ) (b : BookState) (cs : List Command) → length cs ≤ i → lines_text n b (drop i cs) ≡ []
@@ -78,7 +78,7 @@ lines_end n i b cs h = rw (drop_all i cs h) refl
 pub lines_told : (n i : ℕ) (b : BookState) (cs : List Command) (old c : Option (List ℕ)) (all : List ℕ) → Leads old c (lines_text n b (drop i cs)) all → length cs ≤ i → Appends old c all
 lines_told n i b cs old c all h le = let there : Leads old c [] all = rw (← lines_end n i b cs le) h in leads_end old c all there
 
-pub book_next : (i : ℕ) (b e f : BookState) (cs : List Command) (d : Command) → book_after b (drop i cs) ≡ f → i < length cs → e ≡ book_of b (done b (get_or cs i d)) → book_after e (drop (i + 1) cs) ≡ f
+pub book_next : (i : ℕ) (b e f : BookState) (cs : List Command) (d : Command) → book_after b (drop i cs) ≡ f → i < length cs → e ≡ (done b (get_or cs i d)).book → book_after e (drop (i + 1) cs) ≡ f
 unfolding book_after
 book_next i b e f cs d h le k = let there : book_after b (drop i cs) ≡ book_after e (drop (i + 1) cs) = rw (split cs i d le, k) refl in sym there ∙ h
 

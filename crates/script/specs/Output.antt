@@ -1,6 +1,8 @@
 -- What a run of a script prints.
-use Rattle.std.specs.Prelude.{ℕ, ◌+◌, Bool, List, [], ◌∷◌, ◌++◌, length, count_by, is_some, Ok, Err, Option, Some, None, slice_get, codes, if◌then◌else◌}
+use Rattle.std.specs.Prelude.{◌≡◌, ℕ, zero, suc, ◌+◌, Bool, true, false, List, [], ◌∷◌, ◌++◌, length, count_by, is_some, Ok, Err, Option, Some, None, slice_get, codes, if◌then◌else◌}
 use Rattle.std.specs.Fmt.{decimal}
+use Rattle.model.specs.declared.steps.Actor.{Actor}
+use Rattle.model.specs.declared.steps.Step.TheVariants as steps
 use Rattle.model.specs.declared.steps.Answer.{Answer}
 use Rattle.model.specs.declared.steps.Answer.TheVariants as answers
 use Rattle.model.specs.declared.records.Global.{Global}
@@ -10,8 +12,9 @@ use Rattle.model.specs.Stores.{is_unused}
 use Rattle.cycle.specs.declared.book.Entry.{Entry}
 use Rattle.cycle.specs.Books.{BookState, BookOutcome, Reply, acted, first_book}
 use Rattle.parser.specs.declared.order.Command.{Command}
-use Rattle.parser.specs.Orders.{step_of}
+use Rattle.parser.specs.Orders.{step_of, is_get}
 use Rattle.parser.specs.Reading.{ScriptValue}
+use Rattle.script.specs.declared.doing.TheConstants.{MOST_TRAPS}
 use Rattle.text.specs.Texts.{line_text, phase_text, bit_text, page_state_text, frame_text, buffer_text, word_text}
 
 -- the texts of a list's elements, one after another, the first being number i
@@ -92,29 +95,67 @@ report_text h history =
 
 -- the commands
 
--- the answer or the refusal of an outcome
-abbrev pub reply_of : BookOutcome → Reply
-reply_of (Ok x) = Ok x.1
-reply_of (Err e) = Err e
+-- what steps of a command did: the book after them, and their replies in order
+pub record Told : Type 0 where
+  pub book : BookState
+  pub replies : List Reply
 
--- the book after an outcome: as it was, where the step was refused
-abbrev pub book_of : BookState → BookOutcome → BookState
-book_of b (Ok x) = x.0
-book_of b (Err e) = b
+-- a book and replies
+abbrev pub told : BookState → List Reply → Told
+told b replies = record { book = b; replies = replies }
 
--- what a command does to a book
-abbrev pub done : BookState → Command → BookOutcome
-done b c = acted b c.actor (step_of c.order)
+-- a step of this outcome, and what follows where it is accepted; a refusal is the end
+unfoldable pub stepped : BookState → BookOutcome → (BookState → Answer → Told) → Told
+stepped b (Ok x) next = told (next x.0 x.1).book (Ok x.1 ∷ (next x.0 x.1).replies)
+stepped b (Err e) next = told b (Err e ∷ [])
+
+-- the load ends
+abbrev pub finished : BookState → Actor → Told
+finished b actor = stepped b (acted b actor steps.Finish) (λ c answer. told c [])
+
+-- where a trap was due, the place of the load is healed before
+abbrev pub healed : Bool → BookState → Actor → Told
+healed false b actor = finished b actor
+healed true b actor = stepped b (acted b actor steps.Heal) (λ c answer. finished c actor)
+
+-- no trap was due
+abbrev pub is_clear : Answer → Bool
+is_clear answers.Clear = true
+is_clear other = false
+
+-- Trap until it answers Clear, but at most so many times: then heal, where one was due, and finish.
+unfoldable pub trapped : ℕ → Bool → BookState → Actor → Told
+trapped zero due b actor = healed due b actor
+trapped (suc n) due b actor = stepped b (acted b actor steps.Trap) (λ c answer. if is_clear answer then healed due c actor else trapped n true c actor)
+
+-- What follows the first step: of `get` and `getg` the load goes on to its end. Three traps are
+-- enough: behind one that forwards and one that marks none is due any more.
+abbrev pub going_on : Bool → BookState → Actor → Told
+going_on false b actor = told b []
+going_on true b actor = trapped MOST_TRAPS false b actor
+
+-- what a command does to a book, and what its steps say
+unfoldable pub done : BookState → Command → Told
+done b c = stepped b (acted b c.actor (step_of c.order)) (λ d answer. going_on (is_get c.order) d c.actor)
+
+-- a step has the reply of its outcome; a refused one leaves the book
+abbrev pub Says : BookState → Reply → BookState → BookOutcome → Type 0
+Says old (Ok answer) new outcome = outcome ≡ Ok (new, answer)
+Says old (Err e) new outcome = (outcome ≡ Err e) × (new ≡ old)
+
+-- replies before those of steps
+abbrev pub behind : List Reply → Told → Told
+behind replies t = told t.book (replies ++ t.replies)
 
 -- the lines of commands, of which the first is number n
 unfoldable pub lines_text : ℕ → BookState → List Command → List ℕ
 lines_text n b [] = []
-lines_text n b (c ∷ cs) = line_text n c.actor (reply_of (done b c)) ++ lines_text (n + 1) (book_of b (done b c)) cs
+lines_text n b (c ∷ cs) = line_text n c.actor (done b c).replies ++ lines_text (n + 1) (done b c).book cs
 
 -- the book that commands leave
 unfoldable pub book_after : BookState → List Command → BookState
 book_after b [] = b
-book_after b (c ∷ cs) = book_after (book_of b (done b c)) cs
+book_after b (c ∷ cs) = book_after (done b c).book cs
 
 -- the report of a book
 abbrev pub report_of : BookState → List ℕ

@@ -1,6 +1,7 @@
 //! Runs of scripts, and what they print.
 #![tactic(auto)]
 
+mod doing;
 mod fault;
 mod lines;
 mod reporting;

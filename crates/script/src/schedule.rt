@@ -1,10 +1,11 @@
 //! Commands one by one.
 
-ghost use Rattle.std.specs.Prelude.{◌≡◌, IfOk, OnOk};
+ghost use Rattle.std.specs.Prelude.{◌≡◌, OnOk};
 ghost use Rattle.std.specs.Io.KnownBytes.{Appends};
 ghost use Rattle.text.specs.Texts.{line_text};
-ghost use Rattle.script.specs.Output.{output_text, lines_text, book_after, book_of, reply_of, done};
+ghost use Rattle.script.specs.Output.{output_text, lines_text, book_after};
 
+use crate::doing::do_command;
 use crate::fault::RunFault;
 use crate::reporting::{report, tell};
 use cycle::Book;
@@ -15,34 +16,22 @@ use std::alloc::Global;
 use std::io;
 use text::put_line;
 
-/// What a command's step said; a fault where memory was refused.
-fn reply_to(book: &mut Book, command: &Command) -> Result<Result<Answer, Refusal>, RunFault>
-    ensures reply { IfOk result (λ reply. reply ≡ reply_of (done book.old command.now)) }
-    ensures book { OnOk result (book.new ≡ book_of book.old (done book.old command.now)) }
-{
-    match book.act(command.actor, command.order.step()) {
-        Ok(answer) => Ok(Ok(answer)),
-        Err(Refusal::Memory) => Err(RunFault::Memory),
-        Err(refusal) => Ok(Err(refusal)),
-    }
-}
-
 /// Writes the line of a command.
 fn tell_command<W: io::Write>(
     number: u64,
     actor: Actor,
-    reply: Result<Answer, Refusal>,
+    replies: &[Result<Answer, Refusal>],
     text: &mut String,
     w: &mut W,
 ) -> Result<(), RunFault>
-    ensures { OnOk result (Appends (W.contents w.old) (W.contents w.new) (line_text number actor reply)) }
+    ensures { OnOk result (Appends (W.contents w.old) (W.contents w.new) (line_text number actor replies.now)) }
 {
     text.clear();
-    put_line(text, number, actor, reply)?;
+    put_line(text, number, actor, replies)?;
     tell(w, text)
 }
 
-/// Does the commands in order, and writes a line for each.
+/// Does the commands in order, and writes a line for each. Room for lines and replies is used again.
 fn tell_commands<W: io::Write>(
     alloc: Global,
     book: &mut Book,
@@ -53,10 +42,11 @@ fn tell_commands<W: io::Write>(
     ensures book { OnOk result (book.new ≡ book_after book.old commands.now) }
 {
     let mut text = String::new(alloc);
+    let mut replies = Vec::new(alloc);
     let mut number = 1u64;
     for command in commands {
-        let reply = reply_to(book, command)?;
-        tell_command(number, command.actor, reply, &mut text, w)?;
+        do_command(book, command, &mut replies)?;
+        tell_command(number, command.actor, &replies, &mut text, w)?;
         number += 1;
     }
     Ok(())

@@ -1,6 +1,7 @@
 -- What a run prints.
 use Rattle.std.specs.Prelude.{ℕ, ◌/◌, ◌%◌, Bool, true, false, List, [], ◌∷◌, ◌++◌, Result, Ok, Err, codes, Option, Some, None, ◌≡◌}
 use Rattle.std.specs.Fmt.{decimal}
+use Rattle.std.specs.List.{join_by}
 use Rattle.refword.specs.Words.{address_in, mark_in}
 use Rattle.model.specs.declared.records.Buffer.{Buffer}
 use Rattle.model.specs.declared.records.PageState.{PageState}
@@ -76,9 +77,17 @@ abbrev pub reply_text : Result Answer Refusal → List ℕ
 reply_text (Ok a) = answer_text a
 reply_text (Err r) = codes "refused " ++ refusal_text r
 
--- the line of command n
-abbrev pub line_text : ℕ → Actor → Result Answer Refusal → List ℕ
-line_text n actor reply = decimal n ++ codes " " ++ actor_text actor ++ codes " " ++ reply_text reply ++ 10 ∷ []
+-- the text of what a step said behind another one
+abbrev pub next_text : Result Answer Refusal → List ℕ
+next_text reply = codes ", " ++ reply_text reply
+
+-- the texts of what a command's steps said, with a comma and a space between each two
+abbrev pub replies_text : List (Result Answer Refusal) → List ℕ
+replies_text replies = join_by reply_text (codes ", ") replies
+
+-- the line of command n, of whose steps these are the replies
+abbrev pub line_text : ℕ → Actor → List (Result Answer Refusal) → List ℕ
+line_text n actor replies = decimal n ++ codes " " ++ actor_text actor ++ codes " " ++ replies_text replies ++ 10 ∷ []
 
 -- the text of a bit
 abbrev pub bit_text : Bool → List ℕ

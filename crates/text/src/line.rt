@@ -1,36 +1,59 @@
 //! The line of a command.
 
 ghost use Rattle.std.specs.Prelude.{◌++◌, OnOk, string_bytes, ◌≡◌};
+ghost use Rattle.std.specs.List.{flat_map};
 ghost use Rattle.std.specs.Io.KnownBytes.{Appends};
-ghost use Rattle.text.specs.Texts.{line_text};
+ghost use Rattle.text.specs.Texts.{line_text, next_text, replies_text};
 
-use crate::steps::{ActorText, AnswerText, RefusalText};
+use crate::steps::{ActorText, ReplyText};
 use model::{Actor, Answer, Refusal};
 use std::alloc::AllocError;
 use std::fmt::Write as _;
 use std::io;
 
-/// Adds the line of a command to a text: its number, its actor, and what the step said. Where
-/// memory is refused, a beginning of the line may stand in the text.
+/// What a step says behind another one.
+fn put_next(text: &mut String, reply: Result<Answer, Refusal>) -> Result<(), AllocError>
+    ensures { OnOk result (string_bytes text.new ≡ string_bytes text.old ++ next_text reply) }
+{
+    let reply = ReplyText(reply);
+    write!(text, ", {reply}")
+}
+
+fn put_others(text: &mut String, replies: &[Result<Answer, Refusal>]) -> Result<(), AllocError>
+    ensures { OnOk result (string_bytes text.new ≡ string_bytes text.old ++ flat_map next_text replies.now) }
+{
+    for reply in replies {
+        put_next(text, *reply)?;
+    }
+    Ok(())
+}
+
+fn put_replies(text: &mut String, replies: &[Result<Answer, Refusal>]) -> Result<(), AllocError>
+    ensures { OnOk result (string_bytes text.new ≡ string_bytes text.old ++ replies_text replies.now) }
+{
+    let Some((first, others)) = replies.split_first() else {
+        return Ok(());
+    };
+    let first = ReplyText(*first);
+    write!(text, "{first}")?;
+    put_others(text, others)
+}
+
+/// Adds the line of a command to a text: its number, its actor, and what its steps said, with a
+/// comma and a space between each two. Where memory is refused, a beginning of the line may stand
+/// in the text.
 pub fn put_line(
     text: &mut String,
     number: u64,
     actor: Actor,
-    reply: Result<Answer, Refusal>,
+    replies: &[Result<Answer, Refusal>],
 ) -> Result<(), AllocError>
-    ensures { OnOk result (string_bytes text.new ≡ string_bytes text.old ++ line_text number actor reply) }
+    ensures { OnOk result (string_bytes text.new ≡ string_bytes text.old ++ line_text number actor replies.now) }
 {
     let actor = ActorText(actor);
-    match reply {
-        Ok(answer) => {
-            let answer = AnswerText(answer);
-            writeln!(text, "{number} {actor} {answer}")
-        }
-        Err(refusal) => {
-            let refusal = RefusalText(refusal);
-            writeln!(text, "{number} {actor} refused {refusal}")
-        }
-    }
+    write!(text, "{number} {actor} ")?;
+    put_replies(text, replies)?;
+    writeln!(text)
 }
 
 /// Writes the line of a command. `text` is room that is used again: what it holds is lost. The
@@ -41,11 +64,11 @@ pub fn write_line<W: io::Write>(
     text: &mut String,
     number: u64,
     actor: Actor,
-    reply: Result<Answer, Refusal>,
+    replies: &[Result<Answer, Refusal>],
 ) -> io::Result<()>
-    ensures { OnOk result (Appends (W.contents w.old) (W.contents w.new) (line_text number actor reply)) }
+    ensures { OnOk result (Appends (W.contents w.old) (W.contents w.new) (line_text number actor replies.now)) }
 {
     text.clear();
-    put_line(text, number, actor, reply)?;
+    put_line(text, number, actor, replies)?;
     w.write_all(text.as_bytes())
 }

@@ -1,4 +1,4 @@
-//! The texts of actors, answers and refusals.
+//! The texts of actors, answers, refusals, and of what steps said.
 
 use model::{Actor, Answer, Refusal};
 use std::fmt;
@@ -97,6 +97,30 @@ impl fmt::Display for RefusalText {
             Refusal::Births => write!(f, "Births"),
             Refusal::HistoryFull => write!(f, "HistoryFull"),
             Refusal::Memory => write!(f, "Memory"),
+        }
+    }
+}
+
+/// The text of what a step said: its answer's, or `refused ` and its refusal's.
+#[derive(Clone, Copy, Debug, PartialEq, Eq)]
+pub struct ReplyText(pub Result<Answer, Refusal>);
+
+impl fmt::Display for ReplyText {
+    ghost use Rattle.std.specs.Prelude.{Some};
+    ghost use Rattle.text.specs.Texts.{reply_text};
+
+    ghost output = { λ t. Some (reply_text t.0) };
+
+    fn fmt<W: fmt::Write>(&self, f: &mut fmt::Formatter<W>) -> fmt::Result {
+        match self.0 {
+            Ok(answer) => {
+                let answer = AnswerText(answer);
+                write!(f, "{answer}")
+            }
+            Err(refusal) => {
+                let refusal = RefusalText(refusal);
+                write!(f, "refused {refusal}")
+            }
         }
     }
 }

@@ -63,9 +63,33 @@ fn answers(rt: HostRuntime) -> Result<(), Fail> {
         ),
     ] {
         text.clear();
-        put_line(&mut text, 7, actor, Ok(answer))?;
+        put_line(&mut text, 7, actor, &[Ok(answer)])?;
         assert_eq!(rt; text.as_str(), line);
     }
+    Ok(())
+}
+
+#[test]
+fn replies(rt: HostRuntime) -> Result<(), Fail> {
+    let mut text = String::new(rt.alloc());
+    let thread = Actor::Thread(1);
+    put_line(
+        &mut text,
+        6,
+        thread,
+        &[Ok(Answer::Loaded), Ok(Answer::Clear), Ok(Answer::Done)],
+    )?;
+    put_line(
+        &mut text,
+        7,
+        thread,
+        &[Ok(Answer::Loaded), Err(Refusal::NotCrossed { thread: 0 })],
+    )?;
+    put_line(&mut text, 8, thread, &[Err(Refusal::Stall)])?;
+    assert_eq!(rt;
+        text.as_str(),
+        "6 t1 loaded, clear, ok\n7 t1 loaded, refused NotCrossed 0\n8 t1 refused Stall\n"
+    );
     Ok(())
 }
 
@@ -161,9 +185,15 @@ fn written(rt: HostRuntime) -> Result<(), Fail> {
         &mut text,
         5,
         Actor::Thread(0),
-        Err(Refusal::NoRoom),
+        &[Err(Refusal::NoRoom)],
     )?;
-    write_line(&mut out, &mut text, 6, Actor::Thread(0), Ok(Answer::Done))?;
+    write_line(
+        &mut out,
+        &mut text,
+        6,
+        Actor::Thread(0),
+        &[Ok(Answer::Done)],
+    )?;
     assert_eq!(rt;
         out.as_slice(),
         b"5 t0 refused NoRoom\n6 t0 ok\n".as_slice()

@@ -1,4 +1,4 @@
-use Rattle.std.proofs.Common.{arith}
+use Rattle.std.proofs.Common.{arith, ◌∙◌}
 use Rattle.script.proofs.Telling.{line_told, lines_told, book_next, book_end}
 use Rattle.script.proofs.schedule.tell_commands.Goals as goal
 
@@ -7,8 +7,8 @@ loop-command-preserved g c =
     let i = c.loop-command.invariant in
     record {
       count = omega (arith, i.count);
-      told = line_told c.loop-command.number c.loop-command.command-index c.loop-command.book c.reply_to.new.book c.args.commands.now _ c.in_ok-reply.reply _ _ _ _ i.told c.loop-command-test.true c.in_ok-reply.ensures.reply c.in_ok-reply.ensures.book c.in_ok-tell_command.ensures;
-      book = book_next c.loop-command.command-index c.loop-command.book c.reply_to.new.book _ c.args.commands.now _ i.book c.loop-command-test.true c.in_ok-reply.ensures.book;
+      told = line_told c.loop-command.number c.loop-command.command-index c.loop-command.book c.do_command.new.book c.args.commands.now _ c.deref.result.now _ _ _ _ i.told c.loop-command-test.true (c.deref.ensures.value ∙ c.in_ok-do_command.ensures.replies) c.in_ok-do_command.ensures.book c.in_ok-tell_command.ensures;
+      book = book_next c.loop-command.command-index c.loop-command.book c.do_command.new.book _ c.args.commands.now _ i.book c.loop-command-test.true c.in_ok-do_command.ensures.book;
     }
 
 pub returns-clause-lines : goal.returns-clause-lines
