@@ -11,8 +11,8 @@ ghost use Rattle.std.specs.Prelude.{◌≡◌};
 ghost use Rattle.model.specs.Owning.{IsStore};
 ghost use Rattle.model.specs.Holding.{IsHeap};
 
-use crate::rows::Rows;
 use crate::thread::Thread;
+use markbits::Rows;
 use model::{Config, Global, Phase, Scan};
 use page::Store;
 use std::marker::Model;

@@ -6,14 +6,13 @@
 
 mod fault;
 mod heap;
-mod rows;
 mod thread;
 
 pub use fault::NewFault;
 pub use heap::references::stored;
 pub use heap::Heap;
 pub use model::{Config, ConfigFault, Refusal};
-pub use rows::{Row, Rows};
+pub use markbits::{Row, Rows};
 pub use thread::Thread;
 
 #[cfg(test)]

@@ -10,8 +10,8 @@ ghost use Rattle.model.specs.Phases.{is_marking, is_mark_crossing};
 ghost use Rattle.model.specs.Outcome.{placed, new_outcome, handed};
 
 use crate::heap::Heap;
-use crate::rows::Rows;
 use layout::{Header, Layout};
+use markbits::Rows;
 use model::{Answer, Buffer, Phase, Refusal};
 use page::Store;
 use refword::{Addr, Word};

@@ -7,7 +7,7 @@ ghost use Rattle.model.specs.Refusing.{Does};
 ghost use Rattle.model.specs.Outcome.{lent, take_outcome, give_back_outcome};
 
 use crate::heap::Heap;
-use crate::rows::Rows;
+use markbits::Rows;
 use model::{Answer, Buffer, Refusal, Room};
 
 /// Clears the row of a page of which a buffer is the first.

@@ -7,8 +7,8 @@ ghost use Rattle.heap.specs.Making.{Makes};
 
 use crate::fault::NewFault;
 use crate::heap::Heap;
-use crate::rows::Rows;
 use crate::thread::Thread;
+use markbits::Rows;
 use model::{Config, Global, Phase};
 use page::{Store, many, record_count};
 use refword::Word;

@@ -1,0 +1,7 @@
+//! Rows of bits for the words of pages: where objects start, and which are live, marked, or still
+//! to be scanned. All of it is ours.
+#![tactic(auto)]
+
+mod rows;
+
+pub use rows::{Row, Rows};
