@@ -41,7 +41,8 @@ register_ok : (sizes : Sizes) (line : List ℕ) (at : ℕ) (v : ℕ × ℕ) → 
 unfolding register_at
 register_ok sizes line at v fits h = let n = named_ok line at 114 sizes.registers kinds.NoSuchRegister v fits h in record { spelled = n.spelled; below = n.below }
 
-register_again : (sizes : Sizes) (line : List ℕ) (at n : ℕ) (ws : List (List ℕ)) → sizes.registers < 2 ^ 64 → n < sizes.registers → words_from line at ≡ register_word n ∷ ws → Reads line (register_at sizes line at) n ws
+register_again : (sizes : Sizes) (line : List ℕ) (at n : ℕ) (ws : List (List ℕ)) → sizes.registers < 2 ^ 64 → n < sizes.registers →
+    words_from line at ≡ register_word n ∷ ws → Reads line (register_at sizes line at) n ws
 unfolding register_at
 register_again sizes line at n ws fits below h = named_again line at 114 sizes.registers kinds.NoSuchRegister n ws (omega arith) below h
 
@@ -61,7 +62,8 @@ slot_ok sizes line at v fits h =
     subst (λ (x : (ℕ × ℕ) × ℕ). IsSlotAt sizes line at x) (ok_is ((a.0.0, b.0.0), b.0.1) v b.2)
     (record { spelled = r.spelled ∙ ap (λ (t : List (List ℕ)). register_word a.0.0 ∷ t) n.spelled; below = r.below; small = omega (arith, n.below) })
 
-slot_again : (sizes : Sizes) (line : List ℕ) (at r n : ℕ) (ws : List (List ℕ)) → sizes.registers < 2 ^ 64 → r < sizes.registers → n < 2 ^ 32 → words_from line at ≡ register_word r ∷ decimal n ∷ ws → Reads line (slot_at sizes line at) (r, n) ws
+slot_again : (sizes : Sizes) (line : List ℕ) (at r n : ℕ) (ws : List (List ℕ)) → sizes.registers < 2 ^ 64 → r < sizes.registers → n < 2 ^ 32 →
+    words_from line at ≡ register_word r ∷ decimal n ∷ ws → Reads line (slot_at sizes line at) (r, n) ws
 unfolding slot_at
 slot_again sizes line at r n ws fits below small h =
     let a = register_again sizes line at r (decimal n ∷ ws) fits below h in
@@ -84,7 +86,8 @@ pair_ok sizes line at v fits h =
     subst (λ (x : (ℕ × ℕ) × ℕ). IsPairAt sizes line at x) (ok_is ((a.0.0, b.0.0), b.0.1) v b.2)
     (record { spelled = r.spelled ∙ ap (λ (t : List (List ℕ)). register_word a.0.0 ∷ t) n.spelled; left = r.below; right = n.below })
 
-pair_again : (sizes : Sizes) (line : List ℕ) (at r n : ℕ) (ws : List (List ℕ)) → sizes.registers < 2 ^ 64 → r < sizes.registers → n < sizes.registers → words_from line at ≡ register_word r ∷ register_word n ∷ ws → Reads line (pair_at sizes line at) (r, n) ws
+pair_again : (sizes : Sizes) (line : List ℕ) (at r n : ℕ) (ws : List (List ℕ)) → sizes.registers < 2 ^ 64 → r < sizes.registers → n < sizes.registers →
+    words_from line at ≡ register_word r ∷ register_word n ∷ ws → Reads line (pair_at sizes line at) (r, n) ws
 unfolding pair_at
 pair_again sizes line at r n ws fits left right h =
     let a = register_again sizes line at r (register_word n ∷ ws) fits left h in
@@ -98,7 +101,8 @@ record IsFieldAt (sizes : Sizes) (line : List ℕ) (at : ℕ) (v : (ℕ × (ℕ 
   object : v.0.1.0 < sizes.registers
   small : v.0.1.1 < 2 ^ 32
 
-field_ok : (sizes : Sizes) (line : List ℕ) (at : ℕ) (v : (ℕ × (ℕ × ℕ)) × ℕ) → sizes.registers < 2 ^ 64 → field_at sizes line at ≡ Ok v → IsFieldAt sizes line at v
+field_ok : (sizes : Sizes) (line : List ℕ) (at : ℕ) (v : (ℕ × (ℕ × ℕ)) × ℕ) → sizes.registers < 2 ^ 64 → field_at sizes line at ≡ Ok v →
+    IsFieldAt sizes line at v
 unfolding field_at
 field_ok sizes line at v fits h =
     let a = bind_ok (register_at sizes line at) _ v h in
@@ -108,7 +112,8 @@ field_ok sizes line at v fits h =
     subst (λ (x : (ℕ × (ℕ × ℕ)) × ℕ). IsFieldAt sizes line at x) (ok_is ((a.0.0, b.0.0), b.0.1) v b.2)
     (record { spelled = r.spelled ∙ ap (λ (t : List (List ℕ)). register_word a.0.0 ∷ t) s.spelled; target = r.below; object = s.below; small = s.small })
 
-field_again : (sizes : Sizes) (line : List ℕ) (at target object n : ℕ) (ws : List (List ℕ)) → sizes.registers < 2 ^ 64 → target < sizes.registers → object < sizes.registers → n < 2 ^ 32 →
+field_again : (sizes : Sizes) (line : List ℕ) (at target object n : ℕ) (ws : List (List ℕ)) → sizes.registers < 2 ^ 64 → target < sizes.registers →
+    object < sizes.registers → n < 2 ^ 32 →
     words_from line at ≡ register_word target ∷ register_word object ∷ decimal n ∷ ws → Reads line (field_at sizes line at) (target, (object, n)) ws
 unfolding field_at
 field_again sizes line at target object n ws fits below there small h =
@@ -232,17 +237,20 @@ bare_ok sizes line at bare.Cross = record { keyword = refl; spelled = refl; fits
 bare_ok sizes line at bare.Park = record { keyword = refl; spelled = refl; fits = tt }
 bare_ok sizes line at bare.Unpark = record { keyword = refl; spelled = refl; fits = tt }
 
-slot_order_ok : (sizes : Sizes) (line : List ℕ) (at : ℕ) (k : OfSlot) (s : (ℕ × ℕ) × ℕ) → IsSlotAt sizes line at s → IsOrderAt sizes line at (keywords.Slot k) (slot_order k s.0.0 s.0.1, s.1)
+slot_order_ok : (sizes : Sizes) (line : List ℕ) (at : ℕ) (k : OfSlot) (s : (ℕ × ℕ) × ℕ) → IsSlotAt sizes line at s →
+    IsOrderAt sizes line at (keywords.Slot k) (slot_order k s.0.0 s.0.1, s.1)
 slot_order_ok sizes line at of_slot.New s h = record { keyword = refl; spelled = h.spelled; fits = (h.below, h.small) }
 slot_order_ok sizes line at of_slot.Datum s h = record { keyword = refl; spelled = h.spelled; fits = (h.below, h.small) }
 slot_order_ok sizes line at of_slot.LoadGlobal s h = record { keyword = refl; spelled = h.spelled; fits = (h.below, h.small) }
 slot_order_ok sizes line at of_slot.GetGlobal s h = record { keyword = refl; spelled = h.spelled; fits = (h.below, h.small) }
 
-field_order_ok : (sizes : Sizes) (line : List ℕ) (at : ℕ) (k : OfField) (f : (ℕ × (ℕ × ℕ)) × ℕ) → IsFieldAt sizes line at f → IsOrderAt sizes line at (keywords.Field k) (field_order k f.0.0 f.0.1.0 f.0.1.1, f.1)
+field_order_ok : (sizes : Sizes) (line : List ℕ) (at : ℕ) (k : OfField) (f : (ℕ × (ℕ × ℕ)) × ℕ) → IsFieldAt sizes line at f →
+    IsOrderAt sizes line at (keywords.Field k) (field_order k f.0.0 f.0.1.0 f.0.1.1, f.1)
 field_order_ok sizes line at of_field.Load f h = record { keyword = refl; spelled = h.spelled; fits = ((h.target, h.object), h.small) }
 field_order_ok sizes line at of_field.Get f h = record { keyword = refl; spelled = h.spelled; fits = ((h.target, h.object), h.small) }
 
-registers_ok : (sizes : Sizes) (line : List ℕ) (at : ℕ) (k : OfRegisters) (v : Order × ℕ) → sizes.registers < 2 ^ 64 → registers_at sizes line at k ≡ Ok v → IsOrderAt sizes line at (keywords.Registers k) v
+registers_ok : (sizes : Sizes) (line : List ℕ) (at : ℕ) (k : OfRegisters) (v : Order × ℕ) → sizes.registers < 2 ^ 64 → registers_at sizes line at k ≡ Ok v →
+    IsOrderAt sizes line at (keywords.Registers k) v
 unfolding registers_at
 registers_ok sizes line at of_registers.Same v fits h =
     let a = bind_ok (pair_at sizes line at) _ v h in
@@ -265,7 +273,8 @@ registers_ok sizes line at of_registers.Scrub v fits h =
     let r = register_ok sizes line at a.0 fits a.1 in
     subst (λ (x : Order × ℕ). IsOrderAt sizes line at (keywords.Registers of_registers.Scrub) x) (ok_is (orders.Scrub a.0.0, a.0.1) v a.2) (record { keyword = refl; spelled = r.spelled; fits = r.below })
 
-mixed_ok : (sizes : Sizes) (line : List ℕ) (at : ℕ) (k : Mixed) (v : Order × ℕ) → sizes.registers < 2 ^ 64 → mixed_at sizes line at k ≡ Ok v → IsOrderAt sizes line at (keywords.Mixed k) v
+mixed_ok : (sizes : Sizes) (line : List ℕ) (at : ℕ) (k : Mixed) (v : Order × ℕ) → sizes.registers < 2 ^ 64 → mixed_at sizes line at k ≡ Ok v →
+    IsOrderAt sizes line at (keywords.Mixed k) v
 unfolding mixed_at
 mixed_ok sizes line at mixed.Take v fits h =
     let a = bind_ok (small_at line at) _ v h in
@@ -293,7 +302,8 @@ mixed_ok sizes line at mixed.StoreGlobal v fits h =
     subst (λ (x : Order × ℕ). IsOrderAt sizes line at (keywords.Mixed mixed.StoreGlobal) x) (ok_is (orders.StoreGlobal a.0.0 b.0.0, b.0.1) v b.2)
     (record { keyword = refl; spelled = n.spelled ∙ ap (λ (t : List (List ℕ)). decimal a.0.0 ∷ t) r.spelled; fits = (omega (arith, n.below), r.below) })
 
-operands_ok : (sizes : Sizes) (line : List ℕ) (at : ℕ) (k : Keyword) (v : Order × ℕ) → sizes.registers < 2 ^ 64 → operands_at sizes line at k ≡ Ok v → IsOrderAt sizes line at k v
+operands_ok : (sizes : Sizes) (line : List ℕ) (at : ℕ) (k : Keyword) (v : Order × ℕ) → sizes.registers < 2 ^ 64 → operands_at sizes line at k ≡ Ok v →
+    IsOrderAt sizes line at k v
 unfolding operands_at
 operands_ok sizes line at (keywords.Bare k) v fits h = subst (λ (x : Order × ℕ). IsOrderAt sizes line at (keywords.Bare k) x) (ok_is (bare_order k, at) v h) (bare_ok sizes line at k)
 operands_ok sizes line at (keywords.Registers k) v fits h = registers_ok sizes line at k v fits h
@@ -307,7 +317,8 @@ operands_ok sizes line at (keywords.Field k) v fits h =
     subst (λ (x : Order × ℕ). IsOrderAt sizes line at (keywords.Field k) x) (ok_is (field_order k a.0.0.0 a.0.0.1.0 a.0.0.1.1, a.0.1) v a.2) f
 operands_ok sizes line at (keywords.Mixed k) v fits h = mixed_ok sizes line at k v fits h
 
-operands_again : (sizes : Sizes) (line : List ℕ) (at : ℕ) (o : Order) (ws : List (List ℕ)) → sizes.registers < 2 ^ 64 → IsOrder sizes.registers o → words_from line at ≡ operand_words o ++ ws → Reads line (operands_at sizes line at (keyword_of o)) o ws
+operands_again : (sizes : Sizes) (line : List ℕ) (at : ℕ) (o : Order) (ws : List (List ℕ)) → sizes.registers < 2 ^ 64 → IsOrder sizes.registers o →
+    words_from line at ≡ operand_words o ++ ws → Reads line (operands_at sizes line at (keyword_of o)) o ws
 unfolding operands_at registers_at mixed_at
 operands_again sizes line at (orders.Take n) ws fits is h = let a = small_again line at n ws is h in (a.0, rw a.1 refl, a.2)
 operands_again sizes line at orders.Give ws fits is h = (at, refl, h)
@@ -342,7 +353,8 @@ operands_again sizes line at (orders.Get target object index) ws fits is h = let
 operands_again sizes line at (orders.GetGlobal target global) ws fits is h = let a = slot_again sizes line at target global ws fits is.0 is.1 h in (a.0, rw a.1 refl, a.2)
 
 -- one test of a keyword: the word is its text, or a later test tells
-key_ok : (w text : List ℕ) (this k : Keyword) (rest : Option Keyword) → cond (bytes_eq w text) (Some this) rest ≡ Some k → ((w ≡ text) × (this ≡ k)) ⊎ (rest ≡ Some k)
+key_ok : (w text : List ℕ) (this k : Keyword) (rest : Option Keyword) → cond (bytes_eq w text) (Some this) rest ≡ Some k →
+    ((w ≡ text) × (this ≡ k)) ⊎ (rest ≡ Some k)
 key_ok w text this k rest h = chosen (bytes_eq w text) (bytes_eq-Decides w text).0 h
   where
     chosen : (b : Bool) → (b ≡ true → w ≡ text) → cond b (Some this) rest ≡ Some k → ((w ≡ text) × (this ≡ k)) ⊎ (rest ≡ Some k)
@@ -353,7 +365,8 @@ named_by : (w text : List ℕ) (this k : Keyword) → keyword_text this ≡ text
 named_by w text this k e p = p.0 ∙ sym e ∙ ap keyword_text p.1
 
 -- a word is the text of the keyword that this test or a later one tells
-key_or : (w text : List ℕ) (this k : Keyword) (rest : Option Keyword) → keyword_text this ≡ text → (rest ≡ Some k → w ≡ keyword_text k) → cond (bytes_eq w text) (Some this) rest ≡ Some k → w ≡ keyword_text k
+key_or : (w text : List ℕ) (this k : Keyword) (rest : Option Keyword) → keyword_text this ≡ text → (rest ≡ Some k → w ≡ keyword_text k) →
+    cond (bytes_eq w text) (Some this) rest ≡ Some k → w ≡ keyword_text k
 key_or w text this k rest e later h = elim (key_ok w text this k rest h) [ inl p ↦ named_by w text this k e p | inr next ↦ later next ]
 
 mixed_key_ok : (w : List ℕ) (k : Keyword) → mixed_keyword w ≡ Some k → w ≡ keyword_text k
@@ -434,7 +447,8 @@ actor_keyword (Thread t) w k o h = (tt, thread_key_ok w k h)
 actor_keyword (Worker t) w k o h = absurd cc
 
 -- an order's name, its operands, and no more words
-whole_order : (x : List (List ℕ)) (w text : List ℕ) (y rest operands : List (List ℕ)) → x ≡ w ∷ y → w ≡ text → y ≡ operands ++ rest → rest ≡ [] → x ≡ text ∷ operands
+whole_order : (x : List (List ℕ)) (w text : List ℕ) (y rest operands : List (List ℕ)) → x ≡ w ∷ y → w ≡ text → y ≡ operands ++ rest → rest ≡ [] →
+    x ≡ text ∷ operands
 whole_order x w text y rest operands p q r s =
     p ∙ ap (λ (t : List ℕ). t ∷ y) q ∙ ap (λ (t : List (List ℕ)). text ∷ t) (r ∙ ap (λ (t : List (List ℕ)). operands ++ t) s ∙ append-nil operands)
 
@@ -444,7 +458,8 @@ pub record IsOrderFrom (sizes : Sizes) (line : List ℕ) (actor : Actor) (at : �
   pub own : IsFor actor o
   pub fits : IsOrder sizes.registers o
 
-pub order_ok : (sizes : Sizes) (line : List ℕ) (actor : Actor) (at : ℕ) (o : Order) → sizes.registers < 2 ^ 64 → order_at sizes line actor at ≡ Ok o → IsOrderFrom sizes line actor at o
+pub order_ok : (sizes : Sizes) (line : List ℕ) (actor : Actor) (at : ℕ) (o : Order) → sizes.registers < 2 ^ 64 → order_at sizes line actor at ≡ Ok o →
+    IsOrderFrom sizes line actor at o
 unfolding order_at
 order_ok sizes line actor at o fits h =
     let w = bind_ok (word_or line at kinds.UnknownWord) _ o h in
@@ -463,7 +478,8 @@ in_keyword : (actor : Actor) (o : Order) (k : Keyword) → IsFor actor o → key
 in_keyword (Thread t) o k own = keyword_again k
 in_keyword (Worker t) o k own = absurd own
 
-pub order_again : (sizes : Sizes) (line : List ℕ) (actor : Actor) (at : ℕ) (o : Order) → sizes.registers < 2 ^ 64 → IsFor actor o → IsOrder sizes.registers o → words_from line at ≡ order_words o → order_at sizes line actor at ≡ Ok o
+pub order_again : (sizes : Sizes) (line : List ℕ) (actor : Actor) (at : ℕ) (o : Order) → sizes.registers < 2 ^ 64 → IsFor actor o → IsOrder sizes.registers o →
+    words_from line at ≡ order_words o → order_at sizes line actor at ≡ Ok o
 unfolding order_at
 order_again sizes line actor at o fits own is h =
     let w = word_again line at kinds.UnknownWord (keyword_text (keyword_of o)) (operand_words o) (h ∙ words_are o) in
@@ -514,7 +530,8 @@ line_is line ws h = sym (join_with_byte-slice_split 32 line) ∙ ap (join_with_b
 first_is : (line : List ℕ) (b : ℕ) (w : List ℕ) (ws : List (List ℕ)) → words_from line 0 ≡ (b ∷ w) ∷ ws → first_byte line ≡ b
 first_is line b w ws h = ap first_byte (line_is line ((b ∷ w) ∷ ws) h) ∙ first_joined b w ws
 
-pub actor_again : (sizes : Sizes) (line : List ℕ) (a : Actor) (ws : List (List ℕ)) → AreFew sizes → IsActor (config_of sizes []) a → words_from line 0 ≡ actor_word a ∷ ws → Reads line (actor_at sizes line) a ws
+pub actor_again : (sizes : Sizes) (line : List ℕ) (a : Actor) (ws : List (List ℕ)) → AreFew sizes → IsActor (config_of sizes []) a →
+    words_from line 0 ≡ actor_word a ∷ ws → Reads line (actor_at sizes line) a ws
 unfolding actor_at
 actor_again sizes line (Thread t) ws few there h =
     let test : (first_byte line == 119) ≡ false = rw (first_is line 116 (decimal t) ws h) refl in

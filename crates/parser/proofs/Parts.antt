@@ -24,13 +24,16 @@ HasTurns (Some turns) = (1 ≤ turns) × (turns ≤ MOST_TURNS)
 behind_front : (front rest said after : List (List ℕ)) (line : List ℕ) → said ≡ front ++ rest → rest ++ line ∷ [] ≡ after → said ++ line ∷ [] ≡ front ++ after
 behind_front front rest said after line h k = ap (λ (x : List (List ℕ)). x ++ line ∷ []) h ∙ append_assoc front rest (line ∷ []) ∙ ap (λ (x : List (List ℕ)). front ++ x) k
 
-one_more : (parts : List Part) (c : Command) (line : List ℕ) → line ≡ command_line_of c → (flat_map part_lines parts ++ []) ++ line ∷ [] ≡ flat_map part_lines (parts ++ One c ∷ []) ++ []
+one_more : (parts : List Part) (c : Command) (line : List ℕ) → line ≡ command_line_of c →
+    (flat_map part_lines parts ++ []) ++ line ∷ [] ≡ flat_map part_lines (parts ++ One c ∷ []) ++ []
 one_more parts c line is =
     rw (append-nil (flat_map part_lines parts), append-nil (flat_map part_lines (parts ++ One c ∷ [])), flat_map-append part_lines parts (One c ∷ []), is) refl
 
 -- a command outside a block
-pub say_one : (front : List (List ℕ)) (parts : List Part) (c : Command) (said : List (List ℕ)) (line : List ℕ) (o : Option ℕ) (body : List Command) → o ≡ None → line ≡ command_line_of c →
-    said ≡ front ++ (flat_map part_lines parts ++ open_lines o body) → said ++ line ∷ [] ≡ front ++ (flat_map part_lines (parts ++ One c ∷ []) ++ open_lines o body)
+pub say_one : (front : List (List ℕ)) (parts : List Part) (c : Command) (said : List (List ℕ)) (line : List ℕ) (o : Option ℕ) (body : List Command) → o ≡ None →
+    line ≡ command_line_of c →
+    said ≡ front ++ (flat_map part_lines parts ++ open_lines o body) →
+    said ++ line ∷ [] ≡ front ++ (flat_map part_lines (parts ++ One c ∷ []) ++ open_lines o body)
 say_one front parts c said line o body none is h =
     behind_front front (flat_map part_lines parts ++ open_lines o body) said (flat_map part_lines (parts ++ One c ∷ []) ++ open_lines o body) line h (rw none (one_more parts c line is))
 
@@ -49,7 +52,8 @@ begin_more : (lines : List (List ℕ)) (turns : ℕ) (line : List ℕ) → line 
 begin_more lines turns line is = rw (append-nil lines, is) refl
 
 -- a block begins
-pub say_times : (front : List (List ℕ)) (parts : List Part) (turns : ℕ) (said : List (List ℕ)) (line : List ℕ) (o : Option ℕ) (body : List Command) → o ≡ None → line ≡ times_line_of turns →
+pub say_times : (front : List (List ℕ)) (parts : List Part) (turns : ℕ) (said : List (List ℕ)) (line : List ℕ) (o : Option ℕ) (body : List Command) → o ≡ None →
+    line ≡ times_line_of turns →
     said ≡ front ++ (flat_map part_lines parts ++ open_lines o body) → said ++ line ∷ [] ≡ front ++ (flat_map part_lines parts ++ open_lines (Some turns) [])
 say_times front parts turns said line o body none is h =
     behind_front front (flat_map part_lines parts ++ open_lines o body) said (flat_map part_lines parts ++ open_lines (Some turns) []) line h (rw none (begin_more (flat_map part_lines parts) turns line is))
@@ -61,15 +65,18 @@ end_more parts turns body line is =
     ∙ rw (append-nil (flat_map part_lines (parts ++ Times turns body ∷ [])), flat_map-append part_lines parts (Times turns body ∷ []), append-nil (part_lines (Times turns body)), is) refl
 
 -- a block ends
-pub say_end : (front : List (List ℕ)) (parts : List Part) (turns : ℕ) (said : List (List ℕ)) (line : List ℕ) (o : Option ℕ) (body : List Command) → o ≡ Some turns → line ≡ codes "end" →
-    said ≡ front ++ (flat_map part_lines parts ++ open_lines o body) → said ++ line ∷ [] ≡ front ++ (flat_map part_lines (parts ++ Times turns body ∷ []) ++ open_lines None [])
+pub say_end : (front : List (List ℕ)) (parts : List Part) (turns : ℕ) (said : List (List ℕ)) (line : List ℕ) (o : Option ℕ) (body : List Command) →
+    o ≡ Some turns → line ≡ codes "end" →
+    said ≡ front ++ (flat_map part_lines parts ++ open_lines o body) →
+    said ++ line ∷ [] ≡ front ++ (flat_map part_lines (parts ++ Times turns body ∷ []) ++ open_lines None [])
 say_end front parts turns said line o body some is h =
     behind_front front (flat_map part_lines parts ++ open_lines o body) said (flat_map part_lines (parts ++ Times turns body ∷ []) ++ open_lines None []) line h (rw some (end_more parts turns body line is))
 
 -- ---- commands
 
 -- a part more has its commands more
-pub more_commands : (parts : List Part) (p : Part) (cs : List Command) → cs ≡ flat_map part_commands parts → cs ++ part_commands p ≡ flat_map part_commands (parts ++ p ∷ [])
+pub more_commands : (parts : List Part) (p : Part) (cs : List Command) → cs ≡ flat_map part_commands parts →
+    cs ++ part_commands p ≡ flat_map part_commands (parts ++ p ∷ [])
 more_commands parts p cs h = rw (h, flat_map-append part_commands parts (p ∷ []), append-nil (part_commands p)) refl
 
 pub all_both : {A : Type 0} (P : A → Type 0) (xs ys : List A) → AllByRecursion P xs → AllByRecursion P ys → AllByRecursion P (xs ++ ys)

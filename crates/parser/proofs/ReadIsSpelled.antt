@@ -113,7 +113,8 @@ heap_step line t h =
       count = omega arith;
     })
 
-add_layout : (heap : List ℕ) (ls : List Layout) (l : Layout) (said : List (List ℕ)) (line : List ℕ) (parts : List Part) (o : Option ℕ) (body : List Command) → parts ≡ [] → o ≡ None → line ≡ layout_line_of l →
+add_layout : (heap : List ℕ) (ls : List Layout) (l : Layout) (said : List (List ℕ)) (line : List ℕ) (parts : List Part) (o : Option ℕ) (body : List Command) →
+    parts ≡ [] → o ≡ None → line ≡ layout_line_of l →
     said ≡ (heap ∷ map layout_line_of ls) ++ (flat_map part_lines parts ++ open_lines o body) →
     said ++ line ∷ [] ≡ (heap ∷ map layout_line_of (ls ++ l ∷ [])) ++ (flat_map part_lines parts ++ open_lines o body)
 add_layout heap ls l said line parts o body none no_block is h =
@@ -123,12 +124,14 @@ both_true : (a b : Bool) → (a && b) ≡ true → (a ≡ true) × (b ≡ true)
 both_true true b h = (refl, h)
 both_true false b h = absurd cc
 
-room_more : (words : ℕ) (ls : List Layout) (l : Layout) → list_all (fits_page words) ls ≡ true → 1 + l.refs + l.nums ≤ words → list_all (fits_page words) (ls ++ l ∷ []) ≡ true
+room_more : (words : ℕ) (ls : List Layout) (l : Layout) → list_all (fits_page words) ls ≡ true → 1 + l.refs + l.nums ≤ words →
+    list_all (fits_page words) (ls ++ l ∷ []) ≡ true
 room_more words ls l h room =
     let fits : fits_page words l ≡ true = grind (arith, nat_tests) in
     list_all-append (fits_page words) ls (l ∷ []) ∙ (rw (h, fits) refl)
 
-layout_step : (said : List (List ℕ)) (r t : ReadSoFar) (b : IsBehind said r) (line : List ℕ) → (first_word line).0 ≡ codes "layout" → r.begun ≡ false → length r.layouts < MOST_LAYOUTS → layout_line r b.sizes line ≡ Ok t → IsBehind (said ++ line ∷ []) t
+layout_step : (said : List (List ℕ)) (r t : ReadSoFar) (b : IsBehind said r) (line : List ℕ) → (first_word line).0 ≡ codes "layout" → r.begun ≡ false →
+    length r.layouts < MOST_LAYOUTS → layout_line r b.sizes line ≡ Ok t → IsBehind (said ++ line ∷ []) t
 unfolding layout_line
 layout_step said r t b line first not_begun few h =
     let fresh = b.fresh not_begun in
@@ -157,7 +160,8 @@ layout_step said r t b line first not_begun few h =
 
 -- ---- commands and blocks
 
-command_behind : (said : List (List ℕ)) (r : ReadSoFar) (b : IsBehind said r) (c : Command) (line : List ℕ) → line ≡ command_line_of c → IsCommand (config_of b.sizes []) c → (o : Option ℕ) → r.turns ≡ o → is_full o r.commands ≡ false → IsBehind (said ++ line ∷ []) (with_command r o c)
+command_behind : (said : List (List ℕ)) (r : ReadSoFar) (b : IsBehind said r) (c : Command) (line : List ℕ) → line ≡ command_line_of c →
+    IsCommand (config_of b.sizes []) c → (o : Option ℕ) → r.turns ≡ o → is_full o r.commands ≡ false → IsBehind (said ++ line ∷ []) (with_command r o c)
 command_behind said r b c line is own None none room =
     let fits : length r.commands < MOST_COMMANDS = grind (arith, nat_tests) in
     record {
@@ -199,7 +203,8 @@ command_behind said r b c line is own (Some turns) some room = record {
   count = b.count;
 }
 
-command_step : (said : List (List ℕ)) (r t : ReadSoFar) (b : IsBehind said r) (line : List ℕ) → command_line r b.sizes line ≡ Ok t → IsBehind (said ++ line ∷ []) t
+command_step : (said : List (List ℕ)) (r t : ReadSoFar) (b : IsBehind said r) (line : List ℕ) → command_line r b.sizes line ≡ Ok t →
+    IsBehind (said ++ line ∷ []) t
 unfolding command_line
 command_step said r t b line h =
     let few = few_actors b.sizes b.range in
@@ -213,7 +218,8 @@ command_step said r t b line h =
     let own : IsCommand (config_of b.sizes []) command = record { actor = actor.there; own = order.own; order = order.fits } in
     subst (λ (x : ReadSoFar). IsBehind (said ++ line ∷ []) x) (ok_is (with_command r r.turns command) t o.2) (command_behind said r b command line line_is_command own r.turns refl g.0)
 
-times_behind : (said : List (List ℕ)) (r t : ReadSoFar) (b : IsBehind said r) (line : List ℕ) → (first_word line).0 ≡ codes "times" → (o : Option ℕ) → r.turns ≡ o → times_in r o line ≡ Ok t → IsBehind (said ++ line ∷ []) t
+times_behind : (said : List (List ℕ)) (r t : ReadSoFar) (b : IsBehind said r) (line : List ℕ) → (first_word line).0 ≡ codes "times" → (o : Option ℕ) →
+    r.turns ≡ o → times_in r o line ≡ Ok t → IsBehind (said ++ line ∷ []) t
 times_behind said r t b line first (Some turns) some h = absurd cc
 times_behind said r t b line first None none h =
     let n = bind_ok (number_at line (first_word line).1 1 MOST_TURNS) _ t h in
@@ -241,11 +247,13 @@ times_behind said r t b line first None none h =
       count = b.count;
     })
 
-times_step : (said : List (List ℕ)) (r t : ReadSoFar) (b : IsBehind said r) (line : List ℕ) → (first_word line).0 ≡ codes "times" → times_line r line ≡ Ok t → IsBehind (said ++ line ∷ []) t
+times_step : (said : List (List ℕ)) (r t : ReadSoFar) (b : IsBehind said r) (line : List ℕ) → (first_word line).0 ≡ codes "times" → times_line r line ≡ Ok t →
+    IsBehind (said ++ line ∷ []) t
 unfolding times_line
 times_step said r t b line first h = times_behind said r t b line first r.turns refl h
 
-end_behind : (said : List (List ℕ)) (r t : ReadSoFar) (b : IsBehind said r) (line : List ℕ) → (first_word line).0 ≡ codes "end" → (o : Option ℕ) → r.turns ≡ o → end_in r o line ≡ Ok t → IsBehind (said ++ line ∷ []) t
+end_behind : (said : List (List ℕ)) (r t : ReadSoFar) (b : IsBehind said r) (line : List ℕ) → (first_word line).0 ≡ codes "end" → (o : Option ℕ) → r.turns ≡ o →
+    end_in r o line ≡ Ok t → IsBehind (said ++ line ∷ []) t
 end_behind said r t b line first None none h = absurd cc
 end_behind said r t b line first (Some turns) some h =
     let g = guard_ok (nat_lt MOST_COMMANDS (length r.commands + turns * length r.body)) _ _ t h in
@@ -274,7 +282,8 @@ end_behind said r t b line first (Some turns) some h =
       count = omega (arith, length-append r.commands (repeat turns r.body), repeated_length turns r.body, fits);
     })
 
-end_step : (said : List (List ℕ)) (r t : ReadSoFar) (b : IsBehind said r) (line : List ℕ) → (first_word line).0 ≡ codes "end" → end_line r line ≡ Ok t → IsBehind (said ++ line ∷ []) t
+end_step : (said : List (List ℕ)) (r t : ReadSoFar) (b : IsBehind said r) (line : List ℕ) → (first_word line).0 ≡ codes "end" → end_line r line ≡ Ok t →
+    IsBehind (said ++ line ∷ []) t
 unfolding end_line
 end_step said r t b line first h = end_behind said r t b line first r.turns refl h
 
@@ -312,7 +321,8 @@ later_step said r t b line h =
 
 -- ---- a line, and the lines
 
-line_step : (said : List (List ℕ)) (r t : ReadSoFar) (line : List ℕ) → Said said r → is_idle line ≡ false → line_after r r.sizes line ≡ Ok t → Said (said ++ line ∷ []) t
+line_step : (said : List (List ℕ)) (r t : ReadSoFar) (line : List ℕ) → Said said r → is_idle line ≡ false → line_after r r.sizes line ≡ Ok t →
+    Said (said ++ line ∷ []) t
 line_step said r t line (inl before) idle h =
     let first : heap_line nothing line ≡ Ok t = subst (λ (x : ReadSoFar). line_after x x.sizes line ≡ Ok t) before.is h in
     inr (rw before.said_is (heap_step line t first))
@@ -338,7 +348,8 @@ record IsTold (said : List (List ℕ)) (s : ScriptValue) : Type 0 where
   commands_are : s.commands ≡ flat_map part_commands parts
   said_is : said ≡ heap ∷ map layout_line_of s.config.layouts ++ flat_map part_lines parts
 
-commands_with : (s : Sizes) (ls : List Layout) (cs : List Command) → AllByRecursion (IsCommand (config_of s [])) cs → AllByRecursion (IsCommand (config_of s ls)) cs
+commands_with : (s : Sizes) (ls : List Layout) (cs : List Command) → AllByRecursion (IsCommand (config_of s [])) cs →
+    AllByRecursion (IsCommand (config_of s ls)) cs
 commands_with s ls [] h = tt
 commands_with s ls (c ∷ cs) h = (record { actor = h.0.actor; own = h.0.own; order = h.0.order }, commands_with s ls cs h.1)
 
@@ -349,11 +360,13 @@ guard_line false d x y e = (refl, e)
 some_layouts : (ls : List Layout) → (length ls == 0) ≡ false → 1 ≤ length ls
 some_layouts ls h = grind (arith, nat_tests)
 
-closed_ok : (n : ℕ) (r : ReadSoFar) (z : Sizes) (o : Option ℕ) (s : ScriptValue) → closed n r z o ≡ Ok s → (o ≡ None) × (script_of (config_of z r.layouts) r.commands ≡ s)
+closed_ok : (n : ℕ) (r : ReadSoFar) (z : Sizes) (o : Option ℕ) (s : ScriptValue) → closed n r z o ≡ Ok s →
+    (o ≡ None) × (script_of (config_of z r.layouts) r.commands ≡ s)
 closed_ok n r z None s h = (refl, cc)
 closed_ok n r z (Some turns) s h = absurd cc
 
-all_said : (front lines said : List (List ℕ)) (o : Option ℕ) (body : List Command) → o ≡ None → said ≡ front ++ (lines ++ open_lines o body) → said ≡ front ++ lines
+all_said : (front lines said : List (List ℕ)) (o : Option ℕ) (body : List Command) → o ≡ None → said ≡ front ++ (lines ++ open_lines o body) →
+    said ≡ front ++ lines
 all_said front lines said o body none h = h ∙ ap (λ (x : List (List ℕ)). front ++ x) (rw none (append-nil lines))
 
 finished_ok : (n : ℕ) (said : List (List ℕ)) (r : ReadSoFar) (s : ScriptValue) → Said said r → finished n r ≡ Ok s → IsTold said s
@@ -394,7 +407,8 @@ pick_false : {A : Type 0} (c : Bool) (x y z : A) → c ≡ false → cond c x y 
 pick_false true x y z e h = absurd cc
 pick_false false x y z e h = h
 
-last_ok : (n : ℕ) (said : List (List ℕ)) (r : ReadSoFar) (rest : List ℕ) (s : ScriptValue) → Said said r → last_line n r rest ≡ Ok s → IsReadFrom said (rest ∷ []) s
+last_ok : (n : ℕ) (said : List (List ℕ)) (r : ReadSoFar) (rest : List ℕ) (s : ScriptValue) → Said said r → last_line n r rest ≡ Ok s →
+    IsReadFrom said (rest ∷ []) s
 unfolding last_line
 last_ok n said r [] s so_far h = record { lines = []; parts_are = refl; all_told = rw (append-nil said) (finished_ok n said r s so_far h) }
 last_ok n said r (b ∷ bs) s so_far h =
@@ -405,7 +419,8 @@ on_ok : {A B : Type 0} (n : ℕ) (x : Result A Flaw) (f : A → Result B LineFau
 on_ok n (Ok t) f y e = (t, refl, e)
 on_ok n (Err d) f y e = absurd cc
 
-lines_ok : (n : ℕ) (said : List (List ℕ)) (r : ReadSoFar) (line : List ℕ) (more : List (List ℕ)) (s : ScriptValue) → Said said r → lines_in n r (line ∷ more) ≡ Ok s → IsReadFrom said (line ∷ more) s
+lines_ok : (n : ℕ) (said : List (List ℕ)) (r : ReadSoFar) (line : List ℕ) (more : List (List ℕ)) (s : ScriptValue) → Said said r →
+    lines_in n r (line ∷ more) ≡ Ok s → IsReadFrom said (line ∷ more) s
 unfolding lines_in
 lines_ok n said r line [] s so_far h = last_ok n said r line s so_far h
 lines_ok n said r line (next ∷ more) s so_far h =

@@ -86,21 +86,24 @@ unfolding line_in
 said_line r z line idle sizes_is = rw idle (ap (λ (o : Option Sizes). line_after r o line) sizes_is)
 
 -- behind the layout lines, where the line's first word is no layout line's
-part_taken : (z : Sizes) (r : ReadSoFar) (line w : List ℕ) → IsReady z r → 1 ≤ length r.layouts → is_idle line ≡ false → (first_word line).0 ≡ w → bytes_eq w (codes "layout") ≡ false → line_in r line ≡ part_line r z line
+part_taken : (z : Sizes) (r : ReadSoFar) (line w : List ℕ) → IsReady z r → 1 ≤ length r.layouts → is_idle line ≡ false → (first_word line).0 ≡ w →
+    bytes_eq w (codes "layout") ≡ false → line_in r line ≡ part_line r z line
 unfolding later_line
 part_taken z r line w ready some idle first no_layout =
     let layout : bytes_eq (first_word line).0 (codes "layout") ≡ false = ap (λ (x : List ℕ). bytes_eq x (codes "layout")) first ∙ no_layout in
     let layouts : (length r.layouts == 0) ≡ false = grind (arith, nat_tests) in
     said_line r z line idle ready.sizes_is ∙ rw (layout, layouts) refl
 
-command_line_taken : (z : Sizes) (r : ReadSoFar) (line : List ℕ) (w : List ℕ) → (first_word line).0 ≡ w → IsNoLineWord w → part_line r z line ≡ command_line r z line
+command_line_taken : (z : Sizes) (r : ReadSoFar) (line : List ℕ) (w : List ℕ) → (first_word line).0 ≡ w → IsNoLineWord w →
+    part_line r z line ≡ command_line r z line
 unfolding part_line
 command_line_taken z r line w first other =
     let times : bytes_eq (first_word line).0 (codes "times") ≡ false = ap (λ (x : List ℕ). bytes_eq x (codes "times")) first ∙ other.times in
     let end : bytes_eq (first_word line).0 (codes "end") ≡ false = ap (λ (x : List ℕ). bytes_eq x (codes "end")) first ∙ other.end in
     rw (times, end) refl
 
-command_taken : (z : Sizes) (r : ReadSoFar) (c : Command) (line : List ℕ) (o : Option ℕ) → IsReady z r → 1 ≤ length r.layouts → r.turns ≡ o → is_full o r.commands ≡ false → IsCommand (config_of z []) c → is_idle line ≡ false → line ≡ command_line_of c →
+command_taken : (z : Sizes) (r : ReadSoFar) (c : Command) (line : List ℕ) (o : Option ℕ) → IsReady z r → 1 ≤ length r.layouts → r.turns ≡ o →
+    is_full o r.commands ≡ false → IsCommand (config_of z []) c → is_idle line ≡ false → line ≡ command_line_of c →
     line_in r line ≡ Ok (with_command r o c)
 unfolding command_line
 command_taken z r c line o ready some turns room h idle is =
@@ -116,7 +119,8 @@ command_taken z r c line o ready some turns room h idle is =
     ∙ added
     ∙ ap (λ (x : Option ℕ). Ok (with_command r x c)) turns
 
-times_taken : (z : Sizes) (r : ReadSoFar) (n : ℕ) (line : List ℕ) → IsReady z r → 1 ≤ length r.layouts → r.turns ≡ None → 1 ≤ n → n ≤ MOST_TURNS → is_idle line ≡ false → line ≡ times_line_of n →
+times_taken : (z : Sizes) (r : ReadSoFar) (n : ℕ) (line : List ℕ) → IsReady z r → 1 ≤ length r.layouts → r.turns ≡ None → 1 ≤ n → n ≤ MOST_TURNS →
+    is_idle line ≡ false → line ≡ times_line_of n →
     line_in r line ≡ Ok (record r { begun = true; turns = Some n; body = [] })
 unfolding part_line times_line
 times_taken z r n line ready some none low high idle is =
@@ -128,7 +132,8 @@ times_taken z r n line ready some none low high idle is =
     let read : times_in r None line ≡ Ok (record r { begun = true; turns = Some n; body = [] }) = rw (number.1, e) refl in
     part_taken z r line (codes "times") ready some idle words.first refl ∙ here ∙ ap (λ (x : Option ℕ). times_in r x line) none ∙ read
 
-end_taken : (z : Sizes) (r : ReadSoFar) (n : ℕ) (line : List ℕ) → IsReady z r → 1 ≤ length r.layouts → r.turns ≡ Some n → length r.commands + n * length r.body ≤ MOST_COMMANDS → is_idle line ≡ false → line ≡ codes "end" →
+end_taken : (z : Sizes) (r : ReadSoFar) (n : ℕ) (line : List ℕ) → IsReady z r → 1 ≤ length r.layouts → r.turns ≡ Some n →
+    length r.commands + n * length r.body ≤ MOST_COMMANDS → is_idle line ≡ false → line ≡ codes "end" →
     line_in r line ≡ Ok (record r { commands = r.commands ++ repeat n r.body; turns = None; body = [] })
 unfolding part_line end_line
 end_taken z r n line ready some block room idle is =
@@ -141,7 +146,8 @@ end_taken z r n line ready some block room idle is =
     let read : end_in r (Some n) line ≡ Ok (record r { commands = r.commands ++ repeat n r.body; turns = None; body = [] }) = rw (fits, e) refl in
     part_taken z r line (codes "end") ready some idle words.first refl ∙ here ∙ ap (λ (x : Option ℕ). end_in r x line) block ∙ read
 
-layout_taken : (z : Sizes) (r : ReadSoFar) (l : Layout) (line : List ℕ) → IsReady z r → r.begun ≡ false → length r.layouts < MOST_LAYOUTS → IsLayout l → fits_page z.words l ≡ true → is_idle line ≡ false → line ≡ layout_line_of l →
+layout_taken : (z : Sizes) (r : ReadSoFar) (l : Layout) (line : List ℕ) → IsReady z r → r.begun ≡ false → length r.layouts < MOST_LAYOUTS → IsLayout l →
+    fits_page z.words l ≡ true → is_idle line ≡ false → line ≡ layout_line_of l →
     line_in r line ≡ Ok (record r { layouts = r.layouts ++ l ∷ [] })
 unfolding later_line layout_line
 layout_taken z r l line ready not_begun few h room idle is =
@@ -154,7 +160,8 @@ layout_taken z r l line ready not_begun few h room idle is =
     let read = layout_again z line (first_word line).1 l (record { spelled = words.rest; is = h; room = size }) in
     said_line r z line idle ready.sizes_is ∙ rw (layout, not_begun, below, read) refl
 
-heap_taken : (z : Sizes) (line : List ℕ) → IsSizes z → SpellsHeap line (config_of z []) → is_idle line ≡ false → line_in nothing line ≡ Ok (record nothing { sizes = Some z })
+heap_taken : (z : Sizes) (line : List ℕ) → IsSizes z → SpellsHeap line (config_of z []) → is_idle line ≡ false →
+    line_in nothing line ≡ Ok (record nothing { sizes = Some z })
 unfolding line_in heap_line
 heap_taken z line range h idle =
     let words_range = page_size_range z.words range.words in
@@ -170,7 +177,8 @@ told_first : (line : List ℕ) (lines xs : List (List ℕ)) → filter says_some
     ((is_idle line ≡ true) × (filter says_something lines ≡ xs)) ⊎ ((is_idle line ≡ false) × (line ∷ filter says_something lines ≡ xs))
 told_first line lines xs h = by_test (is_idle line) refl
   where
-    by_test : (b : Bool) → is_idle line ≡ b → ((is_idle line ≡ true) × (filter says_something lines ≡ xs)) ⊎ ((is_idle line ≡ false) × (line ∷ filter says_something lines ≡ xs))
+    by_test : (b : Bool) → is_idle line ≡ b →
+        ((is_idle line ≡ true) × (filter says_something lines ≡ xs)) ⊎ ((is_idle line ≡ false) × (line ∷ filter says_something lines ≡ xs))
     by_test true e = inl (e, rw e at h)
     by_test false e = inr (e, rw e at h)
 
@@ -179,14 +187,16 @@ tail_is_cons [] = record { first = []; others = []; is = refl }
 tail_is_cons (line ∷ lines) = record { first = line; others = lines ++ [] ∷ []; is = refl }
 
 -- a line that is taken leads to the lines behind it
-goes : (n : ℕ) (r t : ReadSoFar) (line : List ℕ) (lines : List (List ℕ)) → line_in r line ≡ Ok t → lines_in n r (line ∷ (lines ++ [] ∷ [])) ≡ lines_in (n + 1) t (lines ++ [] ∷ [])
+goes : (n : ℕ) (r t : ReadSoFar) (line : List ℕ) (lines : List (List ℕ)) → line_in r line ≡ Ok t →
+    lines_in n r (line ∷ (lines ++ [] ∷ [])) ≡ lines_in (n + 1) t (lines ++ [] ∷ [])
 goes n r t line lines h = lines_cons n r line (lines ++ [] ∷ []) (tail_is_cons lines) ∙ rw h refl
 
 idle_taken : (r : ReadSoFar) (line : List ℕ) → is_idle line ≡ true → line_in r line ≡ Ok r
 unfolding line_in
 idle_taken r line h = rw h refl
 
-end_read : (n : ℕ) (z : Sizes) (r : ReadSoFar) → IsReady z r → 1 ≤ length r.layouts → r.turns ≡ None → lines_in n r ([] ∷ []) ≡ Ok (script_of (config_of z r.layouts) r.commands)
+end_read : (n : ℕ) (z : Sizes) (r : ReadSoFar) → IsReady z r → 1 ≤ length r.layouts → r.turns ≡ None →
+    lines_in n r ([] ∷ []) ≡ Ok (script_of (config_of z r.layouts) r.commands)
 unfolding lines_in last_line finished
 end_read n z r ready some none =
     let layouts : (length r.layouts == 0) ≡ false = grind (arith, nat_tests) in
@@ -225,14 +235,16 @@ fits_one cs ds all c e h =
     let long : length all ≡ length cs + length (c ∷ ds) = ap length (sym e) ∙ length-append cs (c ∷ ds) in
     grind (arith, nat_tests)
 
-fits_block : (cs body ds all : List Command) (n : ℕ) → (cs ++ repeat n (body ++ [])) ++ ds ≡ all → length all ≤ MOST_COMMANDS → length cs + n * length body ≤ MOST_COMMANDS
+fits_block : (cs body ds all : List Command) (n : ℕ) → (cs ++ repeat n (body ++ [])) ++ ds ≡ all → length all ≤ MOST_COMMANDS →
+    length cs + n * length body ≤ MOST_COMMANDS
 fits_block cs body ds all n e h =
     let long : length all ≡ length (cs ++ repeat n (body ++ [])) + length ds = ap length (sym e) ∙ length-append (cs ++ repeat n (body ++ [])) ds in
     let front : length (cs ++ repeat n (body ++ [])) ≡ length cs + n * length body = length-append cs (repeat n (body ++ [])) ∙ ap (λ (x : List Command). length cs + length (repeat n x)) (append-nil body) ∙ ap (λ (k : ℕ). length cs + k) (repeated_length n body) in
     omega (arith, long, front, h)
 
 -- all lines behind the layout lines
-parts_read : (n : ℕ) (z : Sizes) (lines : List (List ℕ)) (r : ReadSoFar) (o : Option ℕ) (cs : List Command) (parts : List Part) (all : List Command) → IsLeft z r o cs parts all →
+parts_read : (n : ℕ) (z : Sizes) (lines : List (List ℕ)) (r : ReadSoFar) (o : Option ℕ) (cs : List Command) (parts : List Part) (all : List Command) →
+    IsLeft z r o cs parts all →
     filter says_something lines ≡ lines_left o cs parts → lines_in n r (lines ++ [] ∷ []) ≡ Ok (script_of (config_of z r.layouts) all)
 parts_read n z [] r None cs [] all left said =
     end_read n z r left.ready left.some left.turns ∙ ap (λ (x : List Command). Ok (script_of (config_of z r.layouts) x)) (sym (append-nil r.commands) ∙ left.all_is)
@@ -322,7 +334,8 @@ both true b h = (refl, h)
 both false b h = absurd cc
 
 -- where no layouts are left the parts follow
-no_more : (n : ℕ) (z : Sizes) (lines : List (List ℕ)) (r : ReadSoFar) (parts : List Part) (all : List Command) → IsReady z r → IsFresh r → AreNext z r [] → AreAll z parts all → filter says_something lines ≡ flat_map part_lines parts →
+no_more : (n : ℕ) (z : Sizes) (lines : List (List ℕ)) (r : ReadSoFar) (parts : List Part) (all : List Command) → IsReady z r → IsFresh r → AreNext z r [] →
+    AreAll z parts all → filter says_something lines ≡ flat_map part_lines parts →
     lines_in n r (lines ++ [] ∷ []) ≡ Ok (script_of (config_of z (r.layouts ++ [])) all)
 no_more n z lines r parts all ready fresh next are said =
     let some = next.some in
@@ -330,8 +343,10 @@ no_more n z lines r parts all ready fresh next are said =
     let left : IsLeft z r None [] parts all = record { ready = ready; some = omega arith; turns = fresh.no_block; each = tt; parts_are = are.parts_are; all_is = all_is; count = are.count } in
     parts_read n z lines r None [] parts all left said ∙ ap (λ (x : List Layout). Ok (script_of (config_of z x) all)) (sym (append-nil r.layouts))
 
-layouts_read : (n : ℕ) (z : Sizes) (lines : List (List ℕ)) (r : ReadSoFar) (ls : List Layout) (parts : List Part) (all : List Command) → IsReady z r → IsFresh r → AreNext z r ls → AreAll z parts all →
-    filter says_something lines ≡ map layout_line_of ls ++ flat_map part_lines parts → lines_in n r (lines ++ [] ∷ []) ≡ Ok (script_of (config_of z (r.layouts ++ ls)) all)
+layouts_read : (n : ℕ) (z : Sizes) (lines : List (List ℕ)) (r : ReadSoFar) (ls : List Layout) (parts : List Part) (all : List Command) → IsReady z r →
+    IsFresh r → AreNext z r ls → AreAll z parts all →
+    filter says_something lines ≡ map layout_line_of ls ++ flat_map part_lines parts →
+    lines_in n r (lines ++ [] ∷ []) ≡ Ok (script_of (config_of z (r.layouts ++ ls)) all)
 layouts_read n z [] r [] parts all ready fresh next are said = no_more n z [] r parts all ready fresh next are said
 layouts_read n z [] r (l ∷ ls) parts all ready fresh next are said = absurd cc
 layouts_read n z (line ∷ lines) r [] parts all ready fresh next are said = no_more n z (line ∷ lines) r parts all ready fresh next are said
@@ -352,8 +367,10 @@ layouts_read n z (line ∷ lines) r (l ∷ ls) parts all ready fresh next are sa
           goes n r t line lines taken ∙ rest ∙ ap (λ (x : List Layout). Ok (script_of (config_of z x) all)) (append_assoc r.layouts (l ∷ []) ls)
     ]
 
-heap_read : (n : ℕ) (z : Sizes) (heap : List ℕ) (lines : List (List ℕ)) (ls : List Layout) (parts : List Part) (all : List Command) → IsSizes z → SpellsHeap heap (config_of z []) → AreNext z nothing ls → AreAll z parts all →
-    filter says_something lines ≡ heap ∷ (map layout_line_of ls ++ flat_map part_lines parts) → lines_in n nothing (lines ++ [] ∷ []) ≡ Ok (script_of (config_of z ls) all)
+heap_read : (n : ℕ) (z : Sizes) (heap : List ℕ) (lines : List (List ℕ)) (ls : List Layout) (parts : List Part) (all : List Command) → IsSizes z →
+    SpellsHeap heap (config_of z []) → AreNext z nothing ls → AreAll z parts all →
+    filter says_something lines ≡ heap ∷ (map layout_line_of ls ++ flat_map part_lines parts) →
+    lines_in n nothing (lines ++ [] ∷ []) ≡ Ok (script_of (config_of z ls) all)
 heap_read n z heap [] ls parts all range h next are said = absurd cc
 heap_read n z heap (line ∷ lines) ls parts all range h next are said =
     elim (told_first line lines (heap ∷ (map layout_line_of ls ++ flat_map part_lines parts)) said) [
@@ -376,7 +393,8 @@ commands_of c (x ∷ xs) h = (record { actor = actor_of c x.actor h.0.actor; own
     actor_of c (Worker w) h = h
 
 -- the parts of commands that are there
-parts_of : (z : Sizes) (parts : List Part) → AllByRecursion IsPart parts → AllByRecursion (IsCommand (config_of z [])) (flat_map part_commands parts) → AllByRecursion (IsPartOf z) parts
+parts_of : (z : Sizes) (parts : List Part) → AllByRecursion IsPart parts → AllByRecursion (IsCommand (config_of z [])) (flat_map part_commands parts) →
+    AllByRecursion (IsPartOf z) parts
 parts_of z [] h each = tt
 parts_of z (One c ∷ parts) h each = (each.0, parts_of z parts h.1 each.1)
 parts_of z (Times n cs ∷ parts) h each =

@@ -41,7 +41,8 @@ nothing_more : (c : BookState) (rs : List Reply) → behind rs (told c []) ≡ t
 nothing_more c rs = ap (told c) (append-nil rs)
 
 -- a step that nothing follows
-pub last_step : (b c : BookState) (o : BookOutcome) (reply : Reply) (rs more : List Reply) → Says b reply c o → more ≡ rs ++ reply ∷ [] → behind rs (stepped b o (λ d answer. told d [])) ≡ told c more
+pub last_step : (b c : BookState) (o : BookOutcome) (reply : Reply) (rs more : List Reply) → Says b reply c o → more ≡ rs ++ reply ∷ [] →
+    behind rs (stepped b o (λ d answer. told d [])) ≡ told c more
 last_step b c o (Ok a) rs more says put = step_ok b c o (Ok a) a (λ d answer. told d []) rs more (told c more) refl says put (nothing_more c more)
 last_step b c o (Err e) rs more says put = step_err b c o (Err e) e (λ d answer. told d []) rs more refl says put
 
@@ -55,7 +56,8 @@ healed_due due b actor rs t e h = subst (λ (x : Bool). behind rs (healed x b ac
 abbrev pub after_trap : ℕ → Bool → Actor → BookState → Answer → Told
 after_trap n due actor c answer = if is_clear answer then healed due c actor else trapped n true c actor
 
-trapped_next : (k n : ℕ) (due : Bool) (b : BookState) (actor : Actor) → k ≡ suc n → trapped k due b actor ≡ stepped b (acted b actor steps.Trap) (after_trap n due actor)
+trapped_next : (k n : ℕ) (due : Bool) (b : BookState) (actor : Actor) → k ≡ suc n →
+    trapped k due b actor ≡ stepped b (acted b actor steps.Trap) (after_trap n due actor)
 unfolding trapped
 trapped_next k n due b actor e = rw e refl
 
@@ -65,16 +67,19 @@ trap_err k n due b c actor reply e rs more left is says put =
     ap (behind rs) (trapped_next k n due b actor left) ∙ step_err b c (acted b actor steps.Trap) reply e (after_trap n due actor) rs more is says put
 
 pub trap_ok : (k n : ℕ) (due : Bool) (b c : BookState) (actor : Actor) (reply : Reply) (a : Answer) (rs more : List Reply) (rest : Told) → k ≡ suc n →
-    reply ≡ Ok a → Says b reply c (acted b actor steps.Trap) → more ≡ rs ++ reply ∷ [] → after_trap n due actor c a ≡ rest → behind rs (trapped k due b actor) ≡ behind more rest
+    reply ≡ Ok a → Says b reply c (acted b actor steps.Trap) → more ≡ rs ++ reply ∷ [] → after_trap n due actor c a ≡ rest →
+    behind rs (trapped k due b actor) ≡ behind more rest
 trap_ok k n due b c actor reply a rs more rest left is says put h =
     ap (behind rs) (trapped_next k n due b actor left)
     ∙ step_ok b c (acted b actor steps.Trap) reply a (after_trap n due actor) rs more (behind more (after_trap n due actor c a)) is says put refl
     ∙ ap (behind more) h
 
-pub when_clear : (n : ℕ) (due : Bool) (actor : Actor) (c : BookState) (a : Answer) (b : Bool) → b ≡ is_clear a → b ≡ true → after_trap n due actor c a ≡ healed due c actor
+pub when_clear : (n : ℕ) (due : Bool) (actor : Actor) (c : BookState) (a : Answer) (b : Bool) → b ≡ is_clear a → b ≡ true →
+    after_trap n due actor c a ≡ healed due c actor
 when_clear n due actor c a b e h = let clear : is_clear a ≡ true = sym e ∙ h in rw clear refl
 
-pub when_due : (n : ℕ) (due : Bool) (actor : Actor) (c : BookState) (a : Answer) (b : Bool) → b ≡ is_clear a → b ≡ false → after_trap n due actor c a ≡ trapped n true c actor
+pub when_due : (n : ℕ) (due : Bool) (actor : Actor) (c : BookState) (a : Answer) (b : Bool) → b ≡ is_clear a → b ≡ false →
+    after_trap n due actor c a ≡ trapped n true c actor
 when_due n due actor c a b e h = let other : is_clear a ≡ false = sym e ∙ h in rw other refl
 
 pub trapped_last : (k : ℕ) (due : Bool) (b : BookState) (actor : Actor) → k ≡ 0 → trapped k due b actor ≡ healed due b actor
@@ -83,7 +88,8 @@ trapped_last k due b actor e = rw e refl
 
 -- ---- a command
 
-pub done_is : (b : BookState) (c : Command) (s : Step) (g : Bool) → s ≡ step_of c.order → g ≡ is_get c.order → done b c ≡ stepped b (acted b c.actor s) (λ d answer. going_on g d c.actor)
+pub done_is : (b : BookState) (c : Command) (s : Step) (g : Bool) → s ≡ step_of c.order → g ≡ is_get c.order →
+    done b c ≡ stepped b (acted b c.actor s) (λ d answer. going_on g d c.actor)
 unfolding done
 done_is b c s g e h = rw (e, h) refl
 
