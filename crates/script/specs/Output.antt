@@ -161,6 +161,10 @@ book_after b (c ∷ cs) = book_after (done b c).book cs
 abbrev pub report_of : BookState → List ℕ
 report_of b = report_text b.heap b.history
 
--- the lines of a script's commands, then the report
+-- the lines of commands on a book, then the report
+abbrev pub told_text : BookState → List Command → List ℕ
+told_text b commands = lines_text 1 b commands ++ report_of (book_after b commands)
+
+-- the lines of a script's commands on a new book, then the report
 unfoldable pub output_text : ScriptValue → List ℕ
-output_text s = lines_text 1 (first_book s.config) s.commands ++ report_of (book_after (first_book s.config) s.commands)
+output_text s = told_text (first_book s.config) s.commands

@@ -3,7 +3,7 @@
 ghost use Rattle.std.specs.Prelude.{◌≡◌, OnOk};
 ghost use Rattle.std.specs.Io.KnownBytes.{Appends};
 ghost use Rattle.text.specs.Texts.{line_text};
-ghost use Rattle.script.specs.Output.{output_text, lines_text, book_after};
+ghost use Rattle.script.specs.Output.{output_text, lines_text, book_after, told_text};
 
 use crate::doing::do_command;
 use crate::fault::RunFault;
@@ -52,6 +52,19 @@ fn tell_commands<W: io::Write>(
     Ok(())
 }
 
+/// Does commands on a book, writes the line of each, and then the report.
+fn tell_all<W: io::Write>(
+    alloc: Global,
+    book: &mut Book,
+    commands: &[Command],
+    w: &mut W,
+) -> Result<(), RunFault>
+    ensures { OnOk result (Appends (W.contents w.old) (W.contents w.new) (told_text book.old commands.now)) }
+{
+    tell_commands(alloc, book, commands, w)?;
+    report(alloc, book.heap(), book.history(), w)
+}
+
 /// Runs a script on a new heap: writes the line of each command, and then the report.
 ///
 /// A step that is refused has its line, and the run goes on. The faults are want of memory, also
@@ -66,6 +79,5 @@ pub fn by_schedule<W: io::Write>(alloc: Global, script: &Script, w: &mut W) -> R
         Err(NewFault::Memory) => return Err(RunFault::Memory),
         Err(NewFault::Config(_)) => unreachable!(),
     };
-    tell_commands(alloc, &mut book, script.commands(), w)?;
-    report(alloc, book.heap(), book.history(), w)
+    tell_all(alloc, &mut book, script.commands(), w)
 }
