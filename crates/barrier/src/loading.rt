@@ -4,7 +4,7 @@ ghost use Rattle.std.specs.Prelude.{◌≡◌};
 ghost use Rattle.model.specs.Refusing.{Does};
 ghost use Rattle.model.specs.Outcome.{new_barrier, load_outcome, load_global_outcome};
 
-use heap::{stored, Heap};
+use heap::{Heap, stored};
 use model::{Answer, Barrier, Place, Refusal};
 use refword::Word;
 

@@ -9,10 +9,10 @@ mod heap;
 mod thread;
 
 pub use fault::NewFault;
-pub use heap::references::stored;
 pub use heap::Heap;
-pub use model::{Config, ConfigFault, Refusal};
+pub use heap::references::stored;
 pub use markbits::{Row, Rows};
+pub use model::{Config, ConfigFault, Refusal};
 pub use thread::Thread;
 
 #[cfg(test)]
