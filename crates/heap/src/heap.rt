@@ -22,10 +22,13 @@ use std::marker::Model;
 /// A contract sees all of it as plain data. It keeps, beside what its store keeps, that each
 /// thread's buffer lies in an open page, and that births stay within their limit.
 ///
-/// `take`, `give_back`, `new_object`, `datum`, `set_datum`, `same`, `is_null`, `copy_register` and
-/// `clear_register` do a step's row alone: the tests before each row (the thread is there, numbers
-/// are in range, it isn't parked and has no open barrier) are made by `cycle`, whose `Stepping`
-/// has the whole step. Threads and registers count from 0.
+/// `take`, `give_back`, `new_object`, `store_reference`, `store_global`, `datum`, `set_datum`,
+/// `same`, `is_null`, `copy_register` and `clear_register` do a step's row alone: the tests before
+/// each row (the thread is there, numbers are in range, it isn't parked and has no open barrier)
+/// are made by `cycle`, whose `Stepping` has the whole step. The rows of loads stand in `barrier`,
+/// those of parked threads in `checkpoint`; they are made of the readers here and of the edits
+/// `set_barrier`, `set_loaded`, `set_place`, `set_global` and `set_parked`, each of which does what
+/// it says and no more: who uses one has to know what he does. Threads and registers count from 0.
 #[derive(Drop)]
 pub struct Heap {
     config: Config,
