@@ -14,7 +14,6 @@ use Rattle.cycle.specs.Books.{BookState, BookOutcome, Reply, acted, first_book}
 use Rattle.parser.specs.declared.order.Command.{Command}
 use Rattle.parser.specs.Orders.{step_of, is_get}
 use Rattle.parser.specs.Reading.{ScriptValue}
-use Rattle.script.specs.declared.doing.TheConstants.{MOST_TRAPS}
 use Rattle.text.specs.Texts.{line_text, phase_text, bit_text, page_state_text, frame_text, buffer_text, word_text}
 
 -- the texts of a list's elements, one after another, the first being number i
@@ -132,7 +131,7 @@ trapped (suc n) due b actor = stepped b (acted b actor steps.Trap) (λ c answer.
 -- enough: behind one that forwards and one that marks none is due any more.
 abbrev pub going_on : Bool → BookState → Actor → Told
 going_on false b actor = told b []
-going_on true b actor = trapped MOST_TRAPS false b actor
+going_on true b actor = trapped 3 false b actor
 
 -- what a command does to a book, and what its steps say
 unfoldable pub done : BookState → Command → Told

@@ -11,7 +11,7 @@ use parser::Command;
 
 /// The most traps of one load (ours). Behind one that forwards and one that marks none is due any
 /// more, so the third is clear.
-pub const MOST_TRAPS: u32 = 3;
+const MOST_TRAPS: u32 = 3;
 
 /// One step of a command. What it says is put behind what the steps before it said. The fault is
 /// want of memory, also in the step.
@@ -75,7 +75,7 @@ fn trap(
     actor: Actor,
     replies: &mut Vec<Result<Answer, Refusal>>,
 ) -> Result<(), RunFault>
-    ensures { OnOk result (behind replies.old.items (trapped MOST_TRAPS false book.old actor) ≡ told book.new replies.new.items) }
+    ensures { OnOk result (behind replies.old.items (trapped 3 false book.old actor) ≡ told book.new replies.new.items) }
 {
     let mut due = false;
     for _ in 0..MOST_TRAPS {
