@@ -247,10 +247,7 @@ fn references_that_name_nothing(rt: HostRuntime) -> Result<(), Fail> {
         Step::Scrub(2),
     ]?;
     for step in steps {
-        assert_eq!(rt;
-            book.act(Actor::Thread(0), step),
-            Err(Refusal::BadIndex)
-        );
+        assert_eq!(rt; book.act(Actor::Thread(0), step), Err(Refusal::BadIndex));
     }
     Ok(())
 }
