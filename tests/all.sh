@@ -39,6 +39,7 @@ count 'rt ci' "$RT" ci
 
 if "$MAKE" pauseless; then
     count 'the scripts' sh tests/scripts.sh
+    count 'the faults' sh tests/faults.sh
     count 'refused memory' sh tests/memory.sh
 else
     echo 'failed: the program could not be built'

@@ -132,100 +132,15 @@ fn a_run_replies_in_order(rt: HostRuntime) -> Result<(), Fail> {
     Ok(())
 }
 
-#[test]
-fn numbers_that_name_nothing(rt: HostRuntime) -> Result<(), Fail> {
-    let alloc = rt.alloc();
-    let mut book = Book::new(alloc, small(alloc, 0, 2)?)?;
-    let rows = vec![in alloc;
-        act(1, Step::Take(0), Err(Refusal::NoActor)),
-        act(0, Step::StartMark, Err(Refusal::NoActor)),
-        act(0, Step::Take(0), Err(Refusal::BadIndex)),
-        act(0, Step::Take(17), Err(Refusal::BadIndex)),
-        act(
-            0,
-            Step::New {
-                target: 0,
-                layout: 1
-            },
-            Err(Refusal::BadIndex)
-        ),
-        act(
-            0,
-            Step::New {
-                target: 2,
-                layout: 0
-            },
-            Err(Refusal::BadIndex)
-        ),
-        act(
-            0,
-            Step::Datum {
-                object: 2,
-                index: 0
-            },
-            Err(Refusal::BadIndex)
-        ),
-        act(
-            0,
-            Step::SetDatum {
-                object: 2,
-                index: 0,
-                value: 1
-            },
-            Err(Refusal::BadIndex)
-        ),
-        act(0, Step::Same { left: 0, right: 2 }, Err(Refusal::BadIndex)),
-        act(0, Step::IsNull(2), Err(Refusal::BadIndex)),
-        act(
-            0,
-            Step::CopyReg {
-                target: 0,
-                source: 2
-            },
-            Err(Refusal::BadIndex)
-        ),
-        act(0, Step::ClearReg(2), Err(Refusal::BadIndex)),
-        act(0, Step::Take(16), Ok(Answer::Lent { page: 1, offset: 0 })),
-        act(
-            0,
-            Step::New {
-                target: 0,
-                layout: 0
-            },
-            Ok(Answer::Birth(0))
-        ),
-        act(
-            0,
-            Step::Datum {
-                object: 0,
-                index: 2
-            },
-            Err(Refusal::BadIndex)
-        ),
-        act(
-            0,
-            Step::SetDatum {
-                object: 0,
-                index: 2,
-                value: 1
-            },
-            Err(Refusal::BadIndex)
-        ),
-    ]?;
-    play(&rt, &mut book, rows);
-    assert_eq!(rt;
-        book.act(Actor::Worker(0), Step::GiveBack),
-        Err(Refusal::NoActor)
-    );
-    assert_eq!(rt; book.history().len(), 2);
-    Ok(())
-}
-
-#[test]
-fn references_that_name_nothing(rt: HostRuntime) -> Result<(), Fail> {
-    let alloc = rt.alloc();
-    let mut book = Book::new(alloc, small(alloc, 1, 1)?)?;
-    let steps = vec![in alloc;
+/// Steps of which a number names nothing, on a heap with two registers, one layout and no global.
+fn bad_steps(alloc: Global) -> Result<Vec<Step>, AllocError> {
+    Ok(vec![in alloc;
+        Step::Take(0),
+        Step::Take(17),
+        Step::New {
+            target: 0,
+            layout: 1
+        },
         Step::Load {
             target: 2,
             object: 0,
@@ -244,11 +159,30 @@ fn references_that_name_nothing(rt: HostRuntime) -> Result<(), Fail> {
             global: 0,
             source: 0
         },
+        Step::Datum {
+            object: 2,
+            index: 0
+        },
+        Step::Same { left: 0, right: 2 },
         Step::Scrub(2),
-    ]?;
-    for step in steps {
+    ]?)
+}
+
+#[test]
+fn numbers_that_name_nothing(rt: HostRuntime) -> Result<(), Fail> {
+    let alloc = rt.alloc();
+    let mut book = Book::new(alloc, small(alloc, 1, 1)?)?;
+    for step in bad_steps(alloc)? {
         assert_eq!(rt; book.act(Actor::Thread(0), step), Err(Refusal::BadIndex));
     }
+    for actor in [Actor::Thread(1), Actor::Worker(0)] {
+        assert_eq!(rt; book.act(actor, Step::GiveBack), Err(Refusal::NoActor));
+    }
+    assert_eq!(rt;
+        book.act(Actor::Thread(0), Step::StartMark),
+        Err(Refusal::NoActor)
+    );
+    assert_eq!(rt; book.history().len(), 0);
     Ok(())
 }
 

@@ -1,0 +1,51 @@
+#!/bin/sh
+# Runs the program on each script of tests/faults.txt. Where a fault is due, it
+# has to stand alone on standard error, with status 2 and no output; else the
+# status is 0 and standard error empty. The program is ./pauseless, or the one
+# that the first argument names.
+
+cd "$(dirname "$0")/.." || exit 1
+program=${1:-./pauseless}
+passed=0
+failed=0
+
+kept=$(mktemp -d) || exit 1
+trap 'rm -rf "$kept"' EXIT
+trap 'exit 1' HUP INT TERM
+
+tab=$(printf '\t')
+sizes='heap words 16 frames 1 pages 1 threads 1 workers 1 registers 2 globals 0'
+head="$sizes\\nlayout 0 2\\n"
+block="${head}times 100000\\nt0 give\\nt0 give\\n"
+
+while IFS="$tab" read -r script fault; do
+    case $script in
+    '#'* | '') continue ;;
+    NOTHING*) text=${script#NOTHING} ;;
+    SIZES*) text=$sizes${script#SIZES} ;;
+    HEAD*) text=$head${script#HEAD} ;;
+    THREE*) text="${block}t0 give\\n${script#THREE}" ;;
+    TWO*) text="${block}end\\n${script#TWO}" ;;
+    *) text=$script ;;
+    esac
+    printf '%b' "$text" > "$kept/script"
+    if [ "$fault" = none ]; then
+        wanted=0
+        : > "$kept/error"
+    else
+        wanted=2
+        echo "pauseless: $fault" > "$kept/error"
+    fi
+    "$program" run "$kept/script" > "$kept/output_got" 2> "$kept/error_got"
+    status=$?
+    if [ "$status" = "$wanted" ] && cmp -s "$kept/error" "$kept/error_got" \
+        && { [ "$wanted" = 0 ] || [ ! -s "$kept/output_got" ]; }; then
+        passed=$((passed + 1))
+    else
+        echo "failed: $script: status $status, $(cat "$kept/error_got")"
+        failed=$((failed + 1))
+    fi
+done < tests/faults.txt
+
+echo "$passed passed, $failed failed"
+[ "$failed" = 0 ]
