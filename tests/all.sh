@@ -6,12 +6,7 @@
 
 RT=${RT:-rt}
 MAKE=${MAKE:-make}
-passed=0
-failed=0
-
-kept=$(mktemp -d) || exit 1
-trap 'rm -rf "$kept"' EXIT
-trap 'exit 1' HUP INT TERM
+. tests/begin.sh
 
 # count NAME COMMAND..: runs the command, shows its output, and adds up the
 # counts of its last line. A command whose last line is none, or that ends

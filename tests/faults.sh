@@ -5,13 +5,7 @@
 # that the first argument names.
 
 cd "$(dirname "$0")/.." || exit 1
-program=${1:-./pauseless}
-passed=0
-failed=0
-
-kept=$(mktemp -d) || exit 1
-trap 'rm -rf "$kept"' EXIT
-trap 'exit 1' HUP INT TERM
+. tests/begin.sh
 
 tab=$(printf '\t')
 sizes='heap words 16 frames 1 pages 1 threads 1 workers 1 registers 2 globals 0'

@@ -6,15 +6,10 @@
 # program is ./pauseless, or the one that the first argument names.
 
 cd "$(dirname "$0")/.." || exit 1
-program=${1:-./pauseless}
-kept=$(mktemp -d) || exit 1
-trap 'rm -rf "$kept"' EXIT
-trap 'exit 1' HUP INT TERM
+. tests/begin.sh
 
 cc -shared -fPIC -O1 -o "$kept/refuse.so" tests/refuse.c -ldl || exit 1
 echo 'pauseless: out of memory' > "$kept/line"
-passed=0
-failed=0
 
 # refuse NAME: each request of a run on examples/NAME.script is refused.
 refuse() {

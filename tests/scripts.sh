@@ -1,19 +1,12 @@
 #!/bin/sh
 # Runs the program on each script of examples/ and of tests/scripts/, and
-# compares what it does:
-# standard output with NAME.expected, standard error with NAME.error and the
-# exit status with NAME.status. Where NAME.error or NAME.status isn't there,
+# compares what it does: standard output with NAME.expected, standard error with
+# NAME.error and the exit status with NAME.status. Where NAME.error or NAME.status isn't there,
 # standard error is to be empty and the status 0. The program is ./pauseless,
 # or the one that the first argument names.
 
 cd "$(dirname "$0")/.." || exit 1
-program=${1:-./pauseless}
-passed=0
-failed=0
-
-kept=$(mktemp -d) || exit 1
-trap 'rm -rf "$kept"' EXIT
-trap 'exit 1' HUP INT TERM
+. tests/begin.sh
 
 # differs WHAT WANTED GOT: shows how two files differ, where they do.
 differs() {

@@ -42,7 +42,8 @@ pub fn trap_due(heap: &Heap, thread: u32, word: Word) -> bool
 /// barrier). While no mark runs and no page is protected, as today always, none is due, and the
 /// answer is `Clear`. Does the row alone: `cycle` makes the tests before it.
 ///
-/// Refused where no barrier is open (`NotBusy`).
+/// Refused where no barrier is open (`NotBusy`); `NoActor` where a trap is due, which no heap comes
+/// to before there are marks.
 #[tactic(auto, unfolding(model::specs::Outcome::trap_outcome))]
 pub fn trap(heap: &mut Heap, thread: u32) -> Result<Answer, Refusal>
     ensures { Does heap.old result heap.new (trap_outcome heap.old thread) }

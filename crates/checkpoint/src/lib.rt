@@ -12,7 +12,8 @@ use heap::Heap;
 use model::{Answer, Refusal};
 
 /// A thread crosses the open checkpoint (the paper's checkpoints). No checkpoint opens yet, so it
-/// is refused (`Phase`). Does the row alone: `cycle` makes the tests before it.
+/// is always refused: `Phase`, and `NoActor` where one is open, which no heap comes to. Does the row
+/// alone: `cycle` makes the tests before it.
 #[tactic(auto, unfolding(model::specs::Outcome::cross_outcome))]
 pub fn cross(heap: &mut Heap) -> Result<Answer, Refusal>
     ensures { Does heap.old result heap.new (cross_outcome heap.old) }
