@@ -10,6 +10,3 @@ pub use book::{Book, Entry};
 pub use model::{Actor, Answer, PageList, Step};
 pub use running::run;
 pub use stepping::Stepping;
-
-#[cfg(test)]
-mod tests;

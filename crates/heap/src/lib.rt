@@ -14,6 +14,3 @@ pub use heap::references::stored;
 pub use markbits::{Row, Rows};
 pub use model::{Config, ConfigFault, Refusal};
 pub use thread::Thread;
-
-#[cfg(test)]
-mod tests;

@@ -33,8 +33,9 @@ impl Thread {
     pub(crate) fn new(alloc: Global, registers: u32) -> Result<Thread, AllocError>
         ensures { IfOk result (λ t. t ≡ blank_thread registers) }
     {
+        let registers = many(alloc, registers, Word::null())?;
         Ok(Thread {
-            registers: many(alloc, registers, Word::null())?,
+            registers,
             buffer: None,
             crossed: true,
             parked: false,

@@ -38,19 +38,3 @@ impl Header {
         })
     }
 }
-
-#[cfg(test)]
-mod tests {
-    use super::*;
-
-    #[test]
-    fn bits_of_a_header(rt: HostRuntime) {
-        let header = Header {
-            birth: 5,
-            layout: 3,
-        };
-        assert_eq!(rt; header.write(), 0x0000_0003_0000_0005);
-        assert_eq!(rt; Header::read(0x0000_0003_0000_0005), Some(header));
-        assert_eq!(rt; Header::read(1 << 40), None);
-    }
-}

@@ -83,25 +83,3 @@ impl Layouts {
         items
     }
 }
-
-#[cfg(test)]
-mod tests {
-    use super::*;
-    use std::test::Fail;
-
-    #[test]
-    fn a_table_of_two(rt: HostRuntime) -> Result<(), Fail> {
-        let small = Layout { refs: 0, nums: 0 };
-        let large = Layout {
-            refs: 255,
-            nums: 255,
-        };
-        assert_eq!(rt; (small.size(), large.size()), (1, 511));
-        let table = Layouts::new(vec![in rt.alloc(); small, large]?);
-        assert_eq!(rt; (table.len(), table.is_empty()), (2, false));
-        assert_eq!(rt; (table.get(1), table.get(2)), (Some(large), None));
-        assert_eq!(rt; table.as_slice().len(), 2);
-        assert_eq!(rt; table.into_vec().len(), 2);
-        Ok(())
-    }
-}

@@ -47,38 +47,3 @@ pub fn split_parts<'a>(
 {
     body.split_at_mut_checked(usize::from(layout.refs))
 }
-
-#[cfg(test)]
-mod tests {
-    use super::*;
-    use crate::header::Header;
-    use std::test::Fail;
-
-    #[test]
-    fn writes_through_the_parts(rt: HostRuntime) -> Result<(), Fail> {
-        let mut words = [1, 2, 3, 4, 5, 6];
-        let parts = split(&mut words, &Layout { refs: 2, nums: 3 }).ok_or("not split")?;
-        assert_eq!(rt; parts.refs.len(), 2);
-        *parts.header = Header {
-            birth: 7,
-            layout: 0,
-        }
-        .write();
-        parts.refs.fill(8);
-        parts.data.fill(9);
-        assert_eq!(rt; words, [7, 8, 8, 9, 9, 9]);
-        Ok(())
-    }
-
-    #[test]
-    fn writes_through_two_splits(rt: HostRuntime) -> Result<(), Fail> {
-        let mut words = [1, 2, 3, 4];
-        let (header, body) = split_header(&mut words).ok_or("no header")?;
-        *header = 5;
-        let (refs, data) = split_parts(body, Layout { refs: 1, nums: 2 }).ok_or("no references")?;
-        refs.fill(6);
-        data.fill(7);
-        assert_eq!(rt; words, [5, 6, 7, 7]);
-        Ok(())
-    }
-}

@@ -262,17 +262,3 @@ pub enum Refusal {
     /// Memory was refused.
     Memory,
 }
-
-#[cfg(test)]
-mod tests {
-    use super::*;
-    use std::test::Fail;
-
-    #[test]
-    fn pages_stay_in_order(rt: HostRuntime) -> Result<(), Fail> {
-        let pages = PageList::new(vec![in rt.alloc(); 3, 1]?);
-        assert_eq!(rt; pages.as_slice(), [3, 1].as_slice());
-        assert_eq!(rt; pages.into_vec().as_slice(), [3, 1].as_slice());
-        Ok(())
-    }
-}

@@ -137,6 +137,3 @@ impl Tournament {
         Some(descend(&self.nodes, self.depth, n) - self.width)
     }
 }
-
-#[cfg(test)]
-mod tests;

@@ -369,6 +369,3 @@ impl Store {
         self.frame(page).unwrap() as usize
     }
 }
-
-#[cfg(test)]
-mod tests;

@@ -13,6 +13,3 @@ mod words;
 pub use fault::{FaultKind, LineFault, ParseFault};
 pub use order::{Command, Order};
 pub use script::{MOST_BYTES, Script, one_reading, parse};
-
-#[cfg(test)]
-mod tests;

@@ -2,15 +2,9 @@
 #![tactic(auto)]
 
 ghost use Rattle.std.specs.Prelude.{IfOk};
-ghost use Rattle.report.specs.Serving.{IsStatus};
+ghost use Rattle.service.specs.Serving.{IsStatus};
 
-mod asking;
-mod serving;
-#[cfg(test)]
-mod tests;
-
-use crate::asking::{AskFault, ask};
-use crate::serving::{not_opened, serve};
+use service::{AskFault, ask, not_opened, serve};
 use std::process::ExitCode;
 use std::rt::Files;
 use std::{env, fs, io};

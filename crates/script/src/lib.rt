@@ -6,8 +6,6 @@ mod fault;
 mod lines;
 mod reporting;
 mod schedule;
-#[cfg(test)]
-mod tests;
 
 pub use fault::RunFault;
 pub use parser::{Command, FaultKind, LineFault, MOST_BYTES, Order, ParseFault, Script, parse};

@@ -8,6 +8,3 @@ mod steps;
 pub use line::{put_line, write_line};
 pub use records::{BufferText, FrameText, PageStateText, PhaseText, WordText};
 pub use steps::{ActorText, AnswerText, RefusalText, ReplyText};
-
-#[cfg(test)]
-mod tests;

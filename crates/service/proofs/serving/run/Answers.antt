@@ -1,9 +1,9 @@
 use Rattle.std.proofs.Common.{◌≤◌, List, ℕ, length, subst}
 use Rattle.std.specs.Result.{OnOk}
 use Rattle.std.specs.Prelude.{◌≡◌, IfErr}
-use Rattle.report.specs.Serving.{HasFault, Prints, fault_status}
-use Rattle.report.proofs.Reading.{faults_all, prints_all}
-use Rattle.report.proofs.serving.run.Goals as goal
+use Rattle.service.specs.Serving.{HasFault, Prints, fault_status}
+use Rattle.service.proofs.Reading.{faults_all, prints_all}
+use Rattle.service.proofs.serving.run.Goals as goal
 
 pub returns-clause-prints : goal.returns-clause-prints
 returns-clause-prints g c =

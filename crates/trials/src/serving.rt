@@ -1,8 +1,7 @@
 //! What the program's words ask for, and what it writes and answers for scripts, files that
 //! can't be read and writers that fail.
 
-use crate::asking::{AskFault, Asked, ask};
-use crate::serving::serve;
+use service::{AskFault, Asked, ask, serve};
 use std::alloc::Global;
 use std::io;
 use std::io::{Read, Write};

@@ -4,7 +4,7 @@ use Rattle.std.specs.Option.{option_map}
 use Rattle.std.specs.Prelude.{Result, Ok, Err, IfErr, OnOk}
 use Rattle.std.proofs.lemmas.List.{length-take, take_all}
 use Rattle.std.proofs.lemmas.Bool.{cases_lt}
-use Rattle.report.specs.Serving.{HasFault, Prints, ReadsUpTo}
+use Rattle.service.specs.Serving.{HasFault, Prints, ReadsUpTo}
 
 -- what is shorter than what was asked for is all
 pub whole : (limit : ℕ) (all bytes : List ℕ) → bytes ≡ take (limit + 1) all → length bytes ≤ limit → bytes ≡ all

@@ -1,4 +1,6 @@
-use super::*;
+//! Books of the steps that a heap accepted.
+
+use cycle::{Actor, Answer, Book, Step, run};
 use heap::{Config, NewFault, Refusal};
 use layout::{Layout, Layouts};
 use std::alloc::{AllocError, Global};

@@ -2,9 +2,9 @@
 
 ghost use Rattle.std.specs.Prelude.{◌≡◌, ◌≢◌, ◌∷◌, [], true, Some, None, Err, IfOk, IfErr, map, codes, string_bytes};
 ghost use Rattle.clap.specs.Words.{app_of, fault_of, found_of, matches_of, rows_of};
-ghost use Rattle.report.specs.Asking.{are_plain, asked_by};
-ghost use Rattle.report.specs.Program.{program, texts_in};
-ghost use Rattle.report.specs.declared.asking.AskFault.TheVariants.{Memory, Usage};
+ghost use Rattle.service.specs.Asking.{are_plain, asked_by};
+ghost use Rattle.service.specs.Program.{program, texts_in};
+ghost use Rattle.service.specs.declared.asking.AskFault.TheVariants.{Memory, Usage};
 
 use clap::error::ErrorKind;
 use clap::{Arg, ArgAction, ArgMatches, Command};

@@ -3,7 +3,7 @@
 ghost use Rattle.std.specs.Prelude.{◌≡◌, ◌≤◌, length, IfErr, IfSome, OnOk, IfOk};
 ghost use Rattle.std.specs.Io.KnownBytes.{Appends, Keeps};
 ghost use Rattle.script.specs.Output.{output_text};
-ghost use Rattle.report.specs.Serving.{HasFault, IsStatus, Prints, ReadsUpTo, fault_status};
+ghost use Rattle.service.specs.Serving.{HasFault, IsStatus, Prints, ReadsUpTo, fault_status};
 
 use crate::asking::{Asked, Mode};
 use script::{MOST_BYTES, ParseFault, RunFault, Script, by_schedule, parse};

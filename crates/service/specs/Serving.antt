@@ -6,8 +6,8 @@ use Rattle.parser.specs.declared.script.TheConstants.{MOST_BYTES}
 use Rattle.parser.specs.Scripts.{IsTooLong}
 use Rattle.parser.specs.declared.fault.ParseFault.TheVariants.{Line, TooLong}
 use Rattle.script.specs.Output.{output_text}
-use Rattle.report.specs.declared.serving.ServeFault.{ServeFault}
-use Rattle.report.specs.declared.serving.ServeFault.TheVariants.{Parse}
+use Rattle.service.specs.declared.serving.ServeFault.{ServeFault}
+use Rattle.service.specs.declared.serving.ServeFault.TheVariants.{Parse}
 
 -- what was read of a reader: all that it has, or one byte more than a script may have
 abbrev pub ReadsUpTo : Option (List ℕ) → List ℕ → Type 0

@@ -3,8 +3,8 @@ use Rattle.std.specs.Prelude.{ℕ, Bool, true, not, ◌==◌, List, [], ◌∷�
 use Rattle.std.specs.Prelude.{if◌then◌else◌, option_map, codes}
 use Rattle.std.specs.Str.{bytes_eq}
 use Rattle.std.specs.List.{list_all}
-use Rattle.report.specs.declared.asking.Mode.{Mode}
-use Rattle.report.specs.declared.asking.Mode.TheVariants.{Run}
+use Rattle.service.specs.declared.asking.Mode.{Mode}
+use Rattle.service.specs.declared.asking.Mode.TheVariants.{Run}
 
 -- the word doesn't begin with '-' (45)
 abbrev pub is_plain_word : List ℕ → Bool

@@ -16,9 +16,9 @@ use Rattle.clap.specs.declared.error.kind.ErrorKind.TheVariants as kind
 use Rattle.clap.specs.declared.parser.matches.Found.{Found}
 use Rattle.clap.proofs.OnLiterals.{clap_on_literals}
 use Rattle.clap.proofs.WalkLemmas.{both, first_value-rows}
-use Rattle.report.specs.Asking.{are_plain, asked_by, is_plain_word}
-use Rattle.report.specs.Program.{program}
-use Rattle.report.specs.declared.asking.Mode.TheVariants.{Run}
+use Rattle.service.specs.Asking.{are_plain, asked_by, is_plain_word}
+use Rattle.service.specs.Program.{program}
+use Rattle.service.specs.declared.asking.Mode.TheVariants.{Run}
 
 -- ---- the command
 

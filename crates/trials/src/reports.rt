@@ -1,9 +1,9 @@
 //! What runs of scripts write, and what a report says of a history that no script of today has.
 
-use crate::{by_schedule, parse, report};
 use cycle::{Actor, Answer, Book, Entry, Step};
 use heap::Config;
 use layout::{Layout, Layouts};
+use script::{by_schedule, parse, report};
 use std::alloc::Global;
 use std::test::Fail;
 

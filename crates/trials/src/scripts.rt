@@ -3,9 +3,9 @@
 //! `rt try --test --fail-alloc N` refuses the Nth allocation of a test: `parse` then says that it
 //! is out of memory.
 
-use crate::{Command, Order, ParseFault, Script, parse};
 use layout::Layout;
 use model::Actor;
+use parser::{Command, Order, ParseFault, Script, parse};
 use std::alloc::Global;
 use std::test::Fail;
 

@@ -1,4 +1,7 @@
-use super::*;
+//! A store of pages, and where its buffers are.
+
+use model::{Buffer, PageState, Room};
+use page::Store;
 use std::process::Abort;
 use std::test::Fail;
 

@@ -1,4 +1,6 @@
-use super::*;
+//! Heaps that can't be made.
+
+use heap::{Config, ConfigFault, Heap, NewFault};
 use layout::{Layout, Layouts};
 use std::alloc::{AllocError, Global};
 use std::test::Fail;

@@ -1,11 +1,11 @@
 //! The texts as a user reads them.
 
-use crate::{
-    BufferText, FrameText, PageStateText, PhaseText, RefusalText, WordText, put_line, write_line,
-};
 use model::{Actor, Answer, Buffer, PageState, Phase, Refusal};
 use refword::{Addr, Word};
 use std::test::Fail;
+use text::{
+    BufferText, FrameText, PageStateText, PhaseText, RefusalText, WordText, put_line, write_line,
+};
 
 #[test]
 fn answers(rt: HostRuntime) -> Result<(), Fail> {

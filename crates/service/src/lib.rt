@@ -1,0 +1,9 @@
+//! What the program is asked for by its words, and serving it: a script is read, run, and its
+//! output written.
+#![tactic(auto)]
+
+mod asking;
+mod serving;
+
+pub use asking::{AskFault, Asked, Mode, ask};
+pub use serving::{not_opened, serve};

@@ -1,0 +1,24 @@
+//! The tests of all crates, as a user calls them; scripts with their outputs are tests beside
+//! these. They are a crate of their own, since a crate that has tests is proved twice.
+#![tactic(auto)]
+
+#[cfg(test)]
+mod books;
+#[cfg(test)]
+mod configs;
+#[cfg(test)]
+mod heaps;
+#[cfg(test)]
+mod objects;
+#[cfg(test)]
+mod pages;
+#[cfg(test)]
+mod reports;
+#[cfg(test)]
+mod scripts;
+#[cfg(test)]
+mod serving;
+#[cfg(test)]
+mod texts;
+#[cfg(test)]
+mod words;

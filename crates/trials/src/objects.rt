@@ -1,0 +1,59 @@
+//! Layouts of objects, their headers and parts.
+
+use layout::{Header, Layout, Layouts, split, split_header, split_parts};
+use std::test::Fail;
+
+#[test]
+fn bits_of_a_header(rt: HostRuntime) {
+    let header = Header {
+        birth: 5,
+        layout: 3,
+    };
+    assert_eq!(rt; header.write(), 0x0000_0003_0000_0005);
+    assert_eq!(rt; Header::read(0x0000_0003_0000_0005), Some(header));
+    assert_eq!(rt; Header::read(1 << 40), None);
+}
+
+#[test]
+fn a_table_of_two(rt: HostRuntime) -> Result<(), Fail> {
+    let small = Layout { refs: 0, nums: 0 };
+    let large = Layout {
+        refs: 255,
+        nums: 255,
+    };
+    assert_eq!(rt; (small.size(), large.size()), (1, 511));
+    let table = Layouts::new(vec![in rt.alloc(); small, large]?);
+    assert_eq!(rt; (table.len(), table.is_empty()), (2, false));
+    assert_eq!(rt; (table.get(1), table.get(2)), (Some(large), None));
+    assert_eq!(rt; table.as_slice().len(), 2);
+    assert_eq!(rt; table.into_vec().len(), 2);
+    Ok(())
+}
+
+#[test]
+fn writes_through_the_parts(rt: HostRuntime) -> Result<(), Fail> {
+    let mut words = [1, 2, 3, 4, 5, 6];
+    let parts = split(&mut words, &Layout { refs: 2, nums: 3 }).ok_or("not split")?;
+    assert_eq!(rt; parts.refs.len(), 2);
+    *parts.header = Header {
+        birth: 7,
+        layout: 0,
+    }
+    .write();
+    parts.refs.fill(8);
+    parts.data.fill(9);
+    assert_eq!(rt; words, [7, 8, 8, 9, 9, 9]);
+    Ok(())
+}
+
+#[test]
+fn writes_through_two_splits(rt: HostRuntime) -> Result<(), Fail> {
+    let mut words = [1, 2, 3, 4];
+    let (header, body) = split_header(&mut words).ok_or("no header")?;
+    *header = 5;
+    let (refs, data) = split_parts(body, Layout { refs: 1, nums: 2 }).ok_or("no references")?;
+    refs.fill(6);
+    data.fill(7);
+    assert_eq!(rt; words, [5, 6, 7, 7]);
+    Ok(())
+}

@@ -1,0 +1,25 @@
+//! Words of references.
+
+use refword::{Addr, Word};
+use std::test::Fail;
+
+/// With 16 words a page: the words of page 1 at offset 0 and of page 2 at offset 3.
+#[test]
+fn bits_of_words(rt: HostRuntime) -> Result<(), Fail> {
+    for (number, nmt, bits) in [(16, true, 0x8000_0000_0000_0010), (2 * 16 + 3, false, 0x23)] {
+        let addr = Addr::new(number).ok_or("no address")?;
+        let word = Word::of(addr, nmt);
+        assert_eq!(rt; word.bits(), bits, "of {number}");
+        assert_eq!(rt; Word::read(bits), Some(word), "of {number}");
+        assert_eq!(rt; word.with_nmt(!nmt).nmt(), !nmt, "of {number}");
+    }
+    assert_eq!(rt; Word::read(0), Some(Word::null()));
+    Ok(())
+}
+
+#[test]
+fn bits_of_no_word(rt: HostRuntime) {
+    for bits in [1 << 63, 1 << 28, (1 << 63) + (1 << 28), 1 << 62, u64::MAX] {
+        assert_eq!(rt; Word::read(bits), None, "of {bits}");
+    }
+}
