@@ -1,65 +1,27 @@
 //! Books of the steps that a heap accepted.
 
+use crate::samples::small;
 use cycle::{Actor, Answer, Book, Step, run};
-use heap::{Config, NewFault, Refusal};
-use layout::{Layout, Layouts};
+use heap::{NewFault, Refusal};
 use std::alloc::{AllocError, Global};
 use std::process::Abort;
 use std::test::Fail;
 
-/// A step of a thread, and the reply that it has to have.
-#[derive(Drop)]
-struct Row {
-    thread: u32,
-    step: Step,
-    reply: Result<Answer, Refusal>,
-}
-
-fn act(thread: u32, step: Step, reply: Result<Answer, Refusal>) -> Row {
-    Row {
-        thread,
-        step,
-        reply,
-    }
-}
-
-/// One page of 16 words, one thread with two registers, and one layout.
-fn small(alloc: Global, refs: u8, nums: u8) -> Result<Config, AllocError> {
-    Ok(Config {
-        words: 16,
-        frames: 1,
-        pages: 1,
-        threads: 1,
-        workers: 1,
-        registers: 2,
-        globals: 0,
-        layouts: Layouts::new(vec![in alloc; Layout { refs, nums }]?),
-        births: 1 << 32,
-        history: 1_000_000,
-    })
-}
+/// A thread, its step, and the reply that it has to have.
+type Row = (u32, Step, Result<Answer, Refusal>);
 
 /// Does the step of each row, and compares the reply.
 fn play(rt: &impl Abort, book: &mut Book, rows: Vec<Row>) {
-    let mut number = 0_u64;
-    for Row {
-        thread,
-        step,
-        reply,
-    } in rows {
-        number = number.saturating_add(1);
-        assert_eq!(rt;
-            book.act(Actor::Thread(thread), step),
-            reply,
-            "row {number}"
-        );
+    for (thread, step, reply) in rows {
+        let told = book.act(Actor::Thread(thread), step);
+        assert_eq!(rt; told, reply);
     }
 }
 
 fn page_of_objects(alloc: Global) -> Result<Vec<Row>, AllocError> {
     Ok(vec![in alloc;
-        act(0, Step::Take(4), Ok(Answer::Lent { page: 1, offset: 0 })),
-        act(
+        (0, Step::Take(4), Ok(Answer::Lent { page: 1, offset: 0 })),
+        (
             0,
             Step::New {
                 target: 0,
@@ -67,7 +29,7 @@ fn page_of_objects(alloc: Global) -> Result<Vec<Row>, AllocError> {
             },
             Ok(Answer::Birth(0))
         ),
-        act(
+        (
             0,
             Step::SetDatum {
                 object: 0,
@@ -76,7 +38,7 @@ fn page_of_objects(alloc: Global) -> Result<Vec<Row>, AllocError> {
             },
             Ok(Answer::Done)
         ),
-        act(
+        (
             0,
             Step::Datum {
                 object: 0,
@@ -84,7 +46,7 @@ fn page_of_objects(alloc: Global) -> Result<Vec<Row>, AllocError> {
             },
             Ok(Answer::Datum(9))
         ),
-        act(
+        (
             0,
             Step::New {
                 target: 1,
@@ -92,13 +54,13 @@ fn page_of_objects(alloc: Global) -> Result<Vec<Row>, AllocError> {
             },
             Err(Refusal::NoRoom)
         ),
-        act(0, Step::GiveBack, Ok(Answer::Done)),
-        act(
+        (0, Step::GiveBack, Ok(Answer::Done)),
+        (
             0,
             Step::Take(13),
             Err(Refusal::NoFrames { need: 1, free: 0 })
         ),
-        act(0, Step::Take(12), Ok(Answer::Lent { page: 1, offset: 4 })),
+        (0, Step::Take(12), Ok(Answer::Lent { page: 1, offset: 4 })),
     ]?)
 }
 
@@ -119,7 +81,7 @@ fn filled(rt: &impl Abort, book: &mut Book, rows: Vec<Row>) {
 #[test]
 fn a_page_is_filled(rt: HostRuntime) -> Result<(), Fail> {
     let rows = page_of_objects(rt.alloc())?;
-    let config = small(rt.alloc(), 0, 2)?;
+    let config = small(rt.alloc())?;
     let mut book = Book::new(rt.alloc(), config)?;
     filled(&rt, &mut book, rows);
     Ok(())
@@ -142,15 +104,11 @@ fn replied(
 fn a_run_replies_in_order(rt: HostRuntime) -> Result<(), Fail> {
     let mut steps = Vec::new(rt.alloc());
     let mut wanted = Vec::new(rt.alloc());
-    for Row {
-        thread,
-        step,
-        reply,
-    } in page_of_objects(rt.alloc())? {
+    for (thread, step, reply) in page_of_objects(rt.alloc())? {
         steps.push((Actor::Thread(thread), step))?;
         wanted.push(reply)?;
     }
-    let config = small(rt.alloc(), 0, 2)?;
+    let config = small(rt.alloc())?;
     let mut book = Book::new(rt.alloc(), config)?;
     replied(&rt, rt.alloc(), &mut book, steps, &wanted)
 }
@@ -158,11 +116,11 @@ fn a_run_replies_in_order(rt: HostRuntime) -> Result<(), Fail> {
 /// Steps of which an actor or a number names nothing, on a heap with two registers and one layout.
 fn bad_steps(alloc: Global) -> Result<Vec<Row>, AllocError> {
     Ok(vec![in alloc;
-        act(1, Step::Take(0), Err(Refusal::NoActor)),
-        act(0, Step::StartMark, Err(Refusal::NoActor)),
-        act(0, Step::Take(0), Err(Refusal::BadIndex)),
-        act(0, Step::Take(17), Err(Refusal::BadIndex)),
-        act(
+        (1, Step::Take(0), Err(Refusal::NoActor)),
+        (0, Step::StartMark, Err(Refusal::NoActor)),
+        (0, Step::Take(0), Err(Refusal::BadIndex)),
+        (0, Step::Take(17), Err(Refusal::BadIndex)),
+        (
             0,
             Step::New {
                 target: 0,
@@ -170,7 +128,7 @@ fn bad_steps(alloc: Global) -> Result<Vec<Row>, AllocError> {
             },
             Err(Refusal::BadIndex)
         ),
-        act(
+        (
             0,
             Step::LoadGlobal {
                 target: 0,
@@ -178,8 +136,8 @@ fn bad_steps(alloc: Global) -> Result<Vec<Row>, AllocError> {
             },
             Err(Refusal::BadIndex)
         ),
-        act(0, Step::Same { left: 0, right: 2 }, Err(Refusal::BadIndex)),
-        act(0, Step::Scrub(2), Err(Refusal::BadIndex)),
+        (0, Step::Same { left: 0, right: 2 }, Err(Refusal::BadIndex)),
+        (0, Step::Scrub(2), Err(Refusal::BadIndex)),
     ]?)
 }
 
@@ -195,7 +153,7 @@ fn refused(rt: &impl Abort, book: &mut Book, rows: Vec<Row>) {
 #[test]
 fn numbers_that_name_nothing(rt: HostRuntime) -> Result<(), Fail> {
     let rows = bad_steps(rt.alloc())?;
-    let config = small(rt.alloc(), 0, 2)?;
+    let config = small(rt.alloc())?;
     let mut book = Book::new(rt.alloc(), config)?;
     refused(&rt, &mut book, rows);
     Ok(())
@@ -203,8 +161,8 @@ fn numbers_that_name_nothing(rt: HostRuntime) -> Result<(), Fail> {
 
 fn limit_rows(alloc: Global) -> Result<Vec<Row>, AllocError> {
     Ok(vec![in alloc;
-        act(0, Step::Take(16), Ok(Answer::Lent { page: 1, offset: 0 })),
-        act(
+        (0, Step::Take(16), Ok(Answer::Lent { page: 1, offset: 0 })),
+        (
             0,
             Step::New {
                 target: 0,
@@ -212,7 +170,7 @@ fn limit_rows(alloc: Global) -> Result<Vec<Row>, AllocError> {
             },
             Ok(Answer::Birth(0))
         ),
-        act(
+        (
             0,
             Step::New {
                 target: 1,
@@ -220,9 +178,9 @@ fn limit_rows(alloc: Global) -> Result<Vec<Row>, AllocError> {
             },
             Err(Refusal::Births)
         ),
-        act(0, Step::IsNull(1), Ok(Answer::Truth(true))),
-        act(0, Step::IsNull(1), Err(Refusal::HistoryFull)),
-        act(1, Step::IsNull(1), Err(Refusal::HistoryFull)),
+        (0, Step::IsNull(1), Ok(Answer::Truth(true))),
+        (0, Step::IsNull(1), Err(Refusal::HistoryFull)),
+        (1, Step::IsNull(1), Err(Refusal::HistoryFull)),
     ]?)
 }
 
@@ -234,7 +192,7 @@ fn limited(rt: &impl Abort, book: &mut Book, rows: Vec<Row>) {
 #[test]
 fn limits_are_kept(rt: HostRuntime) -> Result<(), Fail> {
     let rows = limit_rows(rt.alloc())?;
-    let mut config = small(rt.alloc(), 0, 2)?;
+    let mut config = small(rt.alloc())?;
     config.births = 1;
     config.history = 3;
     let mut book = Book::new(rt.alloc(), config)?;
@@ -244,7 +202,7 @@ fn limits_are_kept(rt: HostRuntime) -> Result<(), Fail> {
 
 #[test]
 fn a_fault_is_told(rt: HostRuntime) -> Result<(), Fail> {
-    let mut config = small(rt.alloc(), 0, 2)?;
+    let mut config = small(rt.alloc())?;
     config.registers = 17;
     let told = match Book::new(rt.alloc(), config) {
         Err(NewFault::Config(fault)) => Some(fault),

@@ -6,6 +6,7 @@ use std::alloc::{AllocError, Global};
 use std::test::Fail;
 
 fn small(alloc: Global) -> Result<Config, AllocError> {
+    let layouts = vec![in alloc; Layout { refs: 1, nums: 14 }]?;
     Ok(Config {
         words: 16,
         frames: 3,
@@ -14,7 +15,7 @@ fn small(alloc: Global) -> Result<Config, AllocError> {
         workers: 1,
         registers: 4,
         globals: 0,
-        layouts: Layouts::new(vec![in alloc; Layout { refs: 1, nums: 14 }]?),
+        layouts: Layouts::new(layouts),
         births: 1 << 32,
         history: 1_000_000,
     })
@@ -26,7 +27,8 @@ fn the_first_fault_is_told(rt: HostRuntime) -> Result<(), Fail> {
     assert_eq!(rt; config.fault(), None);
     config.history = 1_000_001;
     assert_eq!(rt; config.fault(), Some(ConfigFault::History));
-    config.layouts = Layouts::new(vec![in rt.alloc(); Layout { refs: 1, nums: 15 }]?);
+    let layouts = vec![in rt.alloc(); Layout { refs: 1, nums: 15 }]?;
+    config.layouts = Layouts::new(layouts);
     assert_eq!(rt; config.fault(), Some(ConfigFault::Layouts));
     config.pages = 2;
     assert_eq!(rt; config.fault(), Some(ConfigFault::Pages));

@@ -1,24 +1,10 @@
 //! Heaps that can't be made.
 
+use crate::samples::small;
 use heap::{Config, ConfigFault, Heap, NewFault};
 use layout::{Layout, Layouts};
 use std::alloc::{AllocError, Global};
 use std::test::Fail;
-
-fn good(alloc: Global) -> Result<Config, AllocError> {
-    Ok(Config {
-        words: 16,
-        frames: 2,
-        pages: 3,
-        threads: 2,
-        workers: 1,
-        registers: 4,
-        globals: 1,
-        layouts: Layouts::new(vec![in alloc; Layout { refs: 1, nums: 2 }]?),
-        births: 1 << 32,
-        history: 1_000_000,
-    })
-}
 
 /// All faults, in the order in which they are told.
 const FAULTS: [ConfigFault; 10] = [
@@ -39,7 +25,7 @@ fn spoil(alloc: Global, config: &mut Config, fault: ConfigFault) -> Result<(), A
     match fault {
         ConfigFault::Words => config.words = 24,
         ConfigFault::Frames => config.frames = 0,
-        ConfigFault::Pages => config.pages = 1,
+        ConfigFault::Pages => config.pages = 0,
         ConfigFault::Threads => config.threads = 65,
         ConfigFault::Workers => config.workers = 0,
         ConfigFault::Registers => config.registers = 17,
@@ -54,8 +40,8 @@ fn spoil(alloc: Global, config: &mut Config, fault: ConfigFault) -> Result<(), A
 }
 
 fn told(alloc: Global, config: Config) -> Option<ConfigFault> {
-    match Heap::new(alloc, config) {
-        Err(NewFault::Config(fault)) => Some(fault),
+    match Heap::new(alloc, config).err() {
+        Some(NewFault::Config(fault)) => Some(fault),
         _ => None,
     }
 }
@@ -64,10 +50,10 @@ fn told(alloc: Global, config: Config) -> Option<ConfigFault> {
 fn the_first_fault_is_told(rt: HostRuntime) -> Result<(), Fail> {
     let alloc = rt.alloc();
     for fault in FAULTS {
-        let mut config = good(alloc)?;
+        let mut config = small(alloc)?;
         spoil(alloc, &mut config, fault)?;
         assert_eq!(rt; told(alloc, config), Some(fault));
-        let mut config = good(alloc)?;
+        let mut config = small(alloc)?;
         spoil(alloc, &mut config, ConfigFault::History)?;
         spoil(alloc, &mut config, fault)?;
         assert_eq!(rt; told(alloc, config), Some(fault), "before the history");

@@ -15,6 +15,8 @@ mod pages;
 #[cfg(test)]
 mod reports;
 #[cfg(test)]
+mod samples;
+#[cfg(test)]
 mod scripts;
 #[cfg(test)]
 mod serving;

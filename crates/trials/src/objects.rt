@@ -22,7 +22,8 @@ fn a_table_of_two(rt: HostRuntime) -> Result<(), Fail> {
         nums: 255,
     };
     assert_eq!(rt; (small.size(), large.size()), (1, 511));
-    let table = Layouts::new(vec![in rt.alloc(); small, large]?);
+    let layouts = vec![in rt.alloc(); small, large]?;
+    let table = Layouts::new(layouts);
     assert_eq!(rt; (table.len(), table.is_empty()), (2, false));
     assert_eq!(rt; (table.get(1), table.get(2)), (Some(large), None));
     assert_eq!(rt; table.as_slice().len(), 2);

@@ -1,10 +1,10 @@
 //! What runs of scripts write, and what a report says of a history that no script of today has.
 
+use crate::samples::small;
 use cycle::{Actor, Answer, Book, Entry, Step};
-use heap::Config;
-use layout::{Layout, Layouts};
-use script::{by_schedule, parse, report};
+use script::{RunFault, by_schedule, parse, report};
 use std::alloc::Global;
+use std::process::Abort;
 use std::test::Fail;
 
 const HEAD: &str = "heap words 16 frames 1 pages 1 threads 1 workers 1 registers 2 globals 1\n";
@@ -48,33 +48,24 @@ fn runs(rt: HostRuntime) -> Result<(), Fail> {
     Ok(())
 }
 
-/// A heap of one page.
-fn small(alloc: Global) -> Result<Config, Fail> {
-    let mut layouts = Vec::new(alloc);
-    layouts.push(Layout { refs: 1, nums: 1 })?;
-    Ok(Config {
-        words: 16,
-        frames: 1,
-        pages: 1,
-        threads: 1,
-        workers: 1,
-        registers: 1,
-        globals: 0,
-        layouts: Layouts::new(layouts),
-        births: 1,
-        history: 3,
-    })
+/// What a report of a new heap says of the answers to these ends of marks.
+fn told(alloc: Global, book: &Book, answers: &[Answer]) -> Result<Vec<u8>, RunFault> {
+    let mut history = Vec::new(alloc);
+    for answer in answers {
+        history.push(Entry {
+            actor: Actor::Worker(0),
+            step: Step::EndMark,
+            answer: *answer,
+        })?;
+    }
+    let mut written = Vec::new(alloc);
+    report(alloc, book.heap(), &history, &mut written)?;
+    Ok(written)
 }
 
-#[test]
-fn cycles(rt: HostRuntime) -> Result<(), Fail> {
-    let alloc = rt.alloc();
-    let book = match Book::new(alloc, small(alloc)?) {
-        Ok(book) => book,
-        Err(fault) => return Err(Fail::from(fault)),
-    };
-    let mut history = Vec::new(alloc);
-    for answer in [
+/// Two marks that ended, with an answer of another step between them.
+fn tells_cycles(rt: &impl Abort, alloc: Global, book: &Book) -> Result<(), RunFault> {
+    let answers = [
         Answer::Ended {
             live: 4,
             retired: 0,
@@ -84,17 +75,18 @@ fn cycles(rt: HostRuntime) -> Result<(), Fail> {
             live: 2,
             retired: 1,
         },
-    ] {
-        history.push(Entry {
-            actor: Actor::Worker(0),
-            step: Step::EndMark,
-            answer,
-        })?;
-    }
-    let mut written = Vec::new(alloc);
-    report(alloc, book.heap(), &history, &mut written)?;
+    ];
     let wanted =
-        "phase idle nmt 0 births 0 frames 0/1\nthread 0 running buffer - r0 -\ncycle 1 live 4 retired 0\ncycle 2 live 2 retired 1\n";
+        "phase idle nmt 0 births 0 frames 0/1\nthread 0 running buffer - r0 - r1 -\ncycle 1 live 4 retired 0\ncycle 2 live 2 retired 1\n";
+    let written = told(alloc, book, &answers)?;
     assert_eq!(rt; written.as_slice(), wanted.as_bytes());
+    Ok(())
+}
+
+#[test]
+fn cycles(rt: HostRuntime) -> Result<(), Fail> {
+    let config = small(rt.alloc())?;
+    let book = Book::new(rt.alloc(), config)?;
+    tells_cycles(&rt, rt.alloc(), &book)?;
     Ok(())
 }

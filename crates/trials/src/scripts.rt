@@ -6,7 +6,7 @@
 use layout::Layout;
 use model::Actor;
 use parser::{Command, Order, ParseFault, Script, parse};
-use std::alloc::Global;
+use std::alloc::{AllocError, Global};
 use std::test::Fail;
 
 const HEAD: &str =
@@ -66,6 +66,13 @@ fn blocks_written_out(rt: HostRuntime) -> Result<(), Fail> {
     Ok(())
 }
 
+/// The first step of an order, and whether a load that ends follows.
+fn step_text(alloc: Global, order: Order) -> Result<String, AllocError> {
+    let step = order.step();
+    let is_get = order.is_get();
+    format!(in alloc; "{step:?} {is_get}")
+}
+
 #[test]
 fn steps_of_orders(rt: HostRuntime) -> Result<(), Fail> {
     let rest = "t0 load r0 r1 2\nt0 loadg r1 3\nt0 store r1 2 r0\nt0 storeg 3 r1\n\
@@ -85,12 +92,8 @@ fn steps_of_orders(rt: HostRuntime) -> Result<(), Fail> {
     ];
     assert_eq!(rt; commands.len(), texts.len());
     for (command, text) in commands.iter().zip(texts.iter()) {
-        let step = command.order.step();
-        let is_get = command.order.is_get();
-        assert_eq!(rt;
-            format!(in rt.alloc(); "{step:?} {is_get}")?.as_str(),
-            *text
-        );
+        let told = step_text(rt.alloc(), command.order)?;
+        assert_eq!(rt; told.as_str(), *text);
     }
     assert_eq!(rt; std::mem::size_of::<Command>(), 32);
     Ok(())

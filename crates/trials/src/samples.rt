@@ -1,0 +1,22 @@
+//! What several tests begin with.
+
+use layout::{Layout, Layouts};
+use model::Config;
+use std::alloc::{AllocError, Global};
+
+/// One page of 16 words, one thread with two registers, and one layout of two data.
+pub fn small(alloc: Global) -> Result<Config, AllocError> {
+    let layouts = vec![in alloc; Layout { refs: 0, nums: 2 }]?;
+    Ok(Config {
+        words: 16,
+        frames: 1,
+        pages: 1,
+        threads: 1,
+        workers: 1,
+        registers: 2,
+        globals: 0,
+        layouts: Layouts::new(layouts),
+        births: 1 << 32,
+        history: 1_000_000,
+    })
+}
