@@ -31,7 +31,7 @@ run: pauseless
 	./pauseless run examples/first.script
 
 test:
-	@RT='$(RT)' MAKE='$(MAKE)' sh tests/all.sh
+	@RT='$(RT)' INSTALL='$(INSTALL)' sh tests/all.sh
 
 install: pauseless
 	$(INSTALL) -d '$(DESTDIR)$(PREFIX)/bin'

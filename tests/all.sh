@@ -5,7 +5,7 @@
 # exit status is 0 where M is 0.
 
 RT=${RT:-rt}
-MAKE=${MAKE:-make}
+INSTALL=${INSTALL:-install}
 . tests/begin.sh
 
 # count NAME COMMAND..: runs the command, shows its output, and adds up the
@@ -32,7 +32,8 @@ count() {
 
 count 'rt ci' "$RT" ci
 
-if "$MAKE" pauseless; then
+# 'rt ci' leaves the program as it proved and built it.
+if "$INSTALL" -m 755 crates/report/out/report pauseless; then
     count 'the scripts' sh tests/scripts.sh
     count 'the faults' sh tests/faults.sh
     count 'refused memory' sh tests/memory.sh

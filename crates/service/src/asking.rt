@@ -93,11 +93,10 @@ fn command<'a>(alloc: Global) -> Result<Command<'a>, AllocError>
     let file = Arg::new(alloc, "file")
         .required(true)
         .action(ArgAction::Set);
-    Command::new(alloc, "pauseless")
+    let bare = Command::new(alloc, "pauseless")
         .disable_help_flag(true)
-        .disable_version_flag(true)
-        .arg(mode)?
-        .arg(file)
+        .disable_version_flag(true);
+    bare.arg(mode)?.arg(file)
 }
 
 /// The words, behind the program's name.
