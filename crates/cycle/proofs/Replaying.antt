@@ -2,6 +2,7 @@
 use Rattle.std.proofs.Common.{◌≡◌, List, [], ◌∷◌, ◌++◌, refl, sym, subst, ℕ, ◌<◌, ◌≤◌, Bool, false, length, nat_le, arith, length-append}
 use Rattle.std.proofs.lemmas.Bool.Decides.{nat_tests}
 use Rattle.std.specs.Prelude.{Result, Ok, Err}
+use Rattle.std.proofs.lemmas.Bool.{leb-false}
 use Rattle.layout.specs.declared.shape.Layout.{Layout}
 use Rattle.model.specs.declared.config.Config.{Config}
 use Rattle.model.specs.declared.steps.Actor.{Actor}
@@ -30,9 +31,6 @@ answers_more : (ls : List Layout) (r : Replayed) (es : List Entry) (e : Entry) �
 answers_more ls r [] e a b = (b, tt)
 answers_more ls r (d ∷ es) e a b = (a.0, answers_more ls (after_entry ls r d) es e a.1 b)
 
-not_full : (m n : ℕ) → nat_le m n ≡ false → n < m
-not_full m n e = grind (arith, nat_tests)
-
 -- an entry is added
 pub entry_added : (b : BookState) (actor : Actor) (step : Step) (g : HeapState) (answer : Answer) → IsBook b → is_full b ≡ false → StepHolds b.heap (replayed b).now (replayed b).at_mark actor step g answer
     → IsBook (record { heap = g; history = b.history ++ record { actor = actor; step = step; answer = answer } ∷ [] })
@@ -47,7 +45,7 @@ entry_added b actor step g answer k more s =
     record {
       holds = subst (λ (c : Config). Holds g (after_entries c.layouts (before_entries c) (b.history ++ e ∷ [])).now (after_entries c.layouts (before_entries c) (b.history ++ e ∷ [])).at_mark) (sym s.config) holds;
       answers = subst (λ (c : Config). AnswersAre c.layouts (before_entries c) (b.history ++ e ∷ [])) (sym s.config) (answers_more ls first b.history e k.answers s.answers);
-      limit = subst (λ (c : Config). length (b.history ++ e ∷ []) ≤ c.history) (sym s.config) (omega (arith, length-append b.history (e ∷ []), not_full b.heap.config.history (length b.history) more));
+      limit = subst (λ (c : Config). length (b.history ++ e ∷ []) ≤ c.history) (sym s.config) (omega (arith, length-append b.history (e ∷ []), leb-false b.heap.config.history (length b.history) more));
     }
 
 -- a new book

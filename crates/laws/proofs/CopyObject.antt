@@ -1,5 +1,6 @@
 -- To copy a planned object keeps the invariant.
 use Rattle.std.proofs.Common.{◌≡◌, ◌≢◌, ◌⊎◌, ◌≤◌, ◌<◌, inl, inr, ℕ, Bool, true, false, Option, Some, None, sym, ◌∙◌, ap, arith}
+use Rattle.std.proofs.lemmas.Bool.{cases_eq}
 use Rattle.model.specs.declared.records.Phase.TheVariants.{ProtectCrossing}
 use Rattle.model.specs.declared.records.PageState.TheVariants.{Closed, Open, From}
 use Rattle.model.specs.Stores.{is_protected, has_memory}
@@ -8,7 +9,7 @@ use Rattle.laws.specs.AddressHeap.{AddressHeap, HeapObject, Word, Null, To, fiel
 use Rattle.laws.specs.BirthHeap.{BirthHeap, ref, IsRoot, IsReached, Start, Next}
 use Rattle.laws.specs.Invariant.{Invariant, StandsFor, IsClean, IsCleanBelow, IsKept, HasCurrent, IsSeed, IsPlace, IsBarrierFor}
 use Rattle.laws.specs.Edits.{copy_object}
-use Rattle.laws.proofs.Basics.{reached, barrier_map, same_or_not}
+use Rattle.laws.proofs.Basics.{reached, barrier_map}
 
 -- the object at a may be copied to n
 pub record MayCopy (w : AddressHeap) (a n : ℕ) (o : HeapObject) : Type 0 where
@@ -63,7 +64,7 @@ module _ (w : AddressHeap) (p p0 : BirthHeap) (i : Invariant w p p0) (a n : ℕ)
   once x y q r e f b = let c = after x q e in let d = after y r f in grind (arith, i.objects.one_current x y q r, i.objects.one_current x a q o, i.objects.one_current y a r o, current_was)
 
   stands : (b : ℕ) → IsKept (copy_object a n o w) p b → HasCurrent (copy_object a n o w) p b
-  stands b k = go (same_or_not s.address a)
+  stands b k = go (cases_eq s.address a)
     where
       s : HasCurrent w p b
       s = i.words.kept b (kept b k)

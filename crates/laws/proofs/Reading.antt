@@ -1,5 +1,6 @@
 -- What the steps need of the invariant: what a usable word names, what a kept object holds, and how a word is marked.
 use Rattle.std.proofs.Common.{◌≡◌, ◌≢◌, ◌⊎◌, ◌<◌, inl, inr, ℕ, Bool, true, false, Option, Some, None, List, length, get_or, set, refl, sym, ◌∙◌, ap, subst, get_or-set_same, get_or-set_other}
+use Rattle.std.proofs.lemmas.Bool.{cases_eq}
 use Rattle.model.specs.declared.records.Phase.TheVariants.{Scanning}
 use Rattle.model.specs.declared.records.PageState.{PageState}
 use Rattle.model.specs.declared.records.PageState.TheVariants.{Unused, Open, Closed, From, Gone}
@@ -10,7 +11,7 @@ use Rattle.laws.specs.BirthHeap.{BirthHeap, ref, InRegister, InGlobal, Start}
 use Rattle.laws.specs.Invariant.{IsKept, IsClean, StandsFor, Invariant}
 use Rattle.laws.specs.Transitions.{IsUsable}
 use Rattle.laws.specs.Edits.{mark_word, marked_word, marked_after}
-use Rattle.laws.proofs.Basics.{put_all, put_same, same_or_not, current_there, marked_here}
+use Rattle.laws.proofs.Basics.{put_all, put_same, current_there, marked_here}
 use Rattle.laws.proofs.MarkObject.{mark_keeps}
 
 -- what a word that isn't null names
@@ -127,7 +128,7 @@ mark_word_keeps w p p0 i m (To a n) x e k =
 -- an element after another was set
 pub set_at : {A : Type 0} (l : List A) (i j : ℕ) (v d : A) → i < length l
     → ((j ≡ i) × (get_or (set l i v) j d ≡ v)) ⊎ ((j ≢ i) × (get_or (set l i v) j d ≡ get_or l j d))
-set_at l i j v d h = go (same_or_not j i)
+set_at l i j v d h = go (cases_eq j i)
   where
     go : (j ≡ i) ⊎ (j ≢ i)
         → ((j ≡ i) × (get_or (set l i v) j d ≡ v)) ⊎ ((j ≢ i) × (get_or (set l i v) j d ≡ get_or l j d))

@@ -1,6 +1,7 @@
 -- The steps of a worker, and the crossing of a mark, keep the invariant.
 use Rattle.std.proofs.Common.{◌≡◌, ◌≢◌, ◌⊎◌, ◌<◌, ◌≤◌, ◌+◌, inl, inr, ℕ, zero, suc, Bool, true, false, cond, Some, None, length, get_or, set, refl, sym, ◌∙◌, ap, subst, arith}
 use Rattle.std.proofs.lemmas.List.{set-get_or, get_or_past}
+use Rattle.std.proofs.lemmas.Bool.{cases_eq}
 use Rattle.model.specs.declared.records.Phase.{Phase}
 use Rattle.model.specs.declared.records.Phase.TheVariants.{MarkCrossing, Scanning, ProtectCrossing, Relocating}
 use Rattle.model.specs.Phases.{is_marking, is_crossing}
@@ -9,7 +10,7 @@ use Rattle.laws.specs.BirthHeap.{BirthHeap, ref, Start, Next}
 use Rattle.laws.specs.Invariant.{IsKept, IsClean, Invariant}
 use Rattle.laws.specs.Edits.{set_object, set_global, end_global_scan, set_scan, end_scan, mark_word, todo_after, marked_word, copy_object, cross_checkpoint}
 use Rattle.laws.specs.Effects.{with_field, mark_register, mark_registers, scan_field}
-use Rattle.laws.proofs.Basics.{put_id, put_at_id, put_all, put_same, put_other, same_or_not, marked_current}
+use Rattle.laws.proofs.Basics.{put_id, put_at_id, put_all, put_same, put_other, marked_current}
 use Rattle.laws.proofs.Reading.{at, mark_word_keeps, global_kept, register_kept, set_at}
 use Rattle.laws.proofs.CopyObject.{copy_object_keeps}
 use Rattle.laws.proofs.Globals.{set_global_keeps, end_global_scan_keeps}
@@ -25,7 +26,7 @@ pick_keeps w p p0 i k a e h f = set_scan_keeps w p p0 i k (record { address = a;
 
 still_todo : (v : Word) (w : AddressHeap) (a : ℕ) → w.todo a ≡ true → todo_after v w a ≡ true
 still_todo Null w a e = e
-still_todo (To y n) w a e = go (same_or_not a (resolve w y))
+still_todo (To y n) w a e = go (cases_eq a (resolve w y))
   where
     pick : (b c : Bool) → c ≡ true → cond b c true ≡ true
     pick true c h = h

@@ -1,16 +1,13 @@
 -- Lists with one element replaced, and lists of equal elements.
 use Rattle.std.proofs.Common.{◌≡◌, ◌≢◌, ◌⊎◌, inl, inr, ℕ, zero, suc, ◌+◌, ◌<◌, Bool, true, false, List, [], ◌∷◌, length, Option, Some, None, replicate, set, count_by, cond, get_or, position, nat_lt, ◌*◌, ◌≤◌, ◌||◌, refl, sym, ◌∙◌, ap, subst, arith}
 use Rattle.std.specs.List.{slice_get, position_or_len}
-use Rattle.std.proofs.lemmas.Option.{get_or_from_slice_get, slice_get_within, slice_get_read}
+use Rattle.std.proofs.lemmas.Option.{get_or_from_slice_get, slice_get_within, slice_get_read, same_Some}
 use Rattle.std.proofs.lemmas.List.Sums.{sum_by-set, sum_by-cons, fails_before_first}
 use Rattle.std.proofs.lemmas.List.Folds.{sum_by-replicate}
 use Rattle.std.proofs.lemmas.List.Quantifiers.{position-Some}
 use Rattle.std.proofs.lemmas.Bool.Decides.{nat_tests}
 use Rattle.model.specs.Owning.{Each}
 use Rattle.model.specs.Heaps.{changed, changed_at}
-
-pub same_or_not : (x a : ℕ) → (x ≡ a) ⊎ (x ≢ a)
-same_or_not x a = grind arith
 
 pub get_set_same : {X : Type 0} (xs : List X) (i : ℕ) (x v : X) → slice_get xs i ≡ Some x → slice_get (set xs i v) i ≡ Some v
 get_set_same [] i x v h = absurd (cc)
@@ -77,7 +74,7 @@ get_within (x ∷ xs) (suc i) h = get_within xs i (omega arith)
 pub position_passes : {X : Type 0} (p : X → Bool) (xs : List X) (i : ℕ) (x : X) → position p xs ≡ Some i → slice_get xs i ≡ Some x → p x ≡ true
 position_passes p xs i x h e = let facts = position-Some p xs i x h in ap p (sym (get_or_from_slice_get xs i x x e)) ∙ facts.1
 
-none_far : (a b : ℕ) → cond (nat_lt a b) (Some a) None ≡ None → b ≤ a
+pub none_far : (a b : ℕ) → cond (nat_lt a b) (Some a) None ≡ None → b ≤ a
 none_far a b h = grind (arith, nat_tests)
 
 -- where none passes, each fails
@@ -101,9 +98,6 @@ length_counted p q (x ∷ xs) h =
     counted false true e = omega arith
     counted false false e = absurd (cc)
 
-same_in : {X : Type 0} {x y : X} → Some x ≡ Some y → x ≡ y
-same_in e = cc
-
 abbrev pub as_number : Bool → ℕ
 as_number b = cond b 1 0
 
@@ -111,7 +105,7 @@ as_number b = cond b 1 0
 pub count_positive : {X : Type 0} (p : X → Bool) (xs : List X) (i : ℕ) (x : X) → slice_get xs i ≡ Some x → p x ≡ true → 0 < count_by p xs
 count_positive p [] i x h e = absurd (cc)
 count_positive p (y ∷ ys) zero x h e =
-    let here : p y ≡ true = ap p (same_in h) ∙ e in
+    let here : p y ≡ true = ap p (same_Some _ _ h) ∙ e in
     let one : as_number (p y) ≡ as_number true = ap as_number here in
     omega (arith, sum_by-cons (λ z. cond (p z) 1 0) y ys, one)
 count_positive p (y ∷ ys) (suc i) x h e = omega (arith, sum_by-cons (λ z. cond (p z) 1 0) y ys, count_positive p ys i x h e)

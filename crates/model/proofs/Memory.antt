@@ -1,12 +1,13 @@
 -- The words of pages: where they stand, and what a change of one page's words does to them and to those of others.
-use Rattle.std.proofs.Common.{◌≡◌, ◌≢◌, ℕ, ◌+◌, ◌-◌, ◌/◌, ◌%◌, cond, Bool, true, false, nat_eq, is_some, List, length, Option, Some, None, refl, sym, ◌∙◌, ap, arith}
+use Rattle.std.proofs.Common.{◌≡◌, ◌≢◌, ℕ, ◌+◌, ◌-◌, ◌/◌, ◌%◌, cond, Bool, true, false, nat_eq, is_some, List, length, Option, Some, None, refl, sym, ◌∙◌, ap, arith, ◌≤◌, ◌++◌, take, drop, length-drop, length-append}
 use Rattle.std.specs.List.{slice_get}
 use Rattle.std.specs.Option.{option_and_then}
-use Rattle.std.proofs.lemmas.Option.{slice_get_within}
+use Rattle.std.proofs.lemmas.Option.{slice_get_within, same_Some}
+use Rattle.std.proofs.lemmas.List.{length-take, length-take-le}
 use Rattle.model.specs.declared.records.Page.{Page}
 use Rattle.model.specs.declared.records.PageState.{PageState}
 use Rattle.model.specs.declared.records.PageState.TheVariants.{Unused, Open, Closed, From, Gone}
-use Rattle.model.specs.Stores.{StoreState, page_at, frame_in, state_at, state_in, has_memory, is_open, is_unused, word_at, word_in, spot_of, at_offset, words_at, with_words, changed_in, changed_frame}
+use Rattle.model.specs.Stores.{StoreState, page_at, frame_in, state_at, state_in, has_memory, is_open, is_unused, word_at, word_in, spot_of, at_offset, words_at, with_words, changed_in, changed_frame, overlaid}
 use Rattle.model.specs.Owning.{IsStore}
 use Rattle.model.proofs.Lists.{get_set_same, get_set_other, get_within}
 
@@ -30,9 +31,6 @@ page_record s n f e = by_zero (nat_eq n 0) refl e
     by_zero true z k = absurd (cc)
     by_zero false z k = by_page (slice_get s.pages (n - 1)) refl (back z) k
 
-pub some_in : {X : Type 0} {x y : X} → Some x ≡ Some y → x ≡ y
-some_in e = cc
-
 -- no two pages have one frame
 pub own_frame : (s : StoreState) (m n f : ℕ) → IsStore s → frame_in (page_at s m) ≡ Some f → frame_in (page_at s n) ≡ Some f → m ≡ n
 own_frame s m n f h e k =
@@ -40,7 +38,7 @@ own_frame s m n f h e k =
     let (j, q, x, y, z) = page_record s n f k in
     let one = h.owning.owned i f p b c in
     let two = h.owning.owned j f q y z in
-    a ∙ some_in (some_in (sym one ∙ two)) ∙ sym x
+    a ∙ same_Some _ _ (same_Some _ _ (sym one ∙ two)) ∙ sym x
 
 -- the words of a page fill it
 pub words_sized : (s : StoreState) (n : ℕ) (ws : List ℕ) → IsStore s → words_at s n ≡ Some ws → length ws ≡ s.words
@@ -139,3 +137,15 @@ unused_state Open e = absurd (cc)
 unused_state Closed e = absurd (cc)
 unused_state From e = absurd (cc)
 unused_state Gone e = absurd (cc)
+
+-- words laid over others leave their number
+pub length_overlaid : (ws : List ℕ) (o : ℕ) (xs : List ℕ) → length (overlaid ws o xs) ≡ length ws
+length_overlaid ws o xs = whole (take o ws) (drop o ws) (omega (arith, length-take o ws, length-drop o ws))
+  where
+    whole : (front back : List ℕ) → length ws ≤ length front + length back →
+        length (take (length ws) (front ++ (xs ++ drop (length xs) back))) ≡ length ws
+    whole front back h =
+        let rest = length-drop (length xs) back in
+        let behind = length-append xs (drop (length xs) back) in
+        let all = length-append front (xs ++ drop (length xs) back) in
+        length-take-le (length ws) (front ++ (xs ++ drop (length xs) back)) (omega (arith, all, behind, rest, h))

@@ -4,6 +4,7 @@ use Rattle.std.specs.List.{slice_get}
 use Rattle.std.proofs.lemmas.Bool.Decides.{nat_tests}
 use Rattle.std.proofs.lemmas.List.Sums.{sum_by-cons}
 use Rattle.std.proofs.lemmas.List.Quantifiers.{position-Some}
+use Rattle.std.proofs.lemmas.Bool.{and_parts}
 use Rattle.model.specs.declared.records.Page.{Page}
 use Rattle.model.specs.Stores.{has_room, is_open, is_unused, state_in, top_in, blank_page, page_with_room, free_frame}
 use Rattle.model.proofs.Lists.{position_passes, get_within, count_positive}
@@ -15,10 +16,6 @@ position_within p xs i e x = (position-Some p xs i x e).0
 pub room_left : (words n top : ℕ) (is_so : Bool) → 0 < n → is_so && nat_le n (words - top) ≡ true → top + n ≤ words
 room_left words n top true low e = grind (arith, nat_tests)
 room_left words n top false low e = absurd (cc)
-
-pub and_left : (a b : Bool) → a && b ≡ true → a ≡ true
-and_left true b e = refl
-and_left false b e = absurd (cc)
 
 none_is : (o : Option ℕ) → is_none o ≡ true → o ≡ None
 none_is None e = refl
@@ -63,7 +60,7 @@ pub room_open : (words n : ℕ) (pages : List Page) (r : Option ℕ) → r ≡ p
 room_open words n pages None e = search rules
 room_open words n pages (Some i) e =
     let found = get_within pages i (room_within words n pages i (sym e) blank_page) in
-    rw found.1 (and_left (is_open found.0.state) _ (room_passes words n pages i (sym e) found.0 found.1))
+    rw found.1 (and_parts (is_open found.0.state) _ (room_passes words n pages i (sym e) found.0 found.1)).0
 
 pub room_enough : (words n : ℕ) (pages : List Page) (r : Option ℕ) → 0 < n → r ≡ page_with_room words n pages → IfSome r (λ i. top_in (slice_get pages i) + n ≤ words)
 room_enough words n pages None low e = search rules

@@ -4,22 +4,17 @@ use Rattle.std.specs.List.{slice_get}
 use Rattle.std.specs.Prelude.{IsSome}
 use Rattle.std.proofs.Math.ListN.{length-set, length-replicate}
 use Rattle.std.proofs.lemmas.Bool.Decides.{nat_tests}
-use Rattle.std.proofs.lemmas.Option.{slice_get_within}
+use Rattle.std.proofs.lemmas.Option.{slice_get_within, same_Some, none-some}
 use Rattle.std.proofs.lemmas.List.{length-take, length-take-le}
+use Rattle.std.proofs.lemmas.Bool.{cases_eq}
 use Rattle.model.specs.declared.records.Page.{Page}
 use Rattle.model.specs.declared.records.PageState.{PageState}
 use Rattle.model.specs.declared.records.PageState.TheVariants.{Unused, Open, Closed, From, Gone}
 use Rattle.model.specs.Stores.{StoreState, has_memory, is_protected, is_open, is_unused, page_at, state_in, frame_in, record_count, fresh_page, opened, first_store, blank_page, unused_page, unused_in, given, buffer_of, with_words, overlaid, top_in, words_at}
 use Rattle.model.specs.Owning.{IsPage, IsStore}
-use Rattle.model.proofs.Lists.{get_set, get_set_same, get_set_other, each_set, each_replicate, get_replicate, count_set, count_replicate, position_none, length_counted, same_or_not, get_within, as_number}
+use Rattle.model.proofs.Lists.{get_set, get_set_same, get_set_other, each_set, each_replicate, get_replicate, count_set, count_replicate, position_none, length_counted, get_within, as_number}
 use Rattle.model.proofs.Memory.{unused_state}
 use Rattle.page.specs.Records.{is_unused_in}
-
-pub same_inside : {X : Type 0} {x y : X} → Some x ≡ Some y → x ≡ y
-same_inside e = cc
-
-none_some : {X : Type 0} {x : X} → None ≡ Some x → ⊥
-none_some e = cc
 
 none_or_some : {X : Type 0} {x : X} → Some None ≡ Some (Some x) → ⊥
 none_or_some e = cc
@@ -88,10 +83,10 @@ raise_keeps s i p top h e le =
     owned j f x b (inr a) = h.owning.owned j f x a.1 b
 
     owner : (f n : ℕ) → slice_get s.owners f ≡ Some (Some n) → (j : ℕ) × (x : Page) × (n ≡ j + 1) × (slice_get s.pages j ≡ Some x) × (x.frame ≡ Some f) → (j : ℕ) × (x : Page) × (n ≡ j + 1) × (slice_get (set s.pages i (record p { top = top })) j ≡ Some x) × (x.frame ≡ Some f)
-    owner f n a (j, x, b, c, d) = by_place (same_or_not j i)
+    owner f n a (j, x, b, c, d) = by_place (cases_eq j i)
       where
         by_place : (j ≡ i) ⊎ (j ≢ i) → (j : ℕ) × (x : Page) × (n ≡ j + 1) × (slice_get (set s.pages i (record p { top = top })) j ≡ Some x) × (x.frame ≡ Some f)
-        by_place (inl k) = let same : p ≡ x = same_inside (sym e ∙ ap (slice_get s.pages) (sym k) ∙ c) in (i, record p { top = top }, b ∙ ap (λ z. z + 1) k, get_set_same s.pages i p (record p { top = top }) e, ap (λ (z : Page). z.frame) same ∙ d)
+        by_place (inl k) = let same : p ≡ x = same_Some _ _ (sym e ∙ ap (slice_get s.pages) (sym k) ∙ c) in (i, record p { top = top }, b ∙ ap (λ z. z + 1) k, get_set_same s.pages i p (record p { top = top }) e, ap (λ (z : Page). z.frame) same ∙ d)
         by_place (inr k) = (j, x, b, get_set_other s.pages i j (record p { top = top }) k ∙ c, d)
 
 -- an unused page is opened on a free frame
@@ -130,7 +125,7 @@ open_keeps s i f p h e u g =
 
     owned : (j k : ℕ) (x : Page) → x.frame ≡ Some k → ((j ≡ i) × (fresh_page f ≡ x)) ⊎ ((j ≢ i) × (slice_get s.pages j ≡ Some x)) → slice_get (set s.owners f (Some (i + 1))) k ≡ Some (Some (j + 1))
     owned j k x b (inl a) =
-        let here : f ≡ k = same_inside (ap (λ (z : Page). z.frame) a.1 ∙ b) in
+        let here : f ≡ k = same_Some _ _ (ap (λ (z : Page). z.frame) a.1 ∙ b) in
         rw (← here, a.0) (get_set_same s.owners f None (Some (i + 1)) g)
     owned j k x b (inr a) =
         let before = h.owning.owned j k x a.1 b in
@@ -138,12 +133,12 @@ open_keeps s i f p h e u g =
         get_set_other s.owners f k (Some (i + 1)) other ∙ before
 
     owner : (k n : ℕ) → ((k ≡ f) × (Some (i + 1) ≡ Some n)) ⊎ ((k ≢ f) × (slice_get s.owners k ≡ Some (Some n))) → (j : ℕ) × (x : Page) × (n ≡ j + 1) × (slice_get (set s.pages i (fresh_page f)) j ≡ Some x) × (x.frame ≡ Some k)
-    owner k n (inl a) = (i, fresh_page f, sym (same_inside a.1), get_set_same s.pages i p (fresh_page f) e, ap Some (sym a.0))
+    owner k n (inl a) = (i, fresh_page f, sym (same_Some _ _ a.1), get_set_same s.pages i p (fresh_page f) e, ap Some (sym a.0))
     owner k n (inr a) = moved k n (h.owning.owner k n a.1)
       where
         moved : (k n : ℕ) → (j : ℕ) × (x : Page) × (n ≡ j + 1) × (slice_get s.pages j ≡ Some x) × (x.frame ≡ Some k) → (j : ℕ) × (x : Page) × (n ≡ j + 1) × (slice_get (set s.pages i (fresh_page f)) j ≡ Some x) × (x.frame ≡ Some k)
         moved k n (j, x, b, c, d) =
-            let other : j ≢ i = λ z. none_some (sym no_frame ∙ ap (λ (y : Page). y.frame) (same_inside (sym e ∙ ap (slice_get s.pages) (sym z) ∙ c)) ∙ d) in
+            let other : j ≢ i = λ z. none-some _ (sym no_frame ∙ ap (λ (y : Page). y.frame) (same_Some _ _ (sym e ∙ ap (slice_get s.pages) (sym z) ∙ c)) ∙ d) in
             (j, x, b, get_set_other s.pages i j (fresh_page f) other ∙ c, d)
 
     counts : has_memory p.state ≡ false → count_by (λ x. has_memory x.state) (set s.pages i (fresh_page f)) + count_by is_none (set s.owners f (Some (i + 1))) ≡ length s.frames
@@ -177,8 +172,8 @@ first_is_store words frames pages low high frames_high pages_high =
       };
       pages = each_replicate (IsPage words) n blank_page (record { memory = refl; top = omega arith });
       owning = record {
-        owned = λ i f p a b. absurd (none_some (ap (λ (z : Page). z.frame) (get_replicate n blank_page i p a) ∙ b));
-        owner = λ f k a. absurd (none_some (get_replicate frames None f (Some k) a));
+        owned = λ i f p a b. absurd (none-some _ (ap (λ (z : Page). z.frame) (get_replicate n blank_page i p a) ∙ b));
+        owner = λ f k a. absurd (none-some _ (get_replicate frames None f (Some k) a));
       };
       balanced = record {
         frames = rw frame_count (omega (arith, count_replicate (λ (x : Page). has_memory x.state) n blank_page, count_replicate {X = Option ℕ} is_none frames None));
@@ -220,7 +215,7 @@ open_has_memory From e = refl
 open_has_memory Gone e = absurd (cc)
 
 pub open_has_frame : (s : StoreState) (n : ℕ) → IsStore s → is_open (state_in (page_at s n)) ≡ true → HasFrame s n
-open_has_frame s n h e = by_number (same_or_not n 0)
+open_has_frame s n h e = by_number (cases_eq n 0)
   where
     by_frame : (p : Page) → page_at s n ≡ Some p → slice_get s.pages (n - 1) ≡ Some p → (o : Option ℕ) → p.frame ≡ o → is_some o ≡ true → HasFrame s n
     by_frame p a r None b c = absurd (cc)
@@ -256,17 +251,6 @@ given_at s i n p e = rw e refl
 pub words_changed : (s : StoreState) (n f : ℕ) (ws : List ℕ) (change : List ℕ → List ℕ) → frame_in (page_at s n) ≡ Some f → slice_get s.frames f ≡ Some ws → with_words s n change ≡ record s { frames = set s.frames f (change ws) }
 unfolding with_words
 words_changed s n f ws change e g = rw (e, g) refl
-
--- words laid over others leave their number
-pub length-overlaid : (ws : List ℕ) (o : ℕ) (xs : List ℕ) → length (overlaid ws o xs) ≡ length ws
-length-overlaid ws o xs = length_overlaid ws (take o ws) xs (drop o ws) (by_take o ws)
-  where
-    by_take : (o : ℕ) (ws : List ℕ) → length ws ≤ length (take o ws) + length (drop o ws)
-    by_take o ws = omega (arith, length-take o ws, length-drop o ws)
-
-    length_overlaid : (ws front xs back : List ℕ) → length ws ≤ length front + length back → length (take (length ws) (front ++ (xs ++ drop (length xs) back))) ≡ length ws
-    length_overlaid ws front xs back h =
-        length-take-le (length ws) (front ++ (xs ++ drop (length xs) back)) (omega (arith, length-append front (xs ++ drop (length xs) back), length-append xs (drop (length xs) back), length-drop (length xs) back, h))
 
 pub top_there : (pages : List Page) (i n words : ℕ) (p : Page) → slice_get pages i ≡ Some p → top_in (slice_get pages i) + n ≤ words → p.top + n ≤ words
 top_there pages i n words p e h = rw e at h

@@ -6,6 +6,7 @@ use Rattle.std.proofs.Math.Nat.{mul-le-mul_left}
 use Rattle.std.proofs.lemmas.Nat.{mul-add-lt}
 use Rattle.std.proofs.lemmas.Bool.Decides.{nat_tests}
 use Rattle.std.proofs.lemmas.Option.{slice_get_within}
+use Rattle.std.proofs.lemmas.Bool.{cases_eq, and_parts}
 use Rattle.refword.specs.Words.{IsAddress}
 use Rattle.model.specs.declared.records.Page.{Page}
 use Rattle.model.specs.declared.records.Room.{Room}
@@ -13,8 +14,8 @@ use Rattle.model.specs.declared.records.Room.TheVariants.{NoFrames, NoPages}
 use Rattle.model.specs.declared.records.Buffer.{Buffer}
 use Rattle.model.specs.Stores.{StoreState, is_open, is_unused, state_in, opened, given, buffer_of, Takes, with_words, with_word, fresh_page, frame_in, page_at, taken, page_with_room, free_frame, unused_page, record_count}
 use Rattle.model.specs.Owning.{IsStore, LiesIn, TakesWell}
-use Rattle.model.proofs.Lists.{get_set_same, get_set_other, same_or_not, get_within}
-use Rattle.page.proofs.Found.{and_left, position_within, room_left, free_counts, free_within, room_within, room_passes}
+use Rattle.model.proofs.Lists.{get_set_same, get_set_other, get_within}
+use Rattle.page.proofs.Found.{position_within, room_left, free_counts, free_within, room_within, room_passes}
 use Rattle.page.proofs.Keeping.{unused_as, page_at_record, page_at_zero, opened_words, opened_at, given_at}
 
 false_true : false ≡ true → ⊥
@@ -22,7 +23,7 @@ false_true e = cc
 
 -- the page of a buffer has a record
 pub lies_at : (s : StoreState) (b : Buffer) → LiesIn s b → (b.page ≢ 0) × (p : Page) × (slice_get s.pages (b.page - 1) ≡ Some p) × (is_open p.state ≡ true)
-lies_at s b h = by_number (same_or_not b.page 0)
+lies_at s b h = by_number (cases_eq b.page 0)
   where
     by_record : b.page ≢ 0 → (o : Option Page) → slice_get s.pages (b.page - 1) ≡ o → (b.page ≢ 0) × (p : Page) × (slice_get s.pages (b.page - 1) ≡ Some p) × (is_open p.state ≡ true)
     by_record z None e = absurd (false_true (sym (ap (λ o. is_open (state_in o)) (page_at_record s b.page z ∙ e)) ∙ h.page))
@@ -46,7 +47,7 @@ lies_same s t b e w h =
 pub lies_set : (s t : StoreState) (i : ℕ) (p q : Page) (b : Buffer) → t.pages ≡ set s.pages i q → t.words ≡ s.words → slice_get s.pages i ≡ Some p → is_open q.state ≡ true → LiesIn s b → LiesIn t b
 lies_set s t i p q b e w at o h =
     let (z, r, found, is_so) = lies_at s b h in
-    by_place z r found is_so (same_or_not (b.page - 1) i)
+    by_place z r found is_so (cases_eq (b.page - 1) i)
   where
     by_place : b.page ≢ 0 → (r : Page) → slice_get s.pages (b.page - 1) ≡ Some r → is_open r.state ≡ true → (b.page - 1 ≡ i) ⊎ (b.page - 1 ≢ i) → LiesIn t b
     by_place z r found is_so (inl k) = lies_by t b q z (ap (λ ps. slice_get ps (b.page - 1)) e ∙ ap (slice_get (set s.pages i q)) k ∙ get_set_same s.pages i p q at) o h.order (rw w h.end)
@@ -125,7 +126,7 @@ takes_well s t n b h low high e = by_room (page_with_room s.words n s.pages) ref
         let within = room_within s.words n s.pages i a (fresh_page 0) in
         let p = get_within s.pages i within in
         let passes = room_passes s.words n s.pages i a p.0 p.1 in
-        as_taken (given s i n) (taken_given s n i a) (well_given s i n p.0 p.1 (and_left (is_open p.0.state) _ passes) (room_left s.words n p.0.top (is_open p.0.state) low passes))
+        as_taken (given s i n) (taken_given s n i a) (well_given s i n p.0 p.1 (and_parts (is_open p.0.state) _ passes).0 (room_left s.words n p.0.top (is_open p.0.state) low passes))
 
 -- the same, of a call that took a buffer or failed
 pub takes_by : (s t : StoreState) (n : ℕ) (r : Result Buffer Room) → IsStore s → 0 < n → n ≤ s.words → Takes s r t (taken s n) → IfOk r (TakesWell s t)

@@ -6,7 +6,7 @@ use Rattle.std.proofs.Math.Seq.{take-set-lt}
 use Rattle.std.proofs.lemmas.List.{get_or-set_other, get_or-drop, get_or-take, length-take, length-take-le, length-replicate, length-drop, drop-set-add}
 use Rattle.std.proofs.lemmas.List.Sums.{position_or_len_is}
 use Rattle.std.proofs.lemmas.Bool.Decides.{nat_tests}
-use Rattle.model.proofs.Lists.{same_or_not}
+use Rattle.std.proofs.lemmas.Bool.{cases_eq, le-leb, lt-leb}
 use Rattle.page.specs.Tournaments.{IsWinner, IsTree, IsFirstFrom}
 
 -- the way down
@@ -103,7 +103,7 @@ to_right xs depth n level node next t deep h e less = record {
   low = omega (arith, twice level, h.low);
   high = omega (arith, twice level, h.high);
   there = right;
-  left = λ j a b c. by_place j a b c (same_or_not (ancestor (depth - (level + 1)) j) next);
+  left = λ j a b c. by_place j a b c (cases_eq (ancestor (depth - (level + 1)) j) next);
 }
   where
     right : n ≤ get_or xs (next + 1) 0
@@ -134,23 +134,17 @@ at_leaf xs depth n level node e h =
 
 -- the first number
 
-fails : (n v : ℕ) → v < n → nat_le n v ≡ false
-fails n v h = grind (arith, nat_tests)
-
-passes : (n v : ℕ) → n ≤ v → nat_le n v ≡ true
-passes n v h = grind (arith, nat_tests)
-
 position_at : (n : ℕ) (vs : List ℕ) (i : ℕ) → i < length vs → n ≤ get_or vs i 0 → ((k : ℕ) → k < i → get_or vs k 0 < n)
     → Some i ≡ position (λ v. nat_le n v) vs
 position_at n vs i within there before =
     let at : position_or_len (λ v. nat_le n v) vs ≡ i =
-    position_or_len_is (λ v. nat_le n v) vs i 0 (omega arith) (λ k h. fails n (get_or vs k 0) (before k h)) (λ h. passes n (get_or vs i 0) there) in
+    position_or_len_is (λ v. nat_le n v) vs i 0 (omega arith) (λ k h. lt-leb n (get_or vs k 0) (before k h)) (λ h. le-leb n (get_or vs i 0) there) in
     grind (arith, nat_tests, at)
 
 position_nowhere : (n : ℕ) (vs : List ℕ) → ((k : ℕ) → k < length vs → get_or vs k 0 < n) → None ≡ position (λ v. nat_le n v) vs
 position_nowhere n vs before =
     let at : position_or_len (λ v. nat_le n v) vs ≡ length vs =
-    position_or_len_is (λ v. nat_le n v) vs (length vs) 0 (omega arith) (λ k h. fails n (get_or vs k 0) (before k h)) (λ h. absurd (omega arith)) in
+    position_or_len_is (λ v. nat_le n v) vs (length vs) 0 (omega arith) (λ k h. lt-leb n (get_or vs k 0) (before k h)) (λ h. absurd (omega arith)) in
     grind (arith, nat_tests, at)
 
 pub length_numbers : (xs : List ℕ) (width count : ℕ) → length xs ≡ 2 * width → count ≤ width → length (take count (drop width xs)) ≡ count

@@ -4,7 +4,7 @@ use Rattle.std.specs.Prelude.{Ok, not, codes, ◌⊎◌}
 use Rattle.std.specs.Str.{bytes_eq}
 use Rattle.std.specs.Fmt.{decimal}
 use Rattle.std.proofs.lemmas.Slice.Eq.{bytes_eq-Decides}
-use Rattle.std.proofs.lemmas.Bool.{ltb-false, le-ltb}
+use Rattle.std.proofs.lemmas.Bool.{ltb-false, le-ltb, not-false}
 use Rattle.std.proofs.lemmas.Bool.Decides.{nat_tests}
 use Rattle.layout.specs.declared.shape.Layout.{Layout}
 use Rattle.model.specs.Configs.{is_page_size}
@@ -45,10 +45,6 @@ record IsPageSizeAt (line : List ℕ) (at : ℕ) (v : ℕ × ℕ) : Type 0 where
   is : is_page_size v.0 ≡ true
   below : v.0 ≤ 4096
 
-not_false : (a : Bool) → not a ≡ false → a ≡ true
-not_false true h = refl
-not_false false h = absurd cc
-
 page_size_ok : (line : List ℕ) (at : ℕ) (v : ℕ × ℕ) → page_size_at line at ≡ Ok v → IsPageSizeAt line at v
 unfolding page_size_at
 page_size_ok line at v h =
@@ -57,7 +53,7 @@ page_size_ok line at v h =
     let n = number_ok line a.0 16 4096 b.0 (lit< tt) b.1 in
     let g = guard_ok (not (is_page_size b.0.0)) _ _ v b.2 in
     subst (λ (x : ℕ × ℕ). IsPageSizeAt line at x) (ok_is b.0 v g.1)
-    (record { spelled = fixed_ok line at (codes "words") kinds.UnknownWord a.0 a.1 ∙ ap (λ (t : List (List ℕ)). codes "words" ∷ t) n.spelled; is = not_false (is_page_size b.0.0) g.0; below = n.below })
+    (record { spelled = fixed_ok line at (codes "words") kinds.UnknownWord a.0 a.1 ∙ ap (λ (t : List (List ℕ)). codes "words" ∷ t) n.spelled; is = not-false (is_page_size b.0.0) g.0; below = n.below })
 
 pub page_size_range : (n : ℕ) → is_page_size n ≡ true → (16 ≤ n) × (n ≤ 4096)
 page_size_range n h = grind (arith, nat_tests)

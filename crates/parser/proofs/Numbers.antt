@@ -5,7 +5,7 @@ use Rattle.std.specs.List.{list_all}
 use Rattle.std.specs.Fmt.{decimal}
 use Rattle.std.proofs.lemmas.Bool.Decides.{nat_tests}
 use Rattle.std.proofs.lemmas.Fmt.{decimal-digits_value, digits_decimal, digits_value-decimal, decimal_nonempty, decimal_digit, first_decimal}
-use Rattle.std.proofs.lemmas.Bool.{cases_lt}
+use Rattle.std.proofs.lemmas.Bool.{cases_lt, and_parts}
 use Rattle.std.proofs.lemmas.Str.Parse.{IsNumeralModel, IsDigitsTest, FoldsDigits, numerals_by_fold}
 use Rattle.parser.specs.Words.{is_digit, starts_with_zero, is_number, capped_from}
 
@@ -44,10 +44,6 @@ record IsNumber (word : List ℕ) : Type 0 where
   nonempty : 0 < length word
   canonical : get_or word 0 0 ≡ 48 → length word ≡ 1
 
-both : (a b : Bool) → (a && b) ≡ true → (a ≡ true) × (b ≡ true)
-both true b h = (refl, h)
-both false b h = absurd cc
-
 either : (a b : Bool) → (a || b) ≡ true → (a ≡ true) ⊎ (b ≡ true)
 either true b h = inl refl
 either false b h = inr h
@@ -59,8 +55,8 @@ canonical_in (b ∷ bs) h zero_first = elim (either (length (b ∷ bs) == 1) (no
 number_tells : (word : List ℕ) → is_number word ≡ true → IsNumber word
 unfolding is_number
 number_tells word h =
-    let p = both (not (length word == 0) && list_all is_digit word) ((length word == 1) || not (starts_with_zero word)) h in
-    let q = both (not (length word == 0)) (list_all is_digit word) p.0 in
+    let p = and_parts (not (length word == 0) && list_all is_digit word) ((length word == 1) || not (starts_with_zero word)) h in
+    let q = and_parts (not (length word == 0)) (list_all is_digit word) p.0 in
     record { digits = q.1; nonempty = grind (arith, nat_tests); canonical = canonical_in word p.1 }
 
 -- a number below 2^64 that is read is written so

@@ -5,6 +5,7 @@ use Rattle.std.specs.Str.{bytes_eq}
 use Rattle.std.specs.Fmt.{decimal}
 use Rattle.std.proofs.lemmas.Slice.Eq.{bytes_eq-Decides}
 use Rattle.std.proofs.lemmas.Bool.Decides.{nat_tests, Decides-eqb}
+use Rattle.std.proofs.lemmas.Bool.{or_parts, not-false, leb-false}
 use Rattle.parser.specs.declared.fault.FaultKind.{FaultKind}
 use Rattle.parser.specs.declared.fault.FaultKind.TheVariants as kinds
 use Rattle.parser.specs.declared.fault.Flaw.{Flaw}
@@ -36,10 +37,6 @@ ok_is x y e = cc
 pub or_flaw_ok : {A : Type 0} (o : Option A) (d : Flaw) (x : A) → or_flaw o d ≡ Ok x → o ≡ Some x
 or_flaw_ok None d x e = absurd cc
 or_flaw_ok (Some y) d x e = ap Some (ok_is y x e)
-
-neither : (a b : Bool) → (a || b) ≡ false → (a ≡ false) × (b ≡ false)
-neither true b h = absurd cc
-neither false b h = (refl, h)
 
 -- ---- words
 
@@ -86,7 +83,7 @@ number_ok line at low high v fits h =
     let n = capped_from 0 w.0 in
     let form = guard_ok (not (is_number w.0)) (flaw at kinds.NumberExpected) (in_range n w.1 at low high) v b.2 in
     let range = guard_ok (nat_lt n low || nat_lt high n) (flaw at kinds.NumberOutOfRange) (Ok (n, w.1)) v form.1 in
-    let sides = neither (nat_lt n low) (nat_lt high n) range.0 in
+    let sides = or_parts (nat_lt n low) (nat_lt high n) range.0 in
     let low_side : low ≤ n = grind (arith, nat_tests) in
     let high_side : n ≤ high = grind (arith, nat_tests) in
     let number : is_number w.0 ≡ true = grind arith in
@@ -127,23 +124,16 @@ named_in_ok (b ∷ bs) after at letter count missing v fits h =
     let n = capped_from 0 bs in
     let form = guard_ok (not (b == letter) || not (is_number bs)) (flaw at kinds.UnknownWord) (cond (nat_le count n) (Err (flaw at missing)) (Ok (n, after))) v h in
     let range = guard_ok (nat_le count n) (flaw at missing) (Ok (n, after)) v form.1 in
-    let sides = neither (not (b == letter)) (not (is_number bs)) form.0 in
+    let sides = or_parts (not (b == letter)) (not (is_number bs)) form.0 in
     let first : b ≡ letter = not_not_eq b letter sides.0 in
-    let number : is_number bs ≡ true = not_false (is_number bs) sides.1 in
-    let below : n < count = le_fails count n range.0 in
+    let number : is_number bs ≡ true = not-false (is_number bs) sides.1 in
+    let below : n < count = leb-false count n range.0 in
     let spelled : decimal n ≡ bs = number_spelled bs number (omega arith) in
     let pair : (n, after) ≡ v = ok_is (n, after) v range.1 in
     subst (λ (x : ℕ × ℕ). IsNamed (b ∷ bs) after letter count x) pair (record { spelled = ap (λ (x : ℕ). x ∷ bs) first ∙ ap (λ (x : List ℕ). letter ∷ x) (sym spelled); place = refl; below = below })
   where
-    not_false : (a : Bool) → not a ≡ false → a ≡ true
-    not_false true h = refl
-    not_false false h = absurd cc
-
     not_not_eq : (a b : ℕ) → not (a == b) ≡ false → a ≡ b
-    not_not_eq a b h = (Decides-eqb a b).0 (not_false (a == b) h)
-
-    le_fails : (a b : ℕ) → nat_le a b ≡ false → b < a
-    le_fails a b h = grind (arith, nat_tests)
+    not_not_eq a b h = (Decides-eqb a b).0 (not-false (a == b) h)
 
 -- a letter and a number below count are the word at a place
 pub record IsNameAt (line : List ℕ) (at letter count : ℕ) (v : ℕ × ℕ) : Type 0 where

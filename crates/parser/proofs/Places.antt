@@ -6,6 +6,7 @@ use Rattle.std.proofs.lemmas.Bool.{ltb-false, le-ltb, lt-ltb, cases_lt}
 use Rattle.std.proofs.lemmas.Bool.Decides.{nat_tests}
 use Rattle.std.proofs.lemmas.List.{drop-drop, length-drop}
 use Rattle.std.proofs.lemmas.List.Quantifiers.{position-Some}
+use Rattle.std.proofs.lemmas.Option.{same_Some}
 use Rattle.parser.specs.declared.fault.Flaw.{Flaw}
 use Rattle.parser.specs.Words.{cut_at, word_at}
 use Rattle.parser.proofs.Splitting.{split_some, split_none, split_cons}
@@ -20,9 +21,6 @@ words_from line at = cond (nat_lt (length line) at) [] (slice_split space (drop 
 
 regroup : (at i : ℕ) → at + (i + 1) ≡ at + i + 1
 regroup at i = omega arith
-
-some_is : {A : Type 0} (x y : A) → Some x ≡ Some y → x ≡ y
-some_is x y e = cc
 
 cut_words : (line : List ℕ) (at : ℕ) (o : Option ℕ) → at ≤ length line → position space (drop at line) ≡ o →
     slice_split space (drop at line) ≡ (cut_at line at (drop at line) o).0 ∷ words_from line (cut_at line at (drop at line) o).1
@@ -47,7 +45,7 @@ words_past line at h = rw h refl
 
 some_or : {A : Type 0} (b : Bool) (x y : A) → cond b None (Some x) ≡ Some y → (b ≡ false) × (x ≡ y)
 some_or true x y e = absurd cc
-some_or false x y e = (refl, some_is x y e)
+some_or false x y e = (refl, same_Some x y e)
 
 none_or : {A : Type 0} (b : Bool) (x : A) → cond b None (Some x) ≡ None → b ≡ true
 none_or true x e = refl
@@ -74,14 +72,14 @@ Reads line r x ws = (after : ℕ) × (r ≡ Ok (x, after)) × (words_from line a
 abbrev Finds : List ℕ → Option (List ℕ × ℕ) → List ℕ → List (List ℕ) → Type 0
 Finds line o w ws = (after : ℕ) × (o ≡ Some (w, after)) × (words_from line after ≡ ws)
 
-tails_are : (x y : List ℕ) (xs ys : List (List ℕ)) → x ∷ xs ≡ y ∷ ys → (x ≡ y) × (xs ≡ ys)
-tails_are x y xs ys e = (cc, cc)
+pub cons_is : (x y : List ℕ) (xs ys : List (List ℕ)) → x ∷ xs ≡ y ∷ ys → (x ≡ y) × (xs ≡ ys)
+cons_is x y xs ys e = (cc, cc)
 
 found_in : (line : List ℕ) (at : ℕ) (w : List ℕ) (ws : List (List ℕ)) → words_from line at ≡ w ∷ ws → (o : Option (List ℕ × ℕ)) → word_at line at ≡ o → Finds line o w ws
 found_in line at w ws h None e = let none = no_word_is line at e in absurd cc
 found_in line at w ws h (Some v) e =
     let first = word_is line at v e in
-    let parts = tails_are v.0 w (words_from line v.1) ws (sym first ∙ h) in
+    let parts = cons_is v.0 w (words_from line v.1) ws (sym first ∙ h) in
     (v.1, ap (λ (x : List ℕ). Some (x, v.1)) parts.0, parts.1)
 
 -- the first of the words from a place on is there

@@ -5,6 +5,7 @@ use Rattle.std.specs.Fmt.{decimal}
 use Rattle.std.specs.List.{All, AllByRecursion, list_all, slice_split, join_with_byte, flat_map}
 use Rattle.std.proofs.lemmas.Bool.Decides.{nat_tests}
 use Rattle.std.proofs.lemmas.List.Splits.{slice_split_none, slice_split_at}
+use Rattle.std.proofs.lemmas.Bool.{and_parts, not-true}
 use Rattle.model.specs.declared.steps.Actor.{Actor}
 use Rattle.model.specs.declared.steps.Actor.TheVariants.{Thread, Worker}
 use Rattle.parser.specs.declared.heading.Sizes.{Sizes}
@@ -29,17 +30,9 @@ by_index P [] h k d lt = absurd (omega arith)
 by_index P (x ∷ xs) h zero d lt = h.0
 by_index P (x ∷ xs) h (suc k) d lt = by_index P xs h.1 k d (omega arith)
 
-both : (a b : Bool) → (a && b) ≡ true → (a ≡ true) × (b ≡ true)
-both true b h = (refl, h)
-both false b h = absurd cc
-
-not_true : (a : Bool) → not a ≡ true → a ≡ false
-not_true true h = absurd cc
-not_true false h = refl
-
 no_spaces : (w : List ℕ) → IsPlain w → AllByRecursion (λ b. space b ≡ false) w
 no_spaces [] h = tt
-no_spaces (b ∷ bs) h = let p = both (not (space b)) (list_all (λ b. not (space b)) bs) h in (not_true (space b) p.0, no_spaces bs p.1)
+no_spaces (b ∷ bs) h = let p = and_parts (not (space b)) (list_all (λ b. not (space b)) bs) h in (not-true (space b) p.0, no_spaces bs p.1)
 
 -- words without spaces are the parts of their line
 pub words_split : (w : List ℕ) (ws : List (List ℕ)) → IsPlain w → AllByRecursion IsPlain ws → slice_split space (join_with_byte 32 (w ∷ ws)) ≡ w ∷ ws
@@ -65,7 +58,7 @@ digit_plain b h = grind (arith, nat_tests)
 
 digits_plain : (ds : List ℕ) → list_all is_digit ds ≡ true → IsPlain ds
 digits_plain [] h = refl
-digits_plain (b ∷ bs) h = let p = both (is_digit b) (list_all is_digit bs) h in rw (digit_plain b p.0) (digits_plain bs p.1)
+digits_plain (b ∷ bs) h = let p = and_parts (is_digit b) (list_all is_digit bs) h in rw (digit_plain b p.0) (digits_plain bs p.1)
 
 decimal_plain : (n : ℕ) → n < 2 ^ 64 → IsPlain (decimal n)
 decimal_plain n h = digits_plain (decimal n) (decimal_digits n h)

@@ -3,10 +3,12 @@ use Rattle.std.proofs.Common.{◌≡◌, ℕ, ◌^◌, ◌≤◌, Bool, true, fa
 use Rattle.std.specs.Prelude.{◌||◌, not}
 use Rattle.std.specs.List.{list_all}
 use Rattle.std.proofs.lemmas.Bool.Decides.{nat_tests}
+use Rattle.std.proofs.lemmas.Bool.{or_parts, not-false}
 use Rattle.layout.specs.declared.shape.Layout.{Layout}
 use Rattle.model.specs.declared.config.Config.{Config}
 use Rattle.model.specs.declared.config.ConfigFault.{ConfigFault}
 use Rattle.model.specs.Configs.{is_page_size, is_outside, fits_page, first_fault, IsConfig}
+use Rattle.model.proofs.Ranges.{no_fault, within}
 use Rattle.parser.specs.declared.heading.Sizes.{Sizes}
 use Rattle.parser.specs.Headings.{config_of}
 use Rattle.parser.proofs.HeapLines.{IsSizes}
@@ -38,21 +40,6 @@ config_in_range s ls r l =
     let history = inside s.history 1 1000000 r.history r.history_most in
     rw (r.words, frames, pages, threads, workers, registers, globals, count, l.room, births, history) refl
 
-no_fault : (b : Bool) (f : ConfigFault) (rest : Option ConfigFault) → cond b (Some f) rest ≡ None → (b ≡ false) × (rest ≡ None)
-no_fault true f rest h = absurd cc
-no_fault false f rest h = (refl, h)
-
-neither : (a b : Bool) → (a || b) ≡ false → (a ≡ false) × (b ≡ false)
-neither true b h = absurd cc
-neither false b h = (refl, h)
-
-not_false : (a : Bool) → not a ≡ false → a ≡ true
-not_false true h = refl
-not_false false h = absurd cc
-
-within : (n low high : ℕ) → is_outside n low high ≡ false → (low ≤ n) × (n ≤ high)
-within n low high h = let p = neither (nat_lt n low) (nat_lt high n) h in (grind (arith, nat_tests), grind (arith, nat_tests))
-
 -- the first three fields and those behind them
 pub record IsInRange (c : Config) : Type 0 where
   pub sizes : IsSizes (sizes_in c)
@@ -71,7 +58,7 @@ config_tells c h =
     let l = no_fault (is_outside (length c.layouts) 1 64 || not (list_all (fits_page c.words) c.layouts)) _ _ g.1 in
     let b = no_fault (is_outside c.births 1 (2 ^ 32)) _ _ l.1 in
     let y = no_fault (is_outside c.history 1 1000000) _ _ b.1 in
-    let both = neither (is_outside (length c.layouts) 1 64) (not (list_all (fits_page c.words) c.layouts)) l.0 in
+    let both = or_parts (is_outside (length c.layouts) 1 64) (not (list_all (fits_page c.words) c.layouts)) l.0 in
     let count = within (length c.layouts) 1 64 both.0 in
     let frames = within c.frames 1 4096 f.0 in
     let pages = within c.pages c.frames 65535 p.0 in
@@ -83,7 +70,7 @@ config_tells c h =
     let history = within c.history 1 1000000 y.0 in
     record {
       sizes = record {
-        words = not_false (is_page_size c.words) w.0;
+        words = not-false (is_page_size c.words) w.0;
         frames = frames.0;
         frames_most = frames.1;
         pages = pages.0;
@@ -100,5 +87,5 @@ config_tells c h =
         history = history.0;
         history_most = history.1;
       };
-      layouts = record { some = count.0; few = count.1; room = not_false (list_all (fits_page c.words) c.layouts) both.1 };
+      layouts = record { some = count.0; few = count.1; room = not-false (list_all (fits_page c.words) c.layouts) both.1 };
     }

@@ -8,7 +8,7 @@ use Rattle.std.proofs.lemmas.List.{map-append}
 use Rattle.std.proofs.lemmas.List.Folds.{list_all-append}
 use Rattle.std.proofs.lemmas.List.Splits.{join_with_byte-slice_split}
 use Rattle.std.proofs.lemmas.Slice.Eq.{bytes_eq-Decides}
-use Rattle.std.proofs.lemmas.Bool.{ltb-true, ltb-false}
+use Rattle.std.proofs.lemmas.Bool.{ltb-true, ltb-false, and_parts, not-true}
 use Rattle.std.proofs.lemmas.Bool.Decides.{nat_tests}
 use Rattle.layout.specs.declared.shape.Layout.{Layout}
 use Rattle.model.specs.Configs.{fits_page}
@@ -83,7 +83,7 @@ record IsBefore (said : List (List ℕ)) (r : ReadSoFar) : Type 0 where
 abbrev Said : List (List ℕ) → ReadSoFar → Type 0
 Said said r = IsBefore said r ⊎ IsBehind said r
 
-few_actors : (s : Sizes) → IsSizes s → AreFew s
+pub few_actors : (s : Sizes) → IsSizes s → AreFew s
 few_actors s r = record { threads = omega (arith, r.threads_most); workers = omega (arith, r.workers_most); registers = omega (arith, r.registers_most) }
 
 heap_step : (line : List ℕ) (t : ReadSoFar) → heap_line nothing line ≡ Ok t → IsBehind (line ∷ []) t
@@ -119,10 +119,6 @@ add_layout : (heap : List ℕ) (ls : List Layout) (l : Layout) (said : List (Lis
     said ++ line ∷ [] ≡ (heap ∷ map layout_line_of (ls ++ l ∷ [])) ++ (flat_map part_lines parts ++ open_lines o body)
 add_layout heap ls l said line parts o body none no_block is h =
     rw (h, none, no_block, is, append-nil (map layout_line_of ls), append-nil (map layout_line_of (ls ++ l ∷ [])), map-append layout_line_of ls (l ∷ [])) refl
-
-both_true : (a b : Bool) → (a && b) ≡ true → (a ≡ true) × (b ≡ true)
-both_true true b h = (refl, h)
-both_true false b h = absurd cc
 
 room_more : (words : ℕ) (ls : List Layout) (l : Layout) → list_all (fits_page words) ls ≡ true → 1 + l.refs + l.nums ≤ words →
     list_all (fits_page words) (ls ++ l ∷ []) ≡ true
@@ -303,19 +299,15 @@ part_step said r t b line h =
           ]
     ]
 
-not_true : (a : Bool) → not a ≡ true → a ≡ false
-not_true true h = absurd cc
-not_true false h = refl
-
 later_step : (said : List (List ℕ)) (r t : ReadSoFar) (b : IsBehind said r) (line : List ℕ) → later_line r b.sizes line ≡ Ok t → IsBehind (said ++ line ∷ []) t
 unfolding later_line
 later_step said r t b line h =
     elim (one_of (bytes_eq (first_word line).0 (codes "layout") && not r.begun && nat_lt (length r.layouts) MOST_LAYOUTS) _ _ t h) [
       | inl p ↦
-          let most = both_true (bytes_eq (first_word line).0 (codes "layout") && not r.begun) (nat_lt (length r.layouts) MOST_LAYOUTS) p.0 in
-          let first = both_true (bytes_eq (first_word line).0 (codes "layout")) (not r.begun) most.0 in
+          let most = and_parts (bytes_eq (first_word line).0 (codes "layout") && not r.begun) (nat_lt (length r.layouts) MOST_LAYOUTS) p.0 in
+          let first = and_parts (bytes_eq (first_word line).0 (codes "layout")) (not r.begun) most.0 in
           let few : length r.layouts < MOST_LAYOUTS = ltb-true (length r.layouts) MOST_LAYOUTS most.1 in
-          layout_step said r t b line ((bytes_eq-Decides (first_word line).0 (codes "layout")).0 first.0) (not_true r.begun first.1) few p.1
+          layout_step said r t b line ((bytes_eq-Decides (first_word line).0 (codes "layout")).0 first.0) (not-true r.begun first.1) few p.1
       | inr p ↦ let g = guard_ok (length r.layouts == 0) _ _ t p.1 in part_step said r t b line g.1
     ]
 

@@ -5,7 +5,7 @@ use Rattle.std.specs.Str.{bytes_eq}
 use Rattle.std.specs.Fmt.{decimal}
 use Rattle.std.specs.List.{AllByRecursion, list_all, slice_split, flat_map, repeat}
 use Rattle.std.proofs.lemmas.Slice.Eq.{bytes_eq-Decides}
-use Rattle.std.proofs.lemmas.Bool.{lt-ltb, le-ltb}
+use Rattle.std.proofs.lemmas.Bool.{lt-ltb, le-ltb, and_parts}
 use Rattle.std.proofs.lemmas.Bool.Decides.{nat_tests}
 use Rattle.layout.specs.declared.shape.Layout.{Layout}
 use Rattle.model.specs.declared.config.Config.{Config}
@@ -21,7 +21,7 @@ use Rattle.parser.specs.Reading.{ScriptValue, script_of, ReadSoFar, nothing, new
 use Rattle.parser.specs.Spelling.{line_of, actor_word, order_words, command_line_of, layout_line_of, size_words, SpellsHeap, Part, One, Times, times_line_of, part_lines, part_commands, IsPart, says_something, Spells, IsLayout, IsActor, IsCommand, IsScript}
 use Rattle.parser.proofs.Splitting.{IsCons}
 use Rattle.parser.proofs.Numbers.{decimal_digits}
-use Rattle.parser.proofs.Places.{words_from, words_whole, space}
+use Rattle.parser.proofs.Places.{words_from, words_whole, space, cons_is}
 use Rattle.parser.proofs.Pieces.{number_again, end_again}
 use Rattle.parser.proofs.Operands.{AreFew, order_again, actor_again}
 use Rattle.parser.proofs.HeapLines.{IsSizes, heap_again, layout_again, page_size_range}
@@ -29,7 +29,7 @@ use Rattle.parser.proofs.Ranges.{sizes_in, config_tells}
 use Rattle.parser.proofs.Lines.{lines_cons}
 use Rattle.parser.proofs.Lists.{all_to, all_front, lines_to}
 use Rattle.parser.proofs.Parts.{repeated_length, all_back, all_of_repeated}
-use Rattle.parser.proofs.ReadIsSpelled.{first_words}
+use Rattle.parser.proofs.ReadIsSpelled.{first_words, few_actors}
 use Rattle.parser.proofs.Plain.{IsPlain, words_split, lines_split, small_plain, actor_plain, order_plain, heap_plain}
 
 -- ---- one line
@@ -40,17 +40,11 @@ record HasWords (line w : List ℕ) (ws : List (List ℕ)) : Type 0 where
   first : (first_word line).0 ≡ w
   rest : words_from line (first_word line).1 ≡ ws
 
-cons_is : (x y : List ℕ) (xs ys : List (List ℕ)) → x ∷ xs ≡ y ∷ ys → (x ≡ y) × (xs ≡ ys)
-cons_is x y xs ys e = (cc, cc)
-
 words_are : (line w : List ℕ) (ws : List (List ℕ)) → line ≡ line_of (w ∷ ws) → IsPlain w → AllByRecursion IsPlain ws → HasWords line w ws
 words_are line w ws is first rest =
     let all : words_from line 0 ≡ w ∷ ws = words_whole line ∙ ap (slice_split space) is ∙ words_split w ws first rest in
     let parts = cons_is (first_word line).0 w (words_from line (first_word line).1) ws (sym (first_words line) ∙ all) in
     record { all = all; first = parts.0; rest = parts.1 }
-
-few_actors : (s : Sizes) → IsSizes s → AreFew s
-few_actors s r = record { threads = omega (arith, r.threads_most); workers = omega (arith, r.workers_most); registers = omega (arith, r.registers_most) }
 
 -- behind the heap line
 record IsReady (z : Sizes) (r : ReadSoFar) : Type 0 where
@@ -329,10 +323,6 @@ record AreAll (z : Sizes) (parts : List Part) (all : List Command) : Type 0 wher
   all_is : flat_map part_commands parts ≡ all
   count : length all ≤ MOST_COMMANDS
 
-both : (a b : Bool) → (a && b) ≡ true → (a ≡ true) × (b ≡ true)
-both true b h = (refl, h)
-both false b h = absurd cc
-
 -- where no layouts are left the parts follow
 no_more : (n : ℕ) (z : Sizes) (lines : List (List ℕ)) (r : ReadSoFar) (parts : List Part) (all : List Command) → IsReady z r → IsFresh r → AreNext z r [] →
     AreAll z parts all → filter says_something lines ≡ flat_map part_lines parts →
@@ -359,7 +349,7 @@ layouts_read n z (line ∷ lines) r (l ∷ ls) parts all ready fresh next are sa
           let few = next.few in
           let some = next.some in
           let longer = length-append r.layouts (l ∷ []) in
-          let room = both (fits_page z.words l) (list_all (fits_page z.words) ls) next.room in
+          let room = and_parts (fits_page z.words l) (list_all (fits_page z.words) ls) next.room in
           let taken = layout_taken z r l line ready fresh.not_begun (omega arith) next.each.0 room.0 told.0 heads.0 in
           let after : AreNext z t ls = record { some = omega arith; few = omega arith; each = next.each.1; room = room.1 } in
           let still : IsFresh t = record { not_begun = fresh.not_begun; no_commands = fresh.no_commands; no_block = fresh.no_block } in

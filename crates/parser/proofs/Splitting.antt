@@ -5,6 +5,7 @@ use Rattle.std.proofs.lemmas.List.Splits.{slice_split_first, slice_split_none}
 use Rattle.std.proofs.lemmas.List.Quantifiers.{position-Some}
 use Rattle.std.proofs.lemmas.List.Sums.{position_or_len_is, fails_before_first}
 use Rattle.std.proofs.lemmas.Bool.Decides.{nat_tests}
+use Rattle.model.proofs.Lists.{none_far}
 
 -- what is cut has a first part
 pub record IsCons (xs : List (List ℕ)) : Type 0 where
@@ -28,9 +29,6 @@ split_some p xs end h =
     let at : position_or_len p xs ≡ end = position_or_len_is p xs end 0 (omega (arith, facts.0)) facts.2 (λ _. facts.1) in
     let within : position_or_len p xs < length xs = rw at facts.0 in
     rw at at (slice_split_first p xs 0 within)
-
-none_far : (a b : ℕ) → cond (nat_lt a b) (Some a) None ≡ None → b ≤ a
-none_far a b h = grind (arith, nat_tests)
 
 -- where none passes there is one part
 pub split_none : (p : ℕ → Bool) (xs : List ℕ) → position p xs ≡ None → slice_split p xs ≡ xs ∷ []

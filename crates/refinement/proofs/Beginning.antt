@@ -4,6 +4,7 @@ use mathlib.Core.Path.{fun_ext}
 use Rattle.std.specs.List.{slice_get}
 use Rattle.std.specs.Option.{option_map}
 use Rattle.std.proofs.Math.ListN.{length-replicate}
+use Rattle.std.proofs.lemmas.Bool.{cases_eq}
 use Rattle.model.specs.declared.config.Config.{Config}
 use Rattle.model.specs.declared.records.Global.{Global}
 use Rattle.model.specs.declared.records.PageState.TheVariants.{Unused}
@@ -17,7 +18,6 @@ use Rattle.model.specs.Outcome.{has_crossed, is_parked_in}
 use Rattle.laws.specs.AddressHeap.{Null, NoEntry, HeapObject}
 use Rattle.laws.specs.Invariant.{Invariant}
 use Rattle.laws.specs.First.{first, plain_first}
-use Rattle.laws.proofs.Basics.{same_or_not}
 use Rattle.laws.proofs.First.{first_holds}
 use Rattle.refinement.specs.Worlds.{world_of, as_word, object_at, object_in, of_page, bit_at, entry_at, barrier_in, scan_in, global_in, todo_in}
 use Rattle.refinement.specs.Births.{births_of, as_pair}
@@ -61,7 +61,7 @@ module _ (c : Config) where
 
   page_none : (n : ℕ) → state_in (page_at (first_store c.words c.frames c.pages) n) ≡ Unused
   unfolding first_store
-  page_none n = by_zero (same_or_not n 0)
+  page_none n = by_zero (cases_eq n 0)
     where
       by_zero : (n ≡ 0) ⊎ (n ≢ 0) → state_in (page_at (first_store c.words c.frames c.pages) n) ≡ Unused
       by_zero (inl e) = ap state_in (page_at_zero (first_store c.words c.frames c.pages) n e)
@@ -69,7 +69,7 @@ module _ (c : Config) where
 
   end_none : (n : ℕ) → end_extent c.words n (page_at (first_store c.words c.frames c.pages) n) ≡ None
   unfolding first_store
-  end_none n = by_zero (same_or_not n 0)
+  end_none n = by_zero (cases_eq n 0)
     where
       by_zero : (n ≡ 0) ⊎ (n ≢ 0) → end_extent c.words n (page_at (first_store c.words c.frames c.pages) n) ≡ None
       by_zero (inl e) = ap (end_extent c.words n) (page_at_zero (first_store c.words c.frames c.pages) n e)

@@ -5,7 +5,8 @@ use Rattle.std.specs.List.{slice_get}
 use Rattle.std.specs.Option.{option_map}
 use Rattle.std.proofs.Math.ListN.{length-set, length-replicate}
 use Rattle.std.proofs.lemmas.Nat.{div-mul-add, mod-mul-add}
-use Rattle.std.proofs.lemmas.Option.{slice_get_within}
+use Rattle.std.proofs.lemmas.Option.{slice_get_within, same_Some}
+use Rattle.std.proofs.lemmas.Bool.{cases_eq}
 use Rattle.layout.specs.declared.shape.Layout.{Layout}
 use Rattle.layout.specs.Objects.{size_of}
 use Rattle.model.specs.declared.records.Page.{Page}
@@ -17,14 +18,14 @@ use Rattle.model.specs.Owning.{IsStore, LiesIn}
 use Rattle.model.specs.Heaps.{HeapState, ThreadState, register_of, buffer_in, changed, put_bit, fresh_object}
 use Rattle.model.specs.Outcome.{placed, handed, used_buffer, has_crossed, is_parked_in}
 use Rattle.model.proofs.Lists.{get_within, each_changed}
-use Rattle.model.proofs.Memory.{some_in, open_state, words_sized, memory_words, page_there}
+use Rattle.model.proofs.Memory.{open_state, words_sized, memory_words, page_there, length_overlaid}
 use Rattle.laws.specs.AddressHeap.{HeapObject, Word, Null, SideEntry, NoEntry, Planned, Copied, put}
 use Rattle.laws.specs.Invariant.{SoundObjects}
 use Rattle.laws.specs.Edits.{born}
-use Rattle.laws.proofs.Basics.{put_all, put_after, put_same, put_other, same_or_not}
+use Rattle.laws.proofs.Basics.{put_all, put_after, put_same, put_other}
 use Rattle.refinement.specs.Worlds.{world_of, object_at, bit_at, barrier_in}
 use Rattle.refinement.specs.Claims.{IsLaid, AreRows, AreApart, Claim, OfObject, OfBuffer, OfPlan, OfEnd, Extent, extent, object_size, size_at, sized_extent, planned_extent, buffer_extent}
-use Rattle.refinement.proofs.Runs.{Agree, overlaid_before, overlaid_behind, length_overlaid}
+use Rattle.refinement.proofs.Runs.{Agree, overlaid_before, overlaid_behind}
 use Rattle.refinement.proofs.Reading.{IsRead, read_fits, read_fresh, new_object}
 use Rattle.refinement.proofs.Objects.{Rewrites, there, rewritten}
 use Rattle.refinement.proofs.Changes.{get_changed, kept_of, rows_changed, length_put, bit_put}
@@ -153,7 +154,7 @@ module _ (h : HeapState) (s : IsStore h.store) (l : IsLaid h) (t target number :
       end : y % h.store.words + object_size o ≤ length ws.0
       end =
           let r = there h y o e in
-          let same : r.words ≡ ws.0 = some_in (sym r.page ∙ ap (words_at h.store) p ∙ ws.1) in
+          let same : r.words ≡ ws.0 = same_Some _ _ (sym r.page ∙ ap (words_at h.store) p ∙ ws.1) in
           subst (λ v. y % h.store.words + object_size o ≤ length v) same (read_fits h.config.layouts r.words (y % h.store.words) o r.read)
 
       go : AreApart (record { from = y; upto = y + object_size o }) (buffer_extent h.store.words b) → Agree (change ws.0) ws.0 (y % h.store.words) (y % h.store.words + object_size o)
@@ -167,7 +168,7 @@ module _ (h : HeapState) (s : IsStore h.store) (l : IsLaid h) (t target number :
   rewrites = record {
     words = ws.0;
     before = ws.1;
-    sized = length_overlaid ws.0 (fresh_object h.births number shape) b.next fits;
+    sized = length_overlaid ws.0 b.next (fresh_object h.births number shape);
     on_page = address_page;
     bit = put_at_address h.starts l.starts true address ∙ put_same (bit_at h.starts h.store.words) address true;
     read = read;
@@ -230,17 +231,17 @@ module _ (h : HeapState) (s : IsStore h.store) (l : IsLaid h) (t target number :
 
   others : (c : Claim) → (c ≡ OfBuffer t) ⊎ (c ≡ OfObject address) ⊎ (extent after c ≡ extent h c)
   unfolding placed with_words page_at
-  others (OfObject y) = go (same_or_not y address)
+  others (OfObject y) = go (cases_eq y address)
     where
       go : (y ≡ address) ⊎ (y ≢ address) → (OfObject y ≡ OfBuffer t) ⊎ (OfObject y ≡ OfObject address) ⊎ (extent after (OfObject y) ≡ extent h (OfObject y))
       go (inl k) = inr (inl (ap OfObject k))
       go (inr k) = inr (inr (ap (option_map (sized_extent y)) (sizes_other y k)))
-  others (OfBuffer u) = go (same_or_not u t)
+  others (OfBuffer u) = go (cases_eq u t)
     where
       go : (u ≡ t) ⊎ (u ≢ t) → (OfBuffer u ≡ OfBuffer t) ⊎ (OfBuffer u ≡ OfObject address) ⊎ (extent after (OfBuffer u) ≡ extent h (OfBuffer u))
       go (inl k) = inl (ap OfBuffer k)
       go (inr k) = inr (inr (buffers u ∙ put_other (λ v. extent h (OfBuffer v)) t (Some (buffer_extent h.store.words rest)) u k))
-  others (OfPlan y) = go (same_or_not y address)
+  others (OfPlan y) = go (cases_eq y address)
     where
       go : (y ≡ address) ⊎ (y ≢ address) → (OfPlan y ≡ OfBuffer t) ⊎ (OfPlan y ≡ OfObject address) ⊎ (extent after (OfPlan y) ≡ extent h (OfPlan y))
       go (inl k) = inr (inr (unplanned_extent ((world_of h).side_entry y) (size_at after y) (size_at h y) (λ n e. m.unplanned n (ap (world_of h).side_entry (sym k) ∙ e))))
@@ -260,16 +261,16 @@ module _ (h : HeapState) (s : IsStore h.store) (l : IsLaid h) (t target number :
     where
       left : (y : Extent) → extent after (OfBuffer t) ≡ Some y → (y.from ≡ b.page * h.store.words + (b.next + size_of shape)) × (y.upto ≡ b.page * h.store.words + b.end)
       left y e =
-          let k : buffer_extent h.store.words rest ≡ y = some_in (sym (buffers t ∙ put_same (λ v. extent h (OfBuffer v)) t (Some (buffer_extent h.store.words rest))) ∙ e) in
+          let k : buffer_extent h.store.words rest ≡ y = same_Some _ _ (sym (buffers t ∙ put_same (λ v. extent h (OfBuffer v)) t (Some (buffer_extent h.store.words rest))) ∙ e) in
           (sym (ap (λ (z : Extent). z.from) k), sym (ap (λ (z : Extent). z.upto) k))
 
       part : (y : Extent) → extent after (OfObject address) ≡ Some y → (y.from ≡ address) × (y.upto ≡ address + size_of shape)
       part y e =
-          let k : sized_extent address (size_of shape) ≡ y = some_in (sym (ap (option_map (sized_extent address)) size_here) ∙ e) in
+          let k : sized_extent address (size_of shape) ≡ y = same_Some _ _ (sym (ap (option_map (sized_extent address)) size_here) ∙ e) in
           (sym (ap (λ (z : Extent). z.from) k), sym (ap (λ (z : Extent). z.upto) k))
 
   objects : (y : ℕ) → bit_at starts h.store.words y ≡ true → has_memory (state_at h.store (y / h.store.words)) ≡ true → (o : HeapObject) × (object_at after y ≡ Some o)
-  objects y e k = go (same_or_not y address)
+  objects y e k = go (cases_eq y address)
     where
       go : (y ≡ address) ⊎ (y ≢ address) → (o : HeapObject) × (object_at after y ≡ Some o)
       go (inl d) = (fresh, born_objects y ∙ ap (put (object_at h) address (Some fresh)) d ∙ put_same (object_at h) address (Some fresh))
@@ -279,7 +280,7 @@ module _ (h : HeapState) (s : IsStore h.store) (l : IsLaid h) (t target number :
 
   -- an object that was there stays
   stays : (y : ℕ) (o : HeapObject) → object_at h y ≡ Some o → (q : HeapObject) × (object_at after y ≡ Some q)
-  stays y o is = go (same_or_not y address)
+  stays y o is = go (cases_eq y address)
     where
       go : (y ≡ address) ⊎ (y ≢ address) → (q : HeapObject) × (object_at after y ≡ Some q)
       go (inl e) = (fresh, born_objects y ∙ ap (put (object_at h) address (Some fresh)) e ∙ put_same (object_at h) address (Some fresh))

@@ -5,12 +5,13 @@ use Rattle.std.specs.Option.{option_map}
 use Rattle.std.proofs.lemmas.Option.{get_or_from_slice_get}
 use Rattle.std.proofs.lemmas.List.{get_or_past}
 use Rattle.std.proofs.Math.ListN.{length-set, length-replicate}
+use Rattle.std.proofs.lemmas.Bool.{cases_eq}
 use Rattle.model.specs.Stores.{StoreState}
 use Rattle.model.specs.Owning.{Each}
 use Rattle.model.specs.Heaps.{changed, changed_at, blank_row, put_bit}
 use Rattle.model.proofs.Lists.{get_set_same, get_set_other, each_set, get_within, each_changed}
 use Rattle.laws.specs.AddressHeap.{put}
-use Rattle.laws.proofs.Basics.{put_all, put_same, put_other, put_id, same_or_not}
+use Rattle.laws.proofs.Basics.{put_all, put_same, put_other, put_id}
 use Rattle.refinement.specs.Worlds.{of_page, bit_at}
 use Rattle.refinement.specs.Claims.{AreRows}
 
@@ -110,7 +111,7 @@ row_there rows i row e = row_read rows i ∙ ap row_of e
 
 -- a bit is set or cleared
 pub bit_put : (w : ℕ) (rows : List (List Bool)) (i a : ℕ) (b : Bool) (row : List Bool) → a / w ≡ suc i → slice_get rows i ≡ Some row → a % w < length row → (x : ℕ) → bit_at (changed rows i (put_bit (a % w) b)) w x ≡ put (bit_at rows w) a b x
-bit_put w rows i a b row p e h = put_all (λ x y. bit_at (changed rows i (put_bit (a % w) b)) w x ≡ y) (bit_at rows w) a b (on_page a p ∙ put_same (λ j. get_or row j false) (a % w) b) (λ x d. elsewhere x d (same_or_not (x / w) (suc i)))
+bit_put w rows i a b row p e h = put_all (λ x y. bit_at (changed rows i (put_bit (a % w) b)) w x ≡ y) (bit_at rows w) a b (on_page a p ∙ put_same (λ j. get_or row j false) (a % w) b) (λ x d. elsewhere x d (cases_eq (x / w) (suc i)))
   where
     on_page : (x : ℕ) → x / w ≡ suc i → bit_at (changed rows i (put_bit (a % w) b)) w x ≡ put (λ j. get_or row j false) (a % w) b (x % w)
     on_page x q = ap (λ r. get_or r (x % w) false) (page_changed rows i (put_bit (a % w) b) row e (x / w) ∙ ap (put (of_page rows) (suc i) (put_bit (a % w) b row)) q ∙ put_same (of_page rows) (suc i) (put_bit (a % w) b row)) ∙ put_in_row row (a % w) b h (x % w)

@@ -4,6 +4,8 @@ use Rattle.std.specs.List.{slice_get}
 use Rattle.std.specs.Prelude.{Ok, Err}
 use Rattle.std.specs.Option.{option_map}
 use Rattle.std.proofs.lemmas.Bool.Decides.{nat_tests}
+use Rattle.std.proofs.lemmas.Option.{same_Some}
+use Rattle.std.proofs.lemmas.Bool.{ltb-true}
 use Rattle.refword.specs.Words.{IsWord, bits_of}
 use Rattle.model.specs.declared.steps.Actor.TheVariants.{Thread}
 use Rattle.model.specs.declared.steps.Step.TheVariants as steps
@@ -21,7 +23,6 @@ use Rattle.model.specs.Refusing.{◌>>=◌, or_refuse}
 use Rattle.model.specs.Outcome.{trap_outcome, heal_outcome, heal_place, end_load, finish_outcome, trap_due, gc_trap_due, nmt_trap_due, may_finish, bits_at, are_bits_of, healed}
 use Rattle.model.specs.Plain.{PlainHeap, PlainThread, Pending, plain_step, plain_answer, pending_in, finishing}
 use Rattle.model.proofs.Lists.{get_within, each_changed}
-use Rattle.model.proofs.Memory.{some_in}
 use Rattle.laws.specs.AddressHeap.{HeapObject, OpenBarrier, AtField, AtGlobal, field}
 use Rattle.laws.specs.Invariant.{Invariant, IsPlace}
 use Rattle.laws.specs.Edits.{set_barrier, set_object}
@@ -68,9 +69,6 @@ are_bits (Some n) w e = ap Some (equal n (bits_of w) e)
 -- words with the same bits are one
 same_word : (v w : Reference) → IsWord v → IsWord w → bits_of v ≡ bits_of w → v ≡ w
 same_word v w j k e = sym (stored_again v j) ∙ ap stored e ∙ stored_again w k
-
-global_there : (g n : ℕ) → nat_lt g n ≡ true → g < n
-global_there g n e = grind (arith, nat_tests)
 
 module _ (h : HeapState) (p p0 : PlainHeap) (s : IsStore h.store) (d : IsHeap h) (k : Holds h p p0) (t : ℕ) (x : ThreadState) (at : slice_get h.threads t ≡ Some x) where
   -- no trap is due
@@ -130,7 +128,7 @@ module _ (h : HeapState) (p p0 : PlainHeap) (s : IsStore h.store) (d : IsHeap h)
     unfolding with_global global_of
     global_holds n place clear bits =
         let there = subst (λ z. IsPlace (world_of h) (births_of p) t (as_place z)) place opened.barrier.place in
-        let (z, is) = get_within h.globals n (global_there n (length h.globals) there) in
+        let (z, is) = get_within h.globals n (ltb-true n (length h.globals) there) in
         let same : (world_of h).global n ≡ as_word b.raw = global_same (slice_get h.globals n) ∙ ap as_word (same_word (global_of h n) b.raw (global_word h n k.words) load.raw bits) in
         let g : HeapState = with_global h n b.now in
         let step = transition_keeps (world_of h) (births_of p) (births_of p0) _ _ _ k.invariant (HealGlobal t (as_barrier b) n in_world (ap as_place place) same (unmarked clear)) in
@@ -156,7 +154,7 @@ module _ (h : HeapState) (p p0 : PlainHeap) (s : IsStore h.store) (d : IsHeap h)
             no : None ≡ Some opened.pending → ⊥
             no z = cc
         by_pending (Some l) e =
-            let pair : as_pair l ≡ opened.pending = some_in (sym (ap (option_map as_pair) e) ∙ opened.is) in
+            let pair : as_pair l ≡ opened.pending = same_Some _ _ (sym (ap (option_map as_pair) e) ∙ opened.is) in
             let target : l.target ≡ b.target = ap (λ (z : ℕ × Option ℕ). z.0) pair ∙ sym opened.barrier.target in
             let (y, there, size) = plain_thread h p p0 s d k t x at in
             let low : b.target < length x.registers = omega (arith, load.target, k.laid.registers t x at) in
@@ -188,7 +186,7 @@ module _ (h : HeapState) (p p0 : PlainHeap) (s : IsStore h.store) (d : IsHeap h)
         where
           by_place : (z : Place) → b.place ≡ z → bits_at h z ≡ Some (bits_of b.raw) → StepHolds h p p0 (Thread t) steps.Heal (with_barrier (with_place h z b.now) t (healed b)) answers.Healed
           by_place (places.Field a i) q e = record { config = refl; holds = field_holds b first a i q clear e; answers = tt }
-          by_place (places.Global n) q e = record { config = refl; holds = global_holds b first n q clear (some_in e); answers = tt }
+          by_place (places.Global n) q e = record { config = refl; holds = global_holds b first n q clear (same_Some _ _ e); answers = tt }
 
   -- a load ends
   pub finish_holds : (y : HeapState × Answer) → finish_outcome h t ≡ accepted y → StepHolds h p p0 (Thread t) steps.Finish y.0 y.1

@@ -4,15 +4,16 @@ use mathlib.Core.Path.{fun_ext}
 use Rattle.std.specs.List.{slice_get}
 use Rattle.std.specs.Option.{option_map, option_and_then}
 use Rattle.std.proofs.Math.ListN.{length-set}
+use Rattle.std.proofs.lemmas.Bool.{cases_eq}
+use Rattle.std.proofs.lemmas.Option.{same_Some}
 use Rattle.model.specs.declared.records.Page.{Page}
 use Rattle.model.specs.Stores.{StoreState, words_at, state_at, state_in, frame_in, page_at, has_memory, is_open, buffer_of}
 use Rattle.model.specs.Heaps.{HeapState, ThreadState, register_of, register_in, buffer_in, changed, set_buffer_of}
 use Rattle.model.proofs.Lists.{get_set_same, get_set_other, each_changed}
 use Rattle.page.proofs.Keeping.{page_at_record, page_at_zero}
-use Rattle.model.proofs.Memory.{some_in}
 use Rattle.model.specs.Outcome.{has_crossed, is_parked_in}
 use Rattle.laws.specs.AddressHeap.{put}
-use Rattle.laws.proofs.Basics.{put_all, put_same, put_other, same_or_not}
+use Rattle.laws.proofs.Basics.{put_all, put_same, put_other}
 use Rattle.refinement.specs.Worlds.{world_of, object_at, object_in, bit_at, as_word, barrier_in}
 use Rattle.refinement.specs.Claims.{IsLaid, AreRows, Claim, OfObject, OfBuffer, OfPlan, OfEnd, Extent, extent, object_size, sized_extent, planned_extent, buffer_extent, end_extent, size_at}
 use Rattle.refinement.proofs.Changes.{get_changed, kept_of}
@@ -20,7 +21,7 @@ use Rattle.refinement.proofs.Claims.{Splits, split_apart}
 
 -- the pages of a store whose record of an index is replaced
 pub page_set : (s r : StoreState) (i : ℕ) (p q : Page) → slice_get s.pages i ≡ Some p → r.pages ≡ set s.pages i q → (m : ℕ) → page_at r m ≡ put (page_at s) (i + 1) (Some q) m
-page_set s r i p q e f = put_all (λ m y. page_at r m ≡ y) (page_at s) (i + 1) (Some q) here (λ m d. elsewhere m d (same_or_not m 0))
+page_set s r i p q e f = put_all (λ m y. page_at r m ≡ y) (page_at s) (i + 1) (Some q) here (λ m d. elsewhere m d (cases_eq m 0))
   where
     here : page_at r (i + 1) ≡ Some q
     here = page_at_record r (i + 1) (λ k. absurd (omega (arith, k))) ∙ ap₂ slice_get f (omega arith) ∙ get_set_same s.pages i p q e
@@ -101,13 +102,13 @@ module _ (h : HeapState) (l : IsLaid h) (t i : ℕ) (p : Page) (n : ℕ) (x : Th
 
   others : (c : Claim) → (c ≡ OfEnd (i + 1)) ⊎ (c ≡ OfBuffer t) ⊎ (extent after c ≡ extent h c)
   others (OfObject a) = inr (inr (ap (option_map (sized_extent a)) (sizes a)))
-  others (OfBuffer u) = go (same_or_not u t)
+  others (OfBuffer u) = go (cases_eq u t)
     where
       go : (u ≡ t) ⊎ (u ≢ t) → (OfBuffer u ≡ OfEnd (i + 1)) ⊎ (OfBuffer u ≡ OfBuffer t) ⊎ (extent after (OfBuffer u) ≡ extent h (OfBuffer u))
       go (inl k) = inr (inl (ap OfBuffer k))
       go (inr k) = inr (inr (buffers u ∙ put_other (λ v. extent h (OfBuffer v)) t (Some (buffer_extent h.store.words (buffer_of i p.top n))) u k))
   others (OfPlan a) = inr (inr (ap (planned_extent ((world_of h).side_entry a)) (sizes a)))
-  others (OfEnd m) = go (same_or_not m (i + 1))
+  others (OfEnd m) = go (cases_eq m (i + 1))
     where
       go : (m ≡ i + 1) ⊎ (m ≢ i + 1) → (OfEnd m ≡ OfEnd (i + 1)) ⊎ (OfEnd m ≡ OfBuffer t) ⊎ (extent after (OfEnd m) ≡ extent h (OfEnd m))
       go (inl k) = inl (ap OfEnd k)
@@ -126,12 +127,12 @@ module _ (h : HeapState) (l : IsLaid h) (t i : ℕ) (p : Page) (n : ℕ) (x : Th
     where
       left : (y : Extent) → extent after (OfEnd (i + 1)) ≡ Some y → (y.from ≡ (i + 1) * h.store.words + (p.top + n)) × (y.upto ≡ (i + 1) * h.store.words + h.store.words)
       left y e =
-          let k = some_in (sym end_has ∙ e) in
+          let k = same_Some _ _ (sym end_has ∙ e) in
           (sym (ap (λ (z : Extent). z.from) k), sym (ap (λ (z : Extent). z.upto) k))
 
       part : (y : Extent) → extent after (OfBuffer t) ≡ Some y → (y.from ≡ (i + 1) * h.store.words + p.top) × (y.upto ≡ (i + 1) * h.store.words + (p.top + n))
       part y e =
-          let k = some_in (sym (buffers t ∙ put_same (λ v. extent h (OfBuffer v)) t (Some (buffer_extent h.store.words (buffer_of i p.top n)))) ∙ e) in
+          let k = same_Some _ _ (sym (buffers t ∙ put_same (λ v. extent h (OfBuffer v)) t (Some (buffer_extent h.store.words (buffer_of i p.top n)))) ∙ e) in
           (sym (ap (λ (z : Extent). z.from) k), sym (ap (λ (z : Extent). z.upto) k))
 
   rows : (xs : List (List Bool)) → AreRows h.store xs → AreRows after.store xs

@@ -3,6 +3,7 @@ use Rattle.std.proofs.Common.{◌≡◌, ℕ, ◌+◌, ◌%◌, ◌<◌, Bool, L
 use Rattle.std.specs.List.{slice_get}
 use Rattle.std.specs.Prelude.{Ok}
 use Rattle.std.proofs.lemmas.Option.{get_or_from_slice_get}
+use Rattle.std.proofs.lemmas.Bool.{leb-false}
 use Rattle.model.specs.declared.steps.Actor.TheVariants.{Thread}
 use Rattle.model.specs.declared.steps.Step.TheVariants as steps
 use Rattle.model.specs.declared.steps.Answer.{Answer}
@@ -40,7 +41,7 @@ use Rattle.refinement.proofs.Sizes.{sizes_stay}
 use Rattle.refinement.proofs.Threads.{barrier_world, barrier_laid}
 use Rattle.refinement.proofs.Rooted.{barrier_holds_words, stored_word, global_word}
 use Rattle.refinement.proofs.Births.{loading_is, loading_roots}
-use Rattle.refinement.proofs.Verdicts.{bind_ok, found_ok, same_result, accepted, Passed, first_false, second_false, not_le, used_ok, field_there}
+use Rattle.refinement.proofs.Verdicts.{bind_ok, found_ok, same_result, accepted, Passed, first_false, second_false, used_ok, field_there}
 use Rattle.refinement.proofs.Readers.{names_object}
 use Rattle.refinement.proofs.Writers.{moved, moved_roots, plain_thread}
 use Rattle.refinement.proofs.Storing.{less_is}
@@ -91,7 +92,7 @@ module _ (h : HeapState) (p p0 : PlainHeap) (s : IsStore h.store) (d : IsHeap h)
       let (m, spot) = field_there h a q c i n (found_ok (field_at h a i) refusals.BadIndex n second) in
       let within : i < length q.refs = omega (arith, m, read_refs h.config.layouts c.words (a % h.store.words) q c.read) in
       let same : field q i ≡ as_word (stored v) = field_is a q names.uses.here i v within (ap (word_at h.store) (omega (arith, spot)) ∙ found_ok (word_at h.store n) refusals.BadIndex v third) in
-      let low : r < h.config.registers = not_le h.config.registers r (first_false (no_register h r) (no_register h o) g.indices) in
+      let low : r < h.config.registers = leb-false h.config.registers r (first_false (no_register h r) (no_register h o) g.indices) in
       let (z, at, size) = plain_thread h p p0 s d k t g.thread g.there in
       let step = transition_keeps (world_of h) (births_of p) (births_of p0) _ _ _ k.invariant (Load t r o a q i names.uses within (ap is_parked_in g.there ∙ g.awake refl)) in
       let found : Option ℕ = ref (births_of p) q.birth i in
@@ -111,8 +112,8 @@ module _ (h : HeapState) (p p0 : PlainHeap) (s : IsStore h.store) (d : IsHeap h)
   load_global_holds r n g y e =
       let w = global_of h n in
       let b : Barrier = new_barrier r (places.Global n) w in
-      let low : r < h.config.registers = not_le h.config.registers r (first_false (no_register h r) (no_global h n) g.indices) in
-      let there_is : n < length h.globals = not_le (length h.globals) n (second_false (no_register h r) (no_global h n) g.indices) in
+      let low : r < h.config.registers = leb-false h.config.registers r (first_false (no_register h r) (no_global h n) g.indices) in
+      let there_is : n < length h.globals = leb-false (length h.globals) n (second_false (no_register h r) (no_global h n) g.indices) in
       let (z, at, size) = plain_thread h p p0 s d k t g.thread g.there in
       let (found, plain) = get_within p.globals n (omega (arith, there_is, k.roots.globals)) in
       let word = global_word h n k.words in

@@ -1,11 +1,13 @@
 -- Other words in one page: the object at one address is made or changed, and all others stay.
 use Rattle.std.proofs.Common.{◌≡◌, ◌≢◌, ◌⊎◌, inl, inr, ℕ, ◌+◌, ◌/◌, ◌%◌, Bool, true, false, List, length, Option, Some, None, refl, sym, ◌∙◌, ap, ap₂, subst}
+use Rattle.std.proofs.lemmas.Bool.{cases_eq}
+use Rattle.std.proofs.lemmas.Option.{same_Some}
 use Rattle.model.specs.Stores.{words_at, with_words}
 use Rattle.model.specs.Owning.{IsStore}
 use Rattle.model.specs.Heaps.{HeapState}
-use Rattle.model.proofs.Memory.{some_in, words_changed, words_kept}
+use Rattle.model.proofs.Memory.{words_changed, words_kept}
 use Rattle.laws.specs.AddressHeap.{HeapObject, put}
-use Rattle.laws.proofs.Basics.{put_all, same_or_not}
+use Rattle.laws.proofs.Basics.{put_all}
 use Rattle.refinement.specs.Worlds.{object_at, object_in, bit_at}
 use Rattle.refinement.specs.Claims.{object_size}
 use Rattle.refinement.proofs.Runs.{Agree}
@@ -44,7 +46,7 @@ pub record Rewrites (h : HeapState) (starts : List (List Bool)) (n a : ℕ) (f :
 -- then the objects are those of before, but for that one
 pub rewritten : (h : HeapState) (starts : List (List Bool)) (n a : ℕ) (f : List ℕ → List ℕ) (q : HeapObject) → IsStore h.store → Rewrites h starts n a f q
     → (x : ℕ) → object_in h.config.layouts (bit_at starts h.store.words x) (words_at (with_words h.store n f) (x / h.store.words)) (x % h.store.words) ≡ put (object_at h) a (Some q) x
-rewritten h starts n a f q s r = put_all (λ x y. after x ≡ y) (object_at h) a (Some q) here (λ x d. elsewhere x d (same_or_not (x / h.store.words) n))
+rewritten h starts n a f q s r = put_all (λ x y. after x ≡ y) (object_at h) a (Some q) here (λ x d. elsewhere x d (cases_eq (x / h.store.words) n))
   where
     after : ℕ → Option HeapObject
     after x = object_in h.config.layouts (bit_at starts h.store.words x) (words_at (with_words h.store n f) (x / h.store.words)) (x % h.store.words)
@@ -59,7 +61,7 @@ rewritten h starts n a f q s r = put_all (λ x y. after x ≡ y) (object_at h) a
     by_bit x d e true k =
         let (o, is) = r.known x e k in
         let t = there h x o is in
-        let same : t.words ≡ r.words = some_in (sym t.page ∙ ap (words_at h.store) e ∙ r.before) in
+        let same : t.words ≡ r.words = same_Some _ _ (sym t.page ∙ ap (words_at h.store) e ∙ r.before) in
         let read = subst (λ ws. IsRead h.config.layouts ws (x % h.store.words) o) same t.read in
         ap₂ (λ b o. object_in h.config.layouts b o (x % h.store.words)) (r.bits x d ∙ k) (changed x e) ∙ is_read h.config.layouts (f r.words) (x % h.store.words) o (read_same h.config.layouts r.words (f r.words) (x % h.store.words) o read r.sized (r.apart x o d e is)) ∙ sym is
     by_bit x d e false k =

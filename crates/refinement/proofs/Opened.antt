@@ -5,7 +5,8 @@ use Rattle.std.proofs.Math.Nat.{suc-mul}
 use Rattle.std.specs.List.{slice_get}
 use Rattle.std.specs.Option.{option_map}
 use Rattle.std.proofs.Math.ListN.{length-set}
-use Rattle.std.proofs.lemmas.Option.{slice_get_within}
+use Rattle.std.proofs.lemmas.Option.{slice_get_within, same_Some}
+use Rattle.std.proofs.lemmas.Bool.{cases_eq}
 use Rattle.model.specs.declared.records.Page.{Page}
 use Rattle.model.specs.declared.records.PageState.TheVariants.{Unused, Open}
 use Rattle.model.specs.declared.records.Buffer.{Buffer}
@@ -14,11 +15,11 @@ use Rattle.model.specs.Owning.{IsStore, LiesIn}
 use Rattle.model.specs.Holding.{IsHeap}
 use Rattle.model.specs.Heaps.{HeapState, ThreadState, register_of, buffer_in, changed, blank_row}
 use Rattle.model.proofs.Lists.{get_set_other, get_within}
-use Rattle.model.proofs.Memory.{some_in, open_state, unused_state, words_in, page_record, words_sized, words_memory}
+use Rattle.model.proofs.Memory.{open_state, unused_state, words_in, page_record, words_sized, words_memory}
 use Rattle.laws.specs.AddressHeap.{HeapObject, SideEntry, NoEntry, Planned, Copied, put}
 use Rattle.laws.specs.Invariant.{SoundObjects, SoundMarks}
 use Rattle.laws.specs.Edits.{open_page}
-use Rattle.laws.proofs.Basics.{put_same, put_other, same_or_not}
+use Rattle.laws.proofs.Basics.{put_same, put_other}
 use Rattle.refinement.specs.Worlds.{world_of, object_at, object_in, bit_at}
 use Rattle.refinement.specs.Claims.{IsLaid, AreRows, Apart, AreApart, Claim, OfObject, OfBuffer, OfPlan, OfEnd, Extent, extent, object_size, sized_extent, planned_extent, buffer_extent, end_extent, size_at}
 use Rattle.refinement.proofs.Reading.{read_fits}
@@ -53,7 +54,7 @@ module _ (h : HeapState) (s : IsStore h.store) (k : IsHeap h) (l : IsLaid h) (o 
 
   object_claim : (a : ℕ) (x : Extent) (y : Option HeapObject) → object_at h a ≡ y → option_map (sized_extent a) (option_map object_size y) ≡ Some x → LiesOnPage h x
   object_claim a x None e f = absurd (cc)
-  object_claim a x (Some q) e f = object_lies a q x e (some_in f)
+  object_claim a x (Some q) e f = object_lies a q x e (same_Some _ _ f)
 
   buffer_lies : (b : Buffer) (x : Extent) → LiesIn h.store b → buffer_extent h.store.words b ≡ x → LiesOnPage h x
   unfolding state_at
@@ -73,14 +74,14 @@ module _ (h : HeapState) (s : IsStore h.store) (k : IsHeap h) (l : IsLaid h) (o 
     where
       by_buffer : (c : Option Buffer) → IfSome c (LiesIn h.store) → option_map (buffer_extent h.store.words) c ≡ Some x → LiesOnPage h x
       by_buffer None g z = absurd (cc)
-      by_buffer (Some b) g z = buffer_lies b x g (some_in z)
+      by_buffer (Some b) g z = buffer_lies b x g (same_Some _ _ z)
 
   plan_claim : (a : ℕ) (x : Extent) (e : SideEntry) (y : Option HeapObject) → (world_of h).side_entry a ≡ e → object_at h a ≡ y → planned_extent e (option_map object_size y) ≡ Some x → LiesOnPage h x
   plan_claim a x NoEntry y f g z = absurd (cc)
   plan_claim a x (Copied n) y f g z = absurd (cc)
   plan_claim a x (Planned n) None f g z = absurd (cc)
   plan_claim a x (Planned n) (Some q) f g z =
-      let is : sized_extent n (object_size q) ≡ x = some_in z in
+      let is : sized_extent n (object_size q) ≡ x = same_Some _ _ z in
       let from : n ≡ x.from = ap (λ (y : Extent). y.from) is in
       let upto : n + object_size q ≡ x.upto = ap (λ (y : Extent). y.upto) is in
       record {
@@ -98,8 +99,8 @@ module _ (h : HeapState) (s : IsStore h.store) (k : IsHeap h) (l : IsLaid h) (o 
       by_open : (b : Bool) → is_open p.state ≡ b → cond b (Some (record { from = m * h.store.words + p.top; upto = m * h.store.words + h.store.words })) None ≡ Some x → LiesOnPage h x
       by_open false g z = absurd (cc)
       by_open true g z =
-          let from : m * h.store.words + p.top ≡ x.from = ap (λ (y : Extent). y.from) (some_in z) in
-          let upto : m * h.store.words + h.store.words ≡ x.upto = ap (λ (y : Extent). y.upto) (some_in z) in
+          let from : m * h.store.words + p.top ≡ x.from = ap (λ (y : Extent). y.from) (same_Some _ _ z) in
+          let upto : m * h.store.words + h.store.words ≡ x.upto = ap (λ (y : Extent). y.upto) (same_Some _ _ z) in
           record {
             page = m;
             memory = ap (λ y. has_memory (state_in y)) e ∙ ap has_memory (open_state p.state g);
@@ -160,7 +161,7 @@ module _ (h : HeapState) (s : IsStore h.store) (k : IsHeap h) (l : IsLaid h) (o 
       by_frame (Some y) e =
           let (j, q, a, b, c) = page_record h.store n y e in
           let owned = s.owning.owned j y q b c in
-          get_set_other h.store.frames f y (replicate h.store.words 0) (λ z. no (j + 1) (some_in (sym free ∙ ap (slice_get h.store.owners) (sym z) ∙ owned)))
+          get_set_other h.store.frames f y (replicate h.store.words 0) (λ z. no (j + 1) (same_Some _ _ (sym free ∙ ap (slice_get h.store.owners) (sym z) ∙ owned)))
         where
           no : (n : ℕ) → None ≡ Some n → ⊥
           no n z = cc
@@ -187,7 +188,7 @@ module _ (h : HeapState) (s : IsStore h.store) (k : IsHeap h) (l : IsLaid h) (o 
 
   pub opened_objects : (a : ℕ) → object_at after a ≡ object_at h a
   unfolding opened
-  opened_objects a = by_page (same_or_not (a / h.store.words) (i + 1))
+  opened_objects a = by_page (cases_eq (a / h.store.words) (i + 1))
     where
       unset : (y : Option (List ℕ)) → object_in h.config.layouts false y (a % h.store.words) ≡ None
       unset None = refl
@@ -199,7 +200,7 @@ module _ (h : HeapState) (s : IsStore h.store) (k : IsHeap h) (l : IsLaid h) (o 
 
   -- a row that has no bit on the page stays
   stays : (xs : List (List Bool)) → AreRows h.store xs → ((a : ℕ) → a / h.store.words ≡ i + 1 → bit_at xs h.store.words a ≡ false) → (a : ℕ) → bit_at (changed xs i blank_row) h.store.words a ≡ bit_at xs h.store.words a
-  stays xs r none a = by_page (same_or_not (a / h.store.words) (i + 1))
+  stays xs r none a = by_page (cases_eq (a / h.store.words) (i + 1))
     where
       by_page : (a / h.store.words ≡ i + 1) ⊎ (a / h.store.words ≢ i + 1) → bit_at (changed xs i blank_row) h.store.words a ≡ bit_at xs h.store.words a
       by_page (inl e) = blank xs r a e ∙ sym (none a e)
@@ -264,7 +265,7 @@ module _ (h : HeapState) (s : IsStore h.store) (k : IsHeap h) (l : IsLaid h) (o 
   old_or_new (OfObject a) = inr (ap (option_map (sized_extent a)) (sizes a))
   old_or_new (OfBuffer u) = inr refl
   old_or_new (OfPlan a) = inr (ap (planned_extent ((world_of h).side_entry a)) (sizes a))
-  old_or_new (OfEnd n) = go (same_or_not n (i + 1))
+  old_or_new (OfEnd n) = go (cases_eq n (i + 1))
     where
       go : (n ≡ i + 1) ⊎ (n ≢ i + 1) → (OfEnd n ≡ OfEnd (i + 1)) ⊎ (extent after (OfEnd n) ≡ extent h (OfEnd n))
       go (inl e) = inl (ap OfEnd e)
@@ -274,7 +275,7 @@ module _ (h : HeapState) (s : IsStore h.store) (k : IsHeap h) (l : IsLaid h) (o 
   new_extent y e =
       let is : Some (record { from = (i + 1) * h.store.words + 0; upto = (i + 1) * h.store.words + h.store.words }) ≡ Some y =
       sym (ends (i + 1) ∙ ap (end_extent h.store.words (i + 1)) (put_same (page_at h.store) (i + 1) (Some (fresh_page f)))) ∙ e in
-      (sym (ap (λ (z : Extent). z.from) (some_in is)), sym (ap (λ (z : Extent). z.upto) (some_in is)))
+      (sym (ap (λ (z : Extent). z.from) (same_Some _ _ is)), sym (ap (λ (z : Extent). z.upto) (same_Some _ _ is)))
 
   -- what lies on another page is apart from the words of this one
   other_page : (n : ℕ) → n ≢ i + 1 → (x : Extent) → n * h.store.words ≤ x.from → x.upto ≤ n * h.store.words + h.store.words → (x.upto ≤ (i + 1) * h.store.words) ⊎ ((i + 1) * h.store.words + h.store.words ≤ x.from)
@@ -326,7 +327,7 @@ module _ (h : HeapState) (s : IsStore h.store) (k : IsHeap h) (l : IsLaid h) (o 
     apart = apart;
     planned = λ a n q e g. l.planned a n q e (sym (opened_objects a) ∙ g);
     live_objects = live;
-    unused = λ a e. stays h.live l.live not_live a ∙ by_page a (same_or_not (a / h.store.words) (i + 1)) e;
+    unused = λ a e. stays h.live l.live not_live a ∙ by_page a (cases_eq (a / h.store.words) (i + 1)) e;
   }
     where
       old_state : (a : ℕ) → a / h.store.words ≢ i + 1 → state_at after.store (a / h.store.words) ≡ state_at h.store (a / h.store.words)
@@ -343,7 +344,7 @@ module _ (h : HeapState) (s : IsStore h.store) (k : IsHeap h) (l : IsLaid h) (o 
       by_page a (inr d) g = l.unused a (sym (old_state a d) ∙ g)
 
       live : (a : ℕ) → bit_at (changed h.live i blank_row) h.store.words a ≡ true → has_memory (state_at after.store (a / h.store.words)) ≡ true → (q : HeapObject) × (object_at after a ≡ Some q)
-      live a e g = go (same_or_not (a / h.store.words) (i + 1))
+      live a e g = go (cases_eq (a / h.store.words) (i + 1))
         where
           no : false ≡ true → ⊥
           no z = cc
@@ -353,7 +354,7 @@ module _ (h : HeapState) (s : IsStore h.store) (k : IsHeap h) (l : IsLaid h) (o 
           go (inr d) = let (q, is) = l.live_objects a (sym (other_bit h.live l.live a d) ∙ e) (ap has_memory (sym (old_state a d)) ∙ g) in (q, opened_objects a ∙ is)
 
       objects : (a : ℕ) → bit_at (changed h.starts i blank_row) h.store.words a ≡ true → has_memory (state_at after.store (a / h.store.words)) ≡ true → (q : HeapObject) × (object_at after a ≡ Some q)
-      objects a e g = go (same_or_not (a / h.store.words) (i + 1))
+      objects a e g = go (cases_eq (a / h.store.words) (i + 1))
         where
           no : false ≡ true → ⊥
           no z = cc

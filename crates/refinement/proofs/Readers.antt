@@ -3,6 +3,7 @@ use Rattle.std.proofs.Common.{◌≡◌, ◌≢◌, ◌⊎◌, ◌↔◌, inl, i
 use Rattle.std.specs.List.{slice_get}
 use Rattle.std.specs.Prelude.{Ok}
 use Rattle.std.specs.Option.{option_and_then}
+use Rattle.std.proofs.lemmas.Option.{same_Some}
 use Rattle.model.specs.declared.steps.Actor.TheVariants.{Thread}
 use Rattle.model.specs.declared.steps.Step.TheVariants as steps
 use Rattle.model.specs.declared.steps.Answer.{Answer}
@@ -14,7 +15,6 @@ use Rattle.model.specs.Heaps.{HeapState, ThreadState, Reference, register_of}
 use Rattle.model.specs.Refusing.{◌>>=◌, or_refuse}
 use Rattle.model.specs.Outcome.{datum_outcome, same_outcome, is_null_outcome, usable, usable_or_null, datum_at, same_address}
 use Rattle.model.specs.Plain.{PlainHeap, Object, plain_step, plain_answer, name_of, object_of, datum_of, as_datum, same_name}
-use Rattle.model.proofs.Memory.{some_in}
 use Rattle.laws.specs.AddressHeap.{HeapObject, Null, To}
 use Rattle.laws.specs.Transitions.{Uses}
 use Rattle.laws.specs.Promises.{ReadsPlain}
@@ -80,7 +80,7 @@ module _ (h : HeapState) (p p0 : PlainHeap) (s : IsStore h.store) (k : Holds h p
 
       by_test : (y : Bool) → nat_eq b d ≡ y → nat_eq a c ≡ y
       by_test true z = eq-eqb a c (e.1 (ap Some (equal b d z)))
-      by_test false z = ne_eqb a c (λ q. differ b d z (some_in (e.0 q)))
+      by_test false z = ne_eqb a c (λ q. differ b d z (same_Some _ _ (e.0 q)))
 
   same_truth : (l r : ℕ) (a b : Option ℕ) → ((a ≡ None) × (register_of h t l ≡ None)) ⊎ ((c : ℕ) × (a ≡ Some c) × IsUsed h t l c) → ((b ≡ None) × (register_of h t r ≡ None)) ⊎ ((c : ℕ) × (b ≡ Some c) × IsUsed h t r c)
       → same_address a b ≡ same_name (name_of p t l) (name_of p t r)

@@ -6,17 +6,19 @@ use Rattle.std.proofs.Math.ListN.{length-set, length-replicate}
 use Rattle.std.proofs.lemmas.List.{length-map, drop-set-add}
 use Rattle.std.proofs.Math.Seq.{take-set-lt}
 use Rattle.std.proofs.lemmas.Bool.Decides.{nat_tests}
+use Rattle.std.proofs.lemmas.Option.{same_Some}
+use Rattle.std.proofs.lemmas.Bool.{le-leb}
 use Rattle.layout.specs.declared.shape.Layout.{Layout}
 use Rattle.layout.specs.Objects.{size_of}
 use Rattle.model.specs.Stores.{overlaid}
 use Rattle.model.specs.Heaps.{fresh_object}
 use Rattle.model.proofs.Lists.{get_set_other}
-use Rattle.model.proofs.Memory.{some_in}
+use Rattle.model.proofs.Memory.{length_overlaid}
 use Rattle.laws.specs.AddressHeap.{HeapObject, Word, Null}
 use Rattle.laws.specs.Effects.{with_datum, with_field}
 use Rattle.refinement.specs.Worlds.{run, object_of, object_laid, object_headed, word_in_memory}
 use Rattle.refinement.specs.Claims.{object_size}
-use Rattle.refinement.proofs.Runs.{Agree, run_same, run_all, get_run, length_run, overlaid_in, length_overlaid}
+use Rattle.refinement.proofs.Runs.{Agree, run_same, run_all, get_run, length_run, overlaid_in}
 
 -- what an object that was read has to do with the words
 pub record IsRead (ls : List Layout) (ws : List ℕ) (o : ℕ) (q : HeapObject) : Type 0 where
@@ -40,7 +42,7 @@ pub read_is : (ls : List Layout) (ws : List ℕ) (o : ℕ) (q : HeapObject) → 
 read_is ls ws o q e = by_header (slice_get ws o) refl e
   where
     by_fit : (header : ℕ) (l : Layout) (b : Bool) → nat_le (o + size_of l) (length ws) ≡ b → slice_get ws o ≡ Some header → slice_get ls (header / 2 ^ 32) ≡ Some l → cond b (Some (object_of ws o header l)) None ≡ Some q → IsRead ls ws o q
-    by_fit header l true f a k r = record { header = header; shape = l; at = a; known = k; fits = leb-true (o + size_of l) (length ws) f; is = sym (some_in r) }
+    by_fit header l true f a k r = record { header = header; shape = l; at = a; known = k; fits = leb-true (o + size_of l) (length ws) f; is = sym (same_Some _ _ r) }
     by_fit header l false f a k r = absurd (cc)
 
     by_layout : (header : ℕ) (y : Option Layout) → slice_get ws o ≡ Some header → slice_get ls (header / 2 ^ 32) ≡ y → object_laid ws o header y ≡ Some q → IsRead ls ws o q
@@ -51,12 +53,9 @@ read_is ls ws o q e = by_header (slice_get ws o) refl e
     by_header None a r = absurd (cc)
     by_header (Some header) a r = by_layout header (slice_get ls (header / 2 ^ 32)) a refl r
 
-le_true : (m n : ℕ) → m ≤ n → nat_le m n ≡ true
-le_true m n h = grind (arith, nat_tests)
-
 pub is_read : (ls : List Layout) (ws : List ℕ) (o : ℕ) (q : HeapObject) → IsRead ls ws o q → object_headed ls ws o (slice_get ws o) ≡ Some q
 is_read ls ws o q r =
-    ap (object_headed ls ws o) r.at ∙ ap (object_laid ws o r.header) r.known ∙ ap (λ b. cond b (Some (object_of ws o r.header r.shape)) None) (le_true (o + size_of r.shape) (length ws) r.fits) ∙ ap Some (sym r.is)
+    ap (object_headed ls ws o) r.at ∙ ap (object_laid ws o r.header) r.known ∙ ap (λ b. cond b (Some (object_of ws o r.header r.shape)) None) (le-leb (o + size_of r.shape) (length ws) r.fits) ∙ ap Some (sym r.is)
 
 -- the sizes of what is read
 pub read_refs : (ls : List Layout) (ws : List ℕ) (o : ℕ) (q : HeapObject) (r : IsRead ls ws o q) → length q.refs ≡ r.shape.refs
@@ -159,7 +158,7 @@ read_fresh ls ws o birth number l known low room = made (birth + number * 2 ^ 32
         let zeros : length (replicate {A = ℕ} (l.refs + l.nums) 0) ≡ l.refs + l.nums = length-replicate (l.refs + l.nums) 0 in
         let long : length xs ≡ size_of l = ap suc zeros ∙ one (l.refs + l.nums) ∙ omega arith in
         let inside : o + length xs ≤ length ws = omega (arith, long, room) in
-        let size : length (overlaid ws o xs) ≡ length ws = length_overlaid ws xs o inside in
+        let size : length (overlaid ws o xs) ≡ length ws = length_overlaid ws o xs in
         let birth_is : header % 2 ^ 32 ≡ birth = omega (arith, e, low) in
         let number_is : header / 2 ^ 32 ≡ number = omega (arith, e, low) in
         let body : (i : ℕ) → i < l.refs + l.nums → slice_get (overlaid ws o xs) (o + 1 + i) ≡ Some 0 =

@@ -4,13 +4,14 @@ use mathlib.Core.Path.{fun_ext}
 use Rattle.std.specs.List.{slice_get}
 use Rattle.std.specs.Option.{option_map}
 use Rattle.std.proofs.Math.ListN.{length-set}
+use Rattle.std.proofs.lemmas.Bool.{cases_eq}
 use Rattle.model.specs.declared.records.Buffer.{Buffer}
 use Rattle.model.specs.Heaps.{HeapState, ThreadState, Reference, flat, register_of, register_in, with_register, with_buffer, changed, set_register_of, set_buffer_of, buffer_in}
 use Rattle.model.proofs.Lists.{get_set_same, get_set_other, get_within, each_changed}
 use Rattle.model.specs.Outcome.{has_crossed, is_parked_in}
 use Rattle.laws.specs.AddressHeap.{put, put_at}
 use Rattle.laws.specs.Effects.{set_register}
-use Rattle.laws.proofs.Basics.{put_all, put_same, put_other, same_or_not}
+use Rattle.laws.proofs.Basics.{put_all, put_same, put_other}
 use Rattle.refinement.specs.Worlds.{world_of, as_word, barrier_in}
 use Rattle.refinement.specs.Claims.{IsLaid, Claim, OfObject, OfBuffer, OfPlan, OfEnd, extent, Extent, buffer_extent}
 use Rattle.refinement.proofs.Changes.{get_changed, kept_of}
@@ -102,7 +103,7 @@ module _ (h : HeapState) (l : IsLaid h) (t : ℕ) where
       -- what a claim has now, it had
       back : (c : Claim) (x : Extent) → extent (with_buffer h t None) c ≡ Some x → extent h c ≡ Some x
       back (OfObject a) x e = e
-      back (OfBuffer u) x e = by_thread (same_or_not u t)
+      back (OfBuffer u) x e = by_thread (cases_eq u t)
         where
           now : option_map (buffer_extent h.store.words) (put (λ v. buffer_in (slice_get h.threads v)) t None u) ≡ Some x
           now = ap (option_map (buffer_extent h.store.words)) (sym (buffers u)) ∙ e

@@ -2,6 +2,7 @@
 use Rattle.std.proofs.Common.{◌≡◌, ℕ, ◌<◌, Bool, List, Option, Some, None, refl, sym, ◌∙◌, ap, subst}
 use Rattle.std.specs.List.{slice_get}
 use Rattle.std.specs.Option.{IfSome}
+use Rattle.std.proofs.lemmas.Option.{same_Some}
 use Rattle.refword.specs.Words.{IsWord, read_word, bits_of}
 use Rattle.refword.proofs.Reading.{reads_back, read_word-is_word}
 use Rattle.model.specs.declared.records.Barrier.{Barrier}
@@ -11,7 +12,6 @@ use Rattle.model.specs.Owning.{Each}
 use Rattle.model.specs.Heaps.{HeapState, ThreadState, Reference, flat, register_of, register_in, global_of, word_of_global, barrier_of, stored, set_register_of, set_buffer_of, set_barrier_of, set_loaded_of, set_parked_of}
 use Rattle.model.specs.Outcome.{handed}
 use Rattle.model.proofs.Lists.{each_set}
-use Rattle.model.proofs.Memory.{some_in}
 use Rattle.refinement.specs.Roots.{IsLoad, HoldsWords, HasWords}
 
 word_there : (ws : List Reference) (r : ℕ) → Each ws IsWord → IsWord (flat (slice_get ws r))
@@ -45,7 +45,7 @@ load_there h t x b k at e = go x.barrier e (k.threads t x at).barrier
   where
     go : (o : Option Barrier) → o ≡ Some b → IfSome o (IsLoad h.config.registers) → IsLoad h.config.registers b
     go None f l = absurd (cc)
-    go (Some c) f l = subst (IsLoad h.config.registers) (some_in f) l
+    go (Some c) f l = subst (IsLoad h.config.registers) (same_Some _ _ f) l
 
 -- what is read from memory
 pub stored_word : (bits : ℕ) → IsWord (stored bits)

@@ -2,8 +2,8 @@
 use Rattle.std.proofs.Common.{◌≡◌, ℕ, zero, suc, ◌+◌, ◌-◌, ◌<◌, ◌≤◌, List, [], ◌∷◌, ◌++◌, length, take, drop, Some, replicate, refl, sym, ◌∙◌, ap, ap₂, arith, length-drop, length-append}
 use Rattle.std.specs.List.{slice_get}
 use Rattle.std.proofs.lemmas.List.{length-take-le}
+use Rattle.std.proofs.lemmas.Option.{same_Some}
 use Rattle.model.specs.Stores.{overlaid}
-use Rattle.model.proofs.Memory.{some_in}
 use Rattle.refinement.specs.Worlds.{run}
 
 pub get_take : {X : Type 0} (n : ℕ) (xs : List X) (i : ℕ) → i < n → slice_get (take n xs) i ≡ slice_get xs i
@@ -39,7 +39,7 @@ pub same_lists : {X : Type 0} (xs ys : List X) → length xs ≡ length ys → (
 same_lists [] [] e h = refl
 same_lists [] (y ∷ ys) e h = absurd (omega (arith, e))
 same_lists (x ∷ xs) [] e h = absurd (omega (arith, e))
-same_lists (x ∷ xs) (y ∷ ys) e h = ap₂ (λ z zs. z ∷ zs) (some_in (h zero (omega arith))) (same_lists xs ys (omega (arith, e)) (λ i l. h (suc i) (omega (arith, l))))
+same_lists (x ∷ xs) (y ∷ ys) e h = ap₂ (λ z zs. z ∷ zs) (same_Some _ _ (h zero (omega arith))) (same_lists xs ys (omega (arith, e)) (λ i l. h (suc i) (omega (arith, l))))
 
 pub get_run : (ws : List ℕ) (o n i : ℕ) → i < n → slice_get (run ws o n) i ≡ slice_get ws (o + i)
 get_run ws o n i h = get_take n (drop o ws) i h ∙ get_drop o ws i
@@ -64,16 +64,9 @@ run_all ws o n v h k = all n (run ws o n) (length_run ws o n h) (λ i l. get_run
     all zero [] e f = refl
     all zero (x ∷ xs) e f = absurd (omega (arith, e))
     all (suc n) [] e f = absurd (omega (arith, e))
-    all (suc n) (x ∷ xs) e f = ap₂ (λ z zs. z ∷ zs) (some_in (f zero (omega arith))) (all n xs (omega (arith, e)) (λ i l. f (suc i) (omega (arith, l))))
+    all (suc n) (x ∷ xs) e f = ap₂ (λ z zs. z ∷ zs) (same_Some _ _ (f zero (omega arith))) (all n xs (omega (arith, e)) (λ i l. f (suc i) (omega (arith, l))))
 
 -- words with others written over them
-
-pub length_overlaid : (ws xs : List ℕ) (o : ℕ) → o + length xs ≤ length ws → length (overlaid ws o xs) ≡ length ws
-length_overlaid ws xs o h =
-    let rest = length-drop (length xs) (drop o ws) in
-    let whole = length-append xs (drop (length xs) (drop o ws)) in
-    let all = length-append (take o ws) (xs ++ drop (length xs) (drop o ws)) in
-    length-take-le (length ws) (take o ws ++ (xs ++ drop (length xs) (drop o ws))) (omega (arith, all, whole, rest, length-drop o ws, length-take-le o ws (omega arith), h))
 
 overlaid_at : (ws xs : List ℕ) (o i : ℕ) → i < length ws → slice_get (overlaid ws o xs) i ≡ slice_get (take o ws ++ (xs ++ drop (length xs) (drop o ws))) i
 overlaid_at ws xs o i h = get_take (length ws) (take o ws ++ (xs ++ drop (length xs) (drop o ws))) i h

@@ -4,6 +4,7 @@ use Rattle.std.specs.List.{slice_get}
 use Rattle.std.specs.Prelude.{Ok}
 use Rattle.std.proofs.Math.ListN.{length-set}
 use Rattle.std.proofs.lemmas.Bool.Decides.{nat_tests}
+use Rattle.std.proofs.lemmas.Bool.{leb-false}
 use Rattle.refword.specs.Words.{bits_of}
 use Rattle.model.specs.declared.steps.Actor.TheVariants.{Thread}
 use Rattle.model.specs.declared.steps.Step.TheVariants as steps
@@ -35,7 +36,7 @@ use Rattle.refinement.proofs.Sizes.{frames_stay, sizes_stay}
 use Rattle.refinement.proofs.Threads.{global_world, global_laid}
 use Rattle.refinement.proofs.Rooted.{register_word, stored_again}
 use Rattle.refinement.proofs.Births.{storing_is, storing_roots, global_is}
-use Rattle.refinement.proofs.Verdicts.{bind_ok, found_ok, same_result, accepted, Passed, first_false, not_le, used_ok, field_there}
+use Rattle.refinement.proofs.Verdicts.{bind_ok, found_ok, same_result, accepted, Passed, first_false, used_ok, field_there}
 use Rattle.refinement.proofs.Readers.{names_object}
 use Rattle.refinement.proofs.Writers.{moved, moved_roots}
 
@@ -93,7 +94,7 @@ module _ (h : HeapState) (p p0 : PlainHeap) (s : IsStore h.store) (d : IsHeap h)
   unfolding store_global_outcome plain_step plain_answer name_of no_global with_global
   store_global_holds n q g y e =
       let (u, first, is) = bind_ok (usable_or_null h t q) (λ u. Ok (with_global h n (register_of h t q), answers.Done)) y e in
-      let low : n < length h.globals = not_le (length h.globals) n (first_false (no_global h n) (no_register h q) g.indices) in
+      let low : n < length h.globals = leb-false (length h.globals) n (first_false (no_global h n) (no_register h q) g.indices) in
       let (x, at) = get_within h.globals n low in
       let w = register_of h t q in
       let z = transition_keeps (world_of h) (births_of p) (births_of p0) _ _ _ k.invariant (StoreGlobal t n q (less_is n (length h.globals) low)) in

@@ -2,6 +2,7 @@
 use Rattle.std.proofs.Common.{◌≡◌, ◌⊎◌, inl, inr, ℕ, ◌+◌, ◌-◌, ◌<◌, ◌≤◌, ◌&&◌, Bool, true, false, Option, Some, None, position, nat_le, refl, sym, ◌∙◌, ap, subst}
 use Rattle.std.specs.List.{slice_get}
 use Rattle.std.specs.Prelude.{Result, Ok}
+use Rattle.std.proofs.lemmas.Bool.{and_parts}
 use Rattle.model.specs.declared.records.Page.{Page}
 use Rattle.model.specs.declared.records.Buffer.{Buffer}
 use Rattle.model.specs.declared.records.Room.{Room}
@@ -36,10 +37,6 @@ lent x = Ok x
 
 same_answer : {x y : StoreState × Buffer} → lent x ≡ lent y → x ≡ y
 same_answer e = cc
-
-left_true : (a b : Bool) → a && b ≡ true → a ≡ true
-left_true true b e = refl
-left_true false b e = absurd (cc)
 
 pub ways : (s : StoreState) (n : ℕ) (x : StoreState × Buffer) → IsStore s → 0 < n → taken s n ≡ Ok x → InOpenPage s n x ⊎ InFreshPage s n x
 unfolding taken unused_page
@@ -81,7 +78,7 @@ ways s n x h low e = by_room (page_with_room s.words n s.pages) refl e
           index = i;
           page = p;
           at = at;
-          is_so = left_true (is_open p.state) (nat_le n (s.words - p.top)) (room_passes s.words n s.pages i b p at);
+          is_so = (and_parts (is_open p.state) (nat_le n (s.words - p.top)) (room_passes s.words n s.pages i b p at)).0;
           room = subst (λ o. top_in o + n ≤ s.words) at (room_found s.words n s.pages i low within b);
           is = same_answer k;
         }

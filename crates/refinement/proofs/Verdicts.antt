@@ -4,6 +4,7 @@ use Rattle.std.specs.Prelude.{Result, Ok, Err}
 use Rattle.std.specs.List.{slice_get}
 use Rattle.std.specs.Option.{option_and_then}
 use Rattle.std.proofs.lemmas.Bool.Decides.{nat_tests}
+use Rattle.std.proofs.lemmas.Bool.{or_parts, leb-false, ltb-true}
 use Rattle.model.specs.declared.steps.Actor.TheVariants.{Thread}
 use Rattle.model.specs.declared.steps.Step.{Step}
 use Rattle.model.specs.declared.steps.Answer.{Answer}
@@ -52,19 +53,11 @@ pub record Passed (h : HeapState) (t : ℕ) (s : Step) : Type 0 where
   pub awake : is_for_parked s ≡ false → thread.parked ≡ false
   pub closed : is_for_loading s ≡ false → thread.barrier ≡ None
 
-both_false : (a b : Bool) → a || b ≡ false → a ≡ false
-both_false false b e = refl
-both_false true b e = absurd (cc)
-
 pub first_false : (a b : Bool) → a || b ≡ false → a ≡ false
-first_false a b e = both_false a b e
+first_false a b e = (or_parts a b e).0
 
 pub second_false : (a b : Bool) → a || b ≡ false → b ≡ false
-second_false false b e = e
-second_false true b e = absurd (cc)
-
-pub not_le : (m n : ℕ) → nat_le m n ≡ false → n < m
-not_le m n e = grind (arith, nat_tests)
+second_false a b e = (or_parts a b e).1
 
 -- a test that only some steps pass
 unless : (a b : Bool) → a && not b ≡ false → b ≡ false → a ≡ false
@@ -84,7 +77,7 @@ passed h t s x e =
     let (b, rest2) = not_refused (has_bad_index h s) refusals.BadIndex _ u rest in
     let (c, rest3) = not_refused (is_parked_in (slice_get h.threads t) && not (is_for_parked s)) refusals.Parked _ u rest2 in
     let (d, rest4) = not_refused (is_loading_in (slice_get h.threads t) && not (is_for_loading s)) refusals.Busy _ u rest3 in
-    let (y, at) = get_within h.threads t (not_le (length h.threads) t (both_false (nat_le (length h.threads) t) (not (is_for_threads s)) a)) in (
+    let (y, at) = get_within h.threads t (leb-false (length h.threads) t (first_false (nat_le (length h.threads) t) (not (is_for_threads s)) a)) in (
       record {
         thread = y;
         there = at;
@@ -152,16 +145,13 @@ shape_there : (h : HeapState) (a : ℕ) (q : HeapObject) (t : IsThere h a q) →
 unfolding layout_at
 shape_there h a q t = ap (λ o. layout_in h.config.layouts (header_layout o)) (word_on_page h.store a ∙ ap (option_and_then (λ ws. slice_get ws (a % h.store.words))) t.page ∙ t.read.at) ∙ t.read.known
 
-less : (m n : ℕ) → nat_lt m n ≡ true → m < n
-less m n e = grind (arith, nat_tests)
-
 -- where a reference of an object stands
 pub field_there : (h : HeapState) (a : ℕ) (q : HeapObject) (t : IsThere h a q) (i place : ℕ) → field_at h a i ≡ Some place → (i < t.read.shape.refs) × (a + 1 + i ≡ place)
 unfolding field_at
 field_there h a q t i place e = by_test (nat_lt i t.read.shape.refs) refl (sym (ap (field_place a i) (shape_there h a q t)) ∙ e)
   where
     by_test : (b : Bool) → nat_lt i t.read.shape.refs ≡ b → cond b (Some (field_address a i)) None ≡ Some place → (i < t.read.shape.refs) × (a + 1 + i ≡ place)
-    by_test true f k = (less i t.read.shape.refs f, cc)
+    by_test true f k = (ltb-true i t.read.shape.refs f, cc)
     by_test false f k = absurd (cc)
 
 -- where a datum of an object stands
@@ -170,5 +160,5 @@ unfolding datum_at
 datum_there h a q t j place e = by_test (nat_lt j t.read.shape.nums) refl (sym (ap (datum_place a j) (shape_there h a q t)) ∙ e)
   where
     by_test : (b : Bool) → nat_lt j t.read.shape.nums ≡ b → cond b (Some (datum_address a t.read.shape j)) None ≡ Some place → (j < t.read.shape.nums) × (a + 1 + t.read.shape.refs + j ≡ place)
-    by_test true f k = (less j t.read.shape.nums f, cc)
+    by_test true f k = (ltb-true j t.read.shape.nums f, cc)
     by_test false f k = absurd (cc)

@@ -5,6 +5,8 @@ use Rattle.std.specs.Prelude.{Ok, Err}
 use Rattle.std.specs.Option.{option_map, IfSome}
 use Rattle.std.proofs.Math.ListN.{length-replicate}
 use Rattle.std.proofs.lemmas.Bool.Decides.{nat_tests}
+use Rattle.std.proofs.lemmas.Option.{same_Some}
+use Rattle.std.proofs.lemmas.Bool.{leb-false}
 use Rattle.layout.specs.declared.shape.Layout.{Layout}
 use Rattle.layout.specs.Objects.{size_of}
 use Rattle.model.specs.declared.steps.Actor.TheVariants.{Thread}
@@ -24,7 +26,6 @@ use Rattle.model.specs.Plain.{PlainHeap, PlainThread, plain_step, plain_answer, 
 use Rattle.refword.specs.Words.{IsWord}
 use Rattle.model.proofs.Lists.{get_within, each_changed}
 use Rattle.page.proofs.Lying.{buffer_address}
-use Rattle.model.proofs.Memory.{some_in}
 use Rattle.laws.specs.AddressHeap.{AddressHeap, HeapObject, Word, Null}
 use Rattle.laws.specs.BirthHeap.{BirthHeap}
 use Rattle.laws.specs.Invariant.{Invariant}
@@ -45,7 +46,7 @@ use Rattle.refinement.proofs.Born as births
 use Rattle.refinement.proofs.Sizes.{frames_stay, sizes_stay}
 use Rattle.refinement.proofs.Registers.{register_world, register_laid, buffer_world, given_back_laid}
 use Rattle.refinement.proofs.Births.{naming_is, naming_roots, writing_is, writing_roots, born_is, born_roots}
-use Rattle.refinement.proofs.Verdicts.{bind_ok, found_ok, same_result, not_refused, accepted, Passed, first_false, not_le, used_ok, datum_there}
+use Rattle.refinement.proofs.Verdicts.{bind_ok, found_ok, same_result, not_refused, accepted, Passed, first_false, used_ok, datum_there}
 use Rattle.refinement.proofs.Readers.{names_object}
 
 -- the invariant of other heaps that are these
@@ -111,7 +112,7 @@ module _ (h : HeapState) (p p0 : PlainHeap) (s : IsStore h.store) (d : IsHeap h)
   pub copy_holds : (r q : ℕ) (g : Passed h t (steps.CopyReg r q)) (y : HeapState × Answer) → copy_register_outcome h t r q ≡ accepted y → StepHolds h p p0 (Thread t) (steps.CopyReg r q) y.0 y.1
   unfolding copy_register_outcome plain_step plain_answer no_register register_of name_of with_register
   copy_holds r q g y e =
-      let low : r < h.config.registers = not_le h.config.registers r (first_false (no_register h r) (no_register h q) g.indices) in
+      let low : r < h.config.registers = leb-false h.config.registers r (first_false (no_register h r) (no_register h q) g.indices) in
       let (z, there, size) = plain_thread g.thread g.there in
       let i = transition_keeps (world_of h) (births_of p) (births_of p0) _ _ _ k.invariant (CopyReg t r q (closed_barrier g.thread g.there (g.closed refl))) in
       subst (λ (z : HeapState × Answer). StepHolds h p p0 (Thread t) (steps.CopyReg r q) z.0 z.1) (same_result (with_register h t r (register_of h t q), answers.Done) y e) (record {
@@ -124,7 +125,7 @@ module _ (h : HeapState) (p p0 : PlainHeap) (s : IsStore h.store) (d : IsHeap h)
   pub clear_holds : (r : ℕ) (g : Passed h t (steps.ClearReg r)) (y : HeapState × Answer) → clear_register_outcome h t r ≡ accepted y → StepHolds h p p0 (Thread t) (steps.ClearReg r) y.0 y.1
   unfolding clear_register_outcome plain_step plain_answer no_register with_register
   clear_holds r g y e =
-      let low : r < h.config.registers = not_le h.config.registers r g.indices in
+      let low : r < h.config.registers = leb-false h.config.registers r g.indices in
       let (z, there, size) = plain_thread g.thread g.there in
       let i = transition_keeps (world_of h) (births_of p) (births_of p0) _ _ _ k.invariant (ClearReg t r (closed_barrier g.thread g.there (g.closed refl))) in
       subst (λ (z : HeapState × Answer). StepHolds h p p0 (Thread t) (steps.ClearReg r) z.0 z.1) (same_result (with_register h t r None, answers.Done) y e) (record {
@@ -190,7 +191,7 @@ module _ (h : HeapState) (p p0 : PlainHeap) (s : IsStore h.store) (d : IsHeap h)
       let (l, second, rest2) = bind_ok (or_refuse (slice_get h.config.layouts number) refusals.BadIndex) (λ l. cond (nat_lt (b.end - b.next) (size_of l)) (Err refusals.NoRoom) (cond (nat_le h.config.births h.births) (Err refusals.Births) (Ok (placed h t r number l b, answers.Birth h.births)))) y rest in
       let (room, rest3) = not_refused (nat_lt (b.end - b.next) (size_of l)) refusals.NoRoom _ y rest2 in
       let (more, is) = not_refused (nat_le h.config.births h.births) refusals.Births _ y rest3 in
-      by_object b l (found_ok (buffer_of_thread h t) refusals.NoRoom b first) (found_ok (slice_get h.config.layouts number) refusals.BadIndex l second) (not_less (b.end - b.next) (size_of l) room) (not_le h.config.births h.births more)
+      by_object b l (found_ok (buffer_of_thread h t) refusals.NoRoom b first) (found_ok (slice_get h.config.layouts number) refusals.BadIndex l second) (not_less (b.end - b.next) (size_of l) room) (leb-false h.config.births h.births more)
       (same_result (placed h t r number l b, answers.Birth h.births) y is)
     where
       not_less : (m n : ℕ) → nat_lt m n ≡ false → n ≤ m
@@ -198,7 +199,7 @@ module _ (h : HeapState) (p p0 : PlainHeap) (s : IsStore h.store) (d : IsHeap h)
 
       lies_of : (o : Option Buffer) (b : Buffer) → o ≡ Some b → IfSome o (LiesIn h.store) → LiesIn h.store b
       lies_of None b e f = absurd (cc)
-      lies_of (Some c) b e f = subst (LiesIn h.store) (some_in e) f
+      lies_of (Some c) b e f = subst (LiesIn h.store) (same_Some _ _ e) f
 
       may : (b : Buffer) (l : Layout) → buffer_of_thread h t ≡ Some b → slice_get h.config.layouts number ≡ Some l → size_of l ≤ b.end - b.next → h.births < h.config.births → births.MayPlace h t r number l b g.thread
       may b l first known room more =
@@ -208,7 +209,7 @@ module _ (h : HeapState) (p p0 : PlainHeap) (s : IsStore h.store) (d : IsHeap h)
             thread = g.there;
             buffer = buffer;
             lies = lies;
-            register = omega (arith, not_le h.config.registers r (first_false (no_register h r) _ g.indices), k.laid.registers t g.thread g.there);
+            register = omega (arith, leb-false h.config.registers r (first_false (no_register h r) _ g.indices), k.laid.registers t g.thread g.there);
             known = known;
             room = room;
             births = omega (arith, more, d.config.births);
@@ -222,7 +223,7 @@ module _ (h : HeapState) (p p0 : PlainHeap) (s : IsStore h.store) (d : IsHeap h)
       by_object b l first known room more is =
           let m = may b l first known room more in
           let (z, there, size) = plain_thread g.thread g.there in
-          let low : r < h.config.registers = not_le h.config.registers r (first_false (no_register h r) _ g.indices) in
+          let low : r < h.config.registers = leb-false h.config.registers r (first_false (no_register h r) _ g.indices) in
           let open_page = births.open_at h b m.lies (omega (arith, room, m.lies.end)) in
           let fits : MayBeBorn (world_of h) (b.page * h.store.words + b.next) (new_object h.births number l) t number (replicate l.refs None) (replicate l.nums 0) = record {
             free = births.place_free h s k.laid t r number l b g.thread m;

@@ -4,15 +4,17 @@ use mathlib.Core.Path.{fun_ext}
 use Rattle.std.proofs.Math.ListN.{length-set}
 use Rattle.std.specs.List.{slice_get}
 use Rattle.std.specs.Option.{option_map, option_and_then}
+use Rattle.std.proofs.lemmas.Bool.{cases_eq}
+use Rattle.std.proofs.lemmas.Option.{same_Some}
 use Rattle.model.specs.Stores.{words_at, word_at, with_words, with_word, state_at, page_at, has_memory}
 use Rattle.model.specs.Owning.{IsStore}
 use Rattle.model.specs.Heaps.{HeapState, register_of}
 use Rattle.model.proofs.Lists.{get_set_other}
-use Rattle.model.proofs.Memory.{some_in, words_sized, words_memory, word_on_page}
+use Rattle.model.proofs.Memory.{words_sized, words_memory, word_on_page}
 use Rattle.laws.specs.AddressHeap.{HeapObject, Planned, put}
 use Rattle.laws.specs.Edits.{set_object}
 use Rattle.laws.specs.Effects.{with_datum, with_field}
-use Rattle.laws.proofs.Basics.{put_all, put_after, put_same, put_other, same_or_not}
+use Rattle.laws.proofs.Basics.{put_all, put_after, put_same, put_other}
 use Rattle.refinement.specs.Worlds.{world_of, object_at, bit_at, word_in_memory}
 use Rattle.refinement.specs.Claims.{IsLaid, Claim, OfObject, OfBuffer, OfPlan, OfEnd, extent, object_size, size_at, sized_extent, planned_extent}
 use Rattle.refinement.proofs.Runs.{Agree}
@@ -103,7 +105,7 @@ module _ (h : HeapState) (s : IsStore h.store) (l : IsLaid h) (a : ℕ) (q : Hea
     extents (OfEnd n) = refl
 
     stays : (x : ℕ) (o : HeapObject) → object_at h x ≡ Some o → (o : HeapObject) × (object_at after x ≡ Some o)
-    stays x o is = go (same_or_not x a)
+    stays x o is = go (cases_eq x a)
       where
         go : (x ≡ a) ⊎ (x ≢ a) → (o : HeapObject) × (object_at after x ≡ Some o)
         go (inl f) = (p, objects_after x ∙ ap (put (object_at h) a (Some p)) f ∙ put_same (object_at h) a (Some p))
@@ -120,7 +122,7 @@ module _ (h : HeapState) (s : IsStore h.store) (l : IsLaid h) (a : ℕ) (q : Hea
       where
         go : ((x ≡ a) × (Some p ≡ Some o)) ⊎ ((x ≢ a) × (object_at h x ≡ Some o)) → n % h.store.words + object_size o ≤ h.store.words
         go (inl (f, z)) =
-            let size : object_size p ≡ object_size o = ap object_size (some_in z) in
+            let size : object_size p ≡ object_size o = ap object_size (same_Some _ _ z) in
             omega (arith, size, w.size, l.planned x n q g (ap (object_at h) f ∙ e))
         go (inr (f, z)) = l.planned x n o g z
 

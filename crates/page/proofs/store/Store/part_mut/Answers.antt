@@ -1,8 +1,9 @@
 use Rattle.std.proofs.Common.{◌≤◌, ◌∙◌, length, refl, sym, ap, subst}
 use Rattle.model.specs.Stores.{StoreState, overlaid, with_words, words_at}
 use Rattle.model.proofs.Lists.{get_read}
+use Rattle.model.proofs.Memory.{length_overlaid}
 use Rattle.page.specs.Views.{store_of}
-use Rattle.page.proofs.Keeping.{frame_keeps, length-overlaid, words_changed, part_there, length_part}
+use Rattle.page.proofs.Keeping.{frame_keeps, words_changed, part_there, length_part}
 use Rattle.page.proofs.store.Store.part_mut.Goals as goal
 
 pub invariant_of-self-lent : goal.invariant_of-self-lent
@@ -11,7 +12,7 @@ invariant_of-self-lent c = λ w.
     let words = get_read s.frames c.open_frame-frame.result c.index_mut-words.result.now c.open_frame-frame.ensures.there c.index_mut-words.ensures.value in
     let sized = c.self.invariant.store.sized.frames c.open_frame-frame.result _ words in
     record {
-      store = frame_keeps s c.open_frame-frame.result _ c.self.invariant.store (length-overlaid c.index_mut-words.result.now c.args.buffer.now.next w ∙ sized);
+      store = frame_keeps s c.open_frame-frame.result _ c.self.invariant.store (length_overlaid c.index_mut-words.result.now c.args.buffer.now.next w ∙ sized);
       free = c.self.invariant.free;
       rooms = c.self.invariant.rooms;
       unused = c.self.invariant.unused;
