@@ -1,16 +1,12 @@
 -- An object written at the head of a lent part is written over the page's words.
-use Rattle.std.proofs.Common.{◌≡◌, ℕ, ◌+◌, ◌-◌, ◌*◌, ◌<◌, ◌≤◌, List, ◌∷◌, ◌++◌, length, take, drop, Option, Some, None, refl, sym, ◌∙◌, ap, subst, arith, append_assoc, length-drop, length-append, rules, set, replicate, suc, is_some}
-use Rattle.std.proofs.Math.Nat.{mul-le-mul_left}
-use Rattle.std.proofs.lemmas.Nat.{mul-add-lt}
-use Rattle.std.proofs.lemmas.Bool.Decides.{nat_tests}
+use Rattle.std.proofs.Common.{◌≡◌, ℕ, ◌+◌, ◌-◌, ◌<◌, ◌≤◌, List, ◌∷◌, ◌++◌, length, take, drop, Option, Some, None, refl, sym, ◌∙◌, ap, subst, arith, append_assoc, length-drop, length-append, rules, set, replicate, suc, is_some}
 use Rattle.std.proofs.Math.ListN.{length-replicate}
 use Rattle.std.specs.List.{slice_get, slice_range}
 use Rattle.std.specs.Option.{IfSome, IsSome}
-use Rattle.std.proofs.lemmas.Option.{slice_get_within}
 use Rattle.std.proofs.lemmas.List.{length-take-le, drop-take, drop-drop, take-append-drop}
 use Rattle.refword.specs.Words.{IsAddress}
 use Rattle.model.specs.declared.records.Buffer.{Buffer}
-use Rattle.model.specs.Stores.{StoreState, overlaid, with_words, words_at, page_at, frame_in, changed_in, changed_frame, record_count}
+use Rattle.model.specs.Stores.{StoreState, overlaid, with_words, words_at, page_at, frame_in, changed_in, changed_frame}
 use Rattle.model.specs.Owning.{IsStore, LiesIn}
 use Rattle.model.proofs.Memory.{words_in, words_sized}
 

@@ -1,16 +1,16 @@
 -- What is done to a store keeps its invariant.
-use Rattle.std.proofs.Common.{◌≡◌, ◌≢◌, ◌⊎◌, inl, inr, ℕ, zero, ◌+◌, ◌*◌, ◌-◌, ◌<◌, ◌≤◌, true, false, ◌||◌, List, ◌++◌, take, drop, length, length-drop, length-append, Option, Some, None, is_some, is_none, replicate, set, count_by, cond, position, ne_eqb, nat_lt, refl, sym, ◌∙◌, ap, arith, rules}
+use Rattle.std.proofs.Common.{◌≡◌, ◌≢◌, ◌⊎◌, inl, inr, ℕ, zero, ◌+◌, ◌*◌, ◌-◌, ◌<◌, ◌≤◌, true, false, ◌||◌, List, take, drop, length, length-drop, Option, Some, None, is_some, is_none, replicate, set, count_by, cond, position, ne_eqb, nat_lt, refl, sym, ◌∙◌, ap, arith, rules}
 use Rattle.std.specs.List.{slice_get}
 use Rattle.std.specs.Prelude.{IsSome}
 use Rattle.std.proofs.Math.ListN.{length-set, length-replicate}
 use Rattle.std.proofs.lemmas.Bool.Decides.{nat_tests}
 use Rattle.std.proofs.lemmas.Option.{slice_get_within, same_Some, none-some}
-use Rattle.std.proofs.lemmas.List.{length-take, length-take-le}
+use Rattle.std.proofs.lemmas.List.{length-take-le}
 use Rattle.std.proofs.lemmas.Bool.{cases_eq}
 use Rattle.model.specs.declared.records.Page.{Page}
 use Rattle.model.specs.declared.records.PageState.{PageState}
 use Rattle.model.specs.declared.records.PageState.TheVariants.{Unused, Open, Closed, From, Gone}
-use Rattle.model.specs.Stores.{StoreState, has_memory, is_protected, is_open, is_unused, page_at, state_in, frame_in, record_count, fresh_page, opened, first_store, blank_page, unused_page, unused_in, given, buffer_of, with_words, overlaid, top_in, words_at}
+use Rattle.model.specs.Stores.{StoreState, has_memory, is_protected, is_open, is_unused, page_at, state_in, frame_in, record_count, fresh_page, opened, first_store, blank_page, unused_page, unused_in, given, buffer_of, with_words, top_in, words_at}
 use Rattle.model.specs.Owning.{IsPage, IsStore}
 use Rattle.model.proofs.Lists.{get_set, get_set_same, get_set_other, each_set, each_replicate, get_replicate, count_set, count_replicate, position_none, length_counted, get_within, as_number}
 use Rattle.model.proofs.Memory.{unused_state}

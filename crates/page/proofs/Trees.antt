@@ -1,5 +1,5 @@
 -- Trees in a list: the way from the root to a leaf, and what a list's leaves are.
-use Rattle.std.proofs.Common.{◌≡◌, ◌≢◌, ◌⊎◌, inl, inr, ℕ, zero, suc, ◌+◌, ◌-◌, ◌*◌, ◌/◌, ◌^◌, ◌<◌, ◌≤◌, max, List, length, length-append, take, drop, set, replicate, ◌++◌, [], ◌∷◌, get_or, position, nat_le, Some, None, false, true, refl, sym, ◌∙◌, ap, subst, arith}
+use Rattle.std.proofs.Common.{◌≡◌, ◌≢◌, ◌⊎◌, inl, inr, ℕ, zero, suc, ◌+◌, ◌-◌, ◌*◌, ◌/◌, ◌^◌, ◌<◌, ◌≤◌, max, List, length, length-append, take, drop, set, replicate, ◌++◌, [], ◌∷◌, get_or, position, nat_le, Some, None, refl, sym, ◌∙◌, ap, subst, arith}
 use Rattle.std.specs.List.{position_or_len}
 use Rattle.std.proofs.Math.Nat.{le-max_left, le-max_right, one-le-pow, pow-succ', pow-le-pow_right}
 use Rattle.std.proofs.Math.Seq.{take-set-lt}

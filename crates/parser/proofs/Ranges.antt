@@ -1,12 +1,11 @@
 -- The sizes of a heap line and the layouts make a configuration that is in range, and the other way.
-use Rattle.std.proofs.Common.{◌≡◌, ℕ, ◌^◌, ◌≤◌, Bool, true, false, cond, nat_lt, List, length, Option, Some, None, refl, arith}
+use Rattle.std.proofs.Common.{◌≡◌, ℕ, ◌^◌, ◌≤◌, true, false, List, length, refl, arith}
 use Rattle.std.specs.Prelude.{◌||◌, not}
 use Rattle.std.specs.List.{list_all}
 use Rattle.std.proofs.lemmas.Bool.Decides.{nat_tests}
 use Rattle.std.proofs.lemmas.Bool.{or_parts, not-false}
 use Rattle.layout.specs.declared.shape.Layout.{Layout}
 use Rattle.model.specs.declared.config.Config.{Config}
-use Rattle.model.specs.declared.config.ConfigFault.{ConfigFault}
 use Rattle.model.specs.Configs.{is_page_size, is_outside, fits_page, first_fault, IsConfig}
 use Rattle.model.proofs.Ranges.{no_fault, within}
 use Rattle.parser.specs.declared.heading.Sizes.{Sizes}

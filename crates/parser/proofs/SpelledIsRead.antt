@@ -1,6 +1,6 @@
 -- What is spelled by the bytes, and within all limits, is read.
 use Rattle.std.proofs.Common.{◌≡◌, ℕ, ◌+◌, ◌*◌, ◌^◌, ◌<◌, ◌≤◌, Bool, true, false, nat_lt, List, [], ◌∷◌, ◌++◌, length, Option, Some, None, refl, sym, ap, subst, ◌∙◌, arith, inl, inr, append-nil, append_assoc, length-append}
-use Rattle.std.specs.Prelude.{Ok, ◌==◌, ◌&&◌, nat_le, codes, ◌⊎◌, map, filter}
+use Rattle.std.specs.Prelude.{Ok, ◌==◌, nat_le, codes, ◌⊎◌, map, filter}
 use Rattle.std.specs.Str.{bytes_eq}
 use Rattle.std.specs.Fmt.{decimal}
 use Rattle.std.specs.List.{AllByRecursion, list_all, slice_split, flat_map, repeat}

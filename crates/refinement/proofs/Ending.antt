@@ -1,9 +1,8 @@
 -- Steps of an open barrier: a trap that isn't due, the place healed, and the load's end.
-use Rattle.std.proofs.Common.{◌≡◌, ℕ, ◌+◌, ◌%◌, ◌<◌, ◌||◌, not, nat_eq, nat_lt, Bool, true, false, cond, List, length, Option, Some, None, refl, sym, ◌∙◌, ap, subst, arith}
+use Rattle.std.proofs.Common.{◌≡◌, ℕ, ◌+◌, ◌<◌, nat_eq, Bool, true, false, cond, length, Option, Some, None, refl, sym, ◌∙◌, ap, subst, arith}
 use Rattle.std.specs.List.{slice_get}
 use Rattle.std.specs.Prelude.{Ok, Err}
 use Rattle.std.specs.Option.{option_map}
-use Rattle.std.proofs.lemmas.Bool.Decides.{nat_tests}
 use Rattle.std.proofs.lemmas.Option.{same_Some}
 use Rattle.std.proofs.lemmas.Bool.{ltb-true}
 use Rattle.refword.specs.Words.{IsWord, bits_of}
@@ -18,12 +17,12 @@ use Rattle.model.specs.declared.records.Place.TheVariants as places
 use Rattle.model.specs.Stores.{word_at, with_word, with_words}
 use Rattle.model.specs.Owning.{IsStore}
 use Rattle.model.specs.Holding.{IsHeap}
-use Rattle.model.specs.Heaps.{HeapState, ThreadState, Reference, register_of, barrier_of, barrier_of_thread, with_barrier, with_loaded, set_loaded_of, with_global, set_word_of, with_place, field_address, global_of, stored}
-use Rattle.model.specs.Refusing.{◌>>=◌, or_refuse}
+use Rattle.model.specs.Heaps.{HeapState, ThreadState, Reference, barrier_of, barrier_of_thread, with_barrier, with_loaded, set_loaded_of, with_global, set_word_of, with_place, field_address, global_of, stored}
+use Rattle.model.specs.Refusing.{or_refuse}
 use Rattle.model.specs.Outcome.{trap_outcome, heal_outcome, heal_place, end_load, finish_outcome, trap_due, gc_trap_due, nmt_trap_due, may_finish, bits_at, are_bits_of, healed}
-use Rattle.model.specs.Plain.{PlainHeap, PlainThread, Pending, plain_step, plain_answer, pending_in, finishing}
+use Rattle.model.specs.Plain.{PlainHeap, Pending, plain_step, plain_answer, pending_in, finishing}
 use Rattle.model.proofs.Lists.{get_within, each_changed}
-use Rattle.laws.specs.AddressHeap.{HeapObject, OpenBarrier, AtField, AtGlobal, field}
+use Rattle.laws.specs.AddressHeap.{field}
 use Rattle.laws.specs.Invariant.{Invariant, IsPlace}
 use Rattle.laws.specs.Edits.{set_barrier, set_object}
 use Rattle.laws.specs.Edits as edits
@@ -41,10 +40,10 @@ use Rattle.refinement.proofs.Changes.{length_changed}
 use Rattle.refinement.proofs.Written.{field_write}
 use Rattle.refinement.proofs.Written as written
 use Rattle.refinement.proofs.Sizes.{frames_stay, sizes_stay}
-use Rattle.refinement.proofs.Threads.{barrier_world, loaded_world, loaded_laid, global_world, global_laid}
+use Rattle.refinement.proofs.Threads.{loaded_world, loaded_laid, global_world, global_laid}
 use Rattle.refinement.proofs.Rooted.{load_there, loaded_holds_words, global_word, stored_again}
 use Rattle.refinement.proofs.Births.{finishing_is, finishing_roots}
-use Rattle.refinement.proofs.Verdicts.{bind_ok, found_ok, same_result, not_refused, accepted, Passed, first_false, second_false}
+use Rattle.refinement.proofs.Verdicts.{bind_ok, found_ok, same_result, not_refused, accepted, second_false}
 use Rattle.refinement.proofs.Writers.{moved, moved_roots, plain_thread}
 use Rattle.refinement.proofs.Loading.{barrier_holds, global_same, field_is}
 

@@ -1,5 +1,5 @@
 -- Steps that begin a load: of a field, or of a global.
-use Rattle.std.proofs.Common.{◌≡◌, ℕ, ◌+◌, ◌%◌, ◌<◌, Bool, List, length, get_or, Option, Some, None, refl, sym, ◌∙◌, ap, subst, arith}
+use Rattle.std.proofs.Common.{◌≡◌, ℕ, ◌+◌, ◌%◌, ◌<◌, length, get_or, Option, Some, None, refl, sym, ◌∙◌, ap, subst, arith}
 use Rattle.std.specs.List.{slice_get}
 use Rattle.std.specs.Prelude.{Ok}
 use Rattle.std.proofs.lemmas.Option.{get_or_from_slice_get}
@@ -18,15 +18,15 @@ use Rattle.model.specs.Holding.{IsHeap}
 use Rattle.model.specs.Heaps.{HeapState, ThreadState, with_barrier, set_barrier_of, stored, flat, global_of, word_of_global}
 use Rattle.model.specs.Refusing.{◌>>=◌, or_refuse}
 use Rattle.model.specs.Outcome.{load_outcome, load_global_outcome, new_barrier, no_register, no_global, usable, field_at, is_parked_in}
-use Rattle.model.specs.Plain.{PlainHeap, PlainThread, Object, plain_step, plain_answer, name_of, object_of, field_of, loading}
+use Rattle.model.specs.Plain.{PlainHeap, Object, plain_step, plain_answer, name_of, object_of, field_of, loading}
 use Rattle.model.proofs.Lists.{get_within, each_changed}
-use Rattle.laws.specs.AddressHeap.{HeapObject, Word, Null, field, AtField, AtGlobal}
+use Rattle.laws.specs.AddressHeap.{HeapObject, Null, field, AtField, AtGlobal}
 use Rattle.laws.specs.BirthHeap.{BirthHeap, ref}
 use Rattle.laws.specs.Invariant.{Invariant}
 use Rattle.laws.specs.Edits.{set_barrier, plain_set_pending}
 use Rattle.laws.specs.Effects.{load_at}
 use Rattle.laws.specs.Effects as effects
-use Rattle.laws.specs.Transitions.{Load, LoadGlobal, Uses}
+use Rattle.laws.specs.Transitions.{Load, LoadGlobal}
 use Rattle.laws.proofs.Runs.{transition_keeps}
 use Rattle.refinement.specs.Worlds.{world_of, as_word, as_barrier, object_at, word_in_memory, global_in}
 use Rattle.refinement.specs.Births.{births_of, refs_in, HasRootsOf}

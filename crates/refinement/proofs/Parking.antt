@@ -1,5 +1,5 @@
 -- Threads that are parked and run again, and registers that need no correction.
-use Rattle.std.proofs.Common.{◌≡◌, ℕ, Bool, true, false, cond, List, length, Option, Some, None, refl, sym, ◌∙◌, ap, subst}
+use Rattle.std.proofs.Common.{◌≡◌, ℕ, Bool, true, false, cond, None, refl, subst}
 use Rattle.std.specs.List.{slice_get}
 use Rattle.std.specs.Prelude.{Ok, Err}
 use Rattle.model.specs.declared.steps.Actor.TheVariants.{Thread}
@@ -11,7 +11,6 @@ use Rattle.model.specs.declared.steps.Refusal.TheVariants as refusals
 use Rattle.model.specs.Owning.{IsStore}
 use Rattle.model.specs.Holding.{IsHeap}
 use Rattle.model.specs.Heaps.{HeapState, with_parked, set_parked_of}
-use Rattle.model.specs.Refusing.{◌>>=◌}
 use Rattle.model.specs.Outcome.{park_outcome, unpark_outcome, is_parked_in, scrub_outcome, usable}
 use Rattle.model.specs.Plain.{PlainHeap, plain_step, plain_answer}
 use Rattle.model.proofs.Lists.{each_changed}

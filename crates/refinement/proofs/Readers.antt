@@ -2,14 +2,13 @@
 use Rattle.std.proofs.Common.{◌≡◌, ◌≢◌, ◌⊎◌, ◌↔◌, inl, inr, ℕ, ◌+◌, ◌%◌, ◌<◌, Bool, true, false, nat_eq, List, length, is_none, Option, Some, None, refl, sym, ◌∙◌, ap, ap₂, subst, arith, eq-eqb, ne_eqb}
 use Rattle.std.specs.List.{slice_get}
 use Rattle.std.specs.Prelude.{Ok}
-use Rattle.std.specs.Option.{option_and_then}
 use Rattle.std.proofs.lemmas.Option.{same_Some}
 use Rattle.model.specs.declared.steps.Actor.TheVariants.{Thread}
 use Rattle.model.specs.declared.steps.Step.TheVariants as steps
 use Rattle.model.specs.declared.steps.Answer.{Answer}
 use Rattle.model.specs.declared.steps.Answer.TheVariants as answers
 use Rattle.model.specs.declared.steps.Refusal.TheVariants as refusals
-use Rattle.model.specs.Stores.{word_at, words_at}
+use Rattle.model.specs.Stores.{word_at}
 use Rattle.model.specs.Owning.{IsStore}
 use Rattle.model.specs.Heaps.{HeapState, ThreadState, Reference, register_of}
 use Rattle.model.specs.Refusing.{◌>>=◌, or_refuse}

@@ -1,5 +1,5 @@
 -- The words of registers, barriers, globals and memory: what is written is read back.
-use Rattle.std.proofs.Common.{◌≡◌, ℕ, ◌<◌, Bool, List, Option, Some, None, refl, sym, ◌∙◌, ap, subst}
+use Rattle.std.proofs.Common.{◌≡◌, ℕ, Bool, List, Option, Some, None, refl, ap, subst}
 use Rattle.std.specs.List.{slice_get}
 use Rattle.std.specs.Option.{IfSome}
 use Rattle.std.proofs.lemmas.Option.{same_Some}
@@ -9,7 +9,7 @@ use Rattle.model.specs.declared.records.Barrier.{Barrier}
 use Rattle.model.specs.declared.records.Buffer.{Buffer}
 use Rattle.model.specs.declared.records.Global.{Global}
 use Rattle.model.specs.Owning.{Each}
-use Rattle.model.specs.Heaps.{HeapState, ThreadState, Reference, flat, register_of, register_in, global_of, word_of_global, barrier_of, stored, set_register_of, set_buffer_of, set_barrier_of, set_loaded_of, set_parked_of}
+use Rattle.model.specs.Heaps.{HeapState, ThreadState, Reference, flat, register_of, register_in, global_of, word_of_global, stored, set_register_of, set_buffer_of, set_barrier_of, set_loaded_of, set_parked_of}
 use Rattle.model.specs.Outcome.{handed}
 use Rattle.model.proofs.Lists.{each_set}
 use Rattle.refinement.specs.Roots.{IsLoad, HoldsWords, HasWords}

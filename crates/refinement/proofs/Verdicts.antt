@@ -1,9 +1,8 @@
 -- What an accepted step has passed: the tests before its row, and those of the row.
-use Rattle.std.proofs.Common.{◌≡◌, ◌⊎◌, inl, inr, ℕ, ◌+◌, ◌/◌, ◌%◌, ◌<◌, ◌&&◌, ◌||◌, Bool, true, false, not, cond, List, length, nat_le, nat_lt, is_some, Option, Some, None, refl, sym, ◌∙◌, ap, subst, arith}
+use Rattle.std.proofs.Common.{◌≡◌, ◌⊎◌, inl, inr, ℕ, ◌+◌, ◌%◌, ◌<◌, ◌&&◌, ◌||◌, Bool, true, false, not, cond, length, nat_le, nat_lt, is_some, Option, Some, None, refl, sym, ◌∙◌, ap, subst}
 use Rattle.std.specs.Prelude.{Result, Ok, Err}
 use Rattle.std.specs.List.{slice_get}
 use Rattle.std.specs.Option.{option_and_then}
-use Rattle.std.proofs.lemmas.Bool.Decides.{nat_tests}
 use Rattle.std.proofs.lemmas.Bool.{or_parts, leb-false, ltb-true}
 use Rattle.model.specs.declared.steps.Actor.TheVariants.{Thread}
 use Rattle.model.specs.declared.steps.Step.{Step}
@@ -13,7 +12,6 @@ use Rattle.model.specs.declared.steps.Refusal.TheVariants as refusals
 use Rattle.model.specs.declared.records.Barrier.{Barrier}
 use Rattle.model.specs.declared.records.Phase.{Phase}
 use Rattle.model.specs.declared.records.Phase.TheVariants.{Idle, MarkCrossing, Scanning, ProtectCrossing, Relocating}
-use Rattle.model.specs.Stores.{StoreState, word_at, word_in, spot_of, at_offset, words_at, page_at, frame_in}
 use Rattle.model.specs.Heaps.{HeapState, ThreadState, Reference, register_of, layout_at, layout_in, header_layout, field_address, datum_address}
 use Rattle.model.specs.Refusing.{◌>>=◌, or_refuse}
 use Rattle.model.specs.Outcome.{outcome, thread_gate, thread_row, has_bad_index, is_for_threads, is_for_parked, is_for_loading, is_parked_in, is_loading_in, usable, use_word, usable_or_null, use_or_null, let_through, held_back, has_crossed, field_at, field_place, datum_at, datum_place}
