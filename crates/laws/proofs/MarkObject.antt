@@ -1,11 +1,12 @@
 -- To mark an object keeps the invariant.
 use Rattle.std.proofs.Common.{◌≡◌, ◌≢◌, ◌⊎◌, inl, inr, ℕ, Bool, true, false, cond, Option, Some, refl, sym, ◌∙◌, ap, subst}
+use Rattle.std.proofs.lemmas.Bool.{cases_Bool}
 use Rattle.model.specs.Stores.{is_protected}
 use Rattle.model.specs.Phases.{is_marking}
 use Rattle.laws.specs.AddressHeap.{AddressHeap, HeapObject, Word, put, current, field, LoadPlace, AtField, AtGlobal}
 use Rattle.laws.specs.BirthHeap.{BirthHeap, ref, Start, Next}
 use Rattle.laws.specs.Invariant.{IsSeed, IsKept, HasCurrent, StandsFor, IsClean, Invariant, IsPlace}
-use Rattle.laws.proofs.Basics.{reached, put_all, put_both, put_after, put_id, true_or_false, barrier_map, current_there}
+use Rattle.laws.proofs.Basics.{reached, put_all, put_both, put_after, put_id, barrier_map, current_there}
 
 -- the object at an address is marked, and its todo bit becomes b
 abbrev pub mark_with_todo : ℕ → Bool → AddressHeap → AddressHeap
@@ -101,7 +102,7 @@ module _ (w : AddressHeap) (p p0 : BirthHeap) (i : Invariant w p p0) (a : ℕ) (
   no_change e = λ x. record w { marked = put_id w.marked a true e x; todo = put_id w.todo a (cond (w.marked a) (w.todo a) true) (ap (λ b. cond b (w.todo a) true) (sym e)) x }
 
   pub mark_keeps : Invariant (mark_at a w) p p0
-  mark_keeps = go (true_or_false (w.marked a))
+  mark_keeps = go (cases_Bool (w.marked a))
     where
       go : (w.marked a ≡ true) ⊎ (w.marked a ≡ false) → Invariant (mark_at a w) p p0
       go (inl e) = subst (λ z. Invariant z p p0) (sym (no_change e)) i

@@ -1,7 +1,7 @@
 -- The steps of a worker, and the crossing of a mark, keep the invariant.
 use Rattle.std.proofs.Common.{◌≡◌, ◌≢◌, ◌⊎◌, ◌<◌, ◌≤◌, ◌+◌, inl, inr, ℕ, zero, suc, Bool, true, false, cond, Some, None, length, get_or, set, refl, sym, ◌∙◌, ap, subst, arith}
 use Rattle.std.proofs.lemmas.List.{set-get_or, get_or_past}
-use Rattle.std.proofs.lemmas.Bool.{cases_eq}
+use Rattle.std.proofs.lemmas.Bool.{cases_eq, cases_lt}
 use Rattle.model.specs.declared.records.Phase.{Phase}
 use Rattle.model.specs.declared.records.Phase.TheVariants.{MarkCrossing, Scanning, ProtectCrossing, Relocating}
 use Rattle.model.specs.Phases.{is_marking, is_crossing}
@@ -150,13 +150,10 @@ cross_mark_keeps w p p0 i t n f e b z x =
     cross_keeps u p p0 h.inv t f (record {
       opened = ap is_crossing (h.phase ∙ e);
       barrier = ap (λ g. g t) h.barrier ∙ b;
-      clean = λ _ r. clean u h r (le_or r n);
+      clean = λ _ r. clean u h r (cases_lt r n);
       next = elim x [ inl y ↦ inl (y.0 ∙ sym (h.phase ∙ e), y.1, y.2, ap (λ g. g y.1) h.crossed ∙ y.3) | inr y ↦ inr (y.0 ∙ sym (ap next_phase (h.phase ∙ e)), (λ s k. ap (λ g. g s) h.crossed ∙ y.1 s k)) ];
     })
   where
-    le_or : (a b : ℕ) → (a < b) ⊎ (b ≤ a)
-    le_or a b = grind arith
-
     clean : (u : AddressHeap) → CrossedBelow w p p0 t n u → (r : ℕ) → (r < n) ⊎ (n ≤ r) → IsClean u (u.register t r)
     clean u h r (inl l) = h.clean r l
     clean u h r (inr l) = λ a b k. (let y = h.rest r l in let x = z r l in cc)

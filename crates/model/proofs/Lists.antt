@@ -1,5 +1,5 @@
 -- Lists with one element replaced, and lists of equal elements.
-use Rattle.std.proofs.Common.{◌≡◌, ◌≢◌, ◌⊎◌, inl, inr, ℕ, zero, suc, ◌+◌, ◌<◌, Bool, true, false, List, [], ◌∷◌, length, Option, Some, None, replicate, set, count_by, cond, get_or, position, nat_lt, ◌*◌, ◌≤◌, ◌||◌, refl, sym, ◌∙◌, ap, subst, arith}
+use Rattle.std.proofs.Common.{◌≡◌, ◌≢◌, ◌⊎◌, inl, inr, ℕ, zero, suc, ◌+◌, ◌<◌, Bool, true, false, List, [], ◌∷◌, length, Option, Some, None, replicate, set, count_by, cond, get_or, position, nat_lt, ◌*◌, ◌≤◌, ◌||◌, refl, sym, ◌∙◌, ap, subst, arith, is_some}
 use Rattle.std.specs.List.{slice_get, position_or_len}
 use Rattle.std.proofs.lemmas.Option.{get_or_from_slice_get, slice_get_within, slice_get_read, same_Some}
 use Rattle.std.proofs.lemmas.List.Sums.{sum_by-set, sum_by-cons, fails_before_first}
@@ -97,6 +97,10 @@ length_counted p q (x ∷ xs) h =
     counted true b e = omega arith
     counted false true e = omega arith
     counted false false e = absurd (cc)
+
+pub no_some : {X : Type 0} (o : Option X) → is_some o ≡ false → o ≡ None
+no_some None e = refl
+no_some (Some x) e = absurd (cc)
 
 abbrev pub as_number : Bool → ℕ
 as_number b = cond b 1 0

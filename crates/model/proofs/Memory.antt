@@ -15,6 +15,9 @@ use Rattle.model.proofs.Lists.{get_set_same, get_set_other, get_within}
 abbrev pub words_in : List (List ℕ) → Option ℕ → Option (List ℕ)
 words_in frames o = option_and_then (slice_get frames) o
 
+from_one : (n : ℕ) → nat_eq n 0 ≡ false → n ≡ n - 1 + 1
+from_one n z = grind arith
+
 -- a page with a frame has a record, which has the frame
 pub page_record : (s : StoreState) (n f : ℕ) → frame_in (page_at s n) ≡ Some f → (i : ℕ) × (p : Page) × (n ≡ i + 1) × (slice_get s.pages i ≡ Some p) × (p.frame ≡ Some f)
 unfolding page_at
@@ -24,12 +27,9 @@ page_record s n f e = by_zero (nat_eq n 0) refl e
     by_page None a b k = absurd (cc)
     by_page (Some p) a b k = (n - 1, p, b, a, k)
 
-    back : nat_eq n 0 ≡ false → n ≡ n - 1 + 1
-    back z = grind arith
-
     by_zero : (b : Bool) → nat_eq n 0 ≡ b → frame_in (cond b None (slice_get s.pages (n - 1))) ≡ Some f → (i : ℕ) × (p : Page) × (n ≡ i + 1) × (slice_get s.pages i ≡ Some p) × (p.frame ≡ Some f)
     by_zero true z k = absurd (cc)
-    by_zero false z k = by_page (slice_get s.pages (n - 1)) refl (back z) k
+    by_zero false z k = by_page (slice_get s.pages (n - 1)) refl (from_one n z) k
 
 -- no two pages have one frame
 pub own_frame : (s : StoreState) (m n f : ℕ) → IsStore s → frame_in (page_at s m) ≡ Some f → frame_in (page_at s n) ≡ Some f → m ≡ n
@@ -89,12 +89,9 @@ pub page_there : (s : StoreState) (n : ℕ) (p : Page) → page_at s n ≡ Some 
 unfolding page_at
 page_there s n p e = by_zero (nat_eq n 0) refl e
   where
-    back : nat_eq n 0 ≡ false → n ≡ n - 1 + 1
-    back z = grind arith
-
     by_zero : (b : Bool) → nat_eq n 0 ≡ b → cond b None (slice_get s.pages (n - 1)) ≡ Some p → (n ≡ n - 1 + 1) × (slice_get s.pages (n - 1) ≡ Some p)
     by_zero true z k = absurd (cc)
-    by_zero false z k = (back z, k)
+    by_zero false z k = (from_one n z, k)
 
 -- a page with words has memory
 pub words_memory : (s : StoreState) (n : ℕ) (ws : List ℕ) → IsStore s → words_at s n ≡ Some ws → has_memory (state_at s n) ≡ true

@@ -6,22 +6,18 @@ use Rattle.std.proofs.Math.ListN.{length-set, length-replicate}
 use Rattle.std.proofs.lemmas.Bool.Decides.{nat_tests}
 use Rattle.std.proofs.lemmas.Option.{slice_get_within, same_Some, none-some}
 use Rattle.std.proofs.lemmas.List.{length-take-le}
-use Rattle.std.proofs.lemmas.Bool.{cases_eq}
+use Rattle.std.proofs.lemmas.Bool.{cases_eq, false≢true}
 use Rattle.model.specs.declared.records.Page.{Page}
 use Rattle.model.specs.declared.records.PageState.{PageState}
 use Rattle.model.specs.declared.records.PageState.TheVariants.{Unused, Open, Closed, From, Gone}
 use Rattle.model.specs.Stores.{StoreState, has_memory, is_protected, is_open, is_unused, page_at, state_in, frame_in, record_count, fresh_page, opened, first_store, blank_page, unused_page, unused_in, given, buffer_of, with_words, top_in, words_at}
 use Rattle.model.specs.Owning.{IsPage, IsStore}
-use Rattle.model.proofs.Lists.{get_set, get_set_same, get_set_other, each_set, each_replicate, get_replicate, count_set, count_replicate, position_none, length_counted, get_within, as_number}
+use Rattle.model.proofs.Lists.{get_set, get_set_same, get_set_other, each_set, each_replicate, get_replicate, count_set, count_replicate, position_none, length_counted, get_within, as_number, no_some}
 use Rattle.model.proofs.Memory.{unused_state}
 use Rattle.page.specs.Records.{is_unused_in}
 
 none_or_some : {X : Type 0} {x : X} → Some None ≡ Some (Some x) → ⊥
 none_or_some e = cc
-
-no_some : (o : Option ℕ) → is_some o ≡ false → o ≡ None
-no_some None e = refl
-no_some (Some x) e = absurd (cc)
 
 used_is : (p : PageState) → is_unused p ≡ false → has_memory p || is_protected p ≡ true
 used_is Unused e = absurd (cc)
@@ -226,20 +222,14 @@ open_has_frame s n h e = by_number (cases_eq n 0)
     }
 
     by_record : n ≢ 0 → (o : Option Page) → page_at s n ≡ o → HasFrame s n
-    by_record z None a = absurd (closed (sym (ap (λ o. is_open (state_in o)) a) ∙ e))
-      where
-        closed : false ≡ true → ⊥
-        closed k = cc
+    by_record z None a = absurd (false≢true (sym (ap (λ o. is_open (state_in o)) a) ∙ e))
     by_record z (Some p) a =
         let r : slice_get s.pages (n - 1) ≡ Some p = sym (page_at_record s n z) ∙ a in
         let is_so : is_open p.state ≡ true = sym (ap (λ o. is_open (state_in o)) a) ∙ e in
         by_frame p a r p.frame refl ((h.pages (n - 1) p r).memory ∙ open_has_memory p.state is_so)
 
     by_number : (n ≡ 0) ⊎ (n ≢ 0) → HasFrame s n
-    by_number (inl z) = absurd (closed (sym (ap (λ o. is_open (state_in o)) (page_at_zero s n z)) ∙ e))
-      where
-        closed : false ≡ true → ⊥
-        closed k = cc
+    by_number (inl z) = absurd (false≢true (sym (ap (λ o. is_open (state_in o)) (page_at_zero s n z)) ∙ e))
     by_number (inr z) = by_record z (page_at s n) refl
 
 -- n words given out of a page that is there

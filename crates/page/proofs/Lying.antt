@@ -6,7 +6,7 @@ use Rattle.std.proofs.Math.Nat.{mul-le-mul_left}
 use Rattle.std.proofs.lemmas.Nat.{mul-add-lt}
 use Rattle.std.proofs.lemmas.Bool.Decides.{nat_tests}
 use Rattle.std.proofs.lemmas.Option.{slice_get_within}
-use Rattle.std.proofs.lemmas.Bool.{cases_eq, and_parts}
+use Rattle.std.proofs.lemmas.Bool.{cases_eq, and_parts, false≢true}
 use Rattle.refword.specs.Words.{IsAddress}
 use Rattle.model.specs.declared.records.Page.{Page}
 use Rattle.model.specs.declared.records.Room.{Room}
@@ -18,19 +18,16 @@ use Rattle.model.proofs.Lists.{get_set_same, get_set_other, get_within}
 use Rattle.page.proofs.Found.{position_within, room_left, free_counts, free_within, room_within, room_passes}
 use Rattle.page.proofs.Keeping.{unused_as, page_at_record, page_at_zero, opened_words, opened_at, given_at}
 
-false_true : false ≡ true → ⊥
-false_true e = cc
-
 -- the page of a buffer has a record
 pub lies_at : (s : StoreState) (b : Buffer) → LiesIn s b → (b.page ≢ 0) × (p : Page) × (slice_get s.pages (b.page - 1) ≡ Some p) × (is_open p.state ≡ true)
 lies_at s b h = by_number (cases_eq b.page 0)
   where
     by_record : b.page ≢ 0 → (o : Option Page) → slice_get s.pages (b.page - 1) ≡ o → (b.page ≢ 0) × (p : Page) × (slice_get s.pages (b.page - 1) ≡ Some p) × (is_open p.state ≡ true)
-    by_record z None e = absurd (false_true (sym (ap (λ o. is_open (state_in o)) (page_at_record s b.page z ∙ e)) ∙ h.page))
+    by_record z None e = absurd (false≢true (sym (ap (λ o. is_open (state_in o)) (page_at_record s b.page z ∙ e)) ∙ h.page))
     by_record z (Some p) e = (z, p, e, sym (ap (λ o. is_open (state_in o)) (page_at_record s b.page z ∙ e)) ∙ h.page)
 
     by_number : (b.page ≡ 0) ⊎ (b.page ≢ 0) → (b.page ≢ 0) × (p : Page) × (slice_get s.pages (b.page - 1) ≡ Some p) × (is_open p.state ≡ true)
-    by_number (inl z) = absurd (false_true (sym (ap (λ o. is_open (state_in o)) (page_at_zero s b.page z)) ∙ h.page))
+    by_number (inl z) = absurd (false≢true (sym (ap (λ o. is_open (state_in o)) (page_at_zero s b.page z)) ∙ h.page))
     by_number (inr z) = by_record z (slice_get s.pages (b.page - 1)) refl
 
 -- a buffer whose page is open lies in the store

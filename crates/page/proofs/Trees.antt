@@ -6,7 +6,7 @@ use Rattle.std.proofs.Math.Seq.{take-set-lt}
 use Rattle.std.proofs.lemmas.List.{get_or-set_other, get_or-drop, get_or-take, length-take, length-take-le, length-replicate, length-drop, drop-set-add}
 use Rattle.std.proofs.lemmas.List.Sums.{position_or_len_is}
 use Rattle.std.proofs.lemmas.Bool.Decides.{nat_tests}
-use Rattle.std.proofs.lemmas.Bool.{cases_eq, le-leb, lt-leb}
+use Rattle.std.proofs.lemmas.Bool.{cases_eq, le-leb, lt-leb, cases_lt}
 use Rattle.page.specs.Tournaments.{IsWinner, IsTree, IsFirstFrom}
 
 -- the way down
@@ -172,13 +172,10 @@ pub found_first : (xs : List ℕ) (width count n leaf : ℕ) → 0 < n → lengt
     → ((i : ℕ) → width + count ≤ i → get_or xs i 0 ≡ 0) → IsFirstFrom xs width n leaf
     → Some (leaf - width) ≡ position (λ v. nat_le n v) (take count (drop width xs))
 found_first xs width count n leaf low len le rest h =
-    let inside : leaf - width < count = within (below_or_not leaf (width + count)) in
+    let inside : leaf - width < count = within (cases_lt leaf (width + count)) in
     let size = length_numbers xs width count len le in
     position_at n (take count (drop width xs)) (leaf - width) (omega (arith, size)) (there inside) (λ k b. before k b inside)
   where
-    below_or_not : (a b : ℕ) → (a < b) ⊎ (b ≤ a)
-    below_or_not a b = grind arith
-
     within : (leaf < width + count) ⊎ (width + count ≤ leaf) → leaf - width < count
     within (inl a) = omega (arith, h.low)
     within (inr a) = absurd (omega (arith, rest leaf a, h.there))

@@ -5,7 +5,7 @@ use Rattle.std.specs.List.{list_all}
 use Rattle.std.specs.Fmt.{decimal}
 use Rattle.std.proofs.lemmas.Bool.Decides.{nat_tests}
 use Rattle.std.proofs.lemmas.Fmt.{decimal-digits_value, digits_decimal, digits_value-decimal, decimal_nonempty, decimal_digit, first_decimal}
-use Rattle.std.proofs.lemmas.Bool.{cases_lt, and_parts}
+use Rattle.std.proofs.lemmas.Bool.{cases_lt, and_parts, or_cases, or_right}
 use Rattle.std.proofs.lemmas.Str.Parse.{IsNumeralModel, IsDigitsTest, FoldsDigits, numerals_by_fold}
 use Rattle.parser.specs.Words.{is_digit, starts_with_zero, is_number, capped_from}
 
@@ -44,13 +44,9 @@ record IsNumber (word : List ℕ) : Type 0 where
   nonempty : 0 < length word
   canonical : get_or word 0 0 ≡ 48 → length word ≡ 1
 
-either : (a b : Bool) → (a || b) ≡ true → (a ≡ true) ⊎ (b ≡ true)
-either true b h = inl refl
-either false b h = inr h
-
 canonical_in : (word : List ℕ) → ((length word == 1) || not (starts_with_zero word)) ≡ true → get_or word 0 0 ≡ 48 → length word ≡ 1
 canonical_in [] h zero_first = absurd (omega arith)
-canonical_in (b ∷ bs) h zero_first = elim (either (length (b ∷ bs) == 1) (not (b == 48)) h) [ inl one ↦ grind (arith, nat_tests) | inr other ↦ grind (arith, nat_tests) ]
+canonical_in (b ∷ bs) h zero_first = elim (or_cases (length (b ∷ bs) == 1) (not (b == 48)) h) [ inl one ↦ grind (arith, nat_tests) | inr other ↦ grind (arith, nat_tests) ]
 
 number_tells : (word : List ℕ) → is_number word ≡ true → IsNumber word
 unfolding is_number
@@ -71,10 +67,6 @@ number_spelled word h small =
 no_zero : (word : List ℕ) → 48 < get_or word 0 0 → starts_with_zero word ≡ false
 no_zero [] h = refl
 no_zero (b ∷ bs) h = grind (arith, nat_tests)
-
-or_right : (a b : Bool) → b ≡ true → (a || b) ≡ true
-or_right true b h = refl
-or_right false b h = h
 
 and_all : (a b c : Bool) → a ≡ true → b ≡ true → c ≡ true → (a && b && c) ≡ true
 and_all a b c p q r = rw (p, q, r) refl

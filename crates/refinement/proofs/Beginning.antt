@@ -4,7 +4,8 @@ use mathlib.Core.Path.{fun_ext}
 use Rattle.std.specs.List.{slice_get}
 use Rattle.std.specs.Option.{option_map}
 use Rattle.std.proofs.Math.ListN.{length-replicate}
-use Rattle.std.proofs.lemmas.Bool.{cases_eq}
+use Rattle.std.proofs.lemmas.Bool.{cases_eq, false≢true}
+use Rattle.std.proofs.lemmas.Option.{none-some}
 use Rattle.model.specs.declared.config.Config.{Config}
 use Rattle.model.specs.declared.records.Global.{Global}
 use Rattle.model.specs.declared.records.PageState.TheVariants.{Unused}
@@ -152,21 +153,12 @@ module _ (c : Config) where
       rising = each_replicate (AreRising c.words 0) (record_count c.frames c.pages) [] tt;
     };
     registers = each_replicate (λ t. length t.registers ≡ c.registers) c.threads (blank_thread c.registers) (length-replicate c.registers None);
-    objects = λ a e m. absurd (differ (sym (no_bit a) ∙ e));
-    apart = λ d e x y f g. absurd (nothing (sym (extents d) ∙ f));
-    planned = λ a n o e f. absurd (no_object (sym (object_none a) ∙ f));
-    live_objects = λ a e m. absurd (differ (sym (no_bit a) ∙ e));
+    objects = λ a e m. absurd (false≢true (sym (no_bit a) ∙ e));
+    apart = λ d e x y f g. absurd (none-some _ (sym (extents d) ∙ f));
+    planned = λ a n o e f. absurd (none-some _ (sym (object_none a) ∙ f));
+    live_objects = λ a e m. absurd (false≢true (sym (no_bit a) ∙ e));
     unused = λ a e. no_bit a;
   }
-    where
-      differ : false ≡ true → ⊥
-      differ z = cc
-
-      nothing : {x : Extent} → None ≡ Some x → ⊥
-      nothing z = cc
-
-      no_object : {o : HeapObject} → None ≡ Some o → ⊥
-      no_object z = cc
 
   pub first_stands : Holds h (plain_start c) (plain_start c)
   unfolding first_heap first_store plain_start
@@ -180,7 +172,7 @@ module _ (c : Config) where
       globals = length-replicate c.globals _;
     };
     laid = first_laid;
-    given = each_replicate HasGiven (record_count c.frames c.pages) blank_page (λ e. absurd (differ e));
+    given = each_replicate HasGiven (record_count c.frames c.pages) blank_page (λ e. absurd (false≢true e));
     words = record {
       threads = each_replicate (HoldsWords c.registers) c.threads (blank_thread c.registers) (record { registers_hold = each_replicate IsWord c.registers None tt; barrier = tt });
       globals = each_replicate (λ g. IsWord g.word) c.globals (record { word = None; todo = false }) tt;
@@ -192,6 +184,3 @@ module _ (c : Config) where
     };
     invariant = subst (λ q. Invariant (world_of h) (births_of (plain_start c)) q) (sym first_births) (moved (first (λ g. nat_lt g c.globals)) (world_of h) plain_first (births_of (plain_start c)) plain_first first_world first_births (first_holds (λ g. nat_lt g c.globals)));
   }
-    where
-      differ : false ≡ true → ⊥
-      differ z = cc

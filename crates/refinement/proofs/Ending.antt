@@ -4,7 +4,7 @@ use Rattle.std.specs.List.{slice_get}
 use Rattle.std.specs.Prelude.{Ok, Err}
 use Rattle.std.specs.Option.{option_map}
 use Rattle.std.proofs.lemmas.Option.{same_Some}
-use Rattle.std.proofs.lemmas.Bool.{ltb-true}
+use Rattle.std.proofs.lemmas.Bool.{ltb-true, eqb-true}
 use Rattle.refword.specs.Words.{IsWord, bits_of}
 use Rattle.model.specs.declared.steps.Actor.TheVariants.{Thread}
 use Rattle.model.specs.declared.steps.Step.TheVariants as steps
@@ -60,10 +60,7 @@ trap_same h t (Some w) = refl
 -- bits that are a word's
 are_bits : (o : Option ℕ) (w : Reference) → are_bits_of o w ≡ true → o ≡ Some (bits_of w)
 are_bits None w e = absurd (cc)
-are_bits (Some n) w e = ap Some (equal n (bits_of w) e)
-  where
-    equal : (m n : ℕ) → nat_eq m n ≡ true → m ≡ n
-    equal m n e = grind arith
+are_bits (Some n) w e = ap Some (eqb-true n (bits_of w) e)
 
 -- words with the same bits are one
 same_word : (v w : Reference) → IsWord v → IsWord w → bits_of v ≡ bits_of w → v ≡ w

@@ -5,8 +5,8 @@ use Rattle.std.proofs.Math.Nat.{suc-mul}
 use Rattle.std.specs.List.{slice_get}
 use Rattle.std.specs.Option.{option_map}
 use Rattle.std.proofs.Math.ListN.{length-set}
-use Rattle.std.proofs.lemmas.Option.{slice_get_within, same_Some}
-use Rattle.std.proofs.lemmas.Bool.{cases_eq}
+use Rattle.std.proofs.lemmas.Option.{slice_get_within, same_Some, none-some}
+use Rattle.std.proofs.lemmas.Bool.{cases_eq, eqb-true, false≢true}
 use Rattle.model.specs.declared.records.Page.{Page}
 use Rattle.model.specs.declared.records.PageState.TheVariants.{Unused, Open}
 use Rattle.model.specs.declared.records.Buffer.{Buffer}
@@ -14,7 +14,7 @@ use Rattle.model.specs.Stores.{words_at, state_at, state_in, frame_in, page_at, 
 use Rattle.model.specs.Owning.{IsStore, LiesIn}
 use Rattle.model.specs.Holding.{IsHeap}
 use Rattle.model.specs.Heaps.{HeapState, ThreadState, register_of, buffer_in, changed, blank_row}
-use Rattle.model.proofs.Lists.{get_set_other, get_within}
+use Rattle.model.proofs.Lists.{get_set_other, get_within, no_some}
 use Rattle.model.proofs.Memory.{open_state, unused_state, words_in, page_record, words_sized, words_memory}
 use Rattle.laws.specs.AddressHeap.{HeapObject, SideEntry, NoEntry, Planned, Copied, put}
 use Rattle.laws.specs.Invariant.{SoundObjects, SoundMarks}
@@ -138,11 +138,7 @@ module _ (h : HeapState) (s : IsStore h.store) (k : IsHeap h) (l : IsLaid h) (o 
   state = ap state_in (page_here h.store i p at) ∙ unused_state p.state unused
 
   no_frame : p.frame ≡ None
-  no_frame = by_frame p.frame ((s.pages i p at).memory ∙ ap has_memory (unused_state p.state unused))
-    where
-      by_frame : (c : Option ℕ) → is_some c ≡ false → c ≡ None
-      by_frame None e = refl
-      by_frame (Some y) e = absurd (cc)
+  no_frame = no_some p.frame ((s.pages i p at).memory ∙ ap has_memory (unused_state p.state unused))
 
   no_words : words_at h.store (i + 1) ≡ None
   unfolding words_at
@@ -211,10 +207,7 @@ module _ (h : HeapState) (s : IsStore h.store) (k : IsHeap h) (l : IsLaid h) (o 
     where
       by_bit : (b : Bool) → bit_at h.mark h.store.words a ≡ b → b ≡ false
       by_bit false g = refl
-      by_bit true g = let (q, is) = m.object a g in absurd (no (sym (no_object a e) ∙ is))
-        where
-          no : {q : HeapObject} → None ≡ Some q → ⊥
-          no z = cc
+      by_bit true g = let (q, is) = m.object a g in absurd (none-some _ (sym (no_object a e) ∙ is))
 
   not_todo : (a : ℕ) → a / h.store.words ≡ i + 1 → bit_at h.todo h.store.words a ≡ false
   not_todo a e = by_bit (bit_at h.todo h.store.words a) refl
@@ -247,10 +240,7 @@ module _ (h : HeapState) (s : IsStore h.store) (k : IsHeap h) (l : IsLaid h) (o 
 
   -- it was unused
   pub was_unused : (a : ℕ) → on_page h i a ≡ true → (world_of h).page_state a ≡ Unused
-  was_unused a e = ap (state_at h.store) (equal (a / h.store.words) (i + 1) e) ∙ state
-    where
-      equal : (x y : ℕ) → nat_eq x y ≡ true → x ≡ y
-      equal x y g = grind arith
+  was_unused a e = ap (state_at h.store) (eqb-true (a / h.store.words) (i + 1) e) ∙ state
 
   sizes : (a : ℕ) → size_at after a ≡ size_at h a
   sizes a = ap (option_map object_size) (opened_objects a)
@@ -284,21 +274,15 @@ module _ (h : HeapState) (s : IsStore h.store) (k : IsHeap h) (l : IsLaid h) (o 
       less : (a b : ℕ) → a ≢ b → (a < b) ⊎ (b < a)
       less a b d = grind arith
 
-      times : (a b w : ℕ) → a < b → a * w + w ≤ b * w
-      times a b w e = mul_less a b w e
-
       by_order : (n < i + 1) ⊎ (i + 1 < n) → (x.upto ≤ (i + 1) * h.store.words) ⊎ ((i + 1) * h.store.words + h.store.words ≤ x.from)
-      by_order (inl e) = inl (omega (arith, high, times n (i + 1) h.store.words e))
-      by_order (inr e) = inr (omega (arith, low, times (i + 1) n h.store.words e))
+      by_order (inl e) = inl (omega (arith, high, mul_less n (i + 1) h.store.words e))
+      by_order (inr e) = inr (omega (arith, low, mul_less (i + 1) n h.store.words e))
 
   far : (c : Claim) (x y : Extent) → extent h c ≡ Some x → (y.from ≡ (i + 1) * h.store.words + 0) × (y.upto ≡ (i + 1) * h.store.words + h.store.words) → (x.upto ≤ y.from) ⊎ (y.upto ≤ x.from)
   far c x y e g =
       let z = claim_lies h s k l o c x e in
-      let elsewhere : z.page ≢ i + 1 = λ q. no (sym (ap (λ n. has_memory (state_at h.store n)) q ∙ ap has_memory state) ∙ z.memory) in
+      let elsewhere : z.page ≢ i + 1 = λ q. false≢true (sym (ap (λ n. has_memory (state_at h.store n)) q ∙ ap has_memory state) ∙ z.memory) in
       elim (other_page z.page elsewhere x z.from z.upto) [ inl q ↦ inl (omega (arith, q, g.0)) | inr q ↦ inr (omega (arith, q, g.1)) ]
-    where
-      no : false ≡ true → ⊥
-      no z = cc
 
   apart : Apart (extent after)
   apart c d x y e g = go (old_or_new c) (old_or_new d)
@@ -346,19 +330,13 @@ module _ (h : HeapState) (s : IsStore h.store) (k : IsHeap h) (l : IsLaid h) (o 
       live : (a : ℕ) → bit_at (changed h.live i blank_row) h.store.words a ≡ true → has_memory (state_at after.store (a / h.store.words)) ≡ true → (q : HeapObject) × (object_at after a ≡ Some q)
       live a e g = go (cases_eq (a / h.store.words) (i + 1))
         where
-          no : false ≡ true → ⊥
-          no z = cc
-
           go : (a / h.store.words ≡ i + 1) ⊎ (a / h.store.words ≢ i + 1) → (q : HeapObject) × (object_at after a ≡ Some q)
-          go (inl z) = absurd (no (sym (blank h.live l.live a z) ∙ e))
+          go (inl z) = absurd (false≢true (sym (blank h.live l.live a z) ∙ e))
           go (inr d) = let (q, is) = l.live_objects a (sym (other_bit h.live l.live a d) ∙ e) (ap has_memory (sym (old_state a d)) ∙ g) in (q, opened_objects a ∙ is)
 
       objects : (a : ℕ) → bit_at (changed h.starts i blank_row) h.store.words a ≡ true → has_memory (state_at after.store (a / h.store.words)) ≡ true → (q : HeapObject) × (object_at after a ≡ Some q)
       objects a e g = go (cases_eq (a / h.store.words) (i + 1))
         where
-          no : false ≡ true → ⊥
-          no z = cc
-
           go : (a / h.store.words ≡ i + 1) ⊎ (a / h.store.words ≢ i + 1) → (q : HeapObject) × (object_at after a ≡ Some q)
-          go (inl z) = absurd (no (sym (blank h.starts l.starts a z) ∙ e))
+          go (inl z) = absurd (false≢true (sym (blank h.starts l.starts a z) ∙ e))
           go (inr d) = let (q, is) = l.objects a (sym (other_bit h.starts l.starts a d) ∙ e) (ap has_memory (sym (old_state a d)) ∙ g) in (q, opened_objects a ∙ is)

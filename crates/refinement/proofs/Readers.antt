@@ -3,6 +3,7 @@ use Rattle.std.proofs.Common.{◌≡◌, ◌≢◌, ◌⊎◌, ◌↔◌, inl, i
 use Rattle.std.specs.List.{slice_get}
 use Rattle.std.specs.Prelude.{Ok}
 use Rattle.std.proofs.lemmas.Option.{same_Some}
+use Rattle.std.proofs.lemmas.Bool.{eqb-true, eqb-false}
 use Rattle.model.specs.declared.steps.Actor.TheVariants.{Thread}
 use Rattle.model.specs.declared.steps.Step.TheVariants as steps
 use Rattle.model.specs.declared.steps.Answer.{Answer}
@@ -71,15 +72,9 @@ module _ (h : HeapState) (p p0 : PlainHeap) (s : IsStore h.store) (k : Holds h p
   same_numbers : (a c b d : ℕ) → (a ≡ c) ↔ (Some b ≡ Some d) → nat_eq a c ≡ nat_eq b d
   same_numbers a c b d e = by_test (nat_eq b d) refl
     where
-      equal : (m n : ℕ) → nat_eq m n ≡ true → m ≡ n
-      equal m n z = grind arith
-
-      differ : (m n : ℕ) → nat_eq m n ≡ false → m ≢ n
-      differ m n z = grind arith
-
       by_test : (y : Bool) → nat_eq b d ≡ y → nat_eq a c ≡ y
-      by_test true z = eq-eqb a c (e.1 (ap Some (equal b d z)))
-      by_test false z = ne_eqb a c (λ q. differ b d z (same_Some _ _ (e.0 q)))
+      by_test true z = eq-eqb a c (e.1 (ap Some (eqb-true b d z)))
+      by_test false z = ne_eqb a c (λ q. eqb-false b d z (same_Some _ _ (e.0 q)))
 
   same_truth : (l r : ℕ) (a b : Option ℕ) → ((a ≡ None) × (register_of h t l ≡ None)) ⊎ ((c : ℕ) × (a ≡ Some c) × IsUsed h t l c) → ((b ≡ None) × (register_of h t r ≡ None)) ⊎ ((c : ℕ) × (b ≡ Some c) × IsUsed h t r c)
       → same_address a b ≡ same_name (name_of p t l) (name_of p t r)

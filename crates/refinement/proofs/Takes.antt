@@ -4,6 +4,7 @@ use Rattle.std.specs.List.{slice_get}
 use Rattle.std.specs.Prelude.{Ok, Err, Result}
 use Rattle.std.proofs.Math.ListN.{length-set}
 use Rattle.std.proofs.lemmas.Bool.Decides.{nat_tests}
+use Rattle.std.proofs.lemmas.Bool.{ltb-false}
 use Rattle.model.specs.declared.steps.Actor.TheVariants.{Thread}
 use Rattle.model.specs.declared.steps.Step.TheVariants as steps
 use Rattle.model.specs.declared.steps.Answer.{Answer}
@@ -19,7 +20,7 @@ use Rattle.model.specs.Holding.{IsHeap}
 use Rattle.model.specs.Heaps.{HeapState, ThreadState, buffer_of_thread, buffer_in, changed, set_buffer_of, opened_rows, blank_row}
 use Rattle.model.specs.Outcome.{take_outcome, took, lent}
 use Rattle.model.specs.Plain.{PlainHeap, plain_step, plain_answer}
-use Rattle.model.proofs.Lists.{each_set, each_changed, get_set, get_set_other}
+use Rattle.model.proofs.Lists.{each_set, each_changed, get_set, get_set_other, no_some}
 use Rattle.page.proofs.Keeping.{given_at, opened_at}
 use Rattle.laws.specs.Transitions.{TakeFresh}
 use Rattle.laws.proofs.Runs.{transition_keeps}
@@ -127,19 +128,12 @@ pub take_holds : (h : HeapState) (p p0 : PlainHeap) → IsStore h.store → IsHe
 unfolding take_outcome plain_step plain_answer lent
 take_holds h p p0 s d k t n g y e =
     let (none, rest) = not_refused (is_some (buffer_of_thread h t)) refusals.HasBuffer (took h t (taken h.store n)) y e in
-    let had : g.thread.buffer ≡ None = no_buffer g.thread.buffer (ap (λ o. is_some (buffer_in o)) (sym g.there) ∙ none) in
+    let had : g.thread.buffer ≡ None = no_some g.thread.buffer (ap (λ o. is_some (buffer_in o)) (sym g.there) ∙ none) in
     let low : 0 < n = positive n (first_false (n == 0) (nat_lt h.store.words n) g.indices) in
-    let high : n ≤ h.store.words = not_more h.store.words n (second_false (n == 0) (nat_lt h.store.words n) g.indices) in
+    let high : n ≤ h.store.words = ltb-false h.store.words n (second_false (n == 0) (nat_lt h.store.words n) g.indices) in
     let (z, ok, is) = took_ok h p p0 s d k t n g.thread g.there had low (taken h.store n) y rest in
     subst (λ (z : HeapState × Answer). StepHolds h p p0 (Thread t) (steps.Take n) z.0 z.1) is
     (record { config = refl; holds = lent_holds h p p0 s d k t n g.thread g.there had low z high (ways h.store n z s low ok); answers = tt })
   where
-    no_buffer : (b : Option Buffer) → is_some b ≡ false → b ≡ None
-    no_buffer None e = refl
-    no_buffer (Some b) e = absurd (cc)
-
     positive : (n : ℕ) → nat_eq n 0 ≡ false → 0 < n
     positive n e = grind arith
-
-    not_more : (m n : ℕ) → nat_lt m n ≡ false → n ≤ m
-    not_more m n e = grind (arith, nat_tests)

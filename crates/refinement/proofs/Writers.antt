@@ -6,7 +6,7 @@ use Rattle.std.specs.Option.{option_map, IfSome}
 use Rattle.std.proofs.Math.ListN.{length-replicate}
 use Rattle.std.proofs.lemmas.Bool.Decides.{nat_tests}
 use Rattle.std.proofs.lemmas.Option.{same_Some}
-use Rattle.std.proofs.lemmas.Bool.{leb-false}
+use Rattle.std.proofs.lemmas.Bool.{leb-false, ltb-false}
 use Rattle.layout.specs.declared.shape.Layout.{Layout}
 use Rattle.layout.specs.Objects.{size_of}
 use Rattle.model.specs.declared.steps.Actor.TheVariants.{Thread}
@@ -191,12 +191,9 @@ module _ (h : HeapState) (p p0 : PlainHeap) (s : IsStore h.store) (d : IsHeap h)
       let (l, second, rest2) = bind_ok (or_refuse (slice_get h.config.layouts number) refusals.BadIndex) (λ l. cond (nat_lt (b.end - b.next) (size_of l)) (Err refusals.NoRoom) (cond (nat_le h.config.births h.births) (Err refusals.Births) (Ok (placed h t r number l b, answers.Birth h.births)))) y rest in
       let (room, rest3) = not_refused (nat_lt (b.end - b.next) (size_of l)) refusals.NoRoom _ y rest2 in
       let (more, is) = not_refused (nat_le h.config.births h.births) refusals.Births _ y rest3 in
-      by_object b l (found_ok (buffer_of_thread h t) refusals.NoRoom b first) (found_ok (slice_get h.config.layouts number) refusals.BadIndex l second) (not_less (b.end - b.next) (size_of l) room) (leb-false h.config.births h.births more)
+      by_object b l (found_ok (buffer_of_thread h t) refusals.NoRoom b first) (found_ok (slice_get h.config.layouts number) refusals.BadIndex l second) (ltb-false (b.end - b.next) (size_of l) room) (leb-false h.config.births h.births more)
       (same_result (placed h t r number l b, answers.Birth h.births) y is)
     where
-      not_less : (m n : ℕ) → nat_lt m n ≡ false → n ≤ m
-      not_less m n e = grind (arith, nat_tests)
-
       lies_of : (o : Option Buffer) (b : Buffer) → o ≡ Some b → IfSome o (LiesIn h.store) → LiesIn h.store b
       lies_of None b e f = absurd (cc)
       lies_of (Some c) b e f = subst (LiesIn h.store) (same_Some _ _ e) f
