@@ -1,5 +1,5 @@
 -- Buffers lie in open pages, whatever is done to the store.
-use Rattle.std.proofs.Common.{◌≡◌, ◌≢◌, ◌⊎◌, inl, inr, ℕ, zero, suc, ◌+◌, ◌-◌, ◌*◌, ◌/◌, ◌^◌, ◌<◌, ◌≤◌, true, false, List, [], ◌∷◌, length, position, Option, Some, None, set, refl, sym, ◌∙◌, ap, subst, arith, rules}
+use Rattle.std.proofs.Common.{◌≡◌, ◌≢◌, ◌⊎◌, inl, inr, ℕ, zero, suc, ◌+◌, ◌-◌, ◌*◌, ◌/◌, ◌^◌, ◌<◌, ◌≤◌, true, List, [], ◌∷◌, length, position, Option, Some, None, set, refl, sym, ◌∙◌, ap, subst, arith, rules}
 use Rattle.std.specs.List.{slice_get}
 use Rattle.std.specs.Prelude.{Ok, Err, Result, IfOk}
 use Rattle.std.proofs.Math.Nat.{mul-le-mul_left}

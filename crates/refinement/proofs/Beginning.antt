@@ -1,5 +1,5 @@
 -- The first heap stands for the first plain heap.
-use Rattle.std.proofs.Common.{nat_lt, ◌≡◌, ◌≢◌, ◌⊎◌, inl, inr, ℕ, zero, suc, ◌-◌, ◌/◌, ◌%◌, true, false, List, [], length, get_or, replicate, Option, Some, None, refl, sym, ◌∙◌, ap, subst}
+use Rattle.std.proofs.Common.{nat_lt, ◌≡◌, ◌≢◌, ◌⊎◌, inl, inr, ℕ, zero, suc, ◌-◌, ◌/◌, ◌%◌, false, List, [], length, get_or, replicate, Option, Some, None, refl, sym, ◌∙◌, ap, subst}
 use mathlib.Core.Path.{fun_ext}
 use Rattle.std.specs.List.{slice_get}
 use Rattle.std.specs.Option.{option_map}
@@ -16,13 +16,13 @@ use Rattle.model.specs.Plain.{PlainThread, plain_start, name_of, name_in, pendin
 use Rattle.model.proofs.Lists.{each_replicate}
 use Rattle.page.proofs.Keeping.{page_at_record, page_at_zero}
 use Rattle.model.specs.Outcome.{has_crossed, is_parked_in}
-use Rattle.laws.specs.AddressHeap.{Null, NoEntry, HeapObject}
+use Rattle.laws.specs.AddressHeap.{Null, NoEntry}
 use Rattle.laws.specs.Invariant.{Invariant}
 use Rattle.laws.specs.First.{first, plain_first}
 use Rattle.laws.proofs.First.{first_holds}
 use Rattle.refinement.specs.Worlds.{world_of, as_word, object_at, object_in, of_page, bit_at, entry_at, barrier_in, scan_in, global_in, todo_in}
 use Rattle.refinement.specs.Births.{births_of, as_pair}
-use Rattle.refinement.specs.Claims.{AreRising, IsLaid, AreRows, HasGiven, Claim, OfObject, OfBuffer, OfPlan, OfEnd, extent, end_extent, sized_extent, planned_extent, size_at, buffer_extent, object_size, Extent}
+use Rattle.refinement.specs.Claims.{AreRising, IsLaid, AreRows, HasGiven, Claim, OfObject, OfBuffer, OfPlan, OfEnd, extent, end_extent, sized_extent, planned_extent, size_at, buffer_extent, object_size}
 use Rattle.refword.specs.Words.{IsWord}
 use Rattle.refinement.specs.Roots.{HoldsWords}
 use Rattle.refinement.specs.Standing.{Holds}

@@ -1,5 +1,5 @@
 -- An unused page is opened: no object, mark or claim is on it, and its words are one claim.
-use Rattle.std.proofs.Common.{◌≡◌, ◌≢◌, ◌⊎◌, inl, inr, ℕ, suc, ◌+◌, ◌*◌, ◌/◌, ◌%◌, ◌<◌, ◌≤◌, Bool, true, false, List, set, replicate, Option, Some, None, nat_eq, is_some, refl, sym, ◌∙◌, ap, ap₂, arith, cond, IfSome, div-add-mod', eq-eqb, ne_eqb, mul-le-mul_right}
+use Rattle.std.proofs.Common.{◌≡◌, ◌≢◌, ◌⊎◌, inl, inr, ℕ, suc, ◌+◌, ◌*◌, ◌/◌, ◌%◌, ◌<◌, ◌≤◌, Bool, true, false, List, set, replicate, Option, Some, None, nat_eq, refl, sym, ◌∙◌, ap, ap₂, arith, cond, IfSome, div-add-mod', eq-eqb, ne_eqb, mul-le-mul_right}
 use mathlib.Core.Path.{fun_ext}
 use Rattle.std.proofs.Math.Nat.{suc-mul}
 use Rattle.std.specs.List.{slice_get}

@@ -4,7 +4,6 @@ use Rattle.std.specs.List.{slice_get}
 use Rattle.std.specs.Prelude.{Ok, Err}
 use Rattle.std.specs.Option.{option_map, IfSome}
 use Rattle.std.proofs.Math.ListN.{length-replicate}
-use Rattle.std.proofs.lemmas.Bool.Decides.{nat_tests}
 use Rattle.std.proofs.lemmas.Option.{same_Some}
 use Rattle.std.proofs.lemmas.Bool.{leb-false, ltb-false}
 use Rattle.layout.specs.declared.shape.Layout.{Layout}
