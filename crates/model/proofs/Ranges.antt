@@ -1,5 +1,6 @@
 -- A configuration without a fault is in range.
-use Rattle.std.proofs.Common.{◌≡◌, ℕ, ◌≤◌, ◌==◌, ◌||◌, Bool, true, false, cond, Option, Some, None, nat_lt, refl, sym, arith, rules, lit≤}
+use Rattle.std.proofs.Common.{◌≡◌, ℕ, ◌≤◌, ◌==◌, ◌||◌, Bool, true, false, cond, Option, Some, None, nat_lt, refl, sym}
+use Rattle.std.proofs.Common.{arith, rules, lit≤}
 use Rattle.std.specs.Option.{IfNone}
 use Rattle.std.proofs.lemmas.Bool.{ltb-false, or_parts, not-false, eqb-true}
 use Rattle.model.specs.declared.config.Config.{Config}
@@ -7,12 +8,14 @@ use Rattle.model.specs.declared.config.ConfigFault.{ConfigFault}
 use Rattle.model.specs.Configs.{first_fault, is_page_size, is_outside, IsRanged}
 
 -- a test that finds no fault, and those behind it
-pub no_fault : (b : Bool) (x : ConfigFault) (rest : Option ConfigFault) → cond b (Some x) rest ≡ None → (b ≡ false) × (rest ≡ None)
+pub no_fault : (b : Bool) (x : ConfigFault) (rest : Option ConfigFault) → cond b (Some x) rest ≡ None
+    → (b ≡ false) × (rest ≡ None)
 no_fault true x rest e = absurd (cc)
 no_fault false x rest e = (refl, e)
 
 pub within : (n low high : ℕ) → is_outside n low high ≡ false → (low ≤ n) × (n ≤ high)
-within n low high e = let parts = or_parts (nat_lt n low) (nat_lt high n) e in (ltb-false n low parts.0, ltb-false high n parts.1)
+within n low high e =
+    let parts = or_parts (nat_lt n low) (nat_lt high n) e in (ltb-false n low parts.0, ltb-false high n parts.1)
 
 abbrev InRange : ℕ → Type 0
 InRange n = (16 ≤ n) × (n ≤ 4096)
@@ -27,8 +30,16 @@ at_size n k low high e = let same = eqb-true n k e in (omega arith, omega arith)
 page_size_range : (n : ℕ) → is_page_size n ≡ true → InRange n
 page_size_range n =
     either n _ _ (either n _ _ (either n _ _ (either n _ _ (either n _ _ (either n _ _ (either n _ _ (either n _ _
-    (at_size n 16 (lit≤ tt) (lit≤ tt)) (at_size n 32 (lit≤ tt) (lit≤ tt))) (at_size n 64 (lit≤ tt) (lit≤ tt))) (at_size n 128 (lit≤ tt) (lit≤ tt))) (at_size n 256 (lit≤ tt) (lit≤ tt)))
-    (at_size n 512 (lit≤ tt) (lit≤ tt))) (at_size n 1024 (lit≤ tt) (lit≤ tt))) (at_size n 2048 (lit≤ tt) (lit≤ tt))) (at_size n 4096 (lit≤ tt) (lit≤ tt))
+    (at_size n 16 (lit≤ tt) (lit≤ tt)) (at_size n 32 (lit≤ tt) (lit≤ tt))) (at_size n 64 (lit≤ tt) (lit≤ tt)))
+    (at_size n 128 (lit≤ tt) (lit≤ tt)))
+    (at_size n 256
+    (lit≤ tt)
+    (lit≤ tt)))
+    (at_size n 512 (lit≤ tt) (lit≤ tt))) (at_size n 1024 (lit≤ tt) (lit≤ tt)))
+    (at_size n 2048 (lit≤ tt) (lit≤ tt)))
+    (at_size n 4096
+    (lit≤ tt)
+    (lit≤ tt))
 
 pub in_range : (c : Config) → first_fault c ≡ None → IsRanged c
 unfolding first_fault

@@ -1,5 +1,7 @@
 -- What is done to a store keeps its invariant.
-use Rattle.std.proofs.Common.{◌≡◌, ◌≢◌, ◌⊎◌, inl, inr, ℕ, zero, ◌+◌, ◌*◌, ◌-◌, ◌<◌, ◌≤◌, true, false, ◌||◌, List, take, drop, length, length-drop, Option, Some, None, is_some, is_none, replicate, set, count_by, cond, position, ne_eqb, nat_lt, refl, sym, ◌∙◌, ap, arith, rules}
+use Rattle.std.proofs.Common.{◌≡◌, ◌≢◌, ◌⊎◌, inl, inr, ℕ, zero, ◌+◌, ◌*◌, ◌-◌, ◌<◌, ◌≤◌, true, false, ◌||◌, List, take}
+use Rattle.std.proofs.Common.{drop, length, length-drop, Option, Some, None, is_some, is_none, replicate, set}
+use Rattle.std.proofs.Common.{count_by, cond, position, ne_eqb, nat_lt, refl, sym, ◌∙◌, ap, arith, rules}
 use Rattle.std.specs.List.{slice_get}
 use Rattle.std.specs.Prelude.{IsSome}
 use Rattle.std.proofs.Math.ListN.{length-set, length-replicate}
@@ -10,9 +12,13 @@ use Rattle.std.proofs.lemmas.Bool.{cases_eq, false≢true}
 use Rattle.model.specs.declared.records.Page.{Page}
 use Rattle.model.specs.declared.records.PageState.{PageState}
 use Rattle.model.specs.declared.records.PageState.TheVariants.{Unused, Open, Closed, From, Gone}
-use Rattle.model.specs.Stores.{StoreState, has_memory, is_protected, is_open, is_unused, page_at, state_in, frame_in, record_count, fresh_page, opened, first_store, blank_page, unused_page, unused_in, given, buffer_of, with_words, top_in, words_at}
+use Rattle.model.specs.Stores.{StoreState, has_memory, is_protected, is_open, is_unused, page_at, state_in, frame_in}
+use Rattle.model.specs.Stores.{record_count, fresh_page, opened, first_store, blank_page, unused_page, unused_in}
+use Rattle.model.specs.Stores.{given, buffer_of, with_words, top_in, words_at}
 use Rattle.model.specs.Owning.{IsPage, IsStore}
-use Rattle.model.proofs.Lists.{get_set, get_set_same, get_set_other, each_set, each_replicate, get_replicate, count_set, count_replicate, position_none, length_counted, get_within, as_number, no_some}
+use Rattle.model.proofs.Lists.{get_set, get_set_same, get_set_other, each_set, each_replicate, get_replicate}
+use Rattle.model.proofs.Lists.{count_set, count_replicate, position_none, length_counted, get_within, as_number}
+use Rattle.model.proofs.Lists.{no_some}
 use Rattle.model.proofs.Memory.{unused_state}
 use Rattle.page.specs.Records.{is_unused_in}
 
@@ -30,7 +36,8 @@ none_below : (a b : ℕ) → b ≤ a → cond (nat_lt a b) (Some a) None ≡ Non
 none_below a b h = grind (arith, nat_tests)
 
 -- a frame gets other words, as many as before
-pub frame_keeps : (s : StoreState) (f : ℕ) (ws : List ℕ) → IsStore s → length ws ≡ s.words → IsStore (record s { frames = set s.frames f ws })
+pub frame_keeps : (s : StoreState) (f : ℕ) (ws : List ℕ) → IsStore s → length ws ≡ s.words
+    → IsStore (record s { frames = set s.frames f ws })
 frame_keeps s f ws h e =
     let same : length (set s.frames f ws) ≡ length s.frames = simp length-set in
     record {
@@ -49,7 +56,8 @@ frame_keeps s f ws h e =
     }
 
 -- a page gives out more of its words
-pub raise_keeps : (s : StoreState) (i : ℕ) (p : Page) (top : ℕ) → IsStore s → slice_get s.pages i ≡ Some p → top ≤ s.words → IsStore (record s { pages = set s.pages i (record p { top = top }) })
+pub raise_keeps : (s : StoreState) (i : ℕ) (p : Page) (top : ℕ) → IsStore s → slice_get s.pages i ≡ Some p
+    → top ≤ s.words → IsStore (record s { pages = set s.pages i (record p { top = top }) })
 raise_keeps s i p top h e le =
     let q : Page = record p { top = top } in
     let same : length (set s.pages i q) ≡ length s.pages = simp length-set in
@@ -74,19 +82,31 @@ raise_keeps s i p top h e le =
       };
     }
   where
-    owned : (j f : ℕ) (x : Page) → x.frame ≡ Some f → ((j ≡ i) × (record p { top = top } ≡ x)) ⊎ ((j ≢ i) × (slice_get s.pages j ≡ Some x)) → slice_get s.owners f ≡ Some (Some (j + 1))
+    owned : (j f : ℕ) (x : Page)
+        → x.frame ≡ Some f → ((j ≡ i) × (record p { top = top } ≡ x)) ⊎ ((j ≢ i) × (slice_get s.pages j ≡ Some x))
+        → slice_get s.owners f ≡ Some (Some (j + 1))
     owned j f x b (inl a) = rw a.0 (h.owning.owned i f p e (ap (λ (z : Page). z.frame) a.1 ∙ b))
     owned j f x b (inr a) = h.owning.owned j f x a.1 b
 
-    owner : (f n : ℕ) → slice_get s.owners f ≡ Some (Some n) → (j : ℕ) × (x : Page) × (n ≡ j + 1) × (slice_get s.pages j ≡ Some x) × (x.frame ≡ Some f) → (j : ℕ) × (x : Page) × (n ≡ j + 1) × (slice_get (set s.pages i (record p { top = top })) j ≡ Some x) × (x.frame ≡ Some f)
+    owner : (f n : ℕ) → slice_get s.owners f ≡ Some (Some n)
+        → (j : ℕ) × (x : Page) × (n ≡ j + 1) × (slice_get s.pages j ≡ Some x) × (x.frame ≡ Some f) → (j : ℕ) × (x :
+        Page) × (n ≡ j + 1) × (slice_get (set s.pages i (record p { top = top })) j ≡ Some x) × (x.frame ≡ Some f)
     owner f n a (j, x, b, c, d) = by_place (cases_eq j i)
       where
-        by_place : (j ≡ i) ⊎ (j ≢ i) → (j : ℕ) × (x : Page) × (n ≡ j + 1) × (slice_get (set s.pages i (record p { top = top })) j ≡ Some x) × (x.frame ≡ Some f)
-        by_place (inl k) = let same : p ≡ x = same_Some _ _ (sym e ∙ ap (slice_get s.pages) (sym k) ∙ c) in (i, record p { top = top }, b ∙ ap (λ z. z + 1) k, get_set_same s.pages i p (record p { top = top }) e, ap (λ (z : Page). z.frame) same ∙ d)
+        by_place : (j ≡ i) ⊎ (j ≢ i) → (j : ℕ) × (x : Page) × (n ≡ j + 1)
+            × (slice_get (set s.pages i (record p { top = top })) j ≡ Some x) × (x.frame ≡ Some f)
+        by_place (inl k) = let same : p ≡ x = same_Some _ _ (sym e ∙ ap (slice_get s.pages) (sym k) ∙ c) in (
+          i,
+          record p { top = top },
+          b ∙ ap (λ z. z + 1) k,
+          get_set_same s.pages i p (record p { top = top }) e,
+          ap (λ (z : Page). z.frame) same ∙ d,
+        )
         by_place (inr k) = (j, x, b, get_set_other s.pages i j (record p { top = top }) k ∙ c, d)
 
 -- an unused page is opened on a free frame
-pub open_keeps : (s : StoreState) (i f : ℕ) (p : Page) → IsStore s → slice_get s.pages i ≡ Some p → is_unused p.state ≡ true → slice_get s.owners f ≡ Some None → IsStore (opened s i f)
+pub open_keeps : (s : StoreState) (i f : ℕ) (p : Page) → IsStore s → slice_get s.pages i ≡ Some p
+    → is_unused p.state ≡ true → slice_get s.owners f ≡ Some None → IsStore (opened s i f)
 unfolding opened
 open_keeps s i f p h e u g =
     let pages_same : length (set s.pages i (fresh_page f)) ≡ length s.pages = simp length-set in
@@ -103,7 +123,8 @@ open_keeps s i f p h e u g =
         count = h.sized.count;
         owners = owners_same ∙ h.sized.owners ∙ sym frames_same;
         pages = pages_same ∙ h.sized.pages ∙ ap (λ n. record_count n s.count) (sym frames_same);
-        frames = each_set (λ xs. length xs ≡ s.words) s.frames f (replicate s.words 0) h.sized.frames (simp length-replicate);
+        frames = each_set (λ xs. length xs ≡ s.words) s.frames f (replicate s.words 0) h.sized.frames
+            (simp length-replicate);
       };
       pages = each_set (IsPage s.words) s.pages i (fresh_page f) h.pages (record { memory = refl; top = omega arith });
       owning = record {
@@ -119,7 +140,9 @@ open_keeps s i f p h e u g =
     no_frame : p.frame ≡ None
     no_frame = no_some p.frame ((h.pages i p e).memory ∙ ap has_memory (unused_state p.state u))
 
-    owned : (j k : ℕ) (x : Page) → x.frame ≡ Some k → ((j ≡ i) × (fresh_page f ≡ x)) ⊎ ((j ≢ i) × (slice_get s.pages j ≡ Some x)) → slice_get (set s.owners f (Some (i + 1))) k ≡ Some (Some (j + 1))
+    owned : (j k : ℕ) (x : Page)
+        → x.frame ≡ Some k → ((j ≡ i) × (fresh_page f ≡ x)) ⊎ ((j ≢ i) × (slice_get s.pages j ≡ Some x))
+        → slice_get (set s.owners f (Some (i + 1))) k ≡ Some (Some (j + 1))
     owned j k x b (inl a) =
         let here : f ≡ k = same_Some _ _ (ap (λ (z : Page). z.frame) a.1 ∙ b) in
         rw (← here, a.0) (get_set_same s.owners f None (Some (i + 1)) g)
@@ -128,30 +151,38 @@ open_keeps s i f p h e u g =
         let other : k ≢ f = λ z. none_or_some (sym g ∙ ap (slice_get s.owners) (sym z) ∙ before) in
         get_set_other s.owners f k (Some (i + 1)) other ∙ before
 
-    owner : (k n : ℕ) → ((k ≡ f) × (Some (i + 1) ≡ Some n)) ⊎ ((k ≢ f) × (slice_get s.owners k ≡ Some (Some n))) → (j : ℕ) × (x : Page) × (n ≡ j + 1) × (slice_get (set s.pages i (fresh_page f)) j ≡ Some x) × (x.frame ≡ Some k)
-    owner k n (inl a) = (i, fresh_page f, sym (same_Some _ _ a.1), get_set_same s.pages i p (fresh_page f) e, ap Some (sym a.0))
+    owner : (k n : ℕ) → ((k ≡ f) × (Some (i + 1) ≡ Some n)) ⊎ ((k ≢ f) × (slice_get s.owners k ≡ Some (Some n))) → (j :
+        ℕ) × (x : Page) × (n ≡ j + 1) × (slice_get (set s.pages i (fresh_page f)) j ≡ Some x) × (x.frame ≡ Some k)
+    owner k n (inl a) =
+        (i, fresh_page f, sym (same_Some _ _ a.1), get_set_same s.pages i p (fresh_page f) e, ap Some (sym a.0))
     owner k n (inr a) = moved k n (h.owning.owner k n a.1)
       where
-        moved : (k n : ℕ) → (j : ℕ) × (x : Page) × (n ≡ j + 1) × (slice_get s.pages j ≡ Some x) × (x.frame ≡ Some k) → (j : ℕ) × (x : Page) × (n ≡ j + 1) × (slice_get (set s.pages i (fresh_page f)) j ≡ Some x) × (x.frame ≡ Some k)
+        moved : (k n : ℕ) → (j : ℕ) × (x : Page) × (n ≡ j + 1) × (slice_get s.pages j ≡ Some x) × (x.frame ≡ Some k)
+            → (j : ℕ) × (x : Page) × (n ≡ j + 1) × (slice_get (set s.pages i (fresh_page f)) j ≡ Some x)
+            × (x.frame ≡ Some k)
         moved k n (j, x, b, c, d) =
-            let other : j ≢ i = λ z. none-some _ (sym no_frame ∙ ap (λ (y : Page). y.frame) (same_Some _ _ (sym e ∙ ap (slice_get s.pages) (sym z) ∙ c)) ∙ d) in
+            let other : j ≢ i = λ z. none-some _ (sym no_frame
+            ∙ ap (λ (y : Page). y.frame) (same_Some _ _ (sym e ∙ ap (slice_get s.pages) (sym z) ∙ c)) ∙ d) in
             (j, x, b, get_set_other s.pages i j (fresh_page f) other ∙ c, d)
 
-    counts : has_memory p.state ≡ false → count_by (λ x. has_memory x.state) (set s.pages i (fresh_page f)) + count_by is_none (set s.owners f (Some (i + 1))) ≡ length s.frames
+    counts : has_memory p.state ≡ false → count_by (λ x. has_memory x.state)
+        (set s.pages i (fresh_page f)) + count_by is_none (set s.owners f (Some (i + 1))) ≡ length s.frames
     counts m =
         let more = count_set (λ x. has_memory x.state) s.pages i p (fresh_page f) e in
         let less = count_set is_none s.owners f None (Some (i + 1)) g in
         let zero_before : as_number (has_memory p.state) ≡ as_number false = ap as_number m in
         omega (arith, more, less, zero_before, h.balanced.frames)
 
-    leaving : is_protected p.state ≡ false → count_by (λ x. is_protected x.state) (set s.pages i (fresh_page f)) ≤ length s.frames
+    leaving : is_protected p.state ≡ false
+        → count_by (λ x. is_protected x.state) (set s.pages i (fresh_page f)) ≤ length s.frames
     leaving m =
         let same = count_set (λ x. is_protected x.state) s.pages i p (fresh_page f) e in
         let zero_before : as_number (is_protected p.state) ≡ as_number false = ap as_number m in
         omega (arith, same, zero_before, h.balanced.leaving)
 
 -- the store that there is at first
-pub first_is_store : (words frames pages : ℕ) → 0 < words → words ≤ 4096 → frames ≤ 4096 → pages ≤ 65535 → IsStore (first_store words frames pages)
+pub first_is_store : (words frames pages : ℕ) → 0 < words → words ≤ 4096 → frames ≤ 4096 → pages ≤ 65535
+    → IsStore (first_store words frames pages)
 unfolding first_store
 first_is_store words frames pages low high frames_high pages_high =
     let frame_count : length (replicate {A = List ℕ} frames (replicate words 0)) ≡ frames = simp length-replicate in
@@ -172,21 +203,28 @@ first_is_store words frames pages low high frames_high pages_high =
         owner = λ f k a. absurd (none-some _ (get_replicate frames None f (Some k) a));
       };
       balanced = record {
-        frames = rw frame_count (omega (arith, count_replicate (λ (x : Page). has_memory x.state) n blank_page, count_replicate {X = Option ℕ} is_none frames None));
+        frames = rw frame_count (omega (
+          arith,
+          count_replicate (λ (x : Page). has_memory x.state) n blank_page,
+          count_replicate {X = Option ℕ} is_none frames None,
+        ));
         leaving = rw frame_count (omega (arith, count_replicate (λ (x : Page). is_protected x.state) n blank_page));
       };
     }
 
 -- where a frame is free and no page with a record is unused, all pages have records
-pub all_have_records : (s : StoreState) → IsStore s → 0 < count_by is_none s.owners → position (λ p. is_unused p.state) s.pages ≡ None → unused_page s.count s.pages ≡ None
+pub all_have_records : (s : StoreState) → IsStore s → 0 < count_by is_none s.owners
+    → position (λ p. is_unused p.state) s.pages ≡ None → unused_page s.count s.pages ≡ None
 unfolding unused_page
 all_have_records s h free none =
-    let used = length_counted (λ (p : Page). has_memory p.state) (λ p. is_protected p.state) s.pages (λ i x e. used_is x.state (position_none (λ p. is_unused p.state) s.pages none i x e)) in
+    let used = length_counted (λ (p : Page). has_memory p.state) (λ p. is_protected p.state) s.pages
+    (λ i x e. used_is x.state (position_none (λ p. is_unused p.state) s.pages none i x e)) in
     let few : length s.pages < 2 * length s.frames = omega (arith, used, h.balanced.frames, h.balanced.leaving) in
     let all : s.count ≤ length s.pages = grind (arith, nat_tests, h.sized.pages, few) in
     ap (unused_in s.count s.pages) none ∙ none_below (length s.pages) s.count all
 
-pub open_inside : (s : StoreState) (i f : ℕ) → IsStore s → i < length s.pages → is_unused_in (slice_get s.pages i) ≡ true → slice_get s.owners f ≡ Some None → IsStore (opened s i f)
+pub open_inside : (s : StoreState) (i f : ℕ) → IsStore s → i < length s.pages
+    → is_unused_in (slice_get s.pages i) ≡ true → slice_get s.owners f ≡ Some None → IsStore (opened s i f)
 open_inside s i f h within u g = let p = get_within s.pages i within in open_keeps s i f p.0 h p.1 (rw p.1 at u) g
 
 -- an open page has a frame of the store
@@ -213,12 +251,14 @@ open_has_memory Gone e = absurd (cc)
 pub open_has_frame : (s : StoreState) (n : ℕ) → IsStore s → is_open (state_in (page_at s n)) ≡ true → HasFrame s n
 open_has_frame s n h e = by_number (cases_eq n 0)
   where
-    by_frame : (p : Page) → page_at s n ≡ Some p → slice_get s.pages (n - 1) ≡ Some p → (o : Option ℕ) → p.frame ≡ o → is_some o ≡ true → HasFrame s n
+    by_frame : (p : Page) → page_at s n ≡ Some p → slice_get s.pages (n - 1) ≡ Some p → (o : Option ℕ) → p.frame ≡ o
+        → is_some o ≡ true → HasFrame s n
     by_frame p a r None b c = absurd (cc)
     by_frame p a r (Some f) b c = record {
       frame = f;
       is = ap frame_in a ∙ b;
-      there = let owned = h.owning.owned (n - 1) f p r b in let in_owners = slice_get_within s.owners f _ owned in rw (← h.sized.owners) in_owners;
+      there = let owned = h.owning.owned (n - 1) f p r b in let in_owners = slice_get_within s.owners f _ owned in
+          rw (← h.sized.owners) in_owners;
     }
 
     by_record : n ≢ 0 → (o : Option Page) → page_at s n ≡ o → HasFrame s n
@@ -233,25 +273,39 @@ open_has_frame s n h e = by_number (cases_eq n 0)
     by_number (inr z) = by_record z (page_at s n) refl
 
 -- n words given out of a page that is there
-pub given_at : (s : StoreState) (i n : ℕ) (p : Page) → slice_get s.pages i ≡ Some p → given s i n ≡ (record s { pages = set s.pages i (record p { top = p.top + n }) }, buffer_of i p.top n)
+pub given_at : (s : StoreState) (i n : ℕ) (p : Page) → slice_get s.pages i ≡ Some p
+    → given s i n ≡ (record s { pages = set s.pages i (record p { top = p.top + n }) }, buffer_of i p.top n)
 unfolding given
 given_at s i n p e = rw e refl
 
 -- words changed in a frame that is there
-pub words_changed : (s : StoreState) (n f : ℕ) (ws : List ℕ) (change : List ℕ → List ℕ) → frame_in (page_at s n) ≡ Some f → slice_get s.frames f ≡ Some ws → with_words s n change ≡ record s { frames = set s.frames f (change ws) }
+pub words_changed : (s : StoreState) (n f : ℕ) (ws : List ℕ) (change : List ℕ → List ℕ)
+    → frame_in (page_at s n) ≡ Some f → slice_get s.frames f ≡ Some ws
+    → with_words s n change ≡ record s { frames = set s.frames f (change ws) }
 unfolding with_words
 words_changed s n f ws change e g = rw (e, g) refl
 
-pub top_there : (pages : List Page) (i n words : ℕ) (p : Page) → slice_get pages i ≡ Some p → top_in (slice_get pages i) + n ≤ words → p.top + n ≤ words
+pub top_there : (pages : List Page) (i n words : ℕ) (p : Page) → slice_get pages i ≡ Some p
+    → top_in (slice_get pages i) + n ≤ words → p.top + n ≤ words
 top_there pages i n words p e h = rw e at h
 
 -- a page opened on a frame whose words were made zero
-pub opened_with : (s : StoreState) (i f : ℕ) (ws : List ℕ) → IsStore s → i < length s.pages → is_unused_in (slice_get s.pages i) ≡ true → slice_get s.owners f ≡ Some None → ws ≡ replicate s.words 0 →
-    IsStore (record s { pages = set s.pages i (fresh_page f); frames = set s.frames f ws; owners = set s.owners f (Some (i + 1)) })
+pub opened_with : (s : StoreState) (i f : ℕ) (ws : List ℕ) → IsStore s → i < length s.pages
+    → is_unused_in (slice_get s.pages i) ≡ true → slice_get s.owners f ≡ Some None → ws ≡ replicate s.words 0 →
+    IsStore (record s {
+      pages = set s.pages i (fresh_page f);
+      frames = set s.frames f ws;
+      owners = set s.owners f (Some (i + 1));
+    })
 unfolding opened
 opened_with s i f ws h within u g e = rw e (open_inside s i f h within u g)
 
-pub opened_as : (s : StoreState) (i f : ℕ) (ws : List ℕ) → ws ≡ replicate s.words 0 → record s { pages = set s.pages i (fresh_page f); frames = set s.frames f ws; owners = set s.owners f (Some (i + 1)) } ≡ opened s i f
+pub opened_as : (s : StoreState) (i f : ℕ) (ws : List ℕ) → ws ≡ replicate s.words 0 → record s {
+  pages =
+      set s.pages i (fresh_page f);
+  frames = set s.frames f ws;
+  owners = set s.owners f (Some (i + 1));
+} ≡ opened s i f
 unfolding opened
 opened_as s i f ws e = rw e refl
 
@@ -259,7 +313,8 @@ pub opened_pages : (s : StoreState) (i f : ℕ) → length (opened s i f).pages 
 unfolding opened
 opened_pages s i f = simp length-set
 
-pub opened_at : (s : StoreState) (i f : ℕ) (p : Page) → slice_get s.pages i ≡ Some p → slice_get (opened s i f).pages i ≡ Some (fresh_page f)
+pub opened_at : (s : StoreState) (i f : ℕ) (p : Page) → slice_get s.pages i ≡ Some p
+    → slice_get (opened s i f).pages i ≡ Some (fresh_page f)
 unfolding opened
 opened_at s i f p e = get_set_same s.pages i p (fresh_page f) e
 
@@ -267,7 +322,8 @@ pub opened_top : (s : StoreState) (i f : ℕ) → i < length s.pages → top_in 
 unfolding opened
 opened_top s i f h = let p = get_within s.pages i h in rw (get_set_same s.pages i p.0 (fresh_page f) p.1) refl
 
-pub opened_open : (s : StoreState) (i f : ℕ) → i < length s.pages → is_open (state_in (slice_get (opened s i f).pages i)) ≡ true
+pub opened_open : (s : StoreState) (i f : ℕ) → i < length s.pages
+    → is_open (state_in (slice_get (opened s i f).pages i)) ≡ true
 unfolding opened
 opened_open s i f h = let p = get_within s.pages i h in rw (get_set_same s.pages i p.0 (fresh_page f) p.1) refl
 
@@ -276,13 +332,15 @@ unfolding opened
 opened_words s i f = refl
 
 -- where a frame is free, the lowest unused page has a record
-pub unused_as : (s : StoreState) → IsStore s → 0 < count_by is_none s.owners → (r : Option ℕ) → r ≡ position (λ (p : Page). is_unused p.state) s.pages → r ≡ unused_page s.count s.pages
+pub unused_as : (s : StoreState) → IsStore s → 0 < count_by is_none s.owners → (r : Option ℕ)
+    → r ≡ position (λ (p : Page). is_unused p.state) s.pages → r ≡ unused_page s.count s.pages
 unfolding unused_page
 unused_as s h free None e = sym (all_have_records s h free (sym e))
 unused_as s h free (Some i) e = rw (← e) refl
 
 -- what a buffer's part is
-pub part_there : (s : StoreState) (n f : ℕ) (ws : List ℕ) → frame_in (page_at s n) ≡ Some f → slice_get s.frames f ≡ Some ws → words_at s n ≡ Some ws
+pub part_there : (s : StoreState) (n f : ℕ) (ws : List ℕ) → frame_in (page_at s n) ≡ Some f
+    → slice_get s.frames f ≡ Some ws → words_at s n ≡ Some ws
 unfolding words_at
 part_there s n f ws e g = rw e g
 
@@ -294,11 +352,14 @@ some_is None f e = absurd (cc)
 some_is (Some x) f e = search rules
 
 -- the parts of the store that there is at first
-pub first_inside : (words frames pages : ℕ) (ps : List Page) (fs : List (List ℕ)) (os : List (Option ℕ)) → 0 < words → words ≤ 4096 → frames ≤ 4096 → pages ≤ 65535 →
-    ps ≡ replicate (record_count frames pages) blank_page → fs ≡ replicate frames (replicate words 0) → os ≡ replicate frames None →
+pub first_inside : (words frames pages : ℕ) (ps : List Page) (fs : List (List ℕ)) (os : List (Option ℕ)) → 0 < words
+    → words ≤ 4096 → frames ≤ 4096 → pages ≤ 65535 →
+    ps ≡ replicate (record_count frames pages) blank_page → fs ≡ replicate frames (replicate words 0)
+    → os ≡ replicate frames None →
     IsStore (record { words = words; count = pages; pages = ps; frames = fs; owners = os })
 unfolding first_store
-first_inside words frames pages ps fs os low high frames_high pages_high p f o = rw (p, f, o) (first_is_store words frames pages low high frames_high pages_high)
+first_inside words frames pages ps fs os low high frames_high pages_high p f o =
+    rw (p, f, o) (first_is_store words frames pages low high frames_high pages_high)
 
 pub first_free : (frames : ℕ) (os : List (Option ℕ)) → os ≡ replicate frames None → frames ≡ count_by is_none os
 first_free frames os e = rw e (omega (arith, count_replicate {X = Option ℕ} is_none frames None))
