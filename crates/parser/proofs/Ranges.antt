@@ -14,7 +14,17 @@ use Rattle.parser.proofs.HeapLines.{IsSizes}
 
 -- the sizes in a configuration
 abbrev pub sizes_in : Config → Sizes
-sizes_in c = record { words = c.words; frames = c.frames; pages = c.pages; threads = c.threads; workers = c.workers; registers = c.registers; globals = c.globals; births = c.births; history = c.history }
+sizes_in c = record {
+  words = c.words;
+  frames = c.frames;
+  pages = c.pages;
+  threads = c.threads;
+  workers = c.workers;
+  registers = c.registers;
+  globals = c.globals;
+  births = c.births;
+  history = c.history;
+}
 
 -- some layouts, not too many, each with room in a page
 pub record AreLayouts (words : ℕ) (ls : List Layout) : Type 0 where
@@ -86,5 +96,6 @@ config_tells c h =
         history = history.0;
         history_most = history.1;
       };
-      layouts = record { some = count.0; few = count.1; room = not-false (list_all (fits_page c.words) c.layouts) both.1 };
+      layouts =
+          record { some = count.0; few = count.1; room = not-false (list_all (fits_page c.words) c.layouts) both.1 };
     }

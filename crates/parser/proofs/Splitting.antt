@@ -1,5 +1,6 @@
 -- Lists that are cut at each element that passes a test.
-use Rattle.std.proofs.Common.{◌≡◌, ℕ, ◌+◌, ◌<◌, ◌≤◌, Bool, true, false, List, [], ◌∷◌, length, take, drop, Some, None, refl, arith, cond, position}
+use Rattle.std.proofs.Common.{◌≡◌, ℕ, ◌+◌, ◌<◌, ◌≤◌, Bool, true, false, List, [], ◌∷◌, length, take, drop, Some, None}
+use Rattle.std.proofs.Common.{refl, arith, cond, position}
 use Rattle.std.specs.List.{slice_split, onto_first, position_or_len, All}
 use Rattle.std.proofs.lemmas.List.Splits.{slice_split_first, slice_split_none}
 use Rattle.std.proofs.lemmas.List.Quantifiers.{position-Some}
@@ -22,10 +23,12 @@ split_cons p (x ∷ xs) = elim (p x) as (λ b. IsCons (cond b ([] ∷ slice_spli
     [ true ↦ record { first = []; others = slice_split p xs; is = refl } | false ↦ onto_cons x (slice_split p xs) ]
 
 -- the first part ends where the first element passes
-pub split_some : (p : ℕ → Bool) (xs : List ℕ) (end : ℕ) → position p xs ≡ Some end → slice_split p xs ≡ take end xs ∷ slice_split p (drop (end + 1) xs)
+pub split_some : (p : ℕ → Bool) (xs : List ℕ) (end : ℕ) → position p xs ≡ Some end
+    → slice_split p xs ≡ take end xs ∷ slice_split p (drop (end + 1) xs)
 split_some p xs end h =
     let facts = position-Some p xs end 0 h in
-    let at : position_or_len p xs ≡ end = position_or_len_is p xs end 0 (omega (arith, facts.0)) facts.2 (λ _. facts.1) in
+    let at : position_or_len p xs ≡ end =
+    position_or_len_is p xs end 0 (omega (arith, facts.0)) facts.2 (λ _. facts.1) in
     let within : position_or_len p xs < length xs = rw at facts.0 in
     rw at at (slice_split_first p xs 0 within)
 
