@@ -20,8 +20,8 @@ use Rattle.refinement.specs.Births.{births_of}
 use Rattle.refinement.specs.Standing.{Holds, StepHolds, AnswersPlain, FirstHolds, StepsHold, KeepsStanding}
 use Rattle.cycle.specs.declared.book.Entry.{Entry}
 use Rattle.cycle.specs.Books.{BookState, first_book, is_full}
-use Rattle.cycle.specs.Replays.{Replayed, after_entry, after_entries, before_entries, replayed, AnswersAre, IsBook}
-use Rattle.cycle.specs.Replays.{KeepsPromises}
+use Rattle.cycle.specs.Replays.{Replayed, after_entry, after_entries, before_entries}
+use Rattle.cycle.specs.Replays.{replayed, AnswersAre, IsBook, KeepsPromises}
 
 after_more : (ls : List Layout) (r : Replayed) (es : List Entry) (e : Entry)
     → after_entries ls r (es ++ e ∷ []) ≡ after_entry ls (after_entries ls r es) e
@@ -50,10 +50,10 @@ entry_added b actor step g answer k more s =
     record {
       holds = subst (λ (c : Config). Holds g (after_entries c.layouts (before_entries c) (b.history ++ e ∷ [])).now
           (after_entries c.layouts (before_entries c) (b.history ++ e ∷ [])).at_mark) (sym s.config) holds;
-      answers = subst (λ (c : Config). AnswersAre c.layouts (before_entries c) (b.history ++ e ∷ [])) (sym s.config)
-          (answers_more ls first b.history e k.answers s.answers);
-      limit = subst (λ (c : Config). length (b.history ++ e ∷ []) ≤ c.history) (sym s.config)
-          (omega (arith, length-append b.history (e ∷ []), leb-false b.heap.config.history (length b.history) more));
+      answers = subst (λ (c : Config). AnswersAre c.layouts (before_entries c) (b.history ++ e ∷ []))
+          (sym s.config) (answers_more ls first b.history e k.answers s.answers);
+      limit = subst (λ (c : Config). length (b.history ++ e ∷ []) ≤ c.history) (sym s.config) (omega
+          (arith, length-append b.history (e ∷ []), leb-false b.heap.config.history (length b.history) more));
     }
 
 -- a new book

@@ -1,6 +1,6 @@
 -- One more step of a run.
-use Rattle.std.proofs.Common.{◌≡◌, List, [], ◌∷◌, ◌++◌, ◌+◌, length, length-append, append_assoc, refl, sym, ap, ◌∙◌}
-use Rattle.std.proofs.Common.{subst}
+use Rattle.std.proofs.Common.{◌≡◌, List, [], ◌∷◌, ◌++◌, ◌+◌, length, length-append}
+use Rattle.std.proofs.Common.{append_assoc, refl, sym, ap, ◌∙◌, subst}
 use Rattle.model.specs.declared.steps.Actor.{Actor}
 use Rattle.model.specs.declared.steps.Step.{Step}
 use Rattle.cycle.specs.Books.{BookState, Reply, Acts, Ran, acted}

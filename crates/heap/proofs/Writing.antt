@@ -1,7 +1,7 @@
 -- An object written at the head of a lent part is written over the page's words.
-use Rattle.std.proofs.Common.{◌≡◌, ℕ, ◌+◌, ◌-◌, ◌<◌, ◌≤◌, List, ◌∷◌, ◌++◌, length, take, drop, Option, Some, None}
-use Rattle.std.proofs.Common.{refl, sym, ◌∙◌, ap, subst, arith, append_assoc, length-drop, length-append, rules, set}
-use Rattle.std.proofs.Common.{replicate, suc, is_some}
+use Rattle.std.proofs.Common.{◌≡◌, ℕ, ◌+◌, ◌-◌, ◌<◌, ◌≤◌, List, ◌∷◌, ◌++◌, length, take, drop}
+use Rattle.std.proofs.Common.{Option, Some, None, refl, sym, ◌∙◌, ap, subst, arith, append_assoc}
+use Rattle.std.proofs.Common.{length-drop, length-append, rules, set, replicate, suc, is_some}
 use Rattle.std.proofs.Math.ListN.{length-replicate}
 use Rattle.std.specs.List.{slice_get, slice_range}
 use Rattle.std.specs.Option.{IfSome, IsSome}
@@ -29,8 +29,8 @@ same_words s n f g h = ap (λ fs. record s { frames = fs }) (by_frame (frame_in 
     by_frame None e = refl
     by_frame (Some x) e = by_words x e (slice_get s.frames x) refl
 
-rest_behind : (xs rest : List ℕ) (m j : ℕ) → m ≡ length xs → m + j ≤ length rest →
-    (xs ++ drop (length xs) (take (m + j) rest)) ++ drop (length (xs ++ drop (length xs) (take (m + j) rest))) rest
+rest_behind : (xs rest : List ℕ) (m j : ℕ) → m ≡ length xs → m + j ≤ length rest
+    → (xs ++ drop (length xs) (take (m + j) rest)) ++ drop (length (xs ++ drop (length xs) (take (m + j) rest))) rest
     ≡ xs ++ drop (length xs) rest
 rest_behind xs rest m j e h =
     let cut : drop (length xs) (take (m + j) rest) ≡ take j (drop m rest) =
@@ -56,9 +56,8 @@ overlaid_part ws xs o end low high =
 
 -- a part that was lent, with others written at its head
 pub written : (s : StoreState) (b : Buffer) (part xs : List ℕ) → IsStore s → LiesIn s b → length xs ≤ b.end - b.next
-    → IfSome (words_at s b.page) (λ ws. part ≡ slice_range ws b.next b.end) →
-    with_words s b.page (λ ws. overlaid ws b.next (xs ++ drop (length xs) part)) ≡ with_words s b.page
-    (λ ws. overlaid ws b.next xs)
+    → IfSome (words_at s b.page) (λ ws. part ≡ slice_range ws b.next b.end) → with_words s b.page
+    (λ ws. overlaid ws b.next (xs ++ drop (length xs) part)) ≡ with_words s b.page (λ ws. overlaid ws b.next xs)
 written s b part xs h l room e = same_words s b.page _ _ (by_words (words_at s b.page) refl e)
   where
     by_words : (o : Option (List ℕ)) → words_at s b.page ≡ o → IfSome o (λ ws. part ≡ slice_range ws b.next b.end)
@@ -71,10 +70,9 @@ written s b part xs h l room e = same_words s b.page _ _ (by_words (words_at s b
 
 -- a new object's words, written at the head of the part
 pub written_object : (s : StoreState) (b : Buffer) (part final : List ℕ) (header others : ℕ) → IsStore s → LiesIn s b
-    → others < b.end - b.next → IfSome (words_at s b.page) (λ ws. part ≡ slice_range ws b.next b.end) →
-    final ≡ (header ∷ replicate others 0) ++ drop (1 + others) part →
-    with_words s b.page (λ ws. overlaid ws b.next final) ≡ with_words s b.page
-    (λ ws. overlaid ws b.next (header ∷ replicate others 0))
+    → others < b.end - b.next → IfSome (words_at s b.page) (λ ws. part ≡ slice_range ws b.next b.end)
+    → final ≡ (header ∷ replicate others 0) ++ drop (1 + others) part → with_words s b.page
+    (λ ws. overlaid ws b.next final) ≡ with_words s b.page (λ ws. overlaid ws b.next (header ∷ replicate others 0))
 written_object s b part final header others h l room e k =
     let xs : List ℕ = header ∷ replicate others 0 in
     let zeros : length (replicate {A = ℕ} others 0) ≡ others = length-replicate others 0 in

@@ -1,6 +1,6 @@
 -- The steps of a barrier keep the invariant.
-use Rattle.std.proofs.Common.{◌≡◌, ◌≢◌, ◌⊎◌, ◌<◌, inl, inr, ℕ, Bool, true, false, not, cond, Option, Some, None}
-use Rattle.std.proofs.Common.{length, set, refl, sym, ◌∙◌, ap, subst}
+use Rattle.std.proofs.Common.{◌≡◌, ◌≢◌, ◌⊎◌, ◌<◌, inl, inr, ℕ, Bool, true, false, not, cond}
+use Rattle.std.proofs.Common.{Option, Some, None, length, set, refl, sym, ◌∙◌, ap, subst}
 use Rattle.std.proofs.lemmas.List.{set-get_or}
 use Rattle.model.specs.declared.records.Phase.{Phase}
 use Rattle.model.specs.declared.records.Phase.TheVariants.{MarkCrossing, Scanning, ProtectCrossing}
@@ -8,13 +8,13 @@ use Rattle.model.specs.declared.records.PageState.{PageState}
 use Rattle.model.specs.declared.records.PageState.TheVariants.{From, Gone}
 use Rattle.model.specs.Stores.{is_protected, has_memory}
 use Rattle.model.specs.Phases.{is_marking, is_crossing, may_nmt_trap, same_bit}
-use Rattle.laws.specs.AddressHeap.{AtGlobal, AddressHeap, HeapObject, Word, Null, To, put, field, current, resolve}
-use Rattle.laws.specs.AddressHeap.{resolve_by, names, birth_of, OpenBarrier, AtField, SideEntry, NoEntry, Planned}
-use Rattle.laws.specs.AddressHeap.{Copied}
+use Rattle.laws.specs.AddressHeap.{AtGlobal, AddressHeap, HeapObject, Word, Null, To, put}
+use Rattle.laws.specs.AddressHeap.{field, current, resolve, resolve_by, names, birth_of}
+use Rattle.laws.specs.AddressHeap.{OpenBarrier, AtField, SideEntry, NoEntry, Planned, Copied}
 use Rattle.laws.specs.BirthHeap.{BirthHeap, ref, InPending, Start, Next}
 use Rattle.laws.specs.Invariant.{IsKept, IsClean, StandsFor, Invariant, IsBarrierFor, IsPlace}
-use Rattle.laws.specs.Edits.{set_object, end_load, plain_end_load, set_barrier, set_global, copy_object, mark_word}
-use Rattle.laws.specs.Edits.{marked_word}
+use Rattle.laws.specs.Edits.{set_object, end_load, plain_end_load, set_barrier}
+use Rattle.laws.specs.Edits.{set_global, copy_object, mark_word, marked_word}
 use Rattle.laws.specs.Effects.{finish_at, plain_finish, set_register, with_field, nmt_trap_due}
 use Rattle.laws.proofs.Basics.{put_id, put_at_id, current_there, unmoved, put_same}
 use Rattle.laws.proofs.Reading.{named, register_kept, global_kept, at, mark_word_keeps}

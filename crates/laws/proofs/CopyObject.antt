@@ -1,16 +1,16 @@
 -- To copy a planned object keeps the invariant.
-use Rattle.std.proofs.Common.{◌≡◌, ◌≢◌, ◌⊎◌, ◌≤◌, ◌<◌, inl, inr, ℕ, Bool, true, false, Option, Some, None, sym, ◌∙◌}
-use Rattle.std.proofs.Common.{ap, arith}
+use Rattle.std.proofs.Common.{◌≡◌, ◌≢◌, ◌⊎◌, ◌≤◌, ◌<◌, inl, inr, ℕ, Bool, true}
+use Rattle.std.proofs.Common.{false, Option, Some, None, sym, ◌∙◌, ap, arith}
 use Rattle.std.proofs.lemmas.Bool.{cases_eq}
 use Rattle.model.specs.declared.records.Phase.TheVariants.{ProtectCrossing}
 use Rattle.model.specs.declared.records.PageState.TheVariants.{Closed, Open, From}
 use Rattle.model.specs.Stores.{is_protected, has_memory}
 use Rattle.model.specs.Phases.{is_marking}
-use Rattle.laws.specs.AddressHeap.{AddressHeap, HeapObject, Word, Null, To, field, current, names, Planned, Copied}
-use Rattle.laws.specs.AddressHeap.{WorkerScan, LoadPlace, AtField, AtGlobal}
+use Rattle.laws.specs.AddressHeap.{AddressHeap, HeapObject, Word, Null, To, field, current, names}
+use Rattle.laws.specs.AddressHeap.{Planned, Copied, WorkerScan, LoadPlace, AtField, AtGlobal}
 use Rattle.laws.specs.BirthHeap.{BirthHeap, ref, IsRoot, IsReached, Start, Next}
-use Rattle.laws.specs.Invariant.{Invariant, StandsFor, IsClean, IsCleanBelow, IsKept, HasCurrent, IsSeed, IsPlace}
-use Rattle.laws.specs.Invariant.{IsBarrierFor}
+use Rattle.laws.specs.Invariant.{Invariant, StandsFor, IsClean, IsCleanBelow}
+use Rattle.laws.specs.Invariant.{IsKept, HasCurrent, IsSeed, IsPlace, IsBarrierFor}
 use Rattle.laws.specs.Edits.{copy_object}
 use Rattle.laws.proofs.Basics.{reached, barrier_map}
 

@@ -4,8 +4,8 @@ use Rattle.std.proofs.Common.{◌≡◌, ◌≢◌, ℕ, Bool, true, Option, Som
 use Rattle.model.specs.declared.records.Phase.TheVariants.{ProtectCrossing}
 use Rattle.model.specs.Stores.{is_protected}
 use Rattle.model.specs.Phases.{is_marking}
-use Rattle.laws.specs.AddressHeap.{AddressHeap, HeapObject, To, put, current, resolve, resolve_by, names, birth_of}
-use Rattle.laws.specs.AddressHeap.{Planned}
+use Rattle.laws.specs.AddressHeap.{AddressHeap, HeapObject, To, put, current}
+use Rattle.laws.specs.AddressHeap.{resolve, resolve_by, names, birth_of, Planned}
 use Rattle.laws.specs.BirthHeap.{BirthHeap}
 use Rattle.laws.specs.Invariant.{IsKept, IsClean, StandsFor, Invariant}
 use Rattle.laws.specs.Edits.{copy_object}

@@ -1,6 +1,6 @@
 -- To mark an object keeps the invariant.
-use Rattle.std.proofs.Common.{◌≡◌, ◌≢◌, ◌⊎◌, inl, inr, ℕ, Bool, true, false, cond, Option, Some, refl, sym, ◌∙◌, ap}
-use Rattle.std.proofs.Common.{subst}
+use Rattle.std.proofs.Common.{◌≡◌, ◌≢◌, ◌⊎◌, inl, inr, ℕ, Bool, true, false}
+use Rattle.std.proofs.Common.{cond, Option, Some, refl, sym, ◌∙◌, ap, subst}
 use Rattle.std.proofs.lemmas.Bool.{cases_Bool}
 use Rattle.model.specs.Stores.{is_protected}
 use Rattle.model.specs.Phases.{is_marking}
@@ -90,8 +90,8 @@ module _ (w : AddressHeap) (p p0 : BirthHeap) (i : Invariant w p p0) (a : ℕ) (
       todo = put_both (λ x b c. b ≡ true → c ≡ true) w.todo w.marked a true true (λ _. refl) (λ x _. i.marks.todo x);
       scanned = λ x q j. put_both (λ x b c. b ≡ true → c ≡ false → w.object_at x ≡ Some q
           → IsClean w (field q j)) w.marked w.todo a true true (λ _ e. cc) (λ x _. i.marks.scanned x q j) x;
-      scanning = λ k s e. put_all (λ x b. w.todo x ≡ true → b ≡ true) w.todo a true (λ _. refl) (λ x _ h. h) s.address
-          (i.marks.scanning k s e);
+      scanning = λ k s e. put_all (λ x b. w.todo x ≡ true → b ≡ true) w.todo a true (λ _. refl)
+          (λ x _ h. h) s.address (i.marks.scanning k s e);
       passed = i.marks.passed;
       alone = i.marks.alone;
       registers = i.marks.registers;

@@ -1,14 +1,14 @@
 -- What the steps need of the invariant: what a usable word names, what a kept object holds, and how a word is marked.
-use Rattle.std.proofs.Common.{◌≡◌, ◌≢◌, ◌⊎◌, ◌<◌, inl, inr, ℕ, Bool, true, false, Option, Some, None, List, length}
-use Rattle.std.proofs.Common.{get_or, set, refl, sym, ◌∙◌, ap, subst, get_or-set_same, get_or-set_other}
+use Rattle.std.proofs.Common.{◌≡◌, ◌≢◌, ◌⊎◌, ◌<◌, inl, inr, ℕ, Bool, true, false, Option, Some, None, List}
+use Rattle.std.proofs.Common.{length, get_or, set, refl, sym, ◌∙◌, ap, subst, get_or-set_same, get_or-set_other}
 use Rattle.std.proofs.lemmas.Bool.{cases_eq}
 use Rattle.model.specs.declared.records.Phase.TheVariants.{Scanning}
 use Rattle.model.specs.declared.records.PageState.{PageState}
 use Rattle.model.specs.declared.records.PageState.TheVariants.{Unused, Open, Closed, From, Gone}
 use Rattle.model.specs.Stores.{is_protected, has_memory}
 use Rattle.model.specs.Phases.{is_marking, is_crossing}
-use Rattle.laws.specs.AddressHeap.{AddressHeap, HeapObject, Word, Null, To, field, current, resolve, resolve_by, names}
-use Rattle.laws.specs.AddressHeap.{birth_of, SideEntry, NoEntry, Planned, Copied}
+use Rattle.laws.specs.AddressHeap.{AddressHeap, HeapObject, Word, Null, To, field, current, resolve}
+use Rattle.laws.specs.AddressHeap.{resolve_by, names, birth_of, SideEntry, NoEntry, Planned, Copied}
 use Rattle.laws.specs.BirthHeap.{BirthHeap, ref, InRegister, InGlobal, Start}
 use Rattle.laws.specs.Invariant.{IsKept, IsClean, StandsFor, Invariant}
 use Rattle.laws.specs.Transitions.{IsUsable}
@@ -135,8 +135,8 @@ mark_word_keeps w p p0 i m (To a n) x e k =
         names = ap (λ z. birth_of (current w z)) r ∙ e;
         fits = record {
           outside = λ f. (let z = m in cc);
-          inside = λ y f h. (let z : resolve w a ≡ y = cc in
-              ap (marked_after (To a n) w) (sym z) ∙ put_same w.marked (resolve w a) true);
+          inside = λ y f h. (let z : resolve w a ≡ y = cc in ap (marked_after (To a n) w) (sym z)
+              ∙ put_same w.marked (resolve w a) true);
         };
       };
       clean = λ y b h. (let z = h in cc);

@@ -2,19 +2,19 @@
 use Rattle.laws.specs.AddressHeap.{AddressHeap}
 use Rattle.laws.specs.BirthHeap.{BirthHeap}
 use Rattle.laws.specs.Invariant.{Invariant}
-use Rattle.laws.specs.Transitions.{Transition, TakeFresh, New, Load, LoadGlobal, TrapMoved, TrapCopied, TrapMarked}
-use Rattle.laws.specs.Transitions.{HealGlobal, HealField, HealChanged, Finish, Store, StoreGlobal, SetDatum, CopyReg}
-use Rattle.laws.specs.Transitions.{ClearReg, CrossMark, CrossMarkFor, CrossProtectFor, CrossProtect, ScrubMoved}
-use Rattle.laws.specs.Transitions.{ScrubCopied, Park, StartMark, Pick, ScanField, ScanEnd, ScanGlobal, EndMark}
-use Rattle.laws.specs.Transitions.{Protect, Copy, Release, Run, End, Then}
+use Rattle.laws.specs.Transitions.{Transition, TakeFresh, New, Load, LoadGlobal, TrapMoved, TrapCopied}
+use Rattle.laws.specs.Transitions.{TrapMarked, HealGlobal, HealField, HealChanged, Finish, Store, StoreGlobal}
+use Rattle.laws.specs.Transitions.{SetDatum, CopyReg, ClearReg, CrossMark, CrossMarkFor, CrossProtectFor}
+use Rattle.laws.specs.Transitions.{CrossProtect, ScrubMoved, ScrubCopied, Park, StartMark, Pick, ScanField}
+use Rattle.laws.specs.Transitions.{ScanEnd, ScanGlobal, EndMark, Protect, Copy, Release, Run, End, Then}
 use Rattle.laws.proofs.Basics.{scanning, parked_none}
 use Rattle.laws.proofs.Mutators.{store_keeps, set_datum_keeps, store_global_keeps, copy_register_keeps}
 use Rattle.laws.proofs.Mutators.{clear_register_keeps, load_field_keeps, load_global_keeps}
-use Rattle.laws.proofs.Barriers.{trap_moved_keeps, trap_copied_keeps, trap_marked_keeps, heal_global_keeps}
-use Rattle.laws.proofs.Barriers.{heal_field_keeps, heal_changed_keeps, finish_keeps, scrub_moved_keeps}
-use Rattle.laws.proofs.Barriers.{scrub_copied_keeps}
-use Rattle.laws.proofs.Workers.{pick_keeps, scan_field_keeps, scan_end_keeps, scan_global_keeps, copy_step_keeps}
-use Rattle.laws.proofs.Workers.{cross_mark_keeps, cross_protect_keeps}
+use Rattle.laws.proofs.Barriers.{trap_moved_keeps, trap_copied_keeps, trap_marked_keeps}
+use Rattle.laws.proofs.Barriers.{heal_global_keeps, heal_field_keeps, heal_changed_keeps}
+use Rattle.laws.proofs.Barriers.{finish_keeps, scrub_moved_keeps, scrub_copied_keeps}
+use Rattle.laws.proofs.Workers.{pick_keeps, scan_field_keeps, scan_end_keeps, scan_global_keeps}
+use Rattle.laws.proofs.Workers.{copy_step_keeps, cross_mark_keeps, cross_protect_keeps}
 use Rattle.laws.proofs.EndMark.{end_mark_keeps}
 use Rattle.laws.proofs.StartMark.{start_mark_keeps}
 use Rattle.laws.proofs.Protection.{protect_keeps, open_page_keeps}

@@ -1,17 +1,17 @@
 -- The steps of a worker, and the crossing of a mark, keep the invariant.
-use Rattle.std.proofs.Common.{◌≡◌, ◌≢◌, ◌⊎◌, ◌<◌, ◌≤◌, ◌+◌, inl, inr, ℕ, zero, suc, Bool, true, false, cond, Some}
-use Rattle.std.proofs.Common.{None, length, get_or, set, refl, sym, ◌∙◌, ap, subst, arith}
+use Rattle.std.proofs.Common.{◌≡◌, ◌≢◌, ◌⊎◌, ◌<◌, ◌≤◌, ◌+◌, inl, inr, ℕ, zero, suc, Bool, true, false}
+use Rattle.std.proofs.Common.{cond, Some, None, length, get_or, set, refl, sym, ◌∙◌, ap, subst, arith}
 use Rattle.std.proofs.lemmas.List.{set-get_or, get_or_past}
 use Rattle.std.proofs.lemmas.Bool.{cases_eq, cases_lt}
 use Rattle.model.specs.declared.records.Phase.{Phase}
 use Rattle.model.specs.declared.records.Phase.TheVariants.{MarkCrossing, Scanning, ProtectCrossing, Relocating}
 use Rattle.model.specs.Phases.{is_marking, is_crossing}
-use Rattle.laws.specs.AddressHeap.{AddressHeap, HeapObject, Word, Null, To, put, put_at, field, current, resolve}
-use Rattle.laws.specs.AddressHeap.{Planned, WorkerScan}
+use Rattle.laws.specs.AddressHeap.{AddressHeap, HeapObject, Word, Null, To, put, put_at}
+use Rattle.laws.specs.AddressHeap.{field, current, resolve, Planned, WorkerScan}
 use Rattle.laws.specs.BirthHeap.{BirthHeap, ref, Start, Next}
 use Rattle.laws.specs.Invariant.{IsKept, IsClean, Invariant}
-use Rattle.laws.specs.Edits.{set_object, set_global, end_global_scan, set_scan, end_scan, mark_word, todo_after}
-use Rattle.laws.specs.Edits.{marked_word, copy_object, cross_checkpoint}
+use Rattle.laws.specs.Edits.{set_object, set_global, end_global_scan, set_scan, end_scan}
+use Rattle.laws.specs.Edits.{mark_word, todo_after, marked_word, copy_object, cross_checkpoint}
 use Rattle.laws.specs.Effects.{with_field, mark_register, mark_registers, scan_field}
 use Rattle.laws.proofs.Basics.{put_id, put_at_id, put_all, put_same, put_other, marked_current}
 use Rattle.laws.proofs.Reading.{at, mark_word_keeps, global_kept, register_kept, set_at}
@@ -76,8 +76,8 @@ scan_field_keeps w p p0 i k s o e f h l =
     set_scan_keeps (set_object a (with_field o j v') w1) p p0 u k (record { address = a; next = j + 1 }) (record {
       phase = e;
       todo = still_todo v w a (i.marks.scanning k s f);
-      passed =
-          λ q n y z. subst (λ q. IsClean w (field q n)) (let t = put_same w.object_at a (Some (with_field o j v')) in
+      passed = λ q n y z.
+          subst (λ q. IsClean w (field q n)) (let t = put_same w.object_at a (Some (with_field o j v')) in
           let t' : with_field o j v' ≡ q = cc in t') (below n z (set_at o.refs j n v' Null l) r.clean);
       alone = λ n z y q t. y (i.marks.alone n k z s q f t);
     })

@@ -1,7 +1,7 @@
 -- The words of pages: where they stand, and what a change of one page's words does to them and to those of others.
-use Rattle.std.proofs.Common.{◌≡◌, ◌≢◌, ℕ, ◌+◌, ◌-◌, ◌/◌, ◌%◌, cond, Bool, true, false, nat_eq, is_some, List, length}
-use Rattle.std.proofs.Common.{Option, Some, None, refl, sym, ◌∙◌, ap, arith, ◌≤◌, ◌++◌, take, drop, length-drop}
-use Rattle.std.proofs.Common.{length-append}
+use Rattle.std.proofs.Common.{◌≡◌, ◌≢◌, ℕ, ◌+◌, ◌-◌, ◌/◌, ◌%◌, cond, Bool, true, false, nat_eq}
+use Rattle.std.proofs.Common.{is_some, List, length, Option, Some, None, refl, sym, ◌∙◌, ap}
+use Rattle.std.proofs.Common.{arith, ◌≤◌, ◌++◌, take, drop, length-drop, length-append}
 use Rattle.std.specs.List.{slice_get}
 use Rattle.std.specs.Option.{option_and_then}
 use Rattle.std.proofs.lemmas.Option.{slice_get_within, same_Some}
@@ -9,9 +9,9 @@ use Rattle.std.proofs.lemmas.List.{length-take, length-take-le}
 use Rattle.model.specs.declared.records.Page.{Page}
 use Rattle.model.specs.declared.records.PageState.{PageState}
 use Rattle.model.specs.declared.records.PageState.TheVariants.{Unused, Open, Closed, From, Gone}
-use Rattle.model.specs.Stores.{StoreState, page_at, frame_in, state_at, state_in, has_memory, is_open, is_unused}
-use Rattle.model.specs.Stores.{word_at, word_in, spot_of, at_offset, words_at, with_words, changed_in, changed_frame}
-use Rattle.model.specs.Stores.{overlaid}
+use Rattle.model.specs.Stores.{StoreState, page_at, frame_in, state_at, state_in, has_memory}
+use Rattle.model.specs.Stores.{is_open, is_unused, word_at, word_in, spot_of, at_offset}
+use Rattle.model.specs.Stores.{words_at, with_words, changed_in, changed_frame, overlaid}
 use Rattle.model.specs.Owning.{IsStore}
 use Rattle.model.proofs.Lists.{get_set_same, get_set_other, get_within}
 

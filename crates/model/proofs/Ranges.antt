@@ -1,6 +1,6 @@
 -- A configuration without a fault is in range.
-use Rattle.std.proofs.Common.{◌≡◌, ℕ, ◌≤◌, ◌==◌, ◌||◌, Bool, true, false, cond, Option, Some, None, nat_lt, refl, sym}
-use Rattle.std.proofs.Common.{arith, rules, lit≤}
+use Rattle.std.proofs.Common.{◌≡◌, ℕ, ◌≤◌, ◌==◌, ◌||◌, Bool, true, false, cond, Option}
+use Rattle.std.proofs.Common.{Some, None, nat_lt, refl, sym, arith, rules, lit≤}
 use Rattle.std.specs.Option.{IfNone}
 use Rattle.std.proofs.lemmas.Bool.{ltb-false, or_parts, not-false, eqb-true}
 use Rattle.model.specs.declared.config.Config.{Config}
@@ -31,15 +31,9 @@ page_size_range : (n : ℕ) → is_page_size n ≡ true → InRange n
 page_size_range n =
     either n _ _ (either n _ _ (either n _ _ (either n _ _ (either n _ _ (either n _ _ (either n _ _ (either n _ _
     (at_size n 16 (lit≤ tt) (lit≤ tt)) (at_size n 32 (lit≤ tt) (lit≤ tt))) (at_size n 64 (lit≤ tt) (lit≤ tt)))
-    (at_size n 128 (lit≤ tt) (lit≤ tt)))
-    (at_size n 256
-    (lit≤ tt)
-    (lit≤ tt)))
-    (at_size n 512 (lit≤ tt) (lit≤ tt))) (at_size n 1024 (lit≤ tt) (lit≤ tt)))
-    (at_size n 2048 (lit≤ tt) (lit≤ tt)))
-    (at_size n 4096
-    (lit≤ tt)
-    (lit≤ tt))
+    (at_size n 128 (lit≤ tt) (lit≤ tt))) (at_size n 256 (lit≤ tt) (lit≤ tt)))
+    (at_size n 512 (lit≤ tt) (lit≤ tt))) (at_size n 1024 (lit≤ tt) (lit≤ tt))) (at_size n 2048 (lit≤ tt) (lit≤ tt)))
+    (at_size n 4096 (lit≤ tt) (lit≤ tt))
 
 pub in_range : (c : Config) → first_fault c ≡ None → IsRanged c
 unfolding first_fault

@@ -1,7 +1,7 @@
 -- Lists that are kept beside the records: what is found in them, and what a changed record changes in them.
-use Rattle.std.proofs.Common.{◌≡◌, ℕ, zero, suc, ◌+◌, ◌-◌, ◌<◌, ◌&&◌, Bool, true, false, not, cond, List, [], ◌∷◌, map}
-use Rattle.std.proofs.Common.{length, set, replicate, position, nat_le, nat_lt, Option, Some, None, is_none, refl, ◌∙◌}
-use Rattle.std.proofs.Common.{ap, arith}
+use Rattle.std.proofs.Common.{◌≡◌, ℕ, zero, suc, ◌+◌, ◌-◌, ◌<◌, ◌&&◌, Bool, true, false, not}
+use Rattle.std.proofs.Common.{cond, List, [], ◌∷◌, map, length, set, replicate, position}
+use Rattle.std.proofs.Common.{nat_le, nat_lt, Option, Some, None, is_none, refl, ◌∙◌, ap, arith}
 use Rattle.std.specs.List.{slice_get, position_or_len}
 use Rattle.std.proofs.lemmas.Bool.Decides.{nat_tests}
 use Rattle.model.specs.declared.records.Page.{Page}

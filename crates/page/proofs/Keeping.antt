@@ -1,7 +1,7 @@
 -- What is done to a store keeps its invariant.
-use Rattle.std.proofs.Common.{◌≡◌, ◌≢◌, ◌⊎◌, inl, inr, ℕ, zero, ◌+◌, ◌*◌, ◌-◌, ◌<◌, ◌≤◌, true, false, ◌||◌, List, take}
-use Rattle.std.proofs.Common.{drop, length, length-drop, Option, Some, None, is_some, is_none, replicate, set}
-use Rattle.std.proofs.Common.{count_by, cond, position, ne_eqb, nat_lt, refl, sym, ◌∙◌, ap, arith, rules}
+use Rattle.std.proofs.Common.{◌≡◌, ◌≢◌, ◌⊎◌, inl, inr, ℕ, zero, ◌+◌, ◌*◌, ◌-◌, ◌<◌, ◌≤◌, true, false, ◌||◌, List}
+use Rattle.std.proofs.Common.{take, drop, length, length-drop, Option, Some, None, is_some, is_none, replicate}
+use Rattle.std.proofs.Common.{set, count_by, cond, position, ne_eqb, nat_lt, refl, sym, ◌∙◌, ap, arith, rules}
 use Rattle.std.specs.List.{slice_get}
 use Rattle.std.specs.Prelude.{IsSome}
 use Rattle.std.proofs.Math.ListN.{length-set, length-replicate}
@@ -12,13 +12,13 @@ use Rattle.std.proofs.lemmas.Bool.{cases_eq, false≢true}
 use Rattle.model.specs.declared.records.Page.{Page}
 use Rattle.model.specs.declared.records.PageState.{PageState}
 use Rattle.model.specs.declared.records.PageState.TheVariants.{Unused, Open, Closed, From, Gone}
-use Rattle.model.specs.Stores.{StoreState, has_memory, is_protected, is_open, is_unused, page_at, state_in, frame_in}
-use Rattle.model.specs.Stores.{record_count, fresh_page, opened, first_store, blank_page, unused_page, unused_in}
-use Rattle.model.specs.Stores.{given, buffer_of, with_words, top_in, words_at}
+use Rattle.model.specs.Stores.{StoreState, has_memory, is_protected, is_open, is_unused, page_at, state_in}
+use Rattle.model.specs.Stores.{frame_in, record_count, fresh_page, opened, first_store, blank_page}
+use Rattle.model.specs.Stores.{unused_page, unused_in, given, buffer_of, with_words, top_in, words_at}
 use Rattle.model.specs.Owning.{IsPage, IsStore}
-use Rattle.model.proofs.Lists.{get_set, get_set_same, get_set_other, each_set, each_replicate, get_replicate}
-use Rattle.model.proofs.Lists.{count_set, count_replicate, position_none, length_counted, get_within, as_number}
-use Rattle.model.proofs.Lists.{no_some}
+use Rattle.model.proofs.Lists.{get_set, get_set_same, get_set_other, each_set}
+use Rattle.model.proofs.Lists.{each_replicate, get_replicate, count_set, count_replicate}
+use Rattle.model.proofs.Lists.{position_none, length_counted, get_within, as_number, no_some}
 use Rattle.model.proofs.Memory.{unused_state}
 use Rattle.page.specs.Records.{is_unused_in}
 
@@ -89,8 +89,9 @@ raise_keeps s i p top h e le =
     owned j f x b (inr a) = h.owning.owned j f x a.1 b
 
     owner : (f n : ℕ) → slice_get s.owners f ≡ Some (Some n)
-        → (j : ℕ) × (x : Page) × (n ≡ j + 1) × (slice_get s.pages j ≡ Some x) × (x.frame ≡ Some f) → (j : ℕ) × (x :
-        Page) × (n ≡ j + 1) × (slice_get (set s.pages i (record p { top = top })) j ≡ Some x) × (x.frame ≡ Some f)
+        → (j : ℕ) × (x : Page) × (n ≡ j + 1) × (slice_get s.pages j ≡ Some x) × (x.frame ≡ Some f)
+        → (j : ℕ) × (x : Page) × (n ≡ j + 1) × (slice_get (set s.pages i (record p { top = top })) j ≡ Some x)
+        × (x.frame ≡ Some f)
     owner f n a (j, x, b, c, d) = by_place (cases_eq j i)
       where
         by_place : (j ≡ i) ⊎ (j ≢ i) → (j : ℕ) × (x : Page) × (n ≡ j + 1)
@@ -151,8 +152,9 @@ open_keeps s i f p h e u g =
         let other : k ≢ f = λ z. none_or_some (sym g ∙ ap (slice_get s.owners) (sym z) ∙ before) in
         get_set_other s.owners f k (Some (i + 1)) other ∙ before
 
-    owner : (k n : ℕ) → ((k ≡ f) × (Some (i + 1) ≡ Some n)) ⊎ ((k ≢ f) × (slice_get s.owners k ≡ Some (Some n))) → (j :
-        ℕ) × (x : Page) × (n ≡ j + 1) × (slice_get (set s.pages i (fresh_page f)) j ≡ Some x) × (x.frame ≡ Some k)
+    owner : (k n : ℕ) → ((k ≡ f) × (Some (i + 1) ≡ Some n)) ⊎ ((k ≢ f) × (slice_get s.owners k ≡ Some (Some n)))
+        → (j : ℕ) × (x : Page) × (n ≡ j + 1) × (slice_get (set s.pages i (fresh_page f)) j ≡ Some x)
+        × (x.frame ≡ Some k)
     owner k n (inl a) =
         (i, fresh_page f, sym (same_Some _ _ a.1), get_set_same s.pages i p (fresh_page f) e, ap Some (sym a.0))
     owner k n (inr a) = moved k n (h.owning.owner k n a.1)
@@ -291,8 +293,8 @@ top_there pages i n words p e h = rw e at h
 
 -- a page opened on a frame whose words were made zero
 pub opened_with : (s : StoreState) (i f : ℕ) (ws : List ℕ) → IsStore s → i < length s.pages
-    → is_unused_in (slice_get s.pages i) ≡ true → slice_get s.owners f ≡ Some None → ws ≡ replicate s.words 0 →
-    IsStore (record s {
+    → is_unused_in (slice_get s.pages i) ≡ true → slice_get s.owners f ≡ Some None → ws ≡ replicate s.words 0
+    → IsStore (record s {
       pages = set s.pages i (fresh_page f);
       frames = set s.frames f ws;
       owners = set s.owners f (Some (i + 1));
@@ -301,8 +303,7 @@ unfolding opened
 opened_with s i f ws h within u g e = rw e (open_inside s i f h within u g)
 
 pub opened_as : (s : StoreState) (i f : ℕ) (ws : List ℕ) → ws ≡ replicate s.words 0 → record s {
-  pages =
-      set s.pages i (fresh_page f);
+  pages = set s.pages i (fresh_page f);
   frames = set s.frames f ws;
   owners = set s.owners f (Some (i + 1));
 } ≡ opened s i f
@@ -353,10 +354,9 @@ some_is (Some x) f e = search rules
 
 -- the parts of the store that there is at first
 pub first_inside : (words frames pages : ℕ) (ps : List Page) (fs : List (List ℕ)) (os : List (Option ℕ)) → 0 < words
-    → words ≤ 4096 → frames ≤ 4096 → pages ≤ 65535 →
-    ps ≡ replicate (record_count frames pages) blank_page → fs ≡ replicate frames (replicate words 0)
-    → os ≡ replicate frames None →
-    IsStore (record { words = words; count = pages; pages = ps; frames = fs; owners = os })
+    → words ≤ 4096 → frames ≤ 4096 → pages ≤ 65535 → ps ≡ replicate (record_count frames pages) blank_page
+    → fs ≡ replicate frames (replicate words 0) → os ≡ replicate frames None
+    → IsStore (record { words = words; count = pages; pages = ps; frames = fs; owners = os })
 unfolding first_store
 first_inside words frames pages ps fs os low high frames_high pages_high p f o =
     rw (p, f, o) (first_is_store words frames pages low high frames_high pages_high)

@@ -13,9 +13,9 @@ use Rattle.model.specs.declared.records.Page.{Page}
 use Rattle.model.specs.declared.records.Room.{Room}
 use Rattle.model.specs.declared.records.Room.TheVariants.{NoFrames, NoPages}
 use Rattle.model.specs.declared.records.Buffer.{Buffer}
-use Rattle.model.specs.Stores.{StoreState, is_open, is_unused, state_in, opened, given, buffer_of, Takes, with_words}
-use Rattle.model.specs.Stores.{with_word, fresh_page, frame_in, page_at, taken, page_with_room, free_frame}
-use Rattle.model.specs.Stores.{unused_page, record_count}
+use Rattle.model.specs.Stores.{StoreState, is_open, is_unused, state_in, opened, given, buffer_of}
+use Rattle.model.specs.Stores.{Takes, with_words, with_word, fresh_page, frame_in, page_at, taken}
+use Rattle.model.specs.Stores.{page_with_room, free_frame, unused_page, record_count}
 use Rattle.model.specs.Owning.{IsStore, LiesIn, TakesWell}
 use Rattle.model.proofs.Lists.{get_set_same, get_set_other, get_within}
 use Rattle.page.proofs.Found.{position_within, room_left, free_counts, free_within, room_within, room_passes}
@@ -74,9 +74,9 @@ given_lies s i n p e o room =
 
 given_stays : (s : StoreState) (i n : ℕ) (p : Page) (c : Buffer) → slice_get s.pages i ≡ Some p
     → is_open p.state ≡ true → LiesIn s c → LiesIn (given s i n).0 c
-given_stays s i n p c e o h =
-    rw (given_at s i n p e) (lies_set s (record s { pages = set s.pages i (record p { top = p.top + n }) }) i p
-    (record p { top = p.top + n }) c refl refl e o h)
+given_stays s i n p c e o h = rw (given_at s i n p e) (lies_set s (record s {
+  pages = set s.pages i (record p { top = p.top + n });
+}) i p (record p { top = p.top + n }) c refl refl e o h)
 
 opened_stays : (s : StoreState) (i f : ℕ) (p : Page) (c : Buffer) → slice_get s.pages i ≡ Some p → LiesIn s c
     → LiesIn (opened s i f) c

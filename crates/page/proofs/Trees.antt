@@ -1,12 +1,12 @@
 -- Trees in a list: the way from the root to a leaf, and what a list's leaves are.
-use Rattle.std.proofs.Common.{◌≡◌, ◌≢◌, ◌⊎◌, inl, inr, ℕ, zero, suc, ◌+◌, ◌-◌, ◌*◌, ◌/◌, ◌^◌, ◌<◌, ◌≤◌, max, List}
-use Rattle.std.proofs.Common.{length, length-append, take, drop, set, replicate, ◌++◌, [], ◌∷◌, get_or, position}
-use Rattle.std.proofs.Common.{nat_le, Some, None, refl, sym, ◌∙◌, ap, subst, arith}
+use Rattle.std.proofs.Common.{◌≡◌, ◌≢◌, ◌⊎◌, inl, inr, ℕ, zero, suc, ◌+◌, ◌-◌, ◌*◌, ◌/◌, ◌^◌, ◌<◌, ◌≤◌}
+use Rattle.std.proofs.Common.{max, List, length, length-append, take, drop, set, replicate, ◌++◌, [], ◌∷◌}
+use Rattle.std.proofs.Common.{get_or, position, nat_le, Some, None, refl, sym, ◌∙◌, ap, subst, arith}
 use Rattle.std.specs.List.{position_or_len}
 use Rattle.std.proofs.Math.Nat.{le-max_left, le-max_right, one-le-pow, pow-succ', pow-le-pow_right}
 use Rattle.std.proofs.Math.Seq.{take-set-lt}
-use Rattle.std.proofs.lemmas.List.{get_or-set_other, get_or-drop, get_or-take, length-take, length-take-le}
-use Rattle.std.proofs.lemmas.List.{length-replicate, length-drop, drop-set-add}
+use Rattle.std.proofs.lemmas.List.{get_or-set_other, get_or-drop, get_or-take, length-take}
+use Rattle.std.proofs.lemmas.List.{length-take-le, length-replicate, length-drop, drop-set-add}
 use Rattle.std.proofs.lemmas.List.Sums.{position_or_len_is}
 use Rattle.std.proofs.lemmas.Bool.Decides.{nat_tests}
 use Rattle.std.proofs.lemmas.Bool.{cases_eq, le-leb, lt-leb, cases_lt}

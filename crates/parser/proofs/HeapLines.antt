@@ -1,6 +1,6 @@
 -- The heap line and the layout lines: what is read is written so, and what is written so is read.
-use Rattle.std.proofs.Common.{◌≡◌, ℕ, ◌+◌, ◌^◌, ◌<◌, ◌≤◌, Bool, true, false, cond, nat_lt, List, [], ◌∷◌, ◌++◌, Option}
-use Rattle.std.proofs.Common.{Some, None, refl, sym, ap, subst, ◌∙◌, arith, inl, inr, lit<, lit≤, append-nil}
+use Rattle.std.proofs.Common.{◌≡◌, ℕ, ◌+◌, ◌^◌, ◌<◌, ◌≤◌, Bool, true, false, cond, nat_lt, List, [], ◌∷◌, ◌++◌}
+use Rattle.std.proofs.Common.{Option, Some, None, refl, sym, ap, subst, ◌∙◌, arith, inl, inr, lit<, lit≤, append-nil}
 use Rattle.std.specs.Prelude.{Ok, not, codes, ◌⊎◌}
 use Rattle.std.specs.Str.{bytes_eq}
 use Rattle.std.specs.Fmt.{decimal}
@@ -13,12 +13,12 @@ use Rattle.parser.specs.declared.fault.FaultKind.TheVariants as kinds
 use Rattle.parser.specs.declared.heading.Sizes.{Sizes}
 use Rattle.parser.specs.declared.heading.TheConstants.{MOST_FRAMES, MOST_PAGES, MOST_THREADS}
 use Rattle.parser.specs.Words.{word_at, fixed_at, number_at, end_at}
-use Rattle.parser.specs.Headings.{config_of, field_at, page_size_at, limit_in, limit_at, memory_at, actors_at}
-use Rattle.parser.specs.Headings.{limits_at, heap_in, layout_in}
+use Rattle.parser.specs.Headings.{config_of, field_at, page_size_at, limit_in, limit_at}
+use Rattle.parser.specs.Headings.{memory_at, actors_at, limits_at, heap_in, layout_in}
 use Rattle.parser.specs.Spelling.{size_words, SpellsLimit, IsLayout}
 use Rattle.parser.proofs.Places.{words_from, word_is, found_word, Reads}
-use Rattle.parser.proofs.Pieces.{bind_ok, guard_ok, ok_is, fixed_ok, fixed_again, number_ok, number_again, end_ok}
-use Rattle.parser.proofs.Pieces.{end_again}
+use Rattle.parser.proofs.Pieces.{bind_ok, guard_ok, ok_is, fixed_ok, fixed_again}
+use Rattle.parser.proofs.Pieces.{number_ok, number_again, end_ok, end_again}
 
 -- a number from low to high stands behind its name
 record IsFieldAt (line : List ℕ) (at : ℕ) (name : List ℕ) (low high : ℕ) (v : ℕ × ℕ) : Type 0 where
@@ -198,8 +198,8 @@ second x name1 word1 name2 word2 y z p q = p ∙ two name1 word1 y (name2 ∷ wo
 
 -- three of them
 third : (x : List (List ℕ)) (name1 word1 name2 word2 name3 word3 : List ℕ) (y z t : List (List ℕ))
-    → x ≡ name1 ∷ word1 ∷ y → y ≡ name2 ∷ word2 ∷ z → z ≡ name3 ∷ word3 ∷ t →
-    x ≡ name1 ∷ word1 ∷ name2 ∷ word2 ∷ name3 ∷ word3 ∷ t
+    → x ≡ name1 ∷ word1 ∷ y → y ≡ name2 ∷ word2 ∷ z → z ≡ name3 ∷ word3 ∷ t
+    → x ≡ name1 ∷ word1 ∷ name2 ∷ word2 ∷ name3 ∷ word3 ∷ t
 third x name1 word1 name2 word2 name3 word3 y z t p q r =
     p ∙ two name1 word1 y (name2 ∷ word2 ∷ name3 ∷ word3 ∷ t) (second y name2 word2 name3 word3 z t q r)
 
@@ -222,8 +222,8 @@ memory_ok line at v h =
     let frames = field_ok line w.0.1 (codes "frames") 1 MOST_FRAMES f.0 (lit< tt) f.1 in
     let pages = field_ok line f.0.1 (codes "pages") f.0.0 MOST_PAGES p.0 (lit< tt) p.1 in
     subst (λ (x : (ℕ × ℕ × ℕ) × ℕ). IsMemoryAt line at x) (ok_is ((w.0.0, f.0.0, p.0.0), p.0.1) v p.2) (record {
-      spelled = third (words_from line at) (codes "words") (decimal w.0.0) (codes "frames")
-          (decimal f.0.0) (codes "pages") (decimal p.0.0) (words_from line w.0.1) (words_from line f.0.1)
+      spelled = third (words_from line at) (codes "words") (decimal w.0.0) (codes "frames") (decimal f.0.0)
+          (codes "pages") (decimal p.0.0) (words_from line w.0.1) (words_from line f.0.1)
           (words_from line p.0.1) words.spelled frames.spelled pages.spelled;
       words = words.is;
       frames = frames.above;
@@ -252,8 +252,8 @@ actors_ok line at v h =
     let workers = field_ok line t.0.1 (codes "workers") 1 16 k.0 (lit< tt) k.1 in
     let registers = field_ok line k.0.1 (codes "registers") 1 16 r.0 (lit< tt) r.1 in
     subst (λ (x : (ℕ × ℕ × ℕ) × ℕ). IsActorsAt line at x) (ok_is ((t.0.0, k.0.0, r.0.0), r.0.1) v r.2) (record {
-      spelled = third (words_from line at) (codes "threads") (decimal t.0.0) (codes "workers") (decimal k.0.0)
-          (codes "registers") (decimal r.0.0) (words_from line t.0.1) (words_from line k.0.1)
+      spelled = third (words_from line at) (codes "threads") (decimal t.0.0) (codes "workers")
+          (decimal k.0.0) (codes "registers") (decimal r.0.0) (words_from line t.0.1) (words_from line k.0.1)
           (words_from line r.0.1) threads.spelled workers.spelled registers.spelled;
       threads = threads.above;
       threads_most = threads.below;
@@ -310,8 +310,7 @@ sizes_of m a l = record {
   pages = m.0.2;
   threads = a.0.0;
   workers = a.0.1;
-  registers =
-      a.0.2;
+  registers = a.0.2;
   globals = l.0.0;
   births = l.0.1;
   history = l.0.2;
@@ -368,9 +367,9 @@ not_births : (n : ℕ) (words : List (List ℕ)) → SpellsLimit (codes "history
 not_births n words (inl e) = rw e refl
 not_births n words (inr e) = rw e.0 tt
 
-memory_again : (line : List ℕ) (at : ℕ) (s : Sizes) (ws : List (List ℕ)) → IsSizes s →
-    words_from line at ≡ codes "words" ∷ decimal s.words ∷ codes "frames" ∷ decimal s.frames ∷ codes "pages" ∷ decimal
-    s.pages ∷ ws → Reads line (memory_at line at) (s.words, s.frames, s.pages) ws
+memory_again : (line : List ℕ) (at : ℕ) (s : Sizes) (ws : List (List ℕ)) → IsSizes s → words_from line at
+    ≡ codes "words" ∷ decimal s.words ∷ codes "frames" ∷ decimal s.frames ∷ codes "pages" ∷ decimal s.pages ∷ ws
+    → Reads line (memory_at line at) (s.words, s.frames, s.pages) ws
 unfolding memory_at
 memory_again line at s ws range h =
     let w = page_size_again line at s.words
@@ -381,9 +380,9 @@ memory_again line at s ws range h =
     (omega (arith, range.pages_most)) range.pages range.pages_most f.2 in
     (p.0, rw (w.1, f.1, p.1) refl, p.2)
 
-actors_again : (line : List ℕ) (at : ℕ) (s : Sizes) (ws : List (List ℕ)) → IsSizes s →
-    words_from line at ≡ codes "threads" ∷ decimal s.threads ∷ codes "workers" ∷ decimal s.workers ∷ codes "registers"
-    ∷ decimal s.registers ∷ ws → Reads line (actors_at line at) (s.threads, s.workers, s.registers) ws
+actors_again : (line : List ℕ) (at : ℕ) (s : Sizes) (ws : List (List ℕ)) → IsSizes s → words_from line at ≡ codes
+    "threads" ∷ decimal s.threads ∷ codes "workers" ∷ decimal s.workers ∷ codes "registers" ∷ decimal s.registers ∷ ws
+    → Reads line (actors_at line at) (s.threads, s.workers, s.registers) ws
 unfolding actors_at
 actors_again line at s ws range h =
     let t = field_again line at (codes "threads") 1 MOST_THREADS s.threads
@@ -396,8 +395,8 @@ actors_again line at s ws range h =
     (r.0, rw (t.1, k.1, r.1) refl, r.2)
 
 limits_again : (line : List ℕ) (at : ℕ) (s : Sizes) (births history : List (List ℕ)) → IsSizes s
-    → SpellsLimit (codes "births") (2 ^ 32) s.births births → SpellsLimit (codes "history") 1000000 s.history history →
-    words_from line at ≡ codes "globals" ∷ decimal s.globals ∷ (births ++ history)
+    → SpellsLimit (codes "births") (2 ^ 32) s.births births → SpellsLimit (codes "history") 1000000 s.history history
+    → words_from line at ≡ codes "globals" ∷ decimal s.globals ∷ (births ++ history)
     → Reads line (limits_at line at) (s.globals, s.births, s.history) []
 unfolding limits_at
 limits_again line at s births history range birth_is history_is h =

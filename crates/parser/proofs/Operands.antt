@@ -1,6 +1,6 @@
 -- Commands: what is read is written so, and what is written so is read.
-use Rattle.std.proofs.Common.{◌≡◌, ℕ, ◌^◌, ◌<◌, Bool, true, false, cond, List, [], ◌∷◌, ◌++◌, Option, Some, refl, sym}
-use Rattle.std.proofs.Common.{ap, subst, ◌∙◌, arith, inl, inr, lit<, append-nil}
+use Rattle.std.proofs.Common.{◌≡◌, ℕ, ◌^◌, ◌<◌, Bool, true, false, cond, List, [], ◌∷◌, ◌++◌, Option}
+use Rattle.std.proofs.Common.{Some, refl, sym, ap, subst, ◌∙◌, arith, inl, inr, lit<, append-nil}
 use Rattle.std.specs.Prelude.{Result, Ok, ◌==◌, codes, ◌⊎◌}
 use Rattle.std.specs.Str.{bytes_eq}
 use Rattle.std.specs.Fmt.{decimal}
@@ -28,13 +28,13 @@ use Rattle.parser.specs.declared.keywords.Mixed.{Mixed}
 use Rattle.parser.specs.declared.keywords.Mixed.TheVariants as mixed
 use Rattle.parser.specs.Words.{or_flaw, flaw, word_or, number_at, small_at, named_at, end_at}
 use Rattle.parser.specs.Orders.{thread_keyword, register_keyword, slot_keyword, field_keyword, mixed_keyword}
-use Rattle.parser.specs.Orders.{keyword_in, register_at, slot_at, pair_at, field_at, first_byte, actor_at, bare_order}
-use Rattle.parser.specs.Orders.{slot_order, field_order, registers_at, mixed_at, operands_at, order_at}
+use Rattle.parser.specs.Orders.{keyword_in, register_at, slot_at, pair_at, field_at, first_byte, actor_at}
+use Rattle.parser.specs.Orders.{bare_order, slot_order, field_order, registers_at, mixed_at, operands_at, order_at}
 use Rattle.parser.specs.Headings.{config_of}
 use Rattle.parser.specs.Spelling.{actor_word, register_word, order_words, IsActor, IsFor, IsOrder}
 use Rattle.parser.proofs.Places.{words_from, words_whole, Reads}
-use Rattle.parser.proofs.Pieces.{bind_ok, ok_is, or_flaw_ok, word_ok, word_again, number_ok, number_again, small_ok}
-use Rattle.parser.proofs.Pieces.{small_again, named_ok, named_again, end_ok, end_again}
+use Rattle.parser.proofs.Pieces.{bind_ok, ok_is, or_flaw_ok, word_ok, word_again, number_ok, number_again}
+use Rattle.parser.proofs.Pieces.{small_ok, small_again, named_ok, named_again, end_ok, end_again}
 
 -- a register that is there is the word at a place
 record IsRegisterAt (sizes : Sizes) (line : List ℕ) (at : ℕ) (v : ℕ × ℕ) : Type 0 where
@@ -48,8 +48,7 @@ register_ok sizes line at v fits h = let n = named_ok line at 114 sizes.register
     record { spelled = n.spelled; below = n.below }
 
 register_again : (sizes : Sizes) (line : List ℕ) (at n : ℕ) (ws : List (List ℕ)) → sizes.registers < 2 ^ 64
-    → n < sizes.registers →
-    words_from line at ≡ register_word n ∷ ws → Reads line (register_at sizes line at) n ws
+    → n < sizes.registers → words_from line at ≡ register_word n ∷ ws → Reads line (register_at sizes line at) n ws
 unfolding register_at
 register_again sizes line at n ws fits below h =
     named_again line at 114 sizes.registers kinds.NoSuchRegister n ws (omega arith) below h
@@ -76,8 +75,8 @@ slot_ok sizes line at v fits h =
     })
 
 slot_again : (sizes : Sizes) (line : List ℕ) (at r n : ℕ) (ws : List (List ℕ)) → sizes.registers < 2 ^ 64
-    → r < sizes.registers → n < 2 ^ 32 →
-    words_from line at ≡ register_word r ∷ decimal n ∷ ws → Reads line (slot_at sizes line at) (r, n) ws
+    → r < sizes.registers → n < 2 ^ 32 → words_from line at ≡ register_word r ∷ decimal n ∷ ws
+    → Reads line (slot_at sizes line at) (r, n) ws
 unfolding slot_at
 slot_again sizes line at r n ws fits below small h =
     let a = register_again sizes line at r (decimal n ∷ ws) fits below h in
@@ -106,8 +105,8 @@ pair_ok sizes line at v fits h =
     })
 
 pair_again : (sizes : Sizes) (line : List ℕ) (at r n : ℕ) (ws : List (List ℕ)) → sizes.registers < 2 ^ 64
-    → r < sizes.registers → n < sizes.registers →
-    words_from line at ≡ register_word r ∷ register_word n ∷ ws → Reads line (pair_at sizes line at) (r, n) ws
+    → r < sizes.registers → n < sizes.registers → words_from line at ≡ register_word r ∷ register_word n ∷ ws
+    → Reads line (pair_at sizes line at) (r, n) ws
 unfolding pair_at
 pair_again sizes line at r n ws fits left right h =
     let a = register_again sizes line at r (register_word n ∷ ws) fits left h in
@@ -122,8 +121,7 @@ record IsFieldAt (sizes : Sizes) (line : List ℕ) (at : ℕ) (v : (ℕ × (ℕ 
   small : v.0.1.1 < 2 ^ 32
 
 field_ok : (sizes : Sizes) (line : List ℕ) (at : ℕ) (v : (ℕ × (ℕ × ℕ)) × ℕ) → sizes.registers < 2 ^ 64
-    → field_at sizes line at ≡ Ok v →
-    IsFieldAt sizes line at v
+    → field_at sizes line at ≡ Ok v → IsFieldAt sizes line at v
 unfolding field_at
 field_ok sizes line at v fits h =
     let a = bind_ok (register_at sizes line at) _ v h in
@@ -138,10 +136,9 @@ field_ok sizes line at v fits h =
       small = s.small;
     })
 
-field_again : (sizes : Sizes) (line : List ℕ) (at target object n : ℕ) (ws : List (List ℕ)) → sizes.registers < 2 ^ 64
-    → target < sizes.registers →
-    object < sizes.registers → n < 2 ^ 32 →
-    words_from line at ≡ register_word target ∷ register_word object ∷ decimal n ∷ ws
+field_again : (sizes : Sizes) (line : List ℕ) (at target object n : ℕ) (ws : List (List ℕ))
+    → sizes.registers < 2 ^ 64 → target < sizes.registers → object < sizes.registers
+    → n < 2 ^ 32 → words_from line at ≡ register_word target ∷ register_word object ∷ decimal n ∷ ws
     → Reads line (field_at sizes line at) (target, (object, n)) ws
 unfolding field_at
 field_again sizes line at target object n ws fits below there small h =
@@ -277,16 +274,14 @@ slot_order_ok sizes line at of_slot.GetGlobal s h =
     record { keyword = refl; spelled = h.spelled; fits = (h.below, h.small) }
 
 field_order_ok : (sizes : Sizes) (line : List ℕ) (at : ℕ) (k : OfField) (f : (ℕ × (ℕ × ℕ)) × ℕ)
-    → IsFieldAt sizes line at f →
-    IsOrderAt sizes line at (keywords.Field k) (field_order k f.0.0 f.0.1.0 f.0.1.1, f.1)
+    → IsFieldAt sizes line at f → IsOrderAt sizes line at (keywords.Field k) (field_order k f.0.0 f.0.1.0 f.0.1.1, f.1)
 field_order_ok sizes line at of_field.Load f h =
     record { keyword = refl; spelled = h.spelled; fits = ((h.target, h.object), h.small) }
 field_order_ok sizes line at of_field.Get f h =
     record { keyword = refl; spelled = h.spelled; fits = ((h.target, h.object), h.small) }
 
 registers_ok : (sizes : Sizes) (line : List ℕ) (at : ℕ) (k : OfRegisters) (v : Order × ℕ) → sizes.registers < 2 ^ 64
-    → registers_at sizes line at k ≡ Ok v →
-    IsOrderAt sizes line at (keywords.Registers k) v
+    → registers_at sizes line at k ≡ Ok v → IsOrderAt sizes line at (keywords.Registers k) v
 unfolding registers_at
 registers_ok sizes line at of_registers.Same v fits h =
     let a = bind_ok (pair_at sizes line at) _ v h in
@@ -323,16 +318,13 @@ registers_ok sizes line at of_registers.Scrub v fits h =
     (ok_is (orders.Scrub a.0.0, a.0.1) v a.2) (record { keyword = refl; spelled = r.spelled; fits = r.below })
 
 mixed_ok : (sizes : Sizes) (line : List ℕ) (at : ℕ) (k : Mixed) (v : Order × ℕ) → sizes.registers < 2 ^ 64
-    → mixed_at sizes line at k ≡ Ok v →
-    IsOrderAt sizes line at (keywords.Mixed k) v
+    → mixed_at sizes line at k ≡ Ok v → IsOrderAt sizes line at (keywords.Mixed k) v
 unfolding mixed_at
 mixed_ok sizes line at mixed.Take v fits h =
     let a = bind_ok (small_at line at) _ v h in
     let n = small_ok line at a.0 a.1 in
-    subst (λ (x : Order × ℕ). IsOrderAt sizes line at (keywords.Mixed mixed.Take) x) (ok_is (
-      orders.Take a.0.0,
-      a.0.1,
-    ) v a.2) (record { keyword = refl; spelled = n.spelled; fits = omega (arith, n.below) })
+    subst (λ (x : Order × ℕ). IsOrderAt sizes line at (keywords.Mixed mixed.Take) x) (ok_is (orders.Take a.0.0, a.0.1)
+    v a.2) (record { keyword = refl; spelled = n.spelled; fits = omega (arith, n.below) })
 mixed_ok sizes line at mixed.Set v fits h =
     let a = bind_ok (slot_at sizes line at) _ v h in
     let s = slot_ok sizes line at a.0 fits a.1 in
@@ -371,8 +363,7 @@ mixed_ok sizes line at mixed.StoreGlobal v fits h =
     })
 
 operands_ok : (sizes : Sizes) (line : List ℕ) (at : ℕ) (k : Keyword) (v : Order × ℕ) → sizes.registers < 2 ^ 64
-    → operands_at sizes line at k ≡ Ok v →
-    IsOrderAt sizes line at k v
+    → operands_at sizes line at k ≡ Ok v → IsOrderAt sizes line at k v
 unfolding operands_at
 operands_ok sizes line at (keywords.Bare k) v fits h =
     subst (λ (x : Order × ℕ). IsOrderAt sizes line at (keywords.Bare k) x) (ok_is (bare_order k, at) v h)
@@ -390,9 +381,9 @@ operands_ok sizes line at (keywords.Field k) v fits h =
     (ok_is (field_order k a.0.0.0 a.0.0.1.0 a.0.0.1.1, a.0.1) v a.2) f
 operands_ok sizes line at (keywords.Mixed k) v fits h = mixed_ok sizes line at k v fits h
 
-operands_again : (sizes : Sizes) (line : List ℕ) (at : ℕ) (o : Order) (ws : List (List ℕ)) → sizes.registers < 2 ^ 64
-    → IsOrder sizes.registers o →
-    words_from line at ≡ operand_words o ++ ws → Reads line (operands_at sizes line at (keyword_of o)) o ws
+operands_again : (sizes : Sizes) (line : List ℕ) (at : ℕ) (o : Order) (ws : List (List ℕ))
+    → sizes.registers < 2 ^ 64 → IsOrder sizes.registers o → words_from line at ≡ operand_words o ++ ws
+    → Reads line (operands_at sizes line at (keyword_of o)) o ws
 unfolding operands_at registers_at mixed_at
 operands_again sizes line at (orders.Take n) ws fits is h =
     let a = small_again line at n ws is h in (a.0, rw a.1 refl, a.2)
@@ -440,8 +431,7 @@ operands_again sizes line at (orders.GetGlobal target global) ws fits is h =
 
 -- one test of a keyword: the word is its text, or a later test tells
 key_ok : (w text : List ℕ) (this k : Keyword) (rest : Option Keyword)
-    → cond (bytes_eq w text) (Some this) rest ≡ Some k →
-    ((w ≡ text) × (this ≡ k)) ⊎ (rest ≡ Some k)
+    → cond (bytes_eq w text) (Some this) rest ≡ Some k → ((w ≡ text) × (this ≡ k)) ⊎ (rest ≡ Some k)
 key_ok w text this k rest h = chosen (bytes_eq w text) (bytes_eq-Decides w text).0 h
   where
     chosen : (b : Bool) → (b ≡ true → w ≡ text) → cond b (Some this) rest ≡ Some k
@@ -455,8 +445,7 @@ named_by w text this k e p = p.0 ∙ sym e ∙ ap keyword_text p.1
 
 -- a word is the text of the keyword that this test or a later one tells
 key_or : (w text : List ℕ) (this k : Keyword) (rest : Option Keyword) → keyword_text this ≡ text
-    → (rest ≡ Some k → w ≡ keyword_text k) →
-    cond (bytes_eq w text) (Some this) rest ≡ Some k → w ≡ keyword_text k
+    → (rest ≡ Some k → w ≡ keyword_text k) → cond (bytes_eq w text) (Some this) rest ≡ Some k → w ≡ keyword_text k
 key_or w text this k rest e later h =
     elim (key_ok w text this k rest h) [ inl p ↦ named_by w text this k e p | inr next ↦ later next ]
 
@@ -540,8 +529,7 @@ actor_keyword (Worker t) w k o h = absurd cc
 
 -- an order's name, its operands, and no more words
 whole_order : (x : List (List ℕ)) (w text : List ℕ) (y rest operands : List (List ℕ)) → x ≡ w ∷ y → w ≡ text
-    → y ≡ operands ++ rest → rest ≡ [] →
-    x ≡ text ∷ operands
+    → y ≡ operands ++ rest → rest ≡ [] → x ≡ text ∷ operands
 whole_order x w text y rest operands p q r s =
     p ∙ ap (λ (t : List ℕ). t ∷ y) q
     ∙ ap (λ (t : List (List ℕ)). text ∷ t) (r ∙ ap (λ (t : List (List ℕ)). operands ++ t) s ∙ append-nil operands)
@@ -553,8 +541,7 @@ pub record IsOrderFrom (sizes : Sizes) (line : List ℕ) (actor : Actor) (at : �
   pub fits : IsOrder sizes.registers o
 
 pub order_ok : (sizes : Sizes) (line : List ℕ) (actor : Actor) (at : ℕ) (o : Order) → sizes.registers < 2 ^ 64
-    → order_at sizes line actor at ≡ Ok o →
-    IsOrderFrom sizes line actor at o
+    → order_at sizes line actor at ≡ Ok o → IsOrderFrom sizes line actor at o
 unfolding order_at
 order_ok sizes line actor at o fits h =
     let w = bind_ok (word_or line at kinds.UnknownWord) _ o h in
@@ -580,8 +567,8 @@ in_keyword (Thread t) o k own = keyword_again k
 in_keyword (Worker t) o k own = absurd own
 
 pub order_again : (sizes : Sizes) (line : List ℕ) (actor : Actor) (at : ℕ) (o : Order) → sizes.registers < 2 ^ 64
-    → IsFor actor o → IsOrder sizes.registers o →
-    words_from line at ≡ order_words o → order_at sizes line actor at ≡ Ok o
+    → IsFor actor o → IsOrder sizes.registers o → words_from line at ≡ order_words o
+    → order_at sizes line actor at ≡ Ok o
 unfolding order_at
 order_again sizes line actor at o fits own is h =
     let w = word_again line at kinds.UnknownWord (keyword_text (keyword_of o)) (operand_words o) (h ∙ words_are o) in
@@ -637,8 +624,7 @@ first_is : (line : List ℕ) (b : ℕ) (w : List ℕ) (ws : List (List ℕ)) →
 first_is line b w ws h = ap first_byte (line_is line ((b ∷ w) ∷ ws) h) ∙ first_joined b w ws
 
 pub actor_again : (sizes : Sizes) (line : List ℕ) (a : Actor) (ws : List (List ℕ)) → AreFew sizes
-    → IsActor (config_of sizes []) a →
-    words_from line 0 ≡ actor_word a ∷ ws → Reads line (actor_at sizes line) a ws
+    → IsActor (config_of sizes []) a → words_from line 0 ≡ actor_word a ∷ ws → Reads line (actor_at sizes line) a ws
 unfolding actor_at
 actor_again sizes line (Thread t) ws few there h =
     let test : (first_byte line == 119) ≡ false = rw (first_is line 116 (decimal t) ws h) refl in

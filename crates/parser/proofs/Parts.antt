@@ -1,6 +1,6 @@
 -- Parts of a script: the lines that say them, and the commands that they stand for.
-use Rattle.std.proofs.Common.{◌≡◌, ℕ, zero, suc, ◌+◌, ◌*◌, ◌≤◌, List, [], ◌∷◌, ◌++◌, length, Option, Some, None, refl}
-use Rattle.std.proofs.Common.{sym, ap, ◌∙◌, arith, append-nil, append_assoc, length-append}
+use Rattle.std.proofs.Common.{◌≡◌, ℕ, zero, suc, ◌+◌, ◌*◌, ◌≤◌, List, [], ◌∷◌, ◌++◌, length, Option, Some}
+use Rattle.std.proofs.Common.{None, refl, sym, ap, ◌∙◌, arith, append-nil, append_assoc, length-append}
 use Rattle.std.specs.Prelude.{codes, map}
 use Rattle.std.specs.List.{AllByRecursion, flat_map, repeat}
 use Rattle.std.proofs.lemmas.List.{map-append}
@@ -38,26 +38,25 @@ one_more parts c line is =
     ) refl
 
 -- a command outside a block
-pub say_one : (front : List (List ℕ)) (parts : List Part) (c : Command) (said : List (List ℕ)) (line : List ℕ)
-    (o : Option ℕ) (body : List Command) → o ≡ None →
-    line ≡ command_line_of c →
-    said ≡ front ++ (flat_map part_lines parts ++ open_lines o body) →
-    said ++ line ∷ [] ≡ front ++ (flat_map part_lines (parts ++ One c ∷ []) ++ open_lines o body)
+pub say_one : (front : List (List ℕ))
+    (parts : List Part) (c : Command) (said : List (List ℕ)) (line : List ℕ) (o : Option ℕ) (body : List Command)
+    → o ≡ None → line ≡ command_line_of c → said ≡ front ++ (flat_map part_lines parts ++ open_lines o body)
+    → said ++ line ∷ [] ≡ front ++ (flat_map part_lines (parts ++ One c ∷ []) ++ open_lines o body)
 say_one front parts c said line o body none is h =
     behind_front front (flat_map part_lines parts ++ open_lines o body) said
     (flat_map part_lines (parts ++ One c ∷ []) ++ open_lines o body) line h (rw none (one_more parts c line is))
 
 inside_more : (lines : List (List ℕ)) (turns : ℕ) (body : List Command) (c : Command) (line : List ℕ)
-    → line ≡ command_line_of c →
-    (lines ++ open_lines (Some turns) body) ++ line ∷ [] ≡ lines ++ open_lines (Some turns) (body ++ c ∷ [])
+    → line ≡ command_line_of c
+    → (lines ++ open_lines (Some turns) body) ++ line ∷ [] ≡ lines ++ open_lines (Some turns) (body ++ c ∷ [])
 inside_more lines turns body c line is =
     append_assoc lines (times_line_of turns ∷ map command_line_of body) (line ∷ [])
     ∙ rw (is, map-append command_line_of body (c ∷ [])) refl
 
 -- a command in a block
-pub say_inside : (front : List (List ℕ)) (parts : List Part) (turns : ℕ) (c : Command) (said : List (List ℕ))
-    (line : List ℕ) (o : Option ℕ) (body : List Command) → o ≡ Some turns → line ≡ command_line_of c →
-    said ≡ front ++ (flat_map part_lines parts ++ open_lines o body)
+pub say_inside : (front : List (List ℕ)) (parts : List Part)
+    (turns : ℕ) (c : Command) (said : List (List ℕ)) (line : List ℕ) (o : Option ℕ) (body : List Command)
+    → o ≡ Some turns → line ≡ command_line_of c → said ≡ front ++ (flat_map part_lines parts ++ open_lines o body)
     → said ++ line ∷ [] ≡ front ++ (flat_map part_lines parts ++ open_lines o (body ++ c ∷ []))
 say_inside front parts turns c said line o body some is h =
     behind_front front (flat_map part_lines parts ++ open_lines o body) said (flat_map part_lines parts ++ open_lines o
@@ -68,17 +67,16 @@ begin_more : (lines : List (List ℕ)) (turns : ℕ) (line : List ℕ) → line 
 begin_more lines turns line is = rw (append-nil lines, is) refl
 
 -- a block begins
-pub say_times : (front : List (List ℕ)) (parts : List Part) (turns : ℕ) (said : List (List ℕ)) (line : List ℕ)
-    (o : Option ℕ) (body : List Command) → o ≡ None →
-    line ≡ times_line_of turns →
-    said ≡ front ++ (flat_map part_lines parts ++ open_lines o body)
+pub say_times : (front : List (List ℕ))
+    (parts : List Part) (turns : ℕ) (said : List (List ℕ)) (line : List ℕ) (o : Option ℕ) (body : List Command)
+    → o ≡ None → line ≡ times_line_of turns → said ≡ front ++ (flat_map part_lines parts ++ open_lines o body)
     → said ++ line ∷ [] ≡ front ++ (flat_map part_lines parts ++ open_lines (Some turns) [])
 say_times front parts turns said line o body none is h =
     behind_front front (flat_map part_lines parts ++ open_lines o body) said (flat_map part_lines parts ++ open_lines
     (Some turns) []) line h (rw none (begin_more (flat_map part_lines parts) turns line is))
 
-end_more : (parts : List Part) (turns : ℕ) (body : List Command) (line : List ℕ) → line ≡ codes "end" →
-    (flat_map part_lines parts ++ open_lines (Some turns) body) ++ line ∷ [] ≡ flat_map part_lines
+end_more : (parts : List Part) (turns : ℕ) (body : List Command) (line : List ℕ) → line ≡ codes "end"
+    → (flat_map part_lines parts ++ open_lines (Some turns) body) ++ line ∷ [] ≡ flat_map part_lines
     (parts ++ Times turns body ∷ []) ++ []
 end_more parts turns body line is =
     append_assoc (flat_map part_lines parts) (times_line_of turns ∷ map command_line_of body) (line ∷ [])
@@ -90,11 +88,10 @@ end_more parts turns body line is =
     ) refl
 
 -- a block ends
-pub say_end : (front : List (List ℕ)) (parts : List Part) (turns : ℕ) (said : List (List ℕ)) (line : List ℕ)
-    (o : Option ℕ) (body : List Command) →
-    o ≡ Some turns → line ≡ codes "end" →
-    said ≡ front ++ (flat_map part_lines parts ++ open_lines o body) →
-    said ++ line ∷ [] ≡ front ++ (flat_map part_lines (parts ++ Times turns body ∷ []) ++ open_lines None [])
+pub say_end : (front : List (List ℕ))
+    (parts : List Part) (turns : ℕ) (said : List (List ℕ)) (line : List ℕ) (o : Option ℕ) (body : List Command)
+    → o ≡ Some turns → line ≡ codes "end" → said ≡ front ++ (flat_map part_lines parts ++ open_lines o body)
+    → said ++ line ∷ [] ≡ front ++ (flat_map part_lines (parts ++ Times turns body ∷ []) ++ open_lines None [])
 say_end front parts turns said line o body some is h =
     behind_front front (flat_map part_lines parts ++ open_lines o body) said (flat_map part_lines
     (parts ++ Times turns body ∷ []) ++ open_lines None []) line h (rw some (end_more parts turns body line is))

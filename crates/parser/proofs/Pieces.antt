@@ -1,6 +1,6 @@
 -- Words, numbers and names at a place: what is read there is written so, and what is written so is read.
-use Rattle.std.proofs.Common.{◌≡◌, ℕ, ◌-◌, ◌^◌, ◌<◌, ◌≤◌, Bool, true, false, cond, nat_lt, List, [], ◌∷◌, length}
-use Rattle.std.proofs.Common.{Option, Some, None, refl, sym, ap, subst, ◌∙◌, arith, lit<}
+use Rattle.std.proofs.Common.{◌≡◌, ℕ, ◌-◌, ◌^◌, ◌<◌, ◌≤◌, Bool, true, false, cond, nat_lt, List, []}
+use Rattle.std.proofs.Common.{◌∷◌, length, Option, Some, None, refl, sym, ap, subst, ◌∙◌, arith, lit<}
 use Rattle.std.specs.Prelude.{Result, Ok, Err, ◌==◌, ◌||◌, not, nat_le}
 use Rattle.std.specs.Str.{bytes_eq}
 use Rattle.std.specs.Fmt.{decimal}
@@ -10,8 +10,8 @@ use Rattle.std.proofs.lemmas.Bool.{or_parts, not-false, leb-false}
 use Rattle.parser.specs.declared.fault.FaultKind.{FaultKind}
 use Rattle.parser.specs.declared.fault.FaultKind.TheVariants as kinds
 use Rattle.parser.specs.declared.fault.Flaw.{Flaw}
-use Rattle.parser.specs.Words.{◌>>=◌, flaw, or_flaw, word_at, word_or, fixed_at, is_number, capped_from, in_range}
-use Rattle.parser.specs.Words.{number_at, small_at, named_in, named_at, end_at}
+use Rattle.parser.specs.Words.{◌>>=◌, flaw, or_flaw, word_at, word_or, fixed_at, is_number}
+use Rattle.parser.specs.Words.{capped_from, in_range, number_at, small_at, named_in, named_at, end_at}
 use Rattle.parser.proofs.Numbers.{number_spelled, number_read}
 use Rattle.parser.proofs.Places.{words_from, word_is, found_word, past_end, end_past, Reads}
 
@@ -69,8 +69,8 @@ fixed_ok line at text kind after h =
 
 -- where a word stands that has to, the place behind it is read
 pub fixed_again : (line : List ℕ) (at : ℕ) (text : List ℕ) (kind : FaultKind) (ws : List (List ℕ))
-    → words_from line at ≡ text ∷ ws →
-    (after : ℕ) × (fixed_at line at text kind ≡ Ok after) × (words_from line after ≡ ws)
+    → words_from line at ≡ text ∷ ws
+    → (after : ℕ) × (fixed_at line at text kind ≡ Ok after) × (words_from line after ≡ ws)
 unfolding fixed_at
 fixed_again line at text kind ws h =
     let w = word_again line at kind text ws h in

@@ -1,6 +1,6 @@
 -- A place stands for the words from there to the end of the line.
-use Rattle.std.proofs.Common.{◌≡◌, ℕ, ◌+◌, ◌<◌, ◌≤◌, Bool, true, false, cond, nat_lt, List, [], ◌∷◌, length, drop}
-use Rattle.std.proofs.Common.{Option, Some, None, position, refl, sym, ap, subst, ◌∙◌, arith, inl, inr}
+use Rattle.std.proofs.Common.{◌≡◌, ℕ, ◌+◌, ◌<◌, ◌≤◌, Bool, true, false, cond, nat_lt, List, [], ◌∷◌, length}
+use Rattle.std.proofs.Common.{drop, Option, Some, None, position, refl, sym, ap, subst, ◌∙◌, arith, inl, inr}
 use Rattle.std.specs.Prelude.{Result, Ok, ◌==◌}
 use Rattle.std.specs.List.{slice_split}
 use Rattle.std.proofs.lemmas.Bool.{ltb-false, le-ltb, lt-ltb, cases_lt}
@@ -23,8 +23,8 @@ words_from line at = cond (nat_lt (length line) at) [] (slice_split space (drop 
 regroup : (at i : ℕ) → at + (i + 1) ≡ at + i + 1
 regroup at i = omega arith
 
-cut_words : (line : List ℕ) (at : ℕ) (o : Option ℕ) → at ≤ length line → position space (drop at line) ≡ o →
-    slice_split space (drop at line) ≡ (cut_at line at (drop at line) o).0 ∷ words_from line
+cut_words : (line : List ℕ) (at : ℕ) (o : Option ℕ) → at ≤ length line → position space (drop at line) ≡ o
+    → slice_split space (drop at line) ≡ (cut_at line at (drop at line) o).0 ∷ words_from line
     (cut_at line at (drop at line) o).1
 unfolding words_from
 cut_words line at None within h =

@@ -1,6 +1,6 @@
 -- Words without spaces, and lines made of them.
-use Rattle.std.proofs.Common.{◌≡◌, ℕ, zero, suc, ◌^◌, ◌<◌, ◌≤◌, true, false, List, [], ◌∷◌, ◌++◌, refl, ap, ◌∙◌, arith}
-use Rattle.std.proofs.Common.{inl, inr, append_assoc}
+use Rattle.std.proofs.Common.{◌≡◌, ℕ, zero, suc, ◌^◌, ◌<◌, ◌≤◌, true, false, List, []}
+use Rattle.std.proofs.Common.{◌∷◌, ◌++◌, refl, ap, ◌∙◌, arith, inl, inr, append_assoc}
 use Rattle.std.specs.Prelude.{not, codes}
 use Rattle.std.specs.Fmt.{decimal}
 use Rattle.std.specs.List.{All, AllByRecursion, list_all, slice_split, join_with_byte, flat_map}
@@ -15,8 +15,8 @@ use Rattle.parser.specs.declared.order.Order.TheVariants as orders
 use Rattle.parser.specs.Words.{is_digit}
 use Rattle.parser.specs.Headings.{config_of}
 use Rattle.parser.specs.Reading.{newline}
-use Rattle.parser.specs.Spelling.{actor_word, register_word, order_words, size_words, SpellsLimit, ended, IsActor}
-use Rattle.parser.specs.Spelling.{IsOrder}
+use Rattle.parser.specs.Spelling.{actor_word, register_word, order_words}
+use Rattle.parser.specs.Spelling.{size_words, SpellsLimit, ended, IsActor, IsOrder}
 use Rattle.parser.proofs.Lists.{HasNoNewlines}
 use Rattle.parser.proofs.Numbers.{decimal_digits}
 use Rattle.parser.proofs.Places.{space}
@@ -133,8 +133,8 @@ limit_plain name most n words named small (inl e) = rw e (named, (decimal_plain 
 limit_plain name most n words named small (inr e) = rw e.0 tt
 
 pub heap_plain : (s : Sizes) (births history : List (List ℕ)) → IsSizes s → s.words ≤ 4096
-    → SpellsLimit (codes "births") (2 ^ 32) s.births births → SpellsLimit (codes "history") 1000000 s.history history →
-    AllByRecursion IsPlain (size_words (config_of s []) ++ births ++ history)
+    → SpellsLimit (codes "births") (2 ^ 32) s.births births → SpellsLimit (codes "history") 1000000 s.history history
+    → AllByRecursion IsPlain (size_words (config_of s []) ++ births ++ history)
 heap_plain s births history r words b y =
     let tail : AllByRecursion IsPlain (births ++ history) =
     all_append births history

@@ -96,6 +96,9 @@ config_tells c h =
         history = history.0;
         history_most = history.1;
       };
-      layouts =
-          record { some = count.0; few = count.1; room = not-false (list_all (fits_page c.words) c.layouts) both.1 };
+      layouts = record {
+        some = count.0;
+        few = count.1;
+        room = not-false (list_all (fits_page c.words) c.layouts) both.1;
+      };
     }

@@ -1,7 +1,7 @@
 -- What is read is a script that all limits allow, and is spelled by the bytes.
-use Rattle.std.proofs.Common.{◌≡◌, ℕ, ◌+◌, ◌<◌, ◌≤◌, Bool, true, false, cond, nat_lt, ◌*◌, List, [], ◌∷◌, ◌++◌, length}
-use Rattle.std.proofs.Common.{Option, Some, None, refl, sym, ap, subst, ◌∙◌, arith, inl, inr, lit<, append-nil}
-use Rattle.std.proofs.Common.{append_assoc, length-append}
+use Rattle.std.proofs.Common.{◌≡◌, ℕ, ◌+◌, ◌<◌, ◌≤◌, Bool, true, false, cond, nat_lt, ◌*◌, List}
+use Rattle.std.proofs.Common.{[], ◌∷◌, ◌++◌, length, Option, Some, None, refl, sym, ap, subst}
+use Rattle.std.proofs.Common.{◌∙◌, arith, inl, inr, lit<, append-nil, append_assoc, length-append}
 use Rattle.std.specs.Prelude.{Result, Ok, Err, ◌==◌, ◌&&◌, not, codes, ◌⊎◌, map, filter}
 use Rattle.std.specs.Str.{bytes_eq}
 use Rattle.std.specs.Fmt.{decimal}
@@ -27,19 +27,19 @@ use Rattle.parser.specs.Reading.{ScriptValue, script_of, ReadSoFar, nothing, new
 use Rattle.parser.specs.Reading.{first_word, heap_line, layout_line, is_full, with_command, command_line, times_in}
 use Rattle.parser.specs.Reading.{times_line, end_in, end_line, part_line, later_line, line_after, line_in, in_line}
 use Rattle.parser.specs.Reading.{goes_on, fault_at_start, closed, whole, finished, last_line, lines_in, script_in}
-use Rattle.parser.specs.Spelling.{line_of, actor_word, order_words, command_line_of, layout_line_of, Part, One, Times}
-use Rattle.parser.specs.Spelling.{times_line_of, part_lines, part_commands, IsPart, SpellsHeap, says_something, Spells}
-use Rattle.parser.specs.Spelling.{IsLayout, IsCommand, IsScript}
+use Rattle.parser.specs.Spelling.{line_of, actor_word, order_words, command_line_of, layout_line_of}
+use Rattle.parser.specs.Spelling.{Part, One, Times, times_line_of, part_lines, part_commands, IsPart}
+use Rattle.parser.specs.Spelling.{SpellsHeap, says_something, Spells, IsLayout, IsCommand, IsScript}
 use Rattle.parser.proofs.Splitting.{split_cons}
 use Rattle.parser.proofs.Places.{words_from, word_is, no_word_is, words_whole}
 use Rattle.parser.proofs.Pieces.{bind_ok, guard_ok, test_ok, ok_is, number_ok, end_ok}
 use Rattle.parser.proofs.Operands.{AreFew, order_ok, actor_ok, line_is}
 use Rattle.parser.proofs.HeapLines.{IsSizes, heap_ok, layout_ok}
 use Rattle.parser.proofs.Ranges.{AreLayouts, config_in_range}
-use Rattle.parser.proofs.Parts.{open_lines, HasTurns, say_one, say_inside, say_times, say_end, more_commands, all_both}
-use Rattle.parser.proofs.Parts.{all_repeated, repeated_length}
-use Rattle.parser.proofs.Lists.{all_push, all_front, told, filter_told, joined_lines, split_lines, all_from}
-use Rattle.parser.proofs.Lists.{lines_from, HasNoNewlines}
+use Rattle.parser.proofs.Parts.{open_lines, HasTurns, say_one, say_inside, say_times, say_end}
+use Rattle.parser.proofs.Parts.{more_commands, all_both, all_repeated, repeated_length}
+use Rattle.parser.proofs.Lists.{all_push, all_front, told, filter_told, joined_lines}
+use Rattle.parser.proofs.Lists.{split_lines, all_from, lines_from, HasNoNewlines}
 
 -- ---- the first word
 
@@ -136,11 +136,10 @@ heap_step line t h =
       count = omega arith;
     })
 
-add_layout : (heap : List ℕ) (ls : List Layout) (l : Layout) (said : List (List ℕ)) (line : List ℕ) (parts : List Part)
-    (o : Option ℕ) (body : List Command) →
-    parts ≡ [] → o ≡ None → line ≡ layout_line_of l →
-    said ≡ (heap ∷ map layout_line_of ls) ++ (flat_map part_lines parts ++ open_lines o body) →
-    said ++ line ∷ [] ≡ (heap ∷ map layout_line_of (ls ++ l ∷ [])) ++ (flat_map part_lines parts ++ open_lines o body)
+add_layout : (heap : List ℕ) (ls : List Layout) (l : Layout) (said : List (List ℕ)) (line : List ℕ)
+    (parts : List Part) (o : Option ℕ) (body : List Command) → parts ≡ [] → o ≡ None → line ≡ layout_line_of l
+    → said ≡ (heap ∷ map layout_line_of ls) ++ (flat_map part_lines parts ++ open_lines o body) → said
+    ++ line ∷ [] ≡ (heap ∷ map layout_line_of (ls ++ l ∷ [])) ++ (flat_map part_lines parts ++ open_lines o body)
 add_layout heap ls l said line parts o body none no_block is h =
     rw (
       h,
@@ -153,15 +152,14 @@ add_layout heap ls l said line parts o body none no_block is h =
     ) refl
 
 room_more : (words : ℕ) (ls : List Layout) (l : Layout) → list_all (fits_page words) ls ≡ true
-    → 1 + l.refs + l.nums ≤ words →
-    list_all (fits_page words) (ls ++ l ∷ []) ≡ true
+    → 1 + l.refs + l.nums ≤ words → list_all (fits_page words) (ls ++ l ∷ []) ≡ true
 room_more words ls l h room =
     let fits : fits_page words l ≡ true = grind (arith, nat_tests) in
     list_all-append (fits_page words) ls (l ∷ []) ∙ (rw (h, fits) refl)
 
 layout_step : (said : List (List ℕ)) (r t : ReadSoFar) (b : IsBehind said r) (line : List ℕ)
-    → (first_word line).0 ≡ codes "layout" → r.begun ≡ false →
-    length r.layouts < MOST_LAYOUTS → layout_line r b.sizes line ≡ Ok t → IsBehind (said ++ line ∷ []) t
+    → (first_word line).0 ≡ codes "layout" → r.begun ≡ false → length r.layouts < MOST_LAYOUTS
+    → layout_line r b.sizes line ≡ Ok t → IsBehind (said ++ line ∷ []) t
 unfolding layout_line
 layout_step said r t b line first not_begun few h =
     let fresh = b.fresh not_begun in
@@ -193,9 +191,8 @@ layout_step said r t b line first not_begun few h =
 -- ---- commands and blocks
 
 command_behind : (said : List (List ℕ)) (r : ReadSoFar) (b : IsBehind said r) (c : Command) (line : List ℕ)
-    → line ≡ command_line_of c →
-    IsCommand (config_of b.sizes []) c → (o : Option ℕ) → r.turns ≡ o → is_full o r.commands ≡ false
-    → IsBehind (said ++ line ∷ []) (with_command r o c)
+    → line ≡ command_line_of c → IsCommand (config_of b.sizes []) c → (o : Option ℕ) → r.turns ≡ o
+    → is_full o r.commands ≡ false → IsBehind (said ++ line ∷ []) (with_command r o c)
 command_behind said r b c line is own None none room =
     let fits : length r.commands < MOST_COMMANDS = grind (arith, nat_tests) in
     record {
@@ -223,8 +220,8 @@ command_behind said r b c line is own (Some turns) some room = record {
   heap = b.heap;
   heap_spelled = b.heap_spelled;
   parts = b.parts;
-  said_is =
-      say_inside (b.heap ∷ map layout_line_of r.layouts) b.parts turns c said line r.turns r.body some is b.said_is;
+  said_is = say_inside (b.heap ∷ map layout_line_of r.layouts) b.parts turns c said line r.turns r.body some is
+      b.said_is;
   commands_are = b.commands_are;
   turns = b.turns;
   block_turns = b.block_turns;
@@ -239,8 +236,7 @@ command_behind said r b c line is own (Some turns) some room = record {
 }
 
 command_step : (said : List (List ℕ)) (r t : ReadSoFar) (b : IsBehind said r) (line : List ℕ)
-    → command_line r b.sizes line ≡ Ok t →
-    IsBehind (said ++ line ∷ []) t
+    → command_line r b.sizes line ≡ Ok t → IsBehind (said ++ line ∷ []) t
 unfolding command_line
 command_step said r t b line h =
     let few = few_actors b.sizes b.range in
@@ -258,8 +254,8 @@ command_step said r t b line h =
     (command_behind said r b command line line_is_command own r.turns refl g.0)
 
 times_behind : (said : List (List ℕ)) (r t : ReadSoFar) (b : IsBehind said r) (line : List ℕ)
-    → (first_word line).0 ≡ codes "times" → (o : Option ℕ) →
-    r.turns ≡ o → times_in r o line ≡ Ok t → IsBehind (said ++ line ∷ []) t
+    → (first_word line).0 ≡ codes "times" → (o : Option ℕ) → r.turns ≡ o → times_in r o line ≡ Ok t
+    → IsBehind (said ++ line ∷ []) t
 times_behind said r t b line first (Some turns) some h = absurd cc
 times_behind said r t b line first None none h =
     let n = bind_ok (number_at line (first_word line).1 1 MOST_TURNS) _ t h in
@@ -291,14 +287,13 @@ times_behind said r t b line first None none h =
     })
 
 times_step : (said : List (List ℕ)) (r t : ReadSoFar) (b : IsBehind said r) (line : List ℕ)
-    → (first_word line).0 ≡ codes "times" → times_line r line ≡ Ok t →
-    IsBehind (said ++ line ∷ []) t
+    → (first_word line).0 ≡ codes "times" → times_line r line ≡ Ok t → IsBehind (said ++ line ∷ []) t
 unfolding times_line
 times_step said r t b line first h = times_behind said r t b line first r.turns refl h
 
 end_behind : (said : List (List ℕ)) (r t : ReadSoFar) (b : IsBehind said r) (line : List ℕ)
-    → (first_word line).0 ≡ codes "end" → (o : Option ℕ) → r.turns ≡ o →
-    end_in r o line ≡ Ok t → IsBehind (said ++ line ∷ []) t
+    → (first_word line).0 ≡ codes "end" → (o : Option ℕ) → r.turns ≡ o → end_in r o line ≡ Ok t
+    → IsBehind (said ++ line ∷ []) t
 end_behind said r t b line first None none h = absurd cc
 end_behind said r t b line first (Some turns) some h =
     let g = guard_ok (nat_lt MOST_COMMANDS (length r.commands + turns * length r.body)) _ _ t h in
@@ -315,8 +310,8 @@ end_behind said r t b line first (Some turns) some h =
       heap = b.heap;
       heap_spelled = b.heap_spelled;
       parts = b.parts ++ Times turns r.body ∷ [];
-      said_is = say_end (b.heap ∷ map layout_line_of r.layouts) b.parts turns said line r.turns r.body some line_is_end
-          b.said_is;
+      said_is = say_end (b.heap ∷ map layout_line_of r.layouts) b.parts turns said line r.turns r.body some
+          line_is_end b.said_is;
       commands_are = more_commands b.parts (Times turns r.body) r.commands b.commands_are;
       turns = all_push IsPart b.parts (Times turns r.body) b.turns has;
       block_turns = tt;
@@ -332,8 +327,7 @@ end_behind said r t b line first (Some turns) some h =
     })
 
 end_step : (said : List (List ℕ)) (r t : ReadSoFar) (b : IsBehind said r) (line : List ℕ)
-    → (first_word line).0 ≡ codes "end" → end_line r line ≡ Ok t →
-    IsBehind (said ++ line ∷ []) t
+    → (first_word line).0 ≡ codes "end" → end_line r line ≡ Ok t → IsBehind (said ++ line ∷ []) t
 unfolding end_line
 end_step said r t b line first h = end_behind said r t b line first r.turns refl h
 
@@ -374,8 +368,7 @@ later_step said r t b line h =
 -- ---- a line, and the lines
 
 line_step : (said : List (List ℕ)) (r t : ReadSoFar) (line : List ℕ) → Said said r → is_idle line ≡ false
-    → line_after r r.sizes line ≡ Ok t →
-    Said (said ++ line ∷ []) t
+    → line_after r r.sizes line ≡ Ok t → Said (said ++ line ∷ []) t
 line_step said r t line (inl before) idle h =
     let first : heap_line nothing line ≡ Ok t =
     subst (λ (x : ReadSoFar). line_after x x.sizes line ≡ Ok t) before.is h in
@@ -424,8 +417,7 @@ closed_ok n r z None s h = (refl, cc)
 closed_ok n r z (Some turns) s h = absurd cc
 
 all_said : (front lines said : List (List ℕ)) (o : Option ℕ) (body : List Command) → o ≡ None
-    → said ≡ front ++ (lines ++ open_lines o body) →
-    said ≡ front ++ lines
+    → said ≡ front ++ (lines ++ open_lines o body) → said ≡ front ++ lines
 all_said front lines said o body none h = h ∙ ap (λ (x : List (List ℕ)). front ++ x) (rw none (append-nil lines))
 
 finished_ok : (n : ℕ) (said : List (List ℕ)) (r : ReadSoFar) (s : ScriptValue) → Said said r → finished n r ≡ Ok s
@@ -478,8 +470,7 @@ pick_false true x y z e h = absurd cc
 pick_false false x y z e h = h
 
 last_ok : (n : ℕ) (said : List (List ℕ)) (r : ReadSoFar) (rest : List ℕ) (s : ScriptValue) → Said said r
-    → last_line n r rest ≡ Ok s →
-    IsReadFrom said (rest ∷ []) s
+    → last_line n r rest ≡ Ok s → IsReadFrom said (rest ∷ []) s
 unfolding last_line
 last_ok n said r [] s so_far h =
     record { lines = []; parts_are = refl; all_told = rw (append-nil said) (finished_ok n said r s so_far h) }
@@ -493,8 +484,7 @@ on_ok n (Ok t) f y e = (t, refl, e)
 on_ok n (Err d) f y e = absurd cc
 
 lines_ok : (n : ℕ) (said : List (List ℕ)) (r : ReadSoFar) (line : List ℕ) (more : List (List ℕ)) (s : ScriptValue)
-    → Said said r →
-    lines_in n r (line ∷ more) ≡ Ok s → IsReadFrom said (line ∷ more) s
+    → Said said r → lines_in n r (line ∷ more) ≡ Ok s → IsReadFrom said (line ∷ more) s
 unfolding lines_in
 lines_ok n said r line [] s so_far h = last_ok n said r line s so_far h
 lines_ok n said r line (next ∷ more) s so_far h =
@@ -505,8 +495,8 @@ lines_ok n said r line (next ∷ more) s so_far h =
       lines = line ∷ rest.lines;
       parts_are = ap (λ (x : List (List ℕ)). line ∷ x) rest.parts_are;
       all_told = subst (λ (x : List (List ℕ)). IsTold x s)
-          (append_assoc said (told says_something line) (filter says_something rest.lines)
-          ∙ ap (λ (x : List (List ℕ)). said ++ x) (sym (filter_told says_something line rest.lines))) rest.all_told;
+          (append_assoc said (told says_something line) (filter says_something rest.lines) ∙ ap
+          (λ (x : List (List ℕ)). said ++ x) (sym (filter_told says_something line rest.lines))) rest.all_told;
     }
 
 -- what is read of bytes is a script that all limits allow, and the bytes spell it

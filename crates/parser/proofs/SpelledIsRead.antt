@@ -1,7 +1,7 @@
 -- What is spelled by the bytes, and within all limits, is read.
-use Rattle.std.proofs.Common.{◌≡◌, ℕ, ◌+◌, ◌*◌, ◌^◌, ◌<◌, ◌≤◌, Bool, true, false, nat_lt, List, [], ◌∷◌, ◌++◌, length}
-use Rattle.std.proofs.Common.{Option, Some, None, refl, sym, ap, subst, ◌∙◌, arith, inl, inr, append-nil, append_assoc}
-use Rattle.std.proofs.Common.{length-append}
+use Rattle.std.proofs.Common.{◌≡◌, ℕ, ◌+◌, ◌*◌, ◌^◌, ◌<◌, ◌≤◌, Bool, true, false, nat_lt, List}
+use Rattle.std.proofs.Common.{[], ◌∷◌, ◌++◌, length, Option, Some, None, refl, sym, ap, subst}
+use Rattle.std.proofs.Common.{◌∙◌, arith, inl, inr, append-nil, append_assoc, length-append}
 use Rattle.std.specs.Prelude.{Ok, ◌==◌, nat_le, codes, ◌⊎◌, map, filter}
 use Rattle.std.specs.Str.{bytes_eq}
 use Rattle.std.specs.Fmt.{decimal}
@@ -19,13 +19,13 @@ use Rattle.parser.specs.declared.order.Command.{Command}
 use Rattle.parser.specs.declared.reading.TheConstants.{MOST_COMMANDS, MOST_LAYOUTS, MOST_TURNS}
 use Rattle.parser.specs.Words.{is_digit}
 use Rattle.parser.specs.Headings.{config_of}
-use Rattle.parser.specs.Reading.{ScriptValue, script_of, ReadSoFar, nothing, newline, is_idle, first_word, heap_line}
-use Rattle.parser.specs.Reading.{layout_line, is_full, with_command, command_line, times_in, times_line, end_in}
-use Rattle.parser.specs.Reading.{end_line, part_line, later_line, line_after, line_in, closed, whole, finished}
-use Rattle.parser.specs.Reading.{last_line, lines_in, script_in}
+use Rattle.parser.specs.Reading.{ScriptValue, script_of, ReadSoFar, nothing, newline, is_idle, first_word}
+use Rattle.parser.specs.Reading.{heap_line, layout_line, is_full, with_command, command_line, times_in}
+use Rattle.parser.specs.Reading.{times_line, end_in, end_line, part_line, later_line, line_after, line_in}
+use Rattle.parser.specs.Reading.{closed, whole, finished, last_line, lines_in, script_in}
 use Rattle.parser.specs.Spelling.{line_of, actor_word, order_words, command_line_of, layout_line_of, size_words}
-use Rattle.parser.specs.Spelling.{SpellsHeap, Part, One, Times, times_line_of, part_lines, part_commands, IsPart}
-use Rattle.parser.specs.Spelling.{says_something, Spells, IsLayout, IsActor, IsCommand, IsScript}
+use Rattle.parser.specs.Spelling.{SpellsHeap, Part, One, Times, times_line_of, part_lines, part_commands}
+use Rattle.parser.specs.Spelling.{IsPart, says_something, Spells, IsLayout, IsActor, IsCommand, IsScript}
 use Rattle.parser.proofs.Splitting.{IsCons}
 use Rattle.parser.proofs.Numbers.{decimal_digits}
 use Rattle.parser.proofs.Places.{words_from, words_whole, space, cons_is}
@@ -96,8 +96,7 @@ said_line r z line idle sizes_is = rw idle (ap (λ (o : Option Sizes). line_afte
 
 -- behind the layout lines, where the line's first word is no layout line's
 part_taken : (z : Sizes) (r : ReadSoFar) (line w : List ℕ) → IsReady z r → 1 ≤ length r.layouts → is_idle line ≡ false
-    → (first_word line).0 ≡ w →
-    bytes_eq w (codes "layout") ≡ false → line_in r line ≡ part_line r z line
+    → (first_word line).0 ≡ w → bytes_eq w (codes "layout") ≡ false → line_in r line ≡ part_line r z line
 unfolding later_line
 part_taken z r line w ready some idle first no_layout =
     let layout : bytes_eq (first_word line).0 (codes "layout") ≡ false =
@@ -106,8 +105,7 @@ part_taken z r line w ready some idle first no_layout =
     said_line r z line idle ready.sizes_is ∙ rw (layout, layouts) refl
 
 command_line_taken : (z : Sizes) (r : ReadSoFar) (line : List ℕ) (w : List ℕ) → (first_word line).0 ≡ w
-    → IsNoLineWord w →
-    part_line r z line ≡ command_line r z line
+    → IsNoLineWord w → part_line r z line ≡ command_line r z line
 unfolding part_line
 command_line_taken z r line w first other =
     let times : bytes_eq (first_word line).0 (codes "times") ≡ false =
@@ -116,10 +114,9 @@ command_line_taken z r line w first other =
     ∙ other.end in
     rw (times, end) refl
 
-command_taken : (z : Sizes) (r : ReadSoFar) (c : Command) (line : List ℕ) (o : Option ℕ) → IsReady z r
-    → 1 ≤ length r.layouts → r.turns ≡ o →
-    is_full o r.commands ≡ false → IsCommand (config_of z []) c → is_idle line ≡ false → line ≡ command_line_of c →
-    line_in r line ≡ Ok (with_command r o c)
+command_taken : (z : Sizes) (r : ReadSoFar) (c : Command) (line : List ℕ) (o : Option ℕ)
+    → IsReady z r → 1 ≤ length r.layouts → r.turns ≡ o → is_full o r.commands ≡ false → IsCommand (config_of z []) c
+    → is_idle line ≡ false → line ≡ command_line_of c → line_in r line ≡ Ok (with_command r o c)
 unfolding command_line
 command_taken z r c line o ready some turns room h idle is =
     let few = few_actors z ready.range in
@@ -135,10 +132,9 @@ command_taken z r c line o ready some turns room h idle is =
     ∙ added
     ∙ ap (λ (x : Option ℕ). Ok (with_command r x c)) turns
 
-times_taken : (z : Sizes) (r : ReadSoFar) (n : ℕ) (line : List ℕ) → IsReady z r → 1 ≤ length r.layouts → r.turns ≡ None
-    → 1 ≤ n → n ≤ MOST_TURNS →
-    is_idle line ≡ false → line ≡ times_line_of n →
-    line_in r line ≡ Ok (record r { begun = true; turns = Some n; body = [] })
+times_taken : (z : Sizes) (r : ReadSoFar) (n : ℕ) (line : List ℕ) → IsReady z r
+    → 1 ≤ length r.layouts → r.turns ≡ None → 1 ≤ n → n ≤ MOST_TURNS → is_idle line ≡ false → line ≡ times_line_of n
+    → line_in r line ≡ Ok (record r { begun = true; turns = Some n; body = [] })
 unfolding part_line times_line
 times_taken z r n line ready some none low high idle is =
     let words = words_are line (codes "times") (decimal n ∷ []) is refl (small_plain n (omega (arith, high)), tt) in
@@ -153,9 +149,8 @@ times_taken z r n line ready some none low high idle is =
     ∙ ap (λ (x : Option ℕ). times_in r x line) none ∙ read
 
 end_taken : (z : Sizes) (r : ReadSoFar) (n : ℕ) (line : List ℕ) → IsReady z r → 1 ≤ length r.layouts → r.turns ≡ Some n
-    →
-    length r.commands + n * length r.body ≤ MOST_COMMANDS → is_idle line ≡ false → line ≡ codes "end" →
-    line_in r line ≡ Ok (record r { commands = r.commands ++ repeat n r.body; turns = None; body = [] })
+    → length r.commands + n * length r.body ≤ MOST_COMMANDS → is_idle line ≡ false → line ≡ codes "end"
+    → line_in r line ≡ Ok (record r { commands = r.commands ++ repeat n r.body; turns = None; body = [] })
 unfolding part_line end_line
 end_taken z r n line ready some block room idle is =
     let words = words_are line (codes "end") [] is refl tt in
@@ -173,9 +168,8 @@ end_taken z r n line ready some block room idle is =
     ∙ ap (λ (x : Option ℕ). end_in r x line) block ∙ read
 
 layout_taken : (z : Sizes) (r : ReadSoFar) (l : Layout) (line : List ℕ) → IsReady z r → r.begun ≡ false
-    → length r.layouts < MOST_LAYOUTS → IsLayout l →
-    fits_page z.words l ≡ true → is_idle line ≡ false → line ≡ layout_line_of l →
-    line_in r line ≡ Ok (record r { layouts = r.layouts ++ l ∷ [] })
+    → length r.layouts < MOST_LAYOUTS → IsLayout l → fits_page z.words l ≡ true → is_idle line ≡ false
+    → line ≡ layout_line_of l → line_in r line ≡ Ok (record r { layouts = r.layouts ++ l ∷ [] })
 unfolding later_line layout_line
 layout_taken z r l line ready not_begun few h room idle is =
     let refs = h.refs in
@@ -211,13 +205,12 @@ heap_taken z line range h idle =
 -- ---- all lines
 
 -- a first line says nothing, or is the first that says something
-told_first : (line : List ℕ) (lines xs : List (List ℕ)) → filter says_something (line ∷ lines) ≡ xs →
-    ((is_idle line ≡ true) × (filter says_something lines ≡ xs))
+told_first : (line : List ℕ) (lines xs : List (List ℕ))
+    → filter says_something (line ∷ lines) ≡ xs → ((is_idle line ≡ true) × (filter says_something lines ≡ xs))
     ⊎ ((is_idle line ≡ false) × (line ∷ filter says_something lines ≡ xs))
 told_first line lines xs h = by_test (is_idle line) refl
   where
-    by_test : (b : Bool) → is_idle line ≡ b →
-        ((is_idle line ≡ true) × (filter says_something lines ≡ xs))
+    by_test : (b : Bool) → is_idle line ≡ b → ((is_idle line ≡ true) × (filter says_something lines ≡ xs))
         ⊎ ((is_idle line ≡ false) × (line ∷ filter says_something lines ≡ xs))
     by_test true e = inl (e, rw e at h)
     by_test false e = inr (e, rw e at h)
@@ -278,8 +271,7 @@ fits_one cs ds all c e h =
     grind (arith, nat_tests)
 
 fits_block : (cs body ds all : List Command) (n : ℕ) → (cs ++ repeat n (body ++ [])) ++ ds ≡ all
-    → length all ≤ MOST_COMMANDS →
-    length cs + n * length body ≤ MOST_COMMANDS
+    → length all ≤ MOST_COMMANDS → length cs + n * length body ≤ MOST_COMMANDS
 fits_block cs body ds all n e h =
     let long : length all ≡ length (cs ++ repeat n (body ++ [])) + length ds =
     ap length (sym e) ∙ length-append (cs ++ repeat n (body ++ [])) ds in
@@ -289,10 +281,9 @@ fits_block cs body ds all n e h =
     omega (arith, long, front, h)
 
 -- all lines behind the layout lines
-parts_read : (n : ℕ) (z : Sizes) (lines : List (List ℕ)) (r : ReadSoFar) (o : Option ℕ) (cs : List Command)
-    (parts : List Part) (all : List Command) →
-    IsLeft z r o cs parts all →
-    filter says_something lines ≡ lines_left o cs parts
+parts_read : (n : ℕ) (z : Sizes)
+    (lines : List (List ℕ)) (r : ReadSoFar) (o : Option ℕ) (cs : List Command) (parts : List Part) (all : List Command)
+    → IsLeft z r o cs parts all → filter says_something lines ≡ lines_left o cs parts
     → lines_in n r (lines ++ [] ∷ []) ≡ Ok (script_of (config_of z r.layouts) all)
 parts_read n z [] r None cs [] all left said =
     end_read n z r left.ready left.some left.turns ∙ ap
@@ -425,9 +416,9 @@ record AreAll (z : Sizes) (parts : List Part) (all : List Command) : Type 0 wher
 
 -- where no layouts are left the parts follow
 no_more : (n : ℕ) (z : Sizes) (lines : List (List ℕ)) (r : ReadSoFar) (parts : List Part) (all : List Command)
-    → IsReady z r → IsFresh r → AreNext z r [] →
-    AreAll z parts all → filter says_something lines ≡ flat_map part_lines parts →
-    lines_in n r (lines ++ [] ∷ []) ≡ Ok (script_of (config_of z (r.layouts ++ [])) all)
+    → IsReady z r → IsFresh r
+    → AreNext z r [] → AreAll z parts all → filter says_something lines ≡ flat_map part_lines parts
+    → lines_in n r (lines ++ [] ∷ []) ≡ Ok (script_of (config_of z (r.layouts ++ [])) all)
 no_more n z lines r parts all ready fresh next are said =
     let some = next.some in
     let all_is : r.commands ++ flat_map part_commands parts ≡ all =
@@ -444,11 +435,10 @@ no_more n z lines r parts all ready fresh next are said =
     parts_read n z lines r None [] parts all left said
     ∙ ap (λ (x : List Layout). Ok (script_of (config_of z x) all)) (sym (append-nil r.layouts))
 
-layouts_read : (n : ℕ) (z : Sizes) (lines : List (List ℕ)) (r : ReadSoFar) (ls : List Layout) (parts : List Part)
-    (all : List Command) → IsReady z r →
-    IsFresh r → AreNext z r ls → AreAll z parts all →
-    filter says_something lines ≡ map layout_line_of ls ++ flat_map part_lines parts →
-    lines_in n r (lines ++ [] ∷ []) ≡ Ok (script_of (config_of z (r.layouts ++ ls)) all)
+layouts_read : (n : ℕ) (z : Sizes) (lines : List (List ℕ)) (r : ReadSoFar)
+    (ls : List Layout) (parts : List Part) (all : List Command) → IsReady z r → IsFresh r → AreNext z r ls
+    → AreAll z parts all → filter says_something lines ≡ map layout_line_of ls ++ flat_map part_lines parts
+    → lines_in n r (lines ++ [] ∷ []) ≡ Ok (script_of (config_of z (r.layouts ++ ls)) all)
 layouts_read n z [] r [] parts all ready fresh next are said = no_more n z [] r parts all ready fresh next are said
 layouts_read n z [] r (l ∷ ls) parts all ready fresh next are said = absurd cc
 layouts_read n z (line ∷ lines) r [] parts all ready fresh next are said =
@@ -476,11 +466,10 @@ layouts_read n z (line ∷ lines) r (l ∷ ls) parts all ready fresh next are sa
           ∙ ap (λ (x : List Layout). Ok (script_of (config_of z x) all)) (append_assoc r.layouts (l ∷ []) ls)
     ]
 
-heap_read : (n : ℕ) (z : Sizes) (heap : List ℕ) (lines : List (List ℕ)) (ls : List Layout) (parts : List Part)
-    (all : List Command) → IsSizes z →
-    SpellsHeap heap (config_of z []) → AreNext z nothing ls → AreAll z parts all →
-    filter says_something lines ≡ heap ∷ (map layout_line_of ls ++ flat_map part_lines parts) →
-    lines_in n nothing (lines ++ [] ∷ []) ≡ Ok (script_of (config_of z ls) all)
+heap_read : (n : ℕ) (z : Sizes) (heap : List ℕ) (lines : List (List ℕ)) (ls : List Layout)
+    (parts : List Part) (all : List Command) → IsSizes z → SpellsHeap heap (config_of z []) → AreNext z nothing ls
+    → AreAll z parts all → filter says_something lines ≡ heap ∷ (map layout_line_of ls ++ flat_map part_lines parts)
+    → lines_in n nothing (lines ++ [] ∷ []) ≡ Ok (script_of (config_of z ls) all)
 heap_read n z heap [] ls parts all range h next are said = absurd cc
 heap_read n z heap (line ∷ lines) ls parts all range h next are said =
     elim (told_first line lines (heap ∷ (map layout_line_of ls ++ flat_map part_lines parts)) said) [
@@ -510,8 +499,7 @@ commands_of c (x ∷ xs) h =
 
 -- the parts of commands that are there
 parts_of : (z : Sizes) (parts : List Part) → AllByRecursion IsPart parts
-    → AllByRecursion (IsCommand (config_of z [])) (flat_map part_commands parts) →
-    AllByRecursion (IsPartOf z) parts
+    → AllByRecursion (IsCommand (config_of z [])) (flat_map part_commands parts) → AllByRecursion (IsPartOf z) parts
 parts_of z [] h each = tt
 parts_of z (One c ∷ parts) h each = (each.0, parts_of z parts h.1 each.1)
 parts_of z (Times n cs ∷ parts) h each =

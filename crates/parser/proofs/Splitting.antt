@@ -1,6 +1,6 @@
 -- Lists that are cut at each element that passes a test.
-use Rattle.std.proofs.Common.{◌≡◌, ℕ, ◌+◌, ◌<◌, ◌≤◌, Bool, true, false, List, [], ◌∷◌, length, take, drop, Some, None}
-use Rattle.std.proofs.Common.{refl, arith, cond, position}
+use Rattle.std.proofs.Common.{◌≡◌, ℕ, ◌+◌, ◌<◌, ◌≤◌, Bool, true, false, List, [], ◌∷◌}
+use Rattle.std.proofs.Common.{length, take, drop, Some, None, refl, arith, cond, position}
 use Rattle.std.specs.List.{slice_split, onto_first, position_or_len, All}
 use Rattle.std.proofs.lemmas.List.Splits.{slice_split_first, slice_split_none}
 use Rattle.std.proofs.lemmas.List.Quantifiers.{position-Some}

@@ -1,6 +1,6 @@
 -- The first heap stands for the first plain heap.
-use Rattle.std.proofs.Common.{nat_lt, ◌≡◌, ◌≢◌, ◌⊎◌, inl, inr, ℕ, zero, suc, ◌-◌, ◌/◌, ◌%◌, false, List, [], length}
-use Rattle.std.proofs.Common.{get_or, replicate, Option, Some, None, refl, sym, ◌∙◌, ap, subst}
+use Rattle.std.proofs.Common.{nat_lt, ◌≡◌, ◌≢◌, ◌⊎◌, inl, inr, ℕ, zero, suc, ◌-◌, ◌/◌, ◌%◌, false, List}
+use Rattle.std.proofs.Common.{[], length, get_or, replicate, Option, Some, None, refl, sym, ◌∙◌, ap, subst}
 use mathlib.Core.Path.{fun_ext}
 use Rattle.std.specs.List.{slice_get}
 use Rattle.std.specs.Option.{option_map}
@@ -12,8 +12,8 @@ use Rattle.model.specs.declared.records.Global.{Global}
 use Rattle.model.specs.declared.records.PageState.TheVariants.{Unused}
 use Rattle.model.specs.declared.records.Forwarding.{Forwarding}
 use Rattle.model.specs.Stores.{first_store, record_count, blank_page, page_at, state_at, state_in, words_at}
-use Rattle.model.specs.Heaps.{HeapState, Reference, first_heap, blank_rows, blank_thread, register_of, register_in}
-use Rattle.model.specs.Heaps.{buffer_in, flat}
+use Rattle.model.specs.Heaps.{HeapState, Reference, first_heap, blank_rows}
+use Rattle.model.specs.Heaps.{blank_thread, register_of, register_in, buffer_in, flat}
 use Rattle.model.specs.Plain.{PlainThread, plain_start, name_of, name_in, pending_in}
 use Rattle.model.proofs.Lists.{each_replicate}
 use Rattle.page.proofs.Keeping.{page_at_record, page_at_zero}
@@ -22,12 +22,12 @@ use Rattle.laws.specs.AddressHeap.{Null, NoEntry}
 use Rattle.laws.specs.Invariant.{Invariant}
 use Rattle.laws.specs.First.{first, plain_first}
 use Rattle.laws.proofs.First.{first_holds}
-use Rattle.refinement.specs.Worlds.{world_of, as_word, object_at, object_in, of_page, bit_at, entry_at, barrier_in}
-use Rattle.refinement.specs.Worlds.{scan_in, global_in, todo_in}
+use Rattle.refinement.specs.Worlds.{world_of, as_word, object_at, object_in, of_page, bit_at}
+use Rattle.refinement.specs.Worlds.{entry_at, barrier_in, scan_in, global_in, todo_in}
 use Rattle.refinement.specs.Births.{births_of, as_pair}
-use Rattle.refinement.specs.Claims.{AreRising, IsLaid, AreRows, HasGiven, Claim, OfObject, OfBuffer, OfPlan, OfEnd}
-use Rattle.refinement.specs.Claims.{extent, end_extent, sized_extent, planned_extent, size_at, buffer_extent}
-use Rattle.refinement.specs.Claims.{object_size}
+use Rattle.refinement.specs.Claims.{AreRising, IsLaid, AreRows, HasGiven, Claim, OfObject}
+use Rattle.refinement.specs.Claims.{OfBuffer, OfPlan, OfEnd, extent, end_extent, sized_extent}
+use Rattle.refinement.specs.Claims.{planned_extent, size_at, buffer_extent, object_size}
 use Rattle.refword.specs.Words.{IsWord}
 use Rattle.refinement.specs.Roots.{HoldsWords}
 use Rattle.refinement.specs.Standing.{Holds}

@@ -1,15 +1,15 @@
 -- The steps of the model's plain heap are those of the laws' plain heap.
-use Rattle.std.proofs.Common.{◌≡◌, ◌≢◌, ℕ, zero, suc, ◌<◌, List, [], ◌∷◌, ◌++◌, length, set, replicate, Option, Some}
-use Rattle.std.proofs.Common.{None, refl, sym, ◌∙◌, ap, arith, length-append}
+use Rattle.std.proofs.Common.{◌≡◌, ◌≢◌, ℕ, zero, suc, ◌<◌, List, [], ◌∷◌, ◌++◌, length, set}
+use Rattle.std.proofs.Common.{replicate, Option, Some, None, refl, sym, ◌∙◌, ap, arith, length-append}
 use mathlib.Core.Path.{fun_ext}
 use Rattle.std.specs.List.{slice_get}
 use Rattle.std.specs.Option.{option_map}
 use Rattle.std.proofs.Math.ListN.{length-set}
 use Rattle.layout.specs.declared.shape.Layout.{Layout}
 use Rattle.model.specs.Heaps.{HeapState, flat, changed}
-use Rattle.model.specs.Plain.{PlainHeap, PlainThread, Object, name_of, name_in, naming, set_name, born, blank_object}
-use Rattle.model.specs.Plain.{storing, set_field, writing, set_datum, Pending, pending_in, loading, start_load}
-use Rattle.model.specs.Plain.{finishing, end_load}
+use Rattle.model.specs.Plain.{PlainHeap, PlainThread, Object, name_of, name_in, naming, set_name}
+use Rattle.model.specs.Plain.{born, blank_object, storing, set_field, writing, set_datum}
+use Rattle.model.specs.Plain.{Pending, pending_in, loading, start_load, finishing, end_load}
 use Rattle.model.proofs.Lists.{get_set_same, get_set_other, get_within, each_changed}
 use Rattle.laws.specs.AddressHeap.{put, put_at}
 use Rattle.laws.specs.Edits.{plain_born, plain_set_pending, plain_end_load, plain_set_global}
@@ -99,10 +99,10 @@ born_is p t r number l y e k = λ z. record (births_of p) {
   layout = fun_ext (λ b. ap layout_in (more b)
       ∙ put_read layout_in (slice_get p.objects) (length p.objects) (Some new) b) z;
   refs = fun_ext (λ b. ap refs_in (more b) ∙ put_read refs_in (slice_get p.objects) (length p.objects) (Some new) b) z;
-  data_words =
-      fun_ext (λ b. ap data_in (more b) ∙ put_read data_in (slice_get p.objects) (length p.objects) (Some new) b) z;
-  register = fun_ext (λ u. fun_ext
-      (name_changed p.threads t r (Some (length p.objects)) (set_name r (Some (length p.objects))) y e k refl u)) z;
+  data_words = fun_ext (λ b. ap data_in (more b)
+      ∙ put_read data_in (slice_get p.objects) (length p.objects) (Some new) b) z;
+  register = fun_ext (λ u. fun_ext (name_changed p.threads t r (Some (length p.objects))
+      (set_name r (Some (length p.objects))) y e k refl u)) z;
   pending = fun_ext (kept_of (λ o. option_map as_pair (pending_in o)) p.threads t
       (set_name r (Some (length p.objects))) (λ x. refl)) z;
 }
@@ -190,16 +190,16 @@ pub loading_is : (p : PlainHeap) (t r : ℕ) (b : Option ℕ) (y : PlainThread) 
 unfolding name_of
 loading_is p t r b y e = λ z. record (births_of p) {
   register = fun_ext (λ u. fun_ext (λ s. kept_of (λ o. name_in o s) p.threads t (start_load r b) (λ x. refl) u)) z;
-  pending = fun_ext
-      (read_changed (λ o. option_map as_pair (pending_in o)) p.threads t (start_load r b) y (Some (r, b)) e refl) z;
+  pending = fun_ext (read_changed (λ o. option_map as_pair (pending_in o)) p.threads t (start_load r b) y
+      (Some (r, b)) e refl) z;
 }
 
 pub loading_roots : (h : HeapState) (p : PlainHeap) (t r : ℕ) (b : Option ℕ) → HasRootsOf h p
     → HasRootsOf h (loading p t r (Some b))
 loading_roots h p t r b k = record {
   threads = length_changed p.threads t (start_load r b) ∙ k.threads;
-  registers =
-      each_changed (λ y. length y.registers ≡ h.config.registers) p.threads t (start_load r b) k.registers (λ y e. e);
+  registers = each_changed (λ y. length y.registers ≡ h.config.registers) p.threads t (start_load r b) k.registers
+      (λ y e. e);
   globals = k.globals;
 }
 

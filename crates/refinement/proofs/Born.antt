@@ -1,7 +1,7 @@
 -- An object that is made in a buffer is born.
-use Rattle.std.proofs.Common.{◌≡◌, ◌≢◌, ◌⊎◌, inl, inr, ℕ, suc, ◌+◌, ◌-◌, ◌*◌, ◌/◌, ◌%◌, ◌^◌, ◌<◌, ◌≤◌, Bool, true}
-use Rattle.std.proofs.Common.{List, length, Option, Some, None, refl, sym, ◌∙◌, ap, ap₂, subst, arith, div-add-mod'}
-use Rattle.std.proofs.Common.{replicate}
+use Rattle.std.proofs.Common.{◌≡◌, ◌≢◌, ◌⊎◌, inl, inr, ℕ, suc, ◌+◌, ◌-◌, ◌*◌, ◌/◌, ◌%◌, ◌^◌}
+use Rattle.std.proofs.Common.{◌<◌, ◌≤◌, Bool, true, List, length, Option, Some, None, refl}
+use Rattle.std.proofs.Common.{sym, ◌∙◌, ap, ap₂, subst, arith, div-add-mod', replicate}
 use mathlib.Core.Path.{fun_ext}
 use Rattle.std.specs.List.{slice_get}
 use Rattle.std.specs.Option.{option_map}
@@ -323,8 +323,7 @@ module _ (h : HeapState) (s : IsStore h.store) (l : IsLaid h) (t target number :
       go : (y ≡ address) ⊎ (y ≢ address) → (o : HeapObject) × (object_at after y ≡ Some o)
       go (inl d) = (
         fresh,
-        born_objects y ∙ ap (put (object_at h) address (Some fresh)) d
-            ∙ put_same (object_at h) address (Some fresh),
+        born_objects y ∙ ap (put (object_at h) address (Some fresh)) d ∙ put_same (object_at h) address (Some fresh),
       )
       go (inr d) =
           let (o, is) = l.objects y (sym (put_at_address h.starts l.starts true y
@@ -338,8 +337,7 @@ module _ (h : HeapState) (s : IsStore h.store) (l : IsLaid h) (t target number :
       go : (y ≡ address) ⊎ (y ≢ address) → (q : HeapObject) × (object_at after y ≡ Some q)
       go (inl e) = (
         fresh,
-        born_objects y ∙ ap (put (object_at h) address (Some fresh)) e
-            ∙ put_same (object_at h) address (Some fresh),
+        born_objects y ∙ ap (put (object_at h) address (Some fresh)) e ∙ put_same (object_at h) address (Some fresh),
       )
       go (inr e) = (o, born_objects y ∙ put_other (object_at h) address (Some fresh) y e ∙ is)
 
@@ -361,8 +359,9 @@ module _ (h : HeapState) (s : IsStore h.store) (l : IsLaid h) (t target number :
     mark = rows h.mark l.mark (is_marking h.phase);
     todo = rows h.todo l.todo (is_mark_crossing h.phase);
     sides = record { pages = l.sides.pages; rising = l.sides.rising };
-    registers = each_changed (λ y. length y.registers ≡ h.config.registers) h.threads t (handed target
-        (Some (address, h.nmt)) rest) l.registers (λ y e. length-set y.registers target (Some (address, h.nmt)) ∙ e);
+    registers = each_changed (λ y. length y.registers ≡ h.config.registers) h.threads t
+        (handed target (Some (address, h.nmt)) rest) l.registers
+        (λ y e. length-set y.registers target (Some (address, h.nmt)) ∙ e);
     objects = objects;
     apart = split_apart (extent h) (extent after) l.apart (OfBuffer t) (OfObject address) splits;
     planned = λ y n o k f. planned y n o k (sym (born_objects y) ∙ f);

@@ -1,6 +1,6 @@
 -- What no two claims overlapping says of objects, and where a claim is split.
-use Rattle.std.proofs.Common.{◌≡◌, ◌≢◌, ◌⊎◌, inl, inr, ℕ, ◌+◌, ◌*◌, ◌/◌, ◌%◌, ◌<◌, ◌≤◌, Option, Some, None, sym, ◌∙◌}
-use Rattle.std.proofs.Common.{ap, arith, div-add-mod'}
+use Rattle.std.proofs.Common.{◌≡◌, ◌≢◌, ◌⊎◌, inl, inr, ℕ, ◌+◌, ◌*◌, ◌/◌, ◌%◌, ◌<◌, ◌≤◌}
+use Rattle.std.proofs.Common.{Option, Some, None, sym, ◌∙◌, ap, arith, div-add-mod'}
 use Rattle.std.specs.Option.{option_map}
 use Rattle.std.proofs.lemmas.Nat.{div-mul-add, mod-mul-add}
 use Rattle.model.specs.Heaps.{HeapState}
@@ -13,8 +13,7 @@ pub within_page : (w a k : ℕ) → a % w + k < w → ((a + k) / w ≡ a / w) ×
 within_page w a k h =
     let whole : a / w * w + (a % w + k) ≡ a + k = omega (arith, div-add-mod' a w) in (
       ap (λ n. n / w) (sym whole) ∙ div-mul-add (a / w) w (a % w + k) h,
-      ap (λ n. n % w) (sym whole)
-          ∙ mod-mul-add (a / w) w (a % w + k) h,
+      ap (λ n. n % w) (sym whole) ∙ mod-mul-add (a / w) w (a % w + k) h,
     )
 
 pub object_extent : (h : HeapState) (a : ℕ) (q : HeapObject) → object_at h a ≡ Some q

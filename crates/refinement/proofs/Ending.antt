@@ -1,6 +1,6 @@
 -- Steps of an open barrier: a trap that isn't due, the place healed, and the load's end.
-use Rattle.std.proofs.Common.{◌≡◌, ℕ, ◌+◌, ◌<◌, Bool, true, false, cond, length, Option, Some, None, refl, sym, ◌∙◌}
-use Rattle.std.proofs.Common.{ap, subst, arith}
+use Rattle.std.proofs.Common.{◌≡◌, ℕ, ◌+◌, ◌<◌, Bool, true, false, cond, length}
+use Rattle.std.proofs.Common.{Option, Some, None, refl, sym, ◌∙◌, ap, subst, arith}
 use Rattle.std.specs.List.{slice_get}
 use Rattle.std.specs.Prelude.{Ok, Err}
 use Rattle.std.specs.Option.{option_map}
@@ -18,9 +18,9 @@ use Rattle.model.specs.declared.records.Place.TheVariants as places
 use Rattle.model.specs.Stores.{word_at, with_word, with_words}
 use Rattle.model.specs.Owning.{IsStore}
 use Rattle.model.specs.Holding.{IsHeap}
-use Rattle.model.specs.Heaps.{HeapState, ThreadState, Reference, barrier_of, barrier_of_thread, with_barrier}
-use Rattle.model.specs.Heaps.{with_loaded, set_loaded_of, with_global, set_word_of, with_place, field_address}
-use Rattle.model.specs.Heaps.{global_of, stored}
+use Rattle.model.specs.Heaps.{HeapState, ThreadState, Reference, barrier_of, barrier_of_thread}
+use Rattle.model.specs.Heaps.{with_barrier, with_loaded, set_loaded_of, with_global}
+use Rattle.model.specs.Heaps.{set_word_of, with_place, field_address, global_of, stored}
 use Rattle.model.specs.Refusing.{or_refuse}
 use Rattle.model.specs.Outcome.{trap_outcome, heal_outcome, heal_place, end_load, finish_outcome, trap_due}
 use Rattle.model.specs.Outcome.{gc_trap_due, nmt_trap_due, may_finish, bits_at, are_bits_of, healed}
@@ -204,8 +204,8 @@ module _ (h : HeapState) (p p0 : PlainHeap) (s : IsStore h.store) (d : IsHeap h)
                     (λ y. loaded_holds_words n b.target b.now y load.now);
                 globals = k.words.globals;
               };
-              roots = moved_roots h (with_loaded h t b.target b.now) (finishing p t (Some l)) (length_changed h.threads
-                  t (set_loaded_of b.target b.now)) refl refl (finishing_roots h p t l k.roots);
+              roots = moved_roots h (with_loaded h t b.target b.now) (finishing p t (Some l)) (length_changed
+                  h.threads t (set_loaded_of b.target b.now)) refl refl (finishing_roots h p t l k.roots);
               invariant = moved _ _ _ _ (births_of p0) (loaded_world h t x at b.target b.now low)
                   (finishing_is p t l y there (omega (arith, target, load.target, size))
                   ∙ ap (λ o. finish_at t o (births_of p)) (sym (ap (option_map as_pair) e))) step;

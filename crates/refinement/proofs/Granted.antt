@@ -1,6 +1,6 @@
 -- A thread gets words of an open page as its buffer: the objects stay, and the free end of the page is split.
-use Rattle.std.proofs.Common.{◌≡◌, ◌≢◌, ◌⊎◌, inl, inr, ℕ, ◌+◌, ◌-◌, ◌*◌, ◌/◌, ◌%◌, ◌≤◌, Bool, true, List, length, set}
-use Rattle.std.proofs.Common.{Option, Some, None, refl, sym, ◌∙◌, ap, ap₂, arith, cond}
+use Rattle.std.proofs.Common.{◌≡◌, ◌≢◌, ◌⊎◌, inl, inr, ℕ, ◌+◌, ◌-◌, ◌*◌, ◌/◌, ◌%◌, ◌≤◌, Bool, true, List}
+use Rattle.std.proofs.Common.{length, set, Option, Some, None, refl, sym, ◌∙◌, ap, ap₂, arith, cond}
 use mathlib.Core.Path.{fun_ext}
 use Rattle.std.specs.List.{slice_get}
 use Rattle.std.specs.Option.{option_map, option_and_then}
@@ -8,8 +8,8 @@ use Rattle.std.proofs.Math.ListN.{length-set}
 use Rattle.std.proofs.lemmas.Bool.{cases_eq}
 use Rattle.std.proofs.lemmas.Option.{same_Some}
 use Rattle.model.specs.declared.records.Page.{Page}
-use Rattle.model.specs.Stores.{StoreState, words_at, state_at, state_in, frame_in, page_at, has_memory, is_open}
-use Rattle.model.specs.Stores.{buffer_of}
+use Rattle.model.specs.Stores.{StoreState, words_at, state_at, state_in}
+use Rattle.model.specs.Stores.{frame_in, page_at, has_memory, is_open, buffer_of}
 use Rattle.model.specs.Heaps.{HeapState, ThreadState, register_of, register_in, buffer_in, changed, set_buffer_of}
 use Rattle.model.proofs.Lists.{get_set_same, get_set_other, each_changed}
 use Rattle.page.proofs.Keeping.{page_at_record, page_at_zero}
@@ -187,15 +187,17 @@ module _ (h : HeapState) (l : IsLaid h) (t i : ℕ) (p : Page) (n : ℕ) (x : Th
     live = rows h.live l.live;
     mark = rows h.mark l.mark;
     todo = rows h.todo l.todo;
-    sides =
-        record { pages = l.sides.pages ∙ sym (length-set h.store.pages i (with_more p n)); rising = l.sides.rising };
+    sides = record {
+      pages = l.sides.pages ∙ sym (length-set h.store.pages i (with_more p n));
+      rising = l.sides.rising;
+    };
     registers = each_changed (λ y. length y.registers ≡ h.config.registers) h.threads t
         (set_buffer_of (Some (buffer_of i p.top n))) l.registers (λ y e. e);
     objects = λ a e k. let (o, is) = l.objects a e (ap has_memory (sym (states (a / h.store.words))) ∙ k) in
         (o, objects a ∙ is);
     apart = split_apart (extent h) (extent after) l.apart (OfEnd (i + 1)) (OfBuffer t) splits;
     planned = λ a m o k f. l.planned a m o k (sym (objects a) ∙ f);
-    live_objects = λ a e k. (let (o, is) = l.live_objects a e (ap has_memory (sym (states (a / h.store.words))) ∙ k) in
-        (o, objects a ∙ is));
+    live_objects = λ a e k. (let (o, is) =
+        l.live_objects a e (ap has_memory (sym (states (a / h.store.words))) ∙ k) in (o, objects a ∙ is));
     unused = λ a k. l.unused a (sym (states (a / h.store.words)) ∙ k);
   }

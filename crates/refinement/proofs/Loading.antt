@@ -1,6 +1,6 @@
 -- Steps that begin a load: of a field, or of a global.
-use Rattle.std.proofs.Common.{◌≡◌, ℕ, ◌+◌, ◌%◌, ◌<◌, length, get_or, Option, Some, None, refl, sym, ◌∙◌, ap, subst}
-use Rattle.std.proofs.Common.{arith}
+use Rattle.std.proofs.Common.{◌≡◌, ℕ, ◌+◌, ◌%◌, ◌<◌, length, get_or, Option}
+use Rattle.std.proofs.Common.{Some, None, refl, sym, ◌∙◌, ap, subst, arith}
 use Rattle.std.specs.List.{slice_get}
 use Rattle.std.specs.Prelude.{Ok}
 use Rattle.std.proofs.lemmas.Option.{get_or_from_slice_get}
@@ -16,11 +16,11 @@ use Rattle.model.specs.declared.records.Place.TheVariants as places
 use Rattle.model.specs.Stores.{word_at}
 use Rattle.model.specs.Owning.{Each, IsStore}
 use Rattle.model.specs.Holding.{IsHeap}
-use Rattle.model.specs.Heaps.{HeapState, ThreadState, with_barrier, set_barrier_of, stored, flat, global_of}
-use Rattle.model.specs.Heaps.{word_of_global}
+use Rattle.model.specs.Heaps.{HeapState, ThreadState, with_barrier, set_barrier_of}
+use Rattle.model.specs.Heaps.{stored, flat, global_of, word_of_global}
 use Rattle.model.specs.Refusing.{◌>>=◌, or_refuse}
-use Rattle.model.specs.Outcome.{load_outcome, load_global_outcome, new_barrier, no_register, no_global, usable}
-use Rattle.model.specs.Outcome.{field_at, is_parked_in}
+use Rattle.model.specs.Outcome.{load_outcome, load_global_outcome, new_barrier}
+use Rattle.model.specs.Outcome.{no_register, no_global, usable, field_at, is_parked_in}
 use Rattle.model.specs.Plain.{PlainHeap, Object, plain_step, plain_answer, name_of, object_of, field_of, loading}
 use Rattle.model.proofs.Lists.{get_within, each_changed}
 use Rattle.laws.specs.AddressHeap.{HeapObject, Null, field, AtField, AtGlobal}
@@ -44,8 +44,8 @@ use Rattle.refinement.proofs.Sizes.{sizes_stay}
 use Rattle.refinement.proofs.Threads.{barrier_world, barrier_laid}
 use Rattle.refinement.proofs.Rooted.{barrier_holds_words, stored_word, global_word}
 use Rattle.refinement.proofs.Births.{loading_is, loading_roots}
-use Rattle.refinement.proofs.Verdicts.{bind_ok, found_ok, same_result, accepted, Passed, first_false, second_false}
-use Rattle.refinement.proofs.Verdicts.{used_ok, field_there}
+use Rattle.refinement.proofs.Verdicts.{bind_ok, found_ok, same_result, accepted, Passed}
+use Rattle.refinement.proofs.Verdicts.{first_false, second_false, used_ok, field_there}
 use Rattle.refinement.proofs.Readers.{names_object}
 use Rattle.refinement.proofs.Writers.{moved, moved_roots, plain_thread}
 use Rattle.refinement.proofs.Storing.{less_is}

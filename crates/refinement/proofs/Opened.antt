@@ -1,7 +1,7 @@
 -- An unused page is opened: no object, mark or claim is on it, and its words are one claim.
-use Rattle.std.proofs.Common.{◌≡◌, ◌≢◌, ◌⊎◌, inl, inr, ℕ, suc, ◌+◌, ◌*◌, ◌/◌, ◌%◌, ◌<◌, ◌≤◌, Bool, true, false, List}
-use Rattle.std.proofs.Common.{set, replicate, Option, Some, None, nat_eq, refl, sym, ◌∙◌, ap, ap₂, arith, cond, IfSome}
-use Rattle.std.proofs.Common.{div-add-mod', eq-eqb, ne_eqb, mul-le-mul_right}
+use Rattle.std.proofs.Common.{◌≡◌, ◌≢◌, ◌⊎◌, inl, inr, ℕ, suc, ◌+◌, ◌*◌, ◌/◌, ◌%◌, ◌<◌, ◌≤◌, Bool, true}
+use Rattle.std.proofs.Common.{false, List, set, replicate, Option, Some, None, nat_eq, refl, sym, ◌∙◌, ap}
+use Rattle.std.proofs.Common.{ap₂, arith, cond, IfSome, div-add-mod', eq-eqb, ne_eqb, mul-le-mul_right}
 use mathlib.Core.Path.{fun_ext}
 use Rattle.std.proofs.Math.Nat.{suc-mul}
 use Rattle.std.specs.List.{slice_get}
@@ -12,8 +12,8 @@ use Rattle.std.proofs.lemmas.Bool.{cases_eq, eqb-true, false≢true}
 use Rattle.model.specs.declared.records.Page.{Page}
 use Rattle.model.specs.declared.records.PageState.TheVariants.{Unused, Open}
 use Rattle.model.specs.declared.records.Buffer.{Buffer}
-use Rattle.model.specs.Stores.{words_at, state_at, state_in, frame_in, page_at, has_memory, is_open, is_unused, opened}
-use Rattle.model.specs.Stores.{fresh_page}
+use Rattle.model.specs.Stores.{words_at, state_at, state_in, frame_in, page_at}
+use Rattle.model.specs.Stores.{has_memory, is_open, is_unused, opened, fresh_page}
 use Rattle.model.specs.Owning.{IsStore, LiesIn}
 use Rattle.model.specs.Holding.{IsHeap}
 use Rattle.model.specs.Heaps.{HeapState, ThreadState, register_of, buffer_in, changed, blank_row}
@@ -24,9 +24,9 @@ use Rattle.laws.specs.Invariant.{SoundObjects, SoundMarks}
 use Rattle.laws.specs.Edits.{open_page}
 use Rattle.laws.proofs.Basics.{put_same, put_other}
 use Rattle.refinement.specs.Worlds.{world_of, object_at, object_in, bit_at}
-use Rattle.refinement.specs.Claims.{IsLaid, AreRows, Apart, AreApart, Claim, OfObject, OfBuffer, OfPlan, OfEnd, Extent}
-use Rattle.refinement.specs.Claims.{extent, object_size, sized_extent, planned_extent, buffer_extent, end_extent}
-use Rattle.refinement.specs.Claims.{size_at}
+use Rattle.refinement.specs.Claims.{IsLaid, AreRows, Apart, AreApart, Claim, OfObject, OfBuffer}
+use Rattle.refinement.specs.Claims.{OfPlan, OfEnd, Extent, extent, object_size, sized_extent}
+use Rattle.refinement.specs.Claims.{planned_extent, buffer_extent, end_extent, size_at}
 use Rattle.refinement.proofs.Reading.{read_fits}
 use Rattle.refinement.proofs.Objects.{there}
 use Rattle.refinement.proofs.Changes.{blank_here, blank_other, rows_changed, length_blank}
@@ -334,10 +334,14 @@ module _ (h : HeapState) (s : IsStore h.store) (k : IsHeap h) (l : IsLaid h) (o 
       go : (c ≡ OfEnd (i + 1)) ⊎ (extent after c ≡ extent h c) → (d ≡ OfEnd (i + 1)) ⊎ (extent after d ≡ extent h d)
           → (c ≡ d) ⊎ AreApart x y
       go (inl a) (inl b) = inl (a ∙ sym b)
-      go (inl a) (inr b) = elim (far d y x (sym b ∙ g) (new_extent x (ap (extent after) (sym a) ∙ e)))
-          [ inl q ↦ inr (inr q) | inr q ↦ inr (inl q) ]
-      go (inr a) (inl b) = elim (far c x y (sym a ∙ e) (new_extent y (ap (extent after) (sym b) ∙ g)))
-          [ inl q ↦ inr (inl q) | inr q ↦ inr (inr q) ]
+      go (inl a) (inr b) = elim (far d y x (sym b ∙ g) (new_extent x (ap (extent after) (sym a) ∙ e))) [
+        | inl q ↦ inr (inr q)
+        | inr q ↦ inr (inl q)
+      ]
+      go (inr a) (inl b) = elim (far c x y (sym a ∙ e) (new_extent y (ap (extent after) (sym b) ∙ g))) [
+        | inl q ↦ inr (inl q)
+        | inr q ↦ inr (inr q)
+      ]
       go (inr a) (inr b) = l.apart c d x y (sym a ∙ e) (sym b ∙ g)
 
   rows : (xs : List (List Bool)) → AreRows h.store xs → AreRows after.store (changed xs i blank_row)

@@ -40,8 +40,8 @@ module _ (h : HeapState) (p p0 : PlainHeap) (s : IsStore h.store) (d : IsHeap h)
         laid = parked_laid h t b k.laid;
         given = k.given;
         words = record {
-          threads = each_changed (HoldsWords h.config.registers) h.threads t
-              (set_parked_of b) k.words.threads (parked_holds_words h.config.registers b);
+          threads = each_changed (HoldsWords h.config.registers) h.threads t (set_parked_of b) k.words.threads
+              (parked_holds_words h.config.registers b);
           globals = k.words.globals;
         };
         roots = moved_roots h (with_parked h t b) p (length_changed h.threads t (set_parked_of b)) refl refl k.roots;

@@ -14,10 +14,10 @@ use Rattle.model.specs.Stores.{word_at}
 use Rattle.model.specs.Owning.{IsStore}
 use Rattle.model.specs.Heaps.{HeapState, ThreadState, Reference, register_of}
 use Rattle.model.specs.Refusing.{◌>>=◌, or_refuse}
-use Rattle.model.specs.Outcome.{datum_outcome, same_outcome, is_null_outcome, usable, usable_or_null, datum_at}
-use Rattle.model.specs.Outcome.{same_address}
-use Rattle.model.specs.Plain.{PlainHeap, Object, plain_step, plain_answer, name_of, object_of, datum_of, as_datum}
-use Rattle.model.specs.Plain.{same_name}
+use Rattle.model.specs.Outcome.{datum_outcome, same_outcome, is_null_outcome}
+use Rattle.model.specs.Outcome.{usable, usable_or_null, datum_at, same_address}
+use Rattle.model.specs.Plain.{PlainHeap, Object, plain_step, plain_answer}
+use Rattle.model.specs.Plain.{name_of, object_of, datum_of, as_datum, same_name}
 use Rattle.laws.specs.AddressHeap.{HeapObject, Null, To}
 use Rattle.laws.specs.Transitions.{Uses}
 use Rattle.laws.specs.Promises.{ReadsPlain}
@@ -31,8 +31,8 @@ use Rattle.refinement.proofs.Runs.{get_run}
 use Rattle.refinement.proofs.Reading.{read_refs, read_data}
 use Rattle.refinement.proofs.Objects.{there}
 use Rattle.refinement.proofs.Written.{word_there}
-use Rattle.refinement.proofs.Verdicts.{bind_ok, found_ok, same_result, accepted, IsUsed, used_ok, used_or_null}
-use Rattle.refinement.proofs.Verdicts.{datum_there}
+use Rattle.refinement.proofs.Verdicts.{bind_ok, found_ok, same_result, accepted}
+use Rattle.refinement.proofs.Verdicts.{IsUsed, used_ok, used_or_null, datum_there}
 
 -- the object that a usable register names
 pub record NamesObject (h : HeapState) (p : PlainHeap) (t r a : ℕ) : Type 0 where

@@ -1,7 +1,7 @@
 -- Objects read off words: what a write elsewhere leaves, and what a write into one makes.
-use Rattle.std.proofs.Common.{◌≡◌, ℕ, zero, suc, ◌+◌, ◌*◌, ◌/◌, ◌%◌, ◌^◌, ◌<◌, ◌≤◌, Bool, true, false, List, [], ◌∷◌}
-use Rattle.std.proofs.Common.{length, take, drop, map, set, cond, nat_le, Option, Some, None, replicate, refl, sym}
-use Rattle.std.proofs.Common.{◌∙◌, ap, ap₂, arith, leb-true}
+use Rattle.std.proofs.Common.{◌≡◌, ℕ, zero, suc, ◌+◌, ◌*◌, ◌/◌, ◌%◌, ◌^◌, ◌<◌, ◌≤◌, Bool, true, false}
+use Rattle.std.proofs.Common.{List, [], ◌∷◌, length, take, drop, map, set, cond, nat_le, Option, Some}
+use Rattle.std.proofs.Common.{None, replicate, refl, sym, ◌∙◌, ap, ap₂, arith, leb-true}
 use Rattle.std.specs.List.{slice_get}
 use Rattle.std.specs.Option.{option_map}
 use Rattle.std.proofs.Math.ListN.{length-set, length-replicate}
@@ -52,8 +52,7 @@ read_is ls ws o q e = by_header (slice_get ws o) refl e
       shape = l;
       at = a;
       known = k;
-      fits =
-          leb-true (o + size_of l) (length ws) f;
+      fits = leb-true (o + size_of l) (length ws) f;
       is = sym (same_Some _ _ r);
     }
     by_fit header l false f a k r = absurd (cc)

@@ -1,14 +1,14 @@
 -- A register that is written, and a buffer that is given back.
-use Rattle.std.proofs.Common.{◌≡◌, ◌≢◌, ◌⊎◌, inl, inr, ℕ, ◌<◌, List, length, set, Option, Some, None, refl, sym, ◌∙◌}
-use Rattle.std.proofs.Common.{ap}
+use Rattle.std.proofs.Common.{◌≡◌, ◌≢◌, ◌⊎◌, inl, inr, ℕ, ◌<◌, List, length}
+use Rattle.std.proofs.Common.{set, Option, Some, None, refl, sym, ◌∙◌, ap}
 use mathlib.Core.Path.{fun_ext}
 use Rattle.std.specs.List.{slice_get}
 use Rattle.std.specs.Option.{option_map}
 use Rattle.std.proofs.Math.ListN.{length-set}
 use Rattle.std.proofs.lemmas.Bool.{cases_eq}
 use Rattle.model.specs.declared.records.Buffer.{Buffer}
-use Rattle.model.specs.Heaps.{HeapState, ThreadState, Reference, flat, register_of, register_in, with_register}
-use Rattle.model.specs.Heaps.{with_buffer, changed, set_register_of, set_buffer_of, buffer_in}
+use Rattle.model.specs.Heaps.{HeapState, ThreadState, Reference, flat, register_of, register_in}
+use Rattle.model.specs.Heaps.{with_register, with_buffer, changed, set_register_of, set_buffer_of, buffer_in}
 use Rattle.model.proofs.Lists.{get_set_same, get_set_other, get_within, each_changed}
 use Rattle.model.specs.Outcome.{has_crossed, is_parked_in}
 use Rattle.laws.specs.AddressHeap.{put, put_at}
@@ -86,8 +86,8 @@ module _ (h : HeapState) (l : IsLaid h) (t : ℕ) where
   pub buffer_world : (b : Option Buffer) → world_of (with_buffer h t b) ≡ world_of h
   unfolding with_buffer register_of
   buffer_world b = λ z. record (world_of h) {
-    register = fun_ext
-        (λ u. fun_ext (λ s. kept_of (λ o. as_word (register_in o s)) h.threads t (set_buffer_of b) (λ y. refl) u)) z;
+    register = fun_ext (λ u.
+        fun_ext (λ s. kept_of (λ o. as_word (register_in o s)) h.threads t (set_buffer_of b) (λ y. refl) u)) z;
     crossed = fun_ext (kept_of has_crossed h.threads t (set_buffer_of b) (λ y. refl)) z;
     parked = fun_ext (kept_of is_parked_in h.threads t (set_buffer_of b) (λ y. refl)) z;
     barrier = fun_ext (kept_of barrier_in h.threads t (set_buffer_of b) (λ y. refl)) z;

@@ -15,8 +15,8 @@ use Rattle.model.specs.Owning.{IsStore}
 use Rattle.model.specs.Holding.{IsHeap}
 use Rattle.model.specs.Heaps.{HeapState, register_of, with_global, set_word_of}
 use Rattle.model.specs.Refusing.{◌>>=◌, or_refuse}
-use Rattle.model.specs.Outcome.{store_outcome, store_global_outcome, no_register, no_global, usable, usable_or_null}
-use Rattle.model.specs.Outcome.{field_at}
+use Rattle.model.specs.Outcome.{store_outcome, store_global_outcome, no_register}
+use Rattle.model.specs.Outcome.{no_global, usable, usable_or_null, field_at}
 use Rattle.model.specs.Plain.{PlainHeap, plain_step, plain_answer, name_of, storing}
 use Rattle.model.proofs.Lists.{get_within, each_changed}
 use Rattle.laws.specs.AddressHeap.{HeapObject}
@@ -36,8 +36,8 @@ use Rattle.refinement.proofs.Sizes.{frames_stay, sizes_stay}
 use Rattle.refinement.proofs.Threads.{global_world, global_laid}
 use Rattle.refinement.proofs.Rooted.{register_word, stored_again}
 use Rattle.refinement.proofs.Births.{storing_is, storing_roots, global_is}
-use Rattle.refinement.proofs.Verdicts.{bind_ok, found_ok, same_result, accepted, Passed, first_false, used_ok}
-use Rattle.refinement.proofs.Verdicts.{field_there}
+use Rattle.refinement.proofs.Verdicts.{bind_ok, found_ok, same_result, accepted}
+use Rattle.refinement.proofs.Verdicts.{Passed, first_false, used_ok, field_there}
 use Rattle.refinement.proofs.Readers.{names_object}
 use Rattle.refinement.proofs.Writers.{moved, moved_roots}
 
@@ -84,10 +84,9 @@ module _ (h : HeapState) (p p0 : PlainHeap) (s : IsStore h.store) (d : IsHeap h)
               words = record { threads = k.words.threads; globals = k.words.globals };
               roots = moved_roots h (written.after h s k.laid a o u.here (1 + i) bits) (storing p (name_of p t r) i
                   (name_of p t q)) refl refl refl (storing_roots h p (name_of p t r) i (name_of p t q) k.roots);
-              invariant = moved _ _ _ _ (births_of p0)
-                  (written.written_world h s k.laid a o u.here (1 + i) bits (with_field o i (word_in_memory bits)) w
-                  ∙ ap (λ v. set_object a (with_field o i v) (world_of h)) same)
-                  (storing_is p (name_of p t r) i (name_of p t q)) z;
+              invariant = moved _ _ _ _ (births_of p0) (written.written_world h s k.laid a o u.here (1 + i) bits
+                  (with_field o i (word_in_memory bits)) w ∙ ap (λ v. set_object a (with_field o i v) (world_of h))
+                  same) (storing_is p (name_of p t r) i (name_of p t q)) z;
             };
             answers = tt;
           }
@@ -127,7 +126,8 @@ module _ (h : HeapState) (p p0 : PlainHeap) (s : IsStore h.store) (d : IsHeap h)
           given = k.given;
           words = record {
             threads = k.words.threads;
-            globals = each_changed _ h.globals n (set_word_of w) k.words.globals (λ x e. register_word h t q k.words);
+            globals =
+                each_changed _ h.globals n (set_word_of w) k.words.globals (λ x e. register_word h t q k.words);
           };
           roots = record {
             threads = k.roots.threads;

@@ -1,19 +1,19 @@
 -- The two ways in which the store gives out a buffer.
-use Rattle.std.proofs.Common.{◌≡◌, ◌⊎◌, inl, inr, ℕ, ◌+◌, ◌-◌, ◌<◌, ◌≤◌, true, Option, Some, None, position, nat_le}
-use Rattle.std.proofs.Common.{refl, sym, ◌∙◌, ap, subst}
+use Rattle.std.proofs.Common.{◌≡◌, ◌⊎◌, inl, inr, ℕ, ◌+◌, ◌-◌, ◌<◌, ◌≤◌, true, Option}
+use Rattle.std.proofs.Common.{Some, None, position, nat_le, refl, sym, ◌∙◌, ap, subst}
 use Rattle.std.specs.List.{slice_get}
 use Rattle.std.specs.Prelude.{Result, Ok}
 use Rattle.std.proofs.lemmas.Bool.{and_parts}
 use Rattle.model.specs.declared.records.Page.{Page}
 use Rattle.model.specs.declared.records.Buffer.{Buffer}
 use Rattle.model.specs.declared.records.Room.{Room}
-use Rattle.model.specs.Stores.{StoreState, taken, taken_at, taken_fresh, given, opened, page_with_room, free_frame}
-use Rattle.model.specs.Stores.{unused_page, unused_in, is_open, is_unused, top_in, blank_page}
+use Rattle.model.specs.Stores.{StoreState, taken, taken_at, taken_fresh, given, opened, page_with_room}
+use Rattle.model.specs.Stores.{free_frame, unused_page, unused_in, is_open, is_unused, top_in, blank_page}
 use Rattle.model.specs.Owning.{IsStore}
 use Rattle.model.proofs.Lists.{get_within}
 use Rattle.page.specs.Records.{is_unused_in}
-use Rattle.page.proofs.Found.{room_found, room_passes, position_within, free_found, free_within, free_counts}
-use Rattle.page.proofs.Found.{unused_found, room_within}
+use Rattle.page.proofs.Found.{room_found, room_passes, position_within, free_found}
+use Rattle.page.proofs.Found.{free_within, free_counts, unused_found, room_within}
 use Rattle.page.proofs.Keeping.{all_have_records}
 
 -- n words of an open page with room

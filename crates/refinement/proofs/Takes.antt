@@ -17,8 +17,8 @@ use Rattle.model.specs.declared.records.Room.TheVariants.{NoFrames, NoPages}
 use Rattle.model.specs.Stores.{StoreState, taken, opened, fresh_page, buffer_of, is_open, is_unused}
 use Rattle.model.specs.Owning.{Each, IsStore}
 use Rattle.model.specs.Holding.{IsHeap}
-use Rattle.model.specs.Heaps.{HeapState, ThreadState, buffer_of_thread, buffer_in, changed, set_buffer_of, opened_rows}
-use Rattle.model.specs.Heaps.{blank_row}
+use Rattle.model.specs.Heaps.{HeapState, ThreadState, buffer_of_thread, buffer_in}
+use Rattle.model.specs.Heaps.{changed, set_buffer_of, opened_rows, blank_row}
 use Rattle.model.specs.Outcome.{take_outcome, took, lent}
 use Rattle.model.specs.Plain.{PlainHeap, plain_step, plain_answer}
 use Rattle.model.proofs.Lists.{each_set, each_changed, get_set, get_set_other, no_some}
@@ -122,8 +122,8 @@ module _ (h : HeapState) (p p0 : PlainHeap) (s : IsStore h.store) (d : IsHeap h)
         words = record { threads = (taken_words (buffer_of i 0 n)).threads; globals = k.words.globals };
         roots = moved_roots h (granted (opened_heap h i f) t i (fresh_page f) n) p
             (length_changed h.threads t (set_buffer_of (Some (buffer_of i 0 n)))) refl refl k.roots;
-        invariant = moved _ _ _ _ (births_of p0) (granted_world (opened_heap h i f) laid t i (fresh_page f) n x fresh
-            refl one at had ∙ opened_world h s d k.laid o m i f q there unused free) refl step;
+        invariant = moved _ _ _ _ (births_of p0) (granted_world (opened_heap h i f) laid t i (fresh_page f) n x
+            fresh refl one at had ∙ opened_world h s d k.laid o m i f q there unused free) refl step;
       }
 
   abbrev taken_ok : StoreState × Buffer → Result (StoreState × Buffer) Room
@@ -138,10 +138,9 @@ module _ (h : HeapState) (p p0 : PlainHeap) (s : IsStore h.store) (d : IsHeap h)
   lent_holds : (z : StoreState × Buffer) → n ≤ h.store.words → InOpenPage h.store n z ⊎ InFreshPage h.store n z
       → Holds (lent h t z.0 z.1) p p0
   lent_holds z high (inl w) =
-      let same : (
-        record h.store { pages = set h.store.pages w.index (with_more w.page n) },
-        buffer_of w.index w.page.top n,
-      ) ≡ z = sym (given_at h.store w.index n w.page w.at) ∙ w.is in
+      let same :
+      (record h.store { pages = set h.store.pages w.index (with_more w.page n) }, buffer_of w.index w.page.top n)
+      ≡ z = sym (given_at h.store w.index n w.page w.at) ∙ w.is in
       let top = k.given w.index w.page w.at w.is_so in
       subst (λ (z : StoreState × Buffer). Holds (lent h t z.0 z.1) p p0) same
       (subst (λ g. Holds g p p0) (sym (lent_open h t w.index w.page n top))
@@ -150,12 +149,10 @@ module _ (h : HeapState) (p p0 : PlainHeap) (s : IsStore h.store) (d : IsHeap h)
       let there = opened_at h.store w.index w.frame w.page w.at in
       let same : (
         record (opened h.store w.index w.frame) {
-          pages = set (opened h.store w.index w.frame).pages w.index
-              (with_more (fresh_page w.frame) n);
+          pages = set (opened h.store w.index w.frame).pages w.index (with_more (fresh_page w.frame) n);
         },
         buffer_of w.index 0 n,
-      ) ≡ z =
-      sym (given_at (opened h.store w.index w.frame) w.index n (fresh_page w.frame) there) ∙ w.is in
+      ) ≡ z = sym (given_at (opened h.store w.index w.frame) w.index n (fresh_page w.frame) there) ∙ w.is in
       subst (λ (z : StoreState × Buffer). Holds (lent h t z.0 z.1) p p0) same
       (subst (λ g. Holds g p p0) (sym (lent_fresh h t w.index w.frame n))
       (in_fresh w.index w.frame w.page w.at w.unused w.free high))

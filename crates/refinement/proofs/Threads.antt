@@ -6,9 +6,9 @@ use Rattle.std.specs.Option.{option_map}
 use Rattle.std.proofs.Math.ListN.{length-set}
 use Rattle.model.specs.declared.records.Barrier.{Barrier}
 use Rattle.model.specs.declared.records.Global.{Global}
-use Rattle.model.specs.Heaps.{HeapState, ThreadState, Reference, register_of, register_in, with_barrier}
-use Rattle.model.specs.Heaps.{set_barrier_of, with_loaded, set_loaded_of, with_parked, set_parked_of, with_global}
-use Rattle.model.specs.Heaps.{set_word_of, changed, buffer_in}
+use Rattle.model.specs.Heaps.{HeapState, ThreadState, Reference, register_of, register_in}
+use Rattle.model.specs.Heaps.{with_barrier, set_barrier_of, with_loaded, set_loaded_of, with_parked}
+use Rattle.model.specs.Heaps.{set_parked_of, with_global, set_word_of, changed, buffer_in}
 use Rattle.model.specs.Outcome.{has_crossed, is_parked_in}
 use Rattle.model.proofs.Lists.{each_changed}
 use Rattle.laws.specs.Edits.{set_barrier, end_load, set_global, set_parked}
@@ -52,8 +52,8 @@ module _ (h : HeapState) (t : ℕ) (x : ThreadState) (at : slice_get h.threads t
   pub barrier_world : (b : Barrier) → world_of (with_barrier h t b) ≡ set_barrier t (as_barrier b) (world_of h)
   unfolding with_barrier register_of
   barrier_world b = λ z. record (world_of h) {
-    register = fun_ext (λ u.
-        fun_ext (λ s. kept_of (λ o. as_word (register_in o s)) h.threads t (set_barrier_of (Some b)) (λ y. refl) u)) z;
+    register = fun_ext (λ u. fun_ext
+        (λ s. kept_of (λ o. as_word (register_in o s)) h.threads t (set_barrier_of (Some b)) (λ y. refl) u)) z;
     crossed = fun_ext (kept_of has_crossed h.threads t (set_barrier_of (Some b)) (λ y. refl)) z;
     parked = fun_ext (kept_of is_parked_in h.threads t (set_barrier_of (Some b)) (λ y. refl)) z;
     barrier = fun_ext (read_changed barrier_in h.threads t (set_barrier_of (Some b)) x (Some (as_barrier b)) at refl) z;
@@ -74,8 +74,8 @@ module _ (h : HeapState) (t : ℕ) (x : ThreadState) (at : slice_get h.threads t
   pub parked_world : (b : Bool) → world_of (with_parked h t b) ≡ set_parked t b (world_of h)
   unfolding with_parked register_of
   parked_world b = λ z. record (world_of h) {
-    register = fun_ext
-        (λ u. fun_ext (λ s. kept_of (λ o. as_word (register_in o s)) h.threads t (set_parked_of b) (λ y. refl) u)) z;
+    register = fun_ext (λ u.
+        fun_ext (λ s. kept_of (λ o. as_word (register_in o s)) h.threads t (set_parked_of b) (λ y. refl) u)) z;
     crossed = fun_ext (kept_of has_crossed h.threads t (set_parked_of b) (λ y. refl)) z;
     parked = fun_ext (read_changed is_parked_in h.threads t (set_parked_of b) x b at refl) z;
     barrier = fun_ext (kept_of barrier_in h.threads t (set_parked_of b) (λ y. refl)) z;

@@ -1,6 +1,6 @@
 -- What an accepted step has passed: the tests before its row, and those of the row.
-use Rattle.std.proofs.Common.{◌≡◌, ◌⊎◌, inl, inr, ℕ, ◌+◌, ◌%◌, ◌<◌, ◌&&◌, ◌||◌, Bool, true, false, not, cond, length}
-use Rattle.std.proofs.Common.{nat_le, nat_lt, is_some, Option, Some, None, refl, sym, ◌∙◌, ap, subst}
+use Rattle.std.proofs.Common.{◌≡◌, ◌⊎◌, inl, inr, ℕ, ◌+◌, ◌%◌, ◌<◌, ◌&&◌, ◌||◌, Bool, true, false, not, cond}
+use Rattle.std.proofs.Common.{length, nat_le, nat_lt, is_some, Option, Some, None, refl, sym, ◌∙◌, ap, subst}
 use Rattle.std.specs.Prelude.{Result, Ok, Err}
 use Rattle.std.specs.List.{slice_get}
 use Rattle.std.specs.Option.{option_and_then}
@@ -13,13 +13,13 @@ use Rattle.model.specs.declared.steps.Refusal.TheVariants as refusals
 use Rattle.model.specs.declared.records.Barrier.{Barrier}
 use Rattle.model.specs.declared.records.Phase.{Phase}
 use Rattle.model.specs.declared.records.Phase.TheVariants.{Idle, MarkCrossing, Scanning, ProtectCrossing, Relocating}
-use Rattle.model.specs.Heaps.{HeapState, ThreadState, Reference, register_of, layout_at, layout_in, header_layout}
-use Rattle.model.specs.Heaps.{field_address, datum_address}
+use Rattle.model.specs.Heaps.{HeapState, ThreadState, Reference, register_of, layout_at}
+use Rattle.model.specs.Heaps.{layout_in, header_layout, field_address, datum_address}
 use Rattle.model.specs.Refusing.{◌>>=◌, or_refuse}
-use Rattle.model.specs.Outcome.{outcome, thread_gate, thread_row, has_bad_index, is_for_threads, is_for_parked}
-use Rattle.model.specs.Outcome.{is_for_loading, is_parked_in, is_loading_in, usable, use_word, usable_or_null}
-use Rattle.model.specs.Outcome.{use_or_null, let_through, held_back, has_crossed, field_at, field_place, datum_at}
-use Rattle.model.specs.Outcome.{datum_place}
+use Rattle.model.specs.Outcome.{outcome, thread_gate, thread_row, has_bad_index, is_for_threads}
+use Rattle.model.specs.Outcome.{is_for_parked, is_for_loading, is_parked_in, is_loading_in, usable}
+use Rattle.model.specs.Outcome.{use_word, usable_or_null, use_or_null, let_through, held_back}
+use Rattle.model.specs.Outcome.{has_crossed, field_at, field_place, datum_at, datum_place}
 use Rattle.model.proofs.Lists.{get_within}
 use Rattle.model.proofs.Memory.{word_on_page}
 use Rattle.laws.specs.AddressHeap.{HeapObject}
@@ -155,11 +155,7 @@ used_or_null h t r o x at e = by_word (register_of h t r) refl e
         inr (
           w.0,
           sym (same_result (Some w.0) o is),
-          record {
-            bit = w.1;
-            word = f;
-            usable = through h t w.0 x at (pass ∙ ap accepted (one_unit u));
-          },
+          record { bit = w.1; word = f; usable = through h t w.0 x at (pass ∙ ap accepted (one_unit u)) },
         )
 
 -- data

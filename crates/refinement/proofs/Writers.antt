@@ -1,7 +1,7 @@
 -- Steps that write: registers, data, buffers and new objects.
-use Rattle.std.proofs.Common.{◌≡◌, ℕ, zero, suc, ◌+◌, ◌-◌, ◌*◌, ◌%◌, ◌<◌, ◌≤◌, Bool, true, false, cond, nat_lt, nat_le}
-use Rattle.std.proofs.Common.{List, [], ◌∷◌, length, replicate, get_or, is_some, Option, Some, None, refl, sym, ◌∙◌}
-use Rattle.std.proofs.Common.{ap, subst, arith}
+use Rattle.std.proofs.Common.{◌≡◌, ℕ, zero, suc, ◌+◌, ◌-◌, ◌*◌, ◌%◌, ◌<◌, ◌≤◌, Bool, true, false}
+use Rattle.std.proofs.Common.{cond, nat_lt, nat_le, List, [], ◌∷◌, length, replicate, get_or}
+use Rattle.std.proofs.Common.{is_some, Option, Some, None, refl, sym, ◌∙◌, ap, subst, arith}
 use Rattle.std.specs.List.{slice_get}
 use Rattle.std.specs.Prelude.{Ok, Err}
 use Rattle.std.specs.Option.{option_map, IfSome}
@@ -20,8 +20,8 @@ use Rattle.model.specs.declared.records.PageState.TheVariants.{Open, From}
 use Rattle.model.specs.Stores.{with_word, with_words}
 use Rattle.model.specs.Owning.{IsStore, LiesIn}
 use Rattle.model.specs.Holding.{IsHeap}
-use Rattle.model.specs.Heaps.{HeapState, ThreadState, Reference, register_of, with_register, with_buffer}
-use Rattle.model.specs.Heaps.{buffer_of_thread, buffer_in, set_register_of, set_buffer_of}
+use Rattle.model.specs.Heaps.{HeapState, ThreadState, Reference, register_of, with_register}
+use Rattle.model.specs.Heaps.{with_buffer, buffer_of_thread, buffer_in, set_register_of, set_buffer_of}
 use Rattle.model.specs.Refusing.{◌>>=◌, or_refuse}
 use Rattle.model.specs.Outcome.{set_datum_outcome, copy_register_outcome, clear_register_outcome, give_back_outcome}
 use Rattle.model.specs.Outcome.{new_outcome, placed, no_register, usable, datum_at, handed, used_buffer}
@@ -49,8 +49,8 @@ use Rattle.refinement.proofs.Born as births
 use Rattle.refinement.proofs.Sizes.{frames_stay, sizes_stay}
 use Rattle.refinement.proofs.Registers.{register_world, register_laid, buffer_world, given_back_laid}
 use Rattle.refinement.proofs.Births.{naming_is, naming_roots, writing_is, writing_roots, born_is, born_roots}
-use Rattle.refinement.proofs.Verdicts.{bind_ok, found_ok, same_result, not_refused, accepted, Passed, first_false}
-use Rattle.refinement.proofs.Verdicts.{used_ok, datum_there}
+use Rattle.refinement.proofs.Verdicts.{bind_ok, found_ok, same_result, not_refused}
+use Rattle.refinement.proofs.Verdicts.{accepted, Passed, first_false, used_ok, datum_there}
 use Rattle.refinement.proofs.Readers.{names_object}
 
 -- the invariant of other heaps that are these
@@ -102,8 +102,8 @@ module _ (h : HeapState) (p p0 : PlainHeap) (s : IsStore h.store) (d : IsHeap h)
               };
               roots = moved_roots h (with_buffer h t None) p
                   (length_changed h.threads t (set_buffer_of None)) refl refl k.roots;
-              invariant = moved (world_of h) (world_of (with_buffer h t None)) (births_of p) (births_of p) (births_of p0)
-                  (buffer_world h k.laid t None) refl k.invariant;
+              invariant = moved (world_of h) (world_of (with_buffer h t None)) (births_of p) (births_of p)
+                  (births_of p0) (buffer_world h k.laid t None) refl k.invariant;
             };
             answers = tt;
           })
@@ -203,9 +203,8 @@ module _ (h : HeapState) (p p0 : PlainHeap) (s : IsStore h.store) (d : IsHeap h)
               words = record { threads = k.words.threads; globals = k.words.globals };
               roots = moved_roots h (written.after h s k.laid a q u.here n v)
                   (writing p (name_of p t r) j v) refl refl refl (writing_roots h p (name_of p t r) j v k.roots);
-              invariant =
-                  moved _ _ _ _ (births_of p0) (written.written_world h s k.laid a q u.here n v (with_datum q j v) w)
-                  (writing_is p (name_of p t r) j v) i;
+              invariant = moved _ _ _ _ (births_of p0) (written.written_world h s k.laid a q u.here n v
+                  (with_datum q j v) w) (writing_is p (name_of p t r) j v) i;
             };
             answers = tt;
           }
@@ -310,9 +309,9 @@ module _ (h : HeapState) (p p0 : PlainHeap) (s : IsStore h.store) (d : IsHeap h)
           subst (λ (z : HeapState × Answer). StepHolds h p p0 (Thread t) (steps.New r number) z.0 z.1) is (record {
             config = refl;
             holds = subst (λ o. Holds (placed h t r number l b) (born p t r number o) p0) (sym known) (record {
-              sizes = sizes_stay h (placed h t r number l b) k.sizes refl refl
-                  (frames_stay h.store _ _) refl (length_changed h.threads t
-                  (handed r (Some (b.page * h.store.words + b.next, h.nmt)) (used_buffer b (size_of l)))) refl refl;
+              sizes = sizes_stay h (placed h t r number l b) k.sizes refl refl (frames_stay h.store _ _) refl
+                  (length_changed h.threads t (handed r (Some (b.page * h.store.words + b.next, h.nmt))
+                  (used_buffer b (size_of l)))) refl refl;
               laid = births.born_laid h s k.laid t r number l b g.thread m;
               given = k.given;
               words = record {
@@ -322,7 +321,8 @@ module _ (h : HeapState) (p p0 : PlainHeap) (s : IsStore h.store) (d : IsHeap h)
                     (used_buffer b (size_of l)) y (buffer_address h.store b s m.lies (omega (arith, room))));
                 globals = k.words.globals;
               };
-              roots = moved_roots h (placed h t r number l b) (born p t r number (Some l)) (length_changed h.threads t
+              roots =
+                  moved_roots h (placed h t r number l b) (born p t r number (Some l)) (length_changed h.threads t
                   (handed r (Some (b.page * h.store.words + b.next, h.nmt)) (used_buffer b (size_of l)))) refl refl
                   (born_roots h p t r number l k.roots);
               invariant = moved _ _ _ _ (births_of p0) (births.born_world h s k.laid t r number l b g.thread m)

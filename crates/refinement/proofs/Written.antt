@@ -1,6 +1,6 @@
 -- A word of an object that is written in memory: the object reads as another of its size, and all others stay.
-use Rattle.std.proofs.Common.{◌≡◌, ◌≢◌, ◌⊎◌, inl, inr, ℕ, ◌+◌, ◌/◌, ◌%◌, ◌<◌, ◌≤◌, true, List, length, set, Some, refl}
-use Rattle.std.proofs.Common.{sym, ◌∙◌, ap, ap₂, subst, arith}
+use Rattle.std.proofs.Common.{◌≡◌, ◌≢◌, ◌⊎◌, inl, inr, ℕ, ◌+◌, ◌/◌, ◌%◌, ◌<◌, ◌≤◌, true}
+use Rattle.std.proofs.Common.{List, length, set, Some, refl, sym, ◌∙◌, ap, ap₂, subst, arith}
 use mathlib.Core.Path.{fun_ext}
 use Rattle.std.proofs.Math.ListN.{length-set}
 use Rattle.std.specs.List.{slice_get}
@@ -17,8 +17,8 @@ use Rattle.laws.specs.Edits.{set_object}
 use Rattle.laws.specs.Effects.{with_datum, with_field}
 use Rattle.laws.proofs.Basics.{put_all, put_after, put_same, put_other}
 use Rattle.refinement.specs.Worlds.{world_of, object_at, bit_at, word_in_memory}
-use Rattle.refinement.specs.Claims.{IsLaid, Claim, OfObject, OfBuffer, OfPlan, OfEnd, extent, object_size, size_at}
-use Rattle.refinement.specs.Claims.{sized_extent, planned_extent}
+use Rattle.refinement.specs.Claims.{IsLaid, Claim, OfObject, OfBuffer, OfPlan, OfEnd, extent}
+use Rattle.refinement.specs.Claims.{object_size, size_at, sized_extent, planned_extent}
 use Rattle.refinement.proofs.Runs.{Agree}
 use Rattle.refinement.proofs.Reading.{IsRead, read_refs, read_data, read_fits, read_datum, read_field}
 use Rattle.refinement.proofs.Objects.{Rewrites, IsThere, there, rewritten}

@@ -1,13 +1,13 @@
 -- What clap makes of words of which none begins with '-', for the program's command: one and none are too few,
 -- three are too many, and two are its values.
-use Rattle.std.proofs.Common.{◌≡◌, ◌∙◌, ◌==◌, ◌∷◌, ℕ, Bool, true, false, List, [], Some, None, refl, sym, ap, ap₂}
-use Rattle.std.proofs.Common.{codes, is_some, fold}
+use Rattle.std.proofs.Common.{◌≡◌, ◌∙◌, ◌==◌, ◌∷◌, ℕ, Bool, true, false, List, []}
+use Rattle.std.proofs.Common.{Some, None, refl, sym, ap, ap₂, codes, is_some, fold}
 use Rattle.std.specs.Prelude.{if◌then◌else◌, option_and_then, unwrap_or}
 use Rattle.std.specs.Str.{bytes_eq}
 use Rattle.std.proofs.lemmas.Bool.{not-true}
 use Rattle.std.proofs.lemmas.Slice.Eq.{bytes_eq-Decides}
-use Rattle.clap.specs.Faults.{check_fault, defaults_fault, entered_fault, fault_of, settle_fault, step_fault}
-use Rattle.clap.specs.Faults.{turn_fault, walk_fault, word_fault}
+use Rattle.clap.specs.Faults.{check_fault, defaults_fault, entered_fault, fault_of}
+use Rattle.clap.specs.Faults.{settle_fault, step_fault, turn_fault, walk_fault, word_fault}
 use Rattle.clap.specs.Kinds.{Kinds, or_else}
 use Rattle.clap.specs.Lexer.{short_of, short_of_rest}
 use Rattle.clap.specs.Matches.{first_value}

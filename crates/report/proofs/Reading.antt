@@ -1,6 +1,6 @@
 -- Reading a reader to its end, or to one byte more than a script may have.
-use Rattle.std.proofs.Common.{◌≡◌, ℕ, ◌+◌, ◌≤◌, List, [], ◌++◌, length, take, Option, Some, None, IfSome, inl, inr}
-use Rattle.std.proofs.Common.{◌∙◌, ap, subst, arith, rules}
+use Rattle.std.proofs.Common.{◌≡◌, ℕ, ◌+◌, ◌≤◌, List, [], ◌++◌, length, take, Option}
+use Rattle.std.proofs.Common.{Some, None, IfSome, inl, inr, ◌∙◌, ap, subst, arith, rules}
 use Rattle.std.specs.Option.{option_map}
 use Rattle.std.specs.Prelude.{Result, Ok, Err, IfErr, OnOk}
 use Rattle.std.proofs.lemmas.List.{length-take, take_all}
@@ -15,9 +15,8 @@ whole limit all bytes e h =
 
 -- what was printed of the bytes that were read was printed of all
 pub prints_all : {E : Type 0} (r : Result Unit E) (limit : ℕ) (known : Option (List ℕ)) (bytes : List ℕ)
-    (old new : Option (List ℕ)) →
-    IfSome known (λ all. bytes ≡ take (limit + 1) all) → OnOk r (length bytes ≤ limit) → OnOk r (Prints bytes old new)
-    → OnOk r (IfSome known (λ all. Prints all old new))
+    (old new : Option (List ℕ)) → IfSome known (λ all. bytes ≡ take (limit + 1) all) → OnOk r (length bytes ≤ limit)
+    → OnOk r (Prints bytes old new) → OnOk r (IfSome known (λ all. Prints all old new))
 prints_all (Err e) limit known bytes old new h k p = search rules
 prints_all (Ok u) limit None bytes old new h k p = search rules
 prints_all (Ok u) limit (Some all) bytes old new h k p =

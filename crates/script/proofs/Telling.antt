@@ -25,9 +25,8 @@ pub texts_end : {X : Type 0} (f : ℕ → X → List ℕ) (i : ℕ) (xs : List X
 unfolding texts_from
 texts_end f i xs h = rw (drop_all i xs h) refl
 
-pub told_next :
-    {X : Type 0} (f : ℕ → X → List ℕ) (i : ℕ) (xs : List X) (d : X) (old c new : Option (List ℕ)) (all : List ℕ) →
-    Leads old c (texts_from f i (drop i xs)) all → i < length xs → Appends c new (f i (get_or xs i d))
+pub told_next : {X : Type 0} (f : ℕ → X → List ℕ) (i : ℕ) (xs : List X) (d : X) (old c new : Option (List ℕ))
+    (all : List ℕ) → Leads old c (texts_from f i (drop i xs)) all → i < length xs → Appends c new (f i (get_or xs i d))
     → Leads old new (texts_from f (i + 1) (drop (i + 1) xs)) all
 told_next f i xs d old c new all h le a =
     let k : Leads old c (f i (get_or xs i d) ++ texts_from f (i + 1) (drop (i + 1) xs)) all =
@@ -61,8 +60,8 @@ cycles_end : (k i : ℕ) (es : List Entry) → length es ≤ i → cycles_from k
 unfolding cycles_from
 cycles_end k i es h = rw (drop_all i es h) refl
 
-pub cycle_told : (k n i : ℕ) (es : List Entry) (d : Entry) (old c new : Option (List ℕ)) (all : List ℕ) →
-    Leads old c (cycles_from k (drop i es)) all → i < length es → Appends c new (cycle_line k (get_or es i d).answer)
+pub cycle_told : (k n i : ℕ) (es : List Entry) (d : Entry) (old c new : Option (List ℕ)) (all : List ℕ)
+    → Leads old c (cycles_from k (drop i es)) all → i < length es → Appends c new (cycle_line k (get_or es i d).answer)
     → n ≡ next_cycle k (get_or es i d).answer → Leads old new (cycles_from n (drop (i + 1) es)) all
 cycle_told k n i es d old c new all h le a e =
     let there : Leads old c (cycle_line k (get_or es i d).answer ++ cycles_from n (drop (i + 1) es)) all =
@@ -76,17 +75,16 @@ cycles_told k i es old c all h le =
 
 -- commands
 
-lines_next : (n i : ℕ) (b : BookState) (cs : List Command) (d : Command) → i < length cs →
-    lines_text n b (drop i cs) ≡ line_text n (get_or cs i d).actor (done b (get_or cs i d)).replies ++ lines_text
+lines_next : (n i : ℕ) (b : BookState) (cs : List Command) (d : Command) → i < length cs
+    → lines_text n b (drop i cs) ≡ line_text n (get_or cs i d).actor (done b (get_or cs i d)).replies ++ lines_text
     (n + 1) (done b (get_or cs i d)).book (drop (i + 1) cs)
 unfolding lines_text
 lines_next n i b cs d h = rw (split cs i d h) refl
 
-pub line_told : (n i : ℕ) (b e : BookState) (cs : List Command) (d : Command) (replies : List Reply)
-    (old c new : Option (List ℕ)) (all : List ℕ) →
-    Leads old c (lines_text n b (drop i cs)) all → i < length cs → replies ≡ (done b (get_or cs i d)).replies
-    → e ≡ (done b (get_or cs i d)).book →
-    Appends c new (line_text n (get_or cs i d).actor replies)
+pub line_told : (n i : ℕ) (b e : BookState) (cs : List Command)
+    (d : Command) (replies : List Reply) (old c new : Option (List ℕ)) (all : List ℕ)
+    → Leads old c (lines_text n b (drop i cs)) all → i < length cs → replies ≡ (done b (get_or cs i d)).replies
+    → e ≡ (done b (get_or cs i d)).book → Appends c new (line_text n (get_or cs i d).actor replies)
     → Leads old new (lines_text (n + 1) e (drop (i + 1) cs)) all
 line_told n i b e cs d replies old c new all h le r k a =
     let there : Leads old c (line_text n (get_or cs i d).actor replies ++ lines_text (n + 1) e (drop (i + 1) cs)) all =
@@ -113,16 +111,15 @@ unfolding book_after
 book_end i b f cs h le = let there : book_after b (drop i cs) ≡ b = rw (drop_all i cs le) refl in sym there ∙ h
 
 -- the same of an element that was read
-pub told_item :
-    {X : Type 0} (f : ℕ → X → List ℕ) (i : ℕ) (xs : List X) (x : X) (old c new : Option (List ℕ)) (all : List ℕ) →
-    Leads old c (texts_from f i (drop i xs)) all → i < length xs → x ≡ get_or xs i x → Appends c new (f i x)
-    → Leads old new (texts_from f (i + 1) (drop (i + 1) xs)) all
+pub told_item : {X : Type 0} (f : ℕ → X → List ℕ) (i : ℕ) (xs : List X) (x : X) (old c new : Option (List ℕ))
+    (all : List ℕ) → Leads old c (texts_from f i (drop i xs)) all → i < length xs → x ≡ get_or xs i x
+    → Appends c new (f i x) → Leads old new (texts_from f (i + 1) (drop (i + 1) xs)) all
 told_item f i xs x old c new all h le e a =
     told_next f i xs x old c new all h le (subst (λ y. Appends c new (f i y)) e a)
 
-pub cycle_item : (k n i : ℕ) (es : List Entry) (e : Entry) (old c new : Option (List ℕ)) (all : List ℕ) →
-    Leads old c (cycles_from k (drop i es)) all → i < length es
-    → e ≡ get_or es i e → Appends c new (cycle_line k e.answer) → n ≡ next_cycle k e.answer
+pub cycle_item : (k n i : ℕ) (es : List Entry) (e : Entry) (old c new : Option (List ℕ)) (all : List ℕ)
+    → Leads old c (cycles_from k (drop i es)) all
+    → i < length es → e ≡ get_or es i e → Appends c new (cycle_line k e.answer) → n ≡ next_cycle k e.answer
     → Leads old new (cycles_from n (drop (i + 1) es)) all
 cycle_item k n i es e old c new all h le q a m =
     cycle_told k n i es e old c new all h le (subst (λ (y : Entry). Appends c new (cycle_line k y.answer)) q a)

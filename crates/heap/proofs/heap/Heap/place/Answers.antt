@@ -16,9 +16,7 @@ hand_over-requires c =
       page = c.args.buffer.page;
       next = c.args.buffer.next + c.size-size.result;
       end = c.args.buffer.end;
-    }))
-    (sym c.write_new.ensures)
-    (words_lie c.self.inside.store c.args.buffer.page
+    })) (sym c.write_new.ensures) (words_lie c.self.inside.store c.args.buffer.page
     _ _ (rest_lies c.self.inside.store c.args.buffer c.size-size.result lies room))
 
 pub invariant_of-self : goal.invariant_of-self

@@ -25,6 +25,6 @@ invariant_of-result c =
       count = c.size_for-depth.ensures.room;
       tree = rw same c.link.ensures.tree;
       rest = rw same (λ i le. leaf_same filled.items c.link.new.nodes width i leaves (omega arith)
-          ∙ rest_zero width c.args.count c.args.value i c.resize.new.self.items c.resize-2.new.self.items filled.items
-          (omega (arith, c.in_ok-resize.ensures.len)) copies zeros le);
+          ∙ rest_zero width c.args.count c.args.value i c.resize.new.self.items c.resize-2.new.self.items
+          filled.items (omega (arith, c.in_ok-resize.ensures.len)) copies zeros le);
     }

@@ -25,8 +25,8 @@ invariant_of-self c =
       sized = rw same (len ∙ old.sized);
       count = old.count;
       tree = rw same c.settle.ensures.tree;
-      rest = rw same (λ i le. rest_same t.nodes.items c.settle.new.nodes t.width t.count c.args.index c.args.value i
-          leaves within le (old.rest i le));
+      rest = rw same (λ i le. rest_same t.nodes.items c.settle.new.nodes t.width t.count c.args.index c.args.value
+          i leaves within le (old.rest i le));
     }
 
 pub returns : goal.returns

@@ -1,5 +1,5 @@
-use Rattle.std.proofs.Common.{◌≡◌, ℕ, ◌<◌, ◌+◌, ◌∙◌, length, set, is_none, Option, None, Some, replicate, sym, subst}
-use Rattle.std.proofs.Common.{ap, refl, arith, true}
+use Rattle.std.proofs.Common.{◌≡◌, ℕ, ◌<◌, ◌+◌, ◌∙◌, length, set, is_none, Option}
+use Rattle.std.proofs.Common.{None, Some, replicate, sym, subst, ap, refl, arith, true}
 use Rattle.std.specs.List.{slice_get}
 use Rattle.model.specs.declared.records.Page.{Page}
 use Rattle.model.specs.Stores.{StoreState, opened, is_unused, fresh_page}
@@ -32,8 +32,11 @@ invariant_of-self c =
     c.clear.ensures ∙ ap (λ n. replicate n 0) (c.self.invariant.store.sized.frames c.args.frame _ words) in
     record {
       store = opened_with s c.args.index c.args.frame c.clear.new.self c.self.invariant.store page unused free zeros;
-      free = omega
-          (arith, c.self.invariant.free, count_set is_none s.owners c.args.frame None (Some (c.args.index + 1)) free);
+      free = omega (
+        arith,
+        c.self.invariant.free,
+        count_set is_none s.owners c.args.frame None (Some (c.args.index + 1)) free,
+      );
       rooms = c.set.ensures ∙ ap (λ ns. set ns c.args.index s.words) c.self.invariant.rooms
           ∙ set_mapped (left_in s.words) s.pages c.args.index (fresh_page c.args.frame) s.words (omega arith);
       unused = c.set-2.ensures ∙ ap (λ ns. set ns c.args.index 0) c.self.invariant.unused
