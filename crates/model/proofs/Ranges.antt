@@ -3,6 +3,7 @@ use Rattle.std.proofs.Common.{◌≡◌, ℕ, ◌≤◌, ◌==◌, ◌||◌, Boo
 use Rattle.std.proofs.Common.{Some, None, nat_lt, refl, sym, arith, rules, lit≤}
 use Rattle.std.specs.Option.{IfNone}
 use Rattle.std.proofs.lemmas.Bool.{ltb-false, or_parts, not-false, eqb-true}
+use Rattle.std.proofs.lemmas.Bool.Decides.{nat_tests}
 use Rattle.model.specs.declared.config.Config.{Config}
 use Rattle.model.specs.declared.config.ConfigFault.{ConfigFault}
 use Rattle.model.specs.Configs.{first_fault, is_page_size, is_outside, IsRanged}
@@ -17,23 +18,8 @@ pub within : (n low high : ℕ) → is_outside n low high ≡ false → (low ≤
 within n low high e =
     let parts = or_parts (nat_lt n low) (nat_lt high n) e in (ltb-false n low parts.0, ltb-false high n parts.1)
 
-abbrev InRange : ℕ → Type 0
-InRange n = (16 ≤ n) × (n ≤ 4096)
-
-either : (n : ℕ) (a b : Bool) → (a ≡ true → InRange n) → (b ≡ true → InRange n) → a || b ≡ true → InRange n
-either n true b f g e = f refl
-either n false b f g e = g e
-
-at_size : (n k : ℕ) → 16 ≤ k → k ≤ 4096 → (n == k) ≡ true → InRange n
-at_size n k low high e = let same = eqb-true n k e in (omega arith, omega arith)
-
-page_size_range : (n : ℕ) → is_page_size n ≡ true → InRange n
-page_size_range n =
-    either n _ _ (either n _ _ (either n _ _ (either n _ _ (either n _ _ (either n _ _ (either n _ _ (either n _ _
-    (at_size n 16 (lit≤ tt) (lit≤ tt)) (at_size n 32 (lit≤ tt) (lit≤ tt))) (at_size n 64 (lit≤ tt) (lit≤ tt)))
-    (at_size n 128 (lit≤ tt) (lit≤ tt))) (at_size n 256 (lit≤ tt) (lit≤ tt)))
-    (at_size n 512 (lit≤ tt) (lit≤ tt))) (at_size n 1024 (lit≤ tt) (lit≤ tt))) (at_size n 2048 (lit≤ tt) (lit≤ tt)))
-    (at_size n 4096 (lit≤ tt) (lit≤ tt))
+pub page_size_range : (n : ℕ) → is_page_size n ≡ true → (16 ≤ n) × (n ≤ 4096)
+page_size_range n e = grind (arith, nat_tests)
 
 pub in_range : (c : Config) → first_fault c ≡ None → IsRanged c
 unfolding first_fault

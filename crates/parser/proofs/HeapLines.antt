@@ -9,6 +9,7 @@ use Rattle.std.proofs.lemmas.Bool.{ltb-false, le-ltb, not-false}
 use Rattle.std.proofs.lemmas.Bool.Decides.{nat_tests}
 use Rattle.layout.specs.declared.shape.Layout.{Layout}
 use Rattle.model.specs.Configs.{is_page_size}
+use Rattle.model.proofs.Ranges.{page_size_range}
 use Rattle.parser.specs.declared.fault.FaultKind.TheVariants as kinds
 use Rattle.parser.specs.declared.heading.Sizes.{Sizes}
 use Rattle.parser.specs.declared.heading.TheConstants.{MOST_FRAMES, MOST_PAGES, MOST_THREADS}
@@ -17,7 +18,7 @@ use Rattle.parser.specs.Headings.{config_of, field_at, page_size_at, limit_in, l
 use Rattle.parser.specs.Headings.{memory_at, actors_at, limits_at, heap_in, layout_in}
 use Rattle.parser.specs.Spelling.{size_words, SpellsLimit, IsLayout}
 use Rattle.parser.proofs.Places.{words_from, word_is, found_word, Reads}
-use Rattle.parser.proofs.Pieces.{bind_ok, guard_ok, ok_is, fixed_ok, fixed_again}
+use Rattle.parser.proofs.Pieces.{bind_ok, guard_ok, ok_is, fixed_ok, fixed_again, one_of}
 use Rattle.parser.proofs.Pieces.{number_ok, number_again, end_ok, end_again}
 
 -- a number from low to high stands behind its name
@@ -69,9 +70,6 @@ page_size_ok line at v h =
       below = n.below;
     })
 
-pub page_size_range : (n : ℕ) → is_page_size n ≡ true → (16 ≤ n) × (n ≤ 4096)
-page_size_range n h = grind (arith, nat_tests)
-
 page_size_again : (line : List ℕ) (at n : ℕ) (ws : List (List ℕ)) → is_page_size n ≡ true
     → words_from line at ≡ codes "words" ∷ decimal n ∷ ws → Reads line (page_size_at line at) n ws
 unfolding page_size_at
@@ -91,10 +89,6 @@ record IsLimitAt (line : List ℕ) (at : ℕ) (name : List ℕ) (most : ℕ) (v 
   above : 1 ≤ v.0
   below : v.0 ≤ most
 
-chosen : {A : Type 0} (b : Bool) (x y z : A) → cond b x y ≡ z → ((b ≡ true) × (x ≡ z)) ⊎ ((b ≡ false) × (y ≡ z))
-chosen true x y z h = inl (refl, h)
-chosen false x y z h = inr (refl, h)
-
 left_out : (line : List ℕ) (at : ℕ) (name : List ℕ) (most : ℕ) (v : ℕ × ℕ) → 1 ≤ most → (most, at) ≡ v
     → IsLimitAt line at name most v
 left_out line at name most v low e = subst (λ (x : ℕ × ℕ). IsLimitAt line at name most x) e
@@ -104,7 +98,7 @@ limit_in_ok : (line : List ℕ) (at : ℕ) (name : List ℕ) (most : ℕ) (v : �
     → most < 2 ^ 64 → word_at line at ≡ o → limit_in line at name most o ≡ Ok v → IsLimitAt line at name most v
 limit_in_ok line at name most v None low fits e h = left_out line at name most v low (ok_is (most, at) v h)
 limit_in_ok line at name most v (Some w) low fits e h =
-    elim (chosen (bytes_eq w.0 name) (number_at line w.1 1 most) (Ok (most, at)) (Ok v) h) [
+    elim (one_of (bytes_eq w.0 name) (number_at line w.1 1 most) (Ok (most, at)) (Ok v) h) [
       | inl p ↦
           let n = number_ok line w.1 1 most v fits p.1 in
           let same : w.0 ≡ name = (bytes_eq-Decides w.0 name).0 p.0 in

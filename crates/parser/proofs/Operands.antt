@@ -33,7 +33,7 @@ use Rattle.parser.specs.Orders.{bare_order, slot_order, field_order, registers_a
 use Rattle.parser.specs.Headings.{config_of}
 use Rattle.parser.specs.Spelling.{actor_word, register_word, order_words, IsActor, IsFor, IsOrder}
 use Rattle.parser.proofs.Places.{words_from, words_whole, Reads}
-use Rattle.parser.proofs.Pieces.{bind_ok, ok_is, or_flaw_ok, word_ok, word_again, number_ok, number_again}
+use Rattle.parser.proofs.Pieces.{bind_ok, ok_is, or_flaw_ok, word_ok, word_again, number_ok, number_again, one_of}
 use Rattle.parser.proofs.Pieces.{small_ok, small_again, named_ok, named_again, end_ok, end_again}
 
 -- a register that is there is the word at a place
@@ -590,22 +590,18 @@ pub record AreFew (sizes : Sizes) : Type 0 where
   pub workers : sizes.workers < 2 ^ 64
   pub registers : sizes.registers < 2 ^ 64
 
-one_of : {A : Type 0} (b : Bool) (x y : Result A Flaw) (z : A) → cond b x y ≡ Ok z → (x ≡ Ok z) ⊎ (y ≡ Ok z)
-one_of true x y z h = inl h
-one_of false x y z h = inr h
-
 pub actor_ok : (sizes : Sizes) (line : List ℕ) (a : Actor × ℕ) → AreFew sizes → actor_at sizes line ≡ Ok a
     → IsActorAt sizes line a
 unfolding actor_at
 actor_ok sizes line a few h =
-    elim (one_of (first_byte line == 119) _ _ a h) [
+    elim (one_of (first_byte line == 119) _ _ (Ok a) h) [
       | inl worker ↦
-          let w = bind_ok (named_at line 0 119 sizes.workers kinds.NoSuchActor) _ a worker in
+          let w = bind_ok (named_at line 0 119 sizes.workers kinds.NoSuchActor) _ a worker.1 in
           let n = named_ok line 0 119 sizes.workers kinds.NoSuchActor w.0 few.workers w.1 in
           subst (λ (x : Actor × ℕ). IsActorAt sizes line x) (ok_is (Worker w.0.0, w.0.1) a w.2)
           (record { spelled = n.spelled; there = n.below })
       | inr thread ↦
-          let t = bind_ok (named_at line 0 116 sizes.threads kinds.NoSuchActor) _ a thread in
+          let t = bind_ok (named_at line 0 116 sizes.threads kinds.NoSuchActor) _ a thread.1 in
           let n = named_ok line 0 116 sizes.threads kinds.NoSuchActor t.0 few.threads t.1 in
           subst (λ (x : Actor × ℕ). IsActorAt sizes line x) (ok_is (Thread t.0.0, t.0.1) a t.2)
           (record { spelled = n.spelled; there = n.below })

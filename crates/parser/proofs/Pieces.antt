@@ -1,5 +1,5 @@
 -- Words, numbers and names at a place: what is read there is written so, and what is written so is read.
-use Rattle.std.proofs.Common.{◌≡◌, ℕ, ◌-◌, ◌^◌, ◌<◌, ◌≤◌, Bool, true, false, cond, nat_lt, List, []}
+use Rattle.std.proofs.Common.{◌≡◌, ℕ, ◌-◌, ◌^◌, ◌<◌, ◌≤◌, Bool, true, false, cond, nat_lt, List, [], ◌⊎◌, inl, inr}
 use Rattle.std.proofs.Common.{◌∷◌, length, Option, Some, None, refl, sym, ap, subst, ◌∙◌, arith, lit<}
 use Rattle.std.specs.Prelude.{Result, Ok, Err, ◌==◌, ◌||◌, not, nat_le}
 use Rattle.std.specs.Str.{bytes_eq}
@@ -32,6 +32,11 @@ pub test_ok : {A : Type 0} (b : Bool) (d : Flaw) (r : Result A Flaw) (y : A) →
     → (b ≡ true) × (r ≡ Ok y)
 test_ok true d r y e = (refl, e)
 test_ok false d r y e = absurd cc
+
+-- what a choice came to is one of the two
+pub one_of : {A : Type 0} (b : Bool) (x y z : A) → cond b x y ≡ z → ((b ≡ true) × (x ≡ z)) ⊎ ((b ≡ false) × (y ≡ z))
+one_of true x y z h = inl (refl, h)
+one_of false x y z h = inr (refl, h)
 
 abbrev done : {A : Type 0} → A → Result A Flaw
 done x = Ok x

@@ -32,7 +32,7 @@ use Rattle.parser.specs.Spelling.{Part, One, Times, times_line_of, part_lines, p
 use Rattle.parser.specs.Spelling.{SpellsHeap, says_something, Spells, IsLayout, IsCommand, IsScript}
 use Rattle.parser.proofs.Splitting.{split_cons}
 use Rattle.parser.proofs.Places.{words_from, word_is, no_word_is, words_whole}
-use Rattle.parser.proofs.Pieces.{bind_ok, guard_ok, test_ok, ok_is, number_ok, end_ok}
+use Rattle.parser.proofs.Pieces.{bind_ok, guard_ok, test_ok, ok_is, number_ok, end_ok, one_of}
 use Rattle.parser.proofs.Operands.{AreFew, order_ok, actor_ok, line_is}
 use Rattle.parser.proofs.HeapLines.{IsSizes, heap_ok, layout_ok}
 use Rattle.parser.proofs.Ranges.{AreLayouts, config_in_range}
@@ -331,19 +331,14 @@ end_step : (said : List (List ℕ)) (r t : ReadSoFar) (b : IsBehind said r) (lin
 unfolding end_line
 end_step said r t b line first h = end_behind said r t b line first r.turns refl h
 
-one_of : {A : Type 0} (b : Bool) (x y : Result A Flaw) (z : A) → cond b x y ≡ Ok z
-    → ((b ≡ true) × (x ≡ Ok z)) ⊎ ((b ≡ false) × (y ≡ Ok z))
-one_of true x y z h = inl (refl, h)
-one_of false x y z h = inr (refl, h)
-
 part_step : (said : List (List ℕ)) (r t : ReadSoFar) (b : IsBehind said r) (line : List ℕ)
     → part_line r b.sizes line ≡ Ok t → IsBehind (said ++ line ∷ []) t
 unfolding part_line
 part_step said r t b line h =
-    elim (one_of (bytes_eq (first_word line).0 (codes "times")) _ _ t h) [
+    elim (one_of (bytes_eq (first_word line).0 (codes "times")) _ _ (Ok t) h) [
       | inl p ↦ times_step said r t b line ((bytes_eq-Decides (first_word line).0 (codes "times")).0 p.0) p.1
       | inr p ↦
-          elim (one_of (bytes_eq (first_word line).0 (codes "end")) _ _ t p.1) [
+          elim (one_of (bytes_eq (first_word line).0 (codes "end")) _ _ (Ok t) p.1) [
             | inl q ↦ end_step said r t b line ((bytes_eq-Decides (first_word line).0 (codes "end")).0 q.0) q.1
             | inr q ↦ command_step said r t b line q.1
           ]
@@ -354,7 +349,7 @@ later_step : (said : List (List ℕ)) (r t : ReadSoFar) (b : IsBehind said r) (l
 unfolding later_line
 later_step said r t b line h =
     elim (one_of (bytes_eq (first_word line).0 (codes "layout") && not r.begun && nat_lt
-    (length r.layouts) MOST_LAYOUTS) _ _ t h) [
+    (length r.layouts) MOST_LAYOUTS) _ _ (Ok t) h) [
       | inl p ↦
           let most = and_parts (bytes_eq (first_word line).0 (codes "layout") && not r.begun)
           (nat_lt (length r.layouts) MOST_LAYOUTS) p.0 in
@@ -382,7 +377,7 @@ line_ok : (said : List (List ℕ)) (r t : ReadSoFar) (line : List ℕ) → Said 
     → Said (said ++ told says_something line) t
 unfolding line_in
 line_ok said r t line so_far h =
-    elim (one_of (is_idle line) _ _ t h) [
+    elim (one_of (is_idle line) _ _ (Ok t) h) [
       | inl p ↦ rw (p.0, append-nil said, ← ok_is r t p.1) so_far
       | inr p ↦ rw p.0 (line_step said r t line so_far p.0 p.1)
     ]

@@ -14,6 +14,7 @@ use Rattle.model.specs.declared.config.Config.{Config}
 use Rattle.model.specs.declared.steps.Actor.{Actor}
 use Rattle.model.specs.declared.steps.Actor.TheVariants.{Thread, Worker}
 use Rattle.model.specs.Configs.{fits_page}
+use Rattle.model.proofs.Ranges.{page_size_range}
 use Rattle.parser.specs.declared.heading.Sizes.{Sizes}
 use Rattle.parser.specs.declared.order.Command.{Command}
 use Rattle.parser.specs.declared.reading.TheConstants.{MOST_COMMANDS, MOST_LAYOUTS, MOST_TURNS}
@@ -31,7 +32,7 @@ use Rattle.parser.proofs.Numbers.{decimal_digits}
 use Rattle.parser.proofs.Places.{words_from, words_whole, space, cons_is}
 use Rattle.parser.proofs.Pieces.{number_again, end_again}
 use Rattle.parser.proofs.Operands.{AreFew, order_again, actor_again}
-use Rattle.parser.proofs.HeapLines.{IsSizes, heap_again, layout_again, page_size_range}
+use Rattle.parser.proofs.HeapLines.{IsSizes, heap_again, layout_again}
 use Rattle.parser.proofs.Ranges.{sizes_in, config_tells}
 use Rattle.parser.proofs.Lines.{lines_cons}
 use Rattle.parser.proofs.Lists.{all_to, all_front, lines_to}

@@ -95,28 +95,21 @@ module _ (h : HeapState) (p p0 : PlainHeap) (s : IsStore h.store) (k : Holds h p
       by_test true z = eq-eqb a c (e.1 (ap Some (eqb-true b d z)))
       by_test false z = ne_eqb a c (λ q. eqb-false b d z (same_Some _ _ (e.0 q)))
 
+  no_name : (r : ℕ) → register_of h t r ≡ None → name_of p t r ≡ None
+  unfolding name_of register_of
+  no_name r e =
+      (null_is_none (world_of h) (births_of p) (births_of p0) k.invariant t r).0 (no_word (register_of h t r) e)
+
   same_truth : (l r : ℕ) (a b : Option ℕ)
       → ((a ≡ None) × (register_of h t l ≡ None)) ⊎ ((c : ℕ) × (a ≡ Some c) × IsUsed h t l c)
       → ((b ≡ None) × (register_of h t r ≡ None)) ⊎ ((c : ℕ) × (b ≡ Some c) × IsUsed h t r c)
       → same_address a b ≡ same_name (name_of p t l) (name_of p t r)
   unfolding name_of register_of
-  same_truth l r a b (inl (f, g)) (inl (m, n)) = ap₂ same_address f m ∙ sym (ap₂ same_name (none l g) (none r n))
-    where
-      none : (r : ℕ) → register_of h t r ≡ None → name_of p t r ≡ None
-      none r e =
-          (null_is_none (world_of h) (births_of p) (births_of p0) k.invariant t r).0 (no_word (register_of h t r) e)
+  same_truth l r a b (inl (f, g)) (inl (m, n)) = ap₂ same_address f m ∙ sym (ap₂ same_name (no_name l g) (no_name r n))
   same_truth l r a b (inl (f, g)) (inr (c, m, u)) =
-      ap₂ same_address f m ∙ sym (ap₂ same_name (none l g) (names_object h p p0 k t r c u).reads.birth)
-    where
-      none : (r : ℕ) → register_of h t r ≡ None → name_of p t r ≡ None
-      none r e =
-          (null_is_none (world_of h) (births_of p) (births_of p0) k.invariant t r).0 (no_word (register_of h t r) e)
+      ap₂ same_address f m ∙ sym (ap₂ same_name (no_name l g) (names_object h p p0 k t r c u).reads.birth)
   same_truth l r a b (inr (c, m, u)) (inl (f, g)) =
-      ap₂ same_address m f ∙ sym (ap₂ same_name (names_object h p p0 k t l c u).reads.birth (none r g))
-    where
-      none : (r : ℕ) → register_of h t r ≡ None → name_of p t r ≡ None
-      none r e =
-          (null_is_none (world_of h) (births_of p) (births_of p0) k.invariant t r).0 (no_word (register_of h t r) e)
+      ap₂ same_address m f ∙ sym (ap₂ same_name (names_object h p p0 k t l c u).reads.birth (no_name r g))
   same_truth l r a b (inr (c, m, u)) (inr (d, n, v)) =
       let y = names_object h p p0 k t l c u in
       let z = names_object h p p0 k t r d v in

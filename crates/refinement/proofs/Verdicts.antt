@@ -20,7 +20,7 @@ use Rattle.model.specs.Outcome.{outcome, thread_gate, thread_row, has_bad_index,
 use Rattle.model.specs.Outcome.{is_for_parked, is_for_loading, is_parked_in, is_loading_in, usable}
 use Rattle.model.specs.Outcome.{use_word, usable_or_null, use_or_null, let_through, held_back}
 use Rattle.model.specs.Outcome.{has_crossed, field_at, field_place, datum_at, datum_place}
-use Rattle.model.proofs.Lists.{get_within}
+use Rattle.model.proofs.Lists.{get_within, no_some}
 use Rattle.model.proofs.Memory.{word_on_page}
 use Rattle.laws.specs.AddressHeap.{HeapObject}
 use Rattle.laws.specs.Transitions.{IsUsable}
@@ -70,10 +70,6 @@ unless false b e f = refl
 unless true true e f = absurd (cc)
 unless true false e f = absurd (cc)
 
-no_barrier : (b : Option Barrier) → is_some b ≡ false → b ≡ None
-no_barrier None e = refl
-no_barrier (Some b) e = absurd (cc)
-
 pub passed : (h : HeapState) (t : ℕ) (s : Step) (x : HeapState × Answer) → outcome h (Thread t) s ≡ accepted x
     → Passed h t s × (thread_row h t s ≡ accepted x)
 unfolding outcome thread_gate
@@ -92,7 +88,7 @@ passed h t s x e =
         there = at;
         indices = b;
         awake = λ f. ap is_parked_in (sym at) ∙ unless (is_parked_in (slice_get h.threads t)) (is_for_parked s) c f;
-        closed = λ f. no_barrier y.barrier (ap is_loading_in (sym at)
+        closed = λ f. no_some y.barrier (ap is_loading_in (sym at)
             ∙ unless (is_loading_in (slice_get h.threads t)) (is_for_loading s) d f);
       },
       row,
