@@ -1,7 +1,7 @@
 -- The law of a book, from one entry to the next.
-use Rattle.std.proofs.Common.{◌≡◌, List, [], ◌∷◌, ◌++◌, refl, sym, subst, ℕ, ◌<◌, ◌≤◌, Bool, false, length, nat_le, arith, length-append}
-use Rattle.std.proofs.lemmas.Bool.Decides.{nat_tests}
+use Rattle.std.proofs.Common.{◌≡◌, List, [], ◌∷◌, ◌++◌, refl, sym, subst, ◌≤◌, false, length, arith, length-append}
 use Rattle.std.specs.Prelude.{Result, Ok, Err}
+use Rattle.std.proofs.lemmas.Bool.{leb-false}
 use Rattle.layout.specs.declared.shape.Layout.{Layout}
 use Rattle.model.specs.declared.config.Config.{Config}
 use Rattle.model.specs.declared.steps.Actor.{Actor}
@@ -20,38 +20,45 @@ use Rattle.refinement.specs.Births.{births_of}
 use Rattle.refinement.specs.Standing.{Holds, StepHolds, AnswersPlain, FirstHolds, StepsHold, KeepsStanding}
 use Rattle.cycle.specs.declared.book.Entry.{Entry}
 use Rattle.cycle.specs.Books.{BookState, first_book, is_full}
-use Rattle.cycle.specs.Replays.{Replayed, after_entry, after_entries, before_entries, replayed, AnswersAre, IsBook, KeepsPromises}
+use Rattle.cycle.specs.Replays.{Replayed, after_entry, after_entries, before_entries}
+use Rattle.cycle.specs.Replays.{replayed, AnswersAre, IsBook, KeepsPromises}
 
-after_more : (ls : List Layout) (r : Replayed) (es : List Entry) (e : Entry) → after_entries ls r (es ++ e ∷ []) ≡ after_entry ls (after_entries ls r es) e
+after_more : (ls : List Layout) (r : Replayed) (es : List Entry) (e : Entry)
+    → after_entries ls r (es ++ e ∷ []) ≡ after_entry ls (after_entries ls r es) e
 after_more ls r [] e = refl
 after_more ls r (d ∷ es) e = after_more ls (after_entry ls r d) es e
 
-answers_more : (ls : List Layout) (r : Replayed) (es : List Entry) (e : Entry) → AnswersAre ls r es → AnswersPlain (plain_answer (after_entries ls r es).now e.actor e.step) e.answer → AnswersAre ls r (es ++ e ∷ [])
+answers_more : (ls : List Layout) (r : Replayed) (es : List Entry) (e : Entry) → AnswersAre ls r es
+    → AnswersPlain (plain_answer (after_entries ls r es).now e.actor e.step) e.answer → AnswersAre ls r (es ++ e ∷ [])
 answers_more ls r [] e a b = (b, tt)
 answers_more ls r (d ∷ es) e a b = (a.0, answers_more ls (after_entry ls r d) es e a.1 b)
 
-not_full : (m n : ℕ) → nat_le m n ≡ false → n < m
-not_full m n e = grind (arith, nat_tests)
-
 -- an entry is added
-pub entry_added : (b : BookState) (actor : Actor) (step : Step) (g : HeapState) (answer : Answer) → IsBook b → is_full b ≡ false → StepHolds b.heap (replayed b).now (replayed b).at_mark actor step g answer
+pub entry_added : (b : BookState) (actor : Actor) (step : Step) (g : HeapState) (answer : Answer) → IsBook b
+    → is_full b ≡ false → StepHolds b.heap (replayed b).now (replayed b).at_mark actor step g answer
     → IsBook (record { heap = g; history = b.history ++ record { actor = actor; step = step; answer = answer } ∷ [] })
 unfolding replayed is_full
 entry_added b actor step g answer k more s =
     let e : Entry = record { actor = actor; step = step; answer = answer } in
     let first : Replayed = before_entries b.heap.config in
     let ls : List Layout = b.heap.config.layouts in
-    let after : after_entries ls first (b.history ++ e ∷ []) ≡ after_entry ls (after_entries ls first b.history) e = after_more ls first b.history e in
-    let holds : Holds g (after_entries ls first (b.history ++ e ∷ [])).now (after_entries ls first (b.history ++ e ∷ [])).at_mark =
+    let after : after_entries ls first (b.history ++ e ∷ []) ≡ after_entry ls (after_entries ls first b.history) e =
+    after_more ls first b.history e in
+    let holds : Holds g (after_entries ls first (b.history ++ e ∷ [])).now
+    (after_entries ls first (b.history ++ e ∷ [])).at_mark =
     subst (λ (r : Replayed). Holds g r.now r.at_mark) (sym after) s.holds in
     record {
-      holds = subst (λ (c : Config). Holds g (after_entries c.layouts (before_entries c) (b.history ++ e ∷ [])).now (after_entries c.layouts (before_entries c) (b.history ++ e ∷ [])).at_mark) (sym s.config) holds;
-      answers = subst (λ (c : Config). AnswersAre c.layouts (before_entries c) (b.history ++ e ∷ [])) (sym s.config) (answers_more ls first b.history e k.answers s.answers);
-      limit = subst (λ (c : Config). length (b.history ++ e ∷ []) ≤ c.history) (sym s.config) (omega (arith, length-append b.history (e ∷ []), not_full b.heap.config.history (length b.history) more));
+      holds = subst (λ (c : Config). Holds g (after_entries c.layouts (before_entries c) (b.history ++ e ∷ [])).now
+          (after_entries c.layouts (before_entries c) (b.history ++ e ∷ [])).at_mark) (sym s.config) holds;
+      answers = subst (λ (c : Config). AnswersAre c.layouts (before_entries c) (b.history ++ e ∷ []))
+          (sym s.config) (answers_more ls first b.history e k.answers s.answers);
+      limit = subst (λ (c : Config). length (b.history ++ e ∷ []) ≤ c.history) (sym s.config) (omega
+          (arith, length-append b.history (e ∷ []), leb-false b.heap.config.history (length b.history) more));
     }
 
 -- a new book
-pub new_book : (c : Config) → Holds (first_heap c) (before_entries c).now (before_entries c).at_mark → IsBook (first_book c)
+pub new_book : (c : Config) → Holds (first_heap c) (before_entries c).now (before_entries c).at_mark
+    → IsBook (first_book c)
 unfolding replayed first_book first_heap
 new_book c k = record { holds = k; answers = tt; limit = omega arith }
 
@@ -59,20 +66,30 @@ new_book c k = record { holds = k; answers = tt; limit = omega arith }
 pub promises : (b : BookState) → IsBook b → KeepsPromises b
 promises b k = record {
   stands = stands (world_of b.heap) (births_of (replayed b).now) (births_of (replayed b).at_mark) k.holds.invariant;
-  usable = usable_has_memory (world_of b.heap) (births_of (replayed b).now) (births_of (replayed b).at_mark) k.holds.invariant;
+  usable = usable_has_memory (world_of b.heap) (births_of (replayed b).now)
+      (births_of (replayed b).at_mark) k.holds.invariant;
 }
 
 -- a call that did what its outcome says
-pub keeps_standing : (old new : HeapState) (actor : Actor) (step : Step) (result : Result Answer Refusal) → Does old result new (outcome old actor step) → IsStore old.store → IsHeap old → StepsHold → KeepsStanding old actor step result new
+pub keeps_standing : (old new : HeapState) (actor : Actor) (step : Step) (result : Result Answer Refusal)
+    → Does old result new (outcome old actor step) → IsStore old.store → IsHeap old → StepsHold
+    → KeepsStanding old actor step result new
 keeps_standing old new actor step (Ok a) does s d law p p0 k = law old p p0 actor step new a s d k does
 keeps_standing old new actor step (Err e) does s d law p p0 k = tt
 
 -- the parts of a new book
-pub made : (c : Config) (h : HeapState) (es : List Entry) → h ≡ first_heap c → es ≡ [] → FirstHolds → IsBook (record { heap = h; history = es })
+pub made : (c : Config) (h : HeapState) (es : List Entry) → h ≡ first_heap c → es ≡ [] → FirstHolds
+    → IsBook (record { heap = h; history = es })
 unfolding first_book
-made c h es e f law = subst (λ (g : HeapState). IsBook (record { heap = g; history = es })) (sym e) (subst (λ (xs : List Entry). IsBook (record { heap = first_heap c; history = xs })) (sym f) (new_book c (law c)))
+made c h es e f law = subst (λ (g : HeapState). IsBook (record { heap = g; history = es })) (sym e)
+    (subst (λ (xs : List Entry). IsBook (record { heap = first_heap c; history = xs })) (sym f) (new_book c (law c)))
 
 -- the parts of a book with one more entry
-pub entered_book : (b : BookState) (actor : Actor) (step : Step) (g : HeapState) (answer : Answer) (es : List Entry) → IsBook b → is_full b ≡ false → (let p = (replayed b).now in let p0 = (replayed b).at_mark in Holds b.heap p p0 → StepHolds b.heap p p0 actor step g answer)
-    → es ≡ b.history ++ record { actor = actor; step = step; answer = answer } ∷ [] → IsBook (record { heap = g; history = es })
-entered_book b actor step g answer es k more s e = subst (λ (xs : List Entry). IsBook (record { heap = g; history = xs })) (sym e) (entry_added b actor step g answer k more (s k.holds))
+pub entered_book : (b : BookState) (actor : Actor) (step : Step) (g : HeapState) (answer : Answer) (es : List Entry)
+    → IsBook b → is_full b ≡ false → (let p = (replayed b).now in let p0 = (replayed b).at_mark in Holds b.heap p p0
+    → StepHolds b.heap p p0 actor step g answer)
+    → es ≡ b.history ++ record { actor = actor; step = step; answer = answer } ∷ []
+    → IsBook (record { heap = g; history = es })
+entered_book b actor step g answer es k more s e =
+    subst (λ (xs : List Entry). IsBook (record { heap = g; history = xs })) (sym e)
+    (entry_added b actor step g answer k more (s k.holds))

@@ -1,17 +1,22 @@
 -- One more step of a run.
-use Rattle.std.proofs.Common.{◌≡◌, List, [], ◌∷◌, ◌++◌, ◌+◌, length, length-append, append_assoc, refl, sym, ap, ◌∙◌, subst}
+use Rattle.std.proofs.Common.{◌≡◌, List, [], ◌∷◌, ◌++◌, ◌+◌, length, length-append}
+use Rattle.std.proofs.Common.{append_assoc, refl, sym, ap, ◌∙◌, subst}
 use Rattle.model.specs.declared.steps.Actor.{Actor}
 use Rattle.model.specs.declared.steps.Step.{Step}
 use Rattle.cycle.specs.Books.{BookState, Reply, Acts, Ran, acted}
 
-pub ran_more : (ss : List (Actor × Step)) (rs : List Reply) (b c d : BookState) (s : Actor × Step) (r : Reply) → Ran b ss rs c → Acts c r d (acted c s.0 s.1) → Ran b (ss ++ s ∷ []) (rs ++ r ∷ []) d
+pub ran_more : (ss : List (Actor × Step)) (rs : List Reply) (b c d : BookState) (s : Actor × Step) (r : Reply)
+    → Ran b ss rs c → Acts c r d (acted c s.0 s.1) → Ran b (ss ++ s ∷ []) (rs ++ r ∷ []) d
 ran_more [] [] b c d s r h a = (d, subst (λ e. Acts e r d (acted e s.0 s.1)) h a, refl)
 ran_more [] (q ∷ rs) b c d s r h a = absurd h
 ran_more (t ∷ ss) [] b c d s r h a = absurd h
 ran_more (t ∷ ss) (q ∷ rs) b c d s r (e, f, g) a = (e, f, ran_more ss rs e c d s r g a)
 
-pub next_part : {X : Type 0} (done rest next all : List X) (x : X) → done ++ rest ≡ all → rest ≡ x ∷ next → (done ++ x ∷ []) ++ next ≡ all
+pub next_part : {X : Type 0} (done rest next all : List X) (x : X) → done ++ rest ≡ all → rest ≡ x ∷ next
+    → (done ++ x ∷ []) ++ next ≡ all
 next_part done rest next all x e f = append_assoc done (x ∷ []) next ∙ ap (λ ys. done ++ ys) (sym f) ∙ e
 
-pub one_longer : {X Y : Type 0} (xs zs : List X) (ys : List Y) (x : X) (y : Y) → length xs ≡ length ys → zs ≡ xs ++ x ∷ [] → length zs ≡ length (ys ++ y ∷ [])
-one_longer xs zs ys x y e f = ap length f ∙ length-append xs (x ∷ []) ∙ ap (λ n. n + 1) e ∙ sym (length-append ys (y ∷ []))
+pub one_longer : {X Y : Type 0} (xs zs : List X) (ys : List Y) (x : X) (y : Y) → length xs ≡ length ys
+    → zs ≡ xs ++ x ∷ [] → length zs ≡ length (ys ++ y ∷ [])
+one_longer xs zs ys x y e f = ap length f ∙ length-append xs (x ∷ []) ∙ ap (λ n. n + 1) e
+    ∙ sym (length-append ys (y ∷ []))

@@ -1,6 +1,5 @@
 -- What is done to a heap keeps its invariant.
-use Rattle.std.proofs.Common.{◌≡◌, ℕ, Bool, ◌-◌, ◌<◌, ◌≤◌, ◌+◌, List, Option, Some, None, replicate, refl, arith, rules, set}
-use Rattle.std.specs.List.{slice_get}
+use Rattle.std.proofs.Common.{◌≡◌, ℕ, Bool, ◌-◌, ◌<◌, ◌≤◌, ◌+◌, List, Option, Some, None, replicate, arith, rules, set}
 use Rattle.std.specs.Option.{IfSome}
 use Rattle.model.specs.declared.records.Buffer.{Buffer}
 use Rattle.model.specs.Stores.{StoreState}
@@ -10,23 +9,36 @@ use Rattle.model.specs.Heaps.{HeapState, ThreadState, blank_thread}
 use Rattle.model.proofs.Lists.{each_set, each_replicate}
 
 -- threads of a new heap have no buffers
-pub first_fills : (s : StoreState) (n registers : ℕ) (threads : List ThreadState) → threads ≡ replicate n (blank_thread registers) → Each threads (FillsIn s)
+pub first_fills : (s : StoreState) (n registers : ℕ) (threads : List ThreadState)
+    → threads ≡ replicate n (blank_thread registers) → Each threads (FillsIn s)
 first_fills s n registers threads e = rw e (each_replicate (FillsIn s) n (blank_thread registers) (search rules))
 
-pub thread_keeps : (h : HeapState) (t : ℕ) (x : ThreadState) → IsHeap h → FillsIn h.store x → IsHeap (record h { threads = set h.threads t x })
-thread_keeps h t x i f = record { config = i.config; births = i.births; buffers = each_set (FillsIn h.store) h.threads t x i.buffers f }
+pub thread_keeps : (h : HeapState) (t : ℕ) (x : ThreadState) → IsHeap h → FillsIn h.store x
+    → IsHeap (record h { threads = set h.threads t x })
+thread_keeps h t x i f =
+    record { config = i.config; births = i.births; buffers = each_set (FillsIn h.store) h.threads t x i.buffers f }
 
-fills_in : (s t : StoreState) (b : Option Buffer) → ((c : Buffer) → LiesIn s c → LiesIn t c) → IfSome b (LiesIn s) → IfSome b (LiesIn t)
+fills_in : (s t : StoreState) (b : Option Buffer) → ((c : Buffer) → LiesIn s c → LiesIn t c) → IfSome b (LiesIn s)
+    → IfSome b (LiesIn t)
 fills_in s t None h f = f
 fills_in s t (Some b) h f = h b f
 
-pub store_keeps : (h : HeapState) (s : StoreState) → IsHeap h → ((c : Buffer) → LiesIn h.store c → LiesIn s c) → IsHeap (record h { store = s })
-store_keeps h s i k = record { config = i.config; births = i.births; buffers = λ t x e. fills_in h.store s x.buffer k (i.buffers t x e) }
+pub store_keeps : (h : HeapState) (s : StoreState) → IsHeap h → ((c : Buffer) → LiesIn h.store c → LiesIn s c)
+    → IsHeap (record h { store = s })
+store_keeps h s i k =
+    record { config = i.config; births = i.births; buffers = λ t x e. fills_in h.store s x.buffer k (i.buffers t x e) }
 
 -- an object is made: other words in a page, other bits, one more birth
-pub birth_keeps : (h : HeapState) (s : StoreState) (starts mark todo : List (List Bool)) → IsHeap h → h.births < h.config.births → ((c : Buffer) → LiesIn h.store c → LiesIn s c) → IsHeap (record h { store = s; starts = starts; mark = mark; todo = todo; births = h.births + 1 })
-birth_keeps h s starts mark todo i low k = record { config = i.config; births = omega arith; buffers = λ t x e. fills_in h.store s x.buffer k (i.buffers t x e) }
+pub birth_keeps : (h : HeapState) (s : StoreState) (starts mark todo : List (List Bool))
+    → IsHeap h → h.births < h.config.births → ((c : Buffer) → LiesIn h.store c → LiesIn s c)
+    → IsHeap (record h { store = s; starts = starts; mark = mark; todo = todo; births = h.births + 1 })
+birth_keeps h s starts mark todo i low k = record {
+  config = i.config;
+  births = omega arith;
+  buffers = λ t x e. fills_in h.store s x.buffer k (i.buffers t x e);
+}
 
 -- what is left of a buffer lies where it did
-pub rest_lies : (s : StoreState) (b : Buffer) (n : ℕ) → LiesIn s b → n ≤ b.end - b.next → LiesIn s (record b { next = b.next + n })
+pub rest_lies : (s : StoreState) (b : Buffer) (n : ℕ) → LiesIn s b → n ≤ b.end - b.next
+    → LiesIn s (record b { next = b.next + n })
 rest_lies s b n h room = record { page = h.page; order = omega (arith, h.order, room); end = h.end }

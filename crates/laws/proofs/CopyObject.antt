@@ -1,14 +1,18 @@
 -- To copy a planned object keeps the invariant.
-use Rattle.std.proofs.Common.{◌≡◌, ◌≢◌, ◌⊎◌, ◌≤◌, ◌<◌, inl, inr, ℕ, Bool, true, false, Option, Some, None, sym, ◌∙◌, ap, arith}
+use Rattle.std.proofs.Common.{◌≡◌, ◌≢◌, ◌⊎◌, ◌≤◌, ◌<◌, inl, inr, ℕ, Bool, true}
+use Rattle.std.proofs.Common.{false, Option, Some, None, sym, ◌∙◌, ap, arith}
+use Rattle.std.proofs.lemmas.Bool.{cases_eq}
 use Rattle.model.specs.declared.records.Phase.TheVariants.{ProtectCrossing}
 use Rattle.model.specs.declared.records.PageState.TheVariants.{Closed, Open, From}
 use Rattle.model.specs.Stores.{is_protected, has_memory}
 use Rattle.model.specs.Phases.{is_marking}
-use Rattle.laws.specs.AddressHeap.{AddressHeap, HeapObject, Word, Null, To, field, current, names, Planned, Copied, WorkerScan, LoadPlace, AtField, AtGlobal}
+use Rattle.laws.specs.AddressHeap.{AddressHeap, HeapObject, Word, Null, To, field, current, names}
+use Rattle.laws.specs.AddressHeap.{Planned, Copied, WorkerScan, LoadPlace, AtField, AtGlobal}
 use Rattle.laws.specs.BirthHeap.{BirthHeap, ref, IsRoot, IsReached, Start, Next}
-use Rattle.laws.specs.Invariant.{Invariant, StandsFor, IsClean, IsCleanBelow, IsKept, HasCurrent, IsSeed, IsPlace, IsBarrierFor}
+use Rattle.laws.specs.Invariant.{Invariant, StandsFor, IsClean, IsCleanBelow}
+use Rattle.laws.specs.Invariant.{IsKept, HasCurrent, IsSeed, IsPlace, IsBarrierFor}
 use Rattle.laws.specs.Edits.{copy_object}
-use Rattle.laws.proofs.Basics.{reached, barrier_map, same_or_not}
+use Rattle.laws.proofs.Basics.{reached, barrier_map}
 
 -- the object at a may be copied to n
 pub record MayCopy (w : AddressHeap) (a n : ℕ) (o : HeapObject) : Type 0 where
@@ -16,14 +20,24 @@ pub record MayCopy (w : AddressHeap) (a n : ℕ) (o : HeapObject) : Type 0 where
   pub here : w.object_at a ≡ Some o
   pub phase : w.phase ≢ ProtectCrossing
 
-module _ (w : AddressHeap) (p p0 : BirthHeap) (i : Invariant w p p0) (a n : ℕ) (o : HeapObject) (m : MayCopy w a n o) where
+module _ (w : AddressHeap) (p p0 : BirthHeap) (i : Invariant w p p0) (a n : ℕ) (o : HeapObject)
+    (m : MayCopy w a n o) where
   word : (v : Word) (x : Option ℕ) → names w v ≡ Some x → names (copy_object a n o w) v ≡ Some x
   word Null x e = e
   word (To y b) x e = there y b x e
     where
       there : (y : ℕ) (b : Bool) (x : Option ℕ) → names w (To y b) ≡ Some x
           → names (copy_object a n o w) (To y b) ≡ Some x
-      there y b x e = grind (arith, i.objects.planned_open, i.objects.planned_from, i.objects.planned_free, i.objects.copied_open, i.objects.copied_from, m.entry, m.here)
+      there y b x e = grind (
+        arith,
+        i.objects.planned_open,
+        i.objects.planned_from,
+        i.objects.planned_free,
+        i.objects.copied_open,
+        i.objects.copied_from,
+        m.entry,
+        m.here,
+      )
 
   good : (v : Word) (x : Option ℕ) → StandsFor w v x → StandsFor (copy_object a n o w) v x
   good v x g = record { names = word v x g.names; fits = g.fits }
@@ -36,14 +50,26 @@ module _ (w : AddressHeap) (p p0 : BirthHeap) (i : Invariant w p p0) (a n : ℕ)
     where
       seed : (b : ℕ) → IsSeed (copy_object a n o w) p b → IsKept w p b
       seed b (inl r) = Start b (inl r)
-      seed b (inr k) = Start b (inr (record { address = k.address; object = k.object; is_marked = k.is_marked; here = sym (marked k.address k.is_marked) ∙ k.here; birth = k.birth }))
+      seed b (inr k) = Start b (inr (record {
+        address = k.address;
+        object = k.object;
+        is_marked = k.is_marked;
+        here = sym (marked k.address k.is_marked) ∙ k.here;
+        birth = k.birth;
+      }))
 
   pub kept_back : (b : ℕ) → IsKept w p b → IsKept (copy_object a n o w) p b
   kept_back = reached p.refs (IsSeed w p) (IsKept (copy_object a n o w) p) seed (λ b c j k. Next b c j k)
     where
       seed : (b : ℕ) → IsSeed w p b → IsKept (copy_object a n o w) p b
       seed b (inl r) = Start b (inl r)
-      seed b (inr k) = Start b (inr (record { address = k.address; object = k.object; is_marked = k.is_marked; here = marked k.address k.is_marked ∙ k.here; birth = k.birth }))
+      seed b (inr k) = Start b (inr (record {
+        address = k.address;
+        object = k.object;
+        is_marked = k.is_marked;
+        here = marked k.address k.is_marked ∙ k.here;
+        birth = k.birth;
+      }))
 
   pub current_new : current (copy_object a n o w) n ≡ Some o
   current_new = grind (arith, i.objects.planned_from, i.objects.planned_open, i.objects.copied_from, m.entry)
@@ -60,10 +86,11 @@ module _ (w : AddressHeap) (p p0 : BirthHeap) (i : Invariant w p p0) (a n : ℕ)
 
   once : (x y : ℕ) (q r : HeapObject) → current (copy_object a n o w) x ≡ Some q
       → current (copy_object a n o w) y ≡ Some r → q.birth ≡ r.birth → x ≡ y
-  once x y q r e f b = let c = after x q e in let d = after y r f in grind (arith, i.objects.one_current x y q r, i.objects.one_current x a q o, i.objects.one_current y a r o, current_was)
+  once x y q r e f b = let c = after x q e in let d = after y r f in grind
+      (arith, i.objects.one_current x y q r, i.objects.one_current x a q o, i.objects.one_current y a r o, current_was)
 
   stands : (b : ℕ) → IsKept (copy_object a n o w) p b → HasCurrent (copy_object a n o w) p b
-  stands b k = go (same_or_not s.address a)
+  stands b k = go (cases_eq s.address a)
     where
       s : HasCurrent w p b
       s = i.words.kept b (kept b k)
@@ -72,9 +99,32 @@ module _ (w : AddressHeap) (p p0 : BirthHeap) (i : Invariant w p p0) (a n : ℕ)
       refs j = good (field s.object j) (ref p b j) (s.refs j)
 
       go : (s.address ≡ a) ⊎ (s.address ≢ a) → HasCurrent (copy_object a n o w) p b
-      go (inl h) = let q : s.object ≡ o = (let x = s.here in let y = current_was in let z = ap (current w) h in cc) in let k = i.objects.planned_open a n m.entry in
-          record { address = n; object = s.object; here = current_new ∙ ap (λ o. Some o) (sym q); birth = s.birth; live = λ e. cc; entry = λ e. cc; layout = s.layout; data_words = s.data_words; refs_length = s.refs_length; refs = refs }
-      go (inr h) = record { address = s.address; object = s.object; here = current_old s.address s.object s.here h; birth = s.birth; live = s.live; entry = λ e. ((s.entry e).0, planned s.address (s.entry e).0 h (s.entry e).1); layout = s.layout; data_words = s.data_words; refs_length = s.refs_length; refs = refs }
+      go (inl h) = let q : s.object ≡ o = (let x = s.here in let y = current_was in let z = ap (current w) h in cc) in
+          let k = i.objects.planned_open a n m.entry in
+          record {
+            address = n;
+            object = s.object;
+            here = current_new ∙ ap (λ o. Some o) (sym q);
+            birth = s.birth;
+            live = λ e. cc;
+            entry = λ e. cc;
+            layout = s.layout;
+            data_words = s.data_words;
+            refs_length = s.refs_length;
+            refs = refs;
+          }
+      go (inr h) = record {
+        address = s.address;
+        object = s.object;
+        here = current_old s.address s.object s.here h;
+        birth = s.birth;
+        live = s.live;
+        entry = λ e. ((s.entry e).0, planned s.address (s.entry e).0 h (s.entry e).1);
+        layout = s.layout;
+        data_words = s.data_words;
+        refs_length = s.refs_length;
+        refs = refs;
+      }
         where
           planned : (x y : ℕ) → x ≢ a → w.side_entry x ≡ Planned y → (copy_object a n o w).side_entry x ≡ Planned y
           planned x y h e = grind arith
@@ -83,7 +133,8 @@ module _ (w : AddressHeap) (p p0 : BirthHeap) (i : Invariant w p p0) (a n : ℕ)
   place t (AtGlobal g) h = h
   place t (AtField x j) h = record {
     object = h.object;
-    here = current_old x h.object h.here (λ e. m.phase (h.page (ap w.page_state e ∙ i.objects.planned_from a n m.entry)).0);
+    here = current_old x h.object h.here
+        (λ e. m.phase (h.page (ap w.page_state e ∙ i.objects.planned_from a n m.entry)).0);
     within = h.within;
     register = h.register;
     held = h.held;
@@ -91,7 +142,8 @@ module _ (w : AddressHeap) (p p0 : BirthHeap) (i : Invariant w p p0) (a n : ℕ)
   }
 
   barriers : (t : ℕ) → IsBarrierFor (copy_object a n o w) p t (w.barrier t) (p.pending t)
-  barriers t = barrier_map w (copy_object a n o w) p p t (w.barrier t) (p.pending t) word good (place t) (λ r. r) (i.words.barriers t)
+  barriers t = barrier_map w (copy_object a n o w) p p t (w.barrier t) (p.pending t) word good (place t) (λ r. r)
+      (i.words.barriers t)
 
   registers : (t r : ℕ) → StandsFor (copy_object a n o w) (w.register t r) (p.register t r)
   registers t r = good (w.register t r) (p.register t r) (i.words.registers t r)
@@ -110,7 +162,8 @@ module _ (w : AddressHeap) (p p0 : BirthHeap) (i : Invariant w p p0) (a n : ℕ)
 
   planned_object : (x y : ℕ) → (copy_object a n o w).side_entry x ≡ Planned y
       → (q : HeapObject) × ((copy_object a n o w).object_at x ≡ Some q)
-  planned_object x y e = let q = i.objects.planned_object x y (was x y e) in (q.0, there x q.0 q.1 (i.objects.planned_free a n m.entry))
+  planned_object x y e =
+      let q = i.objects.planned_object x y (was x y e) in (q.0, there x q.0 q.1 (i.objects.planned_free a n m.entry))
     where
       was : (x y : ℕ) → (copy_object a n o w).side_entry x ≡ Planned y → w.side_entry x ≡ Planned y
       was x y e = grind arith
@@ -151,7 +204,8 @@ module _ (w : AddressHeap) (p p0 : BirthHeap) (i : Invariant w p p0) (a n : ℕ)
   scanned x q j e f h = i.marks.scanned x q j e f (sym (marked x e) ∙ h)
 
   passed : (k : ℕ) (s : WorkerScan) → w.scan k ≡ Some s → IsCleanBelow (copy_object a n o w) s.address s.next
-  passed k s e q j h = i.marks.passed k s e q j (sym (marked s.address (i.marks.todo s.address (i.marks.scanning k s e))) ∙ h)
+  passed k s e q j h =
+      i.marks.passed k s e q j (sym (marked s.address (i.marks.todo s.address (i.marks.scanning k s e))) ∙ h)
 
   uncopied : (x y : ℕ) → w.phase ≡ ProtectCrossing → (copy_object a n o w).side_entry x ≡ Copied y → ⊥
   uncopied x y e = absurd (m.phase e)
@@ -164,4 +218,27 @@ module _ (w : AddressHeap) (p p0 : BirthHeap) (i : Invariant w p p0) (a n : ℕ)
   since e b k = i.since e b (kept b k)
 
   pub copy_object_keeps : Invariant (copy_object a n o w) p p0
-  copy_object_keeps = assumption (registers, globals, barriers, stands, once, pages, births, planned_from, planned_object, planned_open, planned_free, planned_once, copied_from, copied_open, live_object, mark_object, scanned, passed, uncopied, all_copied, since, i)
+  copy_object_keeps = assumption (
+    registers,
+    globals,
+    barriers,
+    stands,
+    once,
+    pages,
+    births,
+    planned_from,
+    planned_object,
+    planned_open,
+    planned_free,
+    planned_once,
+    copied_from,
+    copied_open,
+    live_object,
+    mark_object,
+    scanned,
+    passed,
+    uncopied,
+    all_copied,
+    since,
+    i,
+  )

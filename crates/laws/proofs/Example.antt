@@ -29,7 +29,12 @@ pub mark_can_end : MarksCanEnd
 mark_can_end = record {
   heap = scanning;
   run = Then start plain_first plain_first marking plain_first plain_first scanning plain_first plain_first
-      (StartMark no_thread (record { phase = inl refl; copied = λ a n e. cc; waits = (0, refl); no_thread = λ t r e. refl }))
+      (StartMark no_thread (record {
+        phase = inl refl;
+        copied = λ a n e. cc;
+        waits = (0, refl);
+        no_thread = λ t r e. refl;
+      }))
       (Then marking plain_first plain_first scanning plain_first plain_first scanning plain_first plain_first
       (CrossMark 0 0 Scanning refl refl (λ r e. refl) (inr (refl, others)))
       (End scanning plain_first plain_first));

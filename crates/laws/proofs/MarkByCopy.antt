@@ -4,7 +4,8 @@ use Rattle.std.proofs.Common.{◌≡◌, ◌≢◌, ℕ, Bool, true, Option, Som
 use Rattle.model.specs.declared.records.Phase.TheVariants.{ProtectCrossing}
 use Rattle.model.specs.Stores.{is_protected}
 use Rattle.model.specs.Phases.{is_marking}
-use Rattle.laws.specs.AddressHeap.{AddressHeap, HeapObject, To, put, current, resolve, resolve_by, names, birth_of, Planned}
+use Rattle.laws.specs.AddressHeap.{AddressHeap, HeapObject, To, put, current}
+use Rattle.laws.specs.AddressHeap.{resolve, resolve_by, names, birth_of, Planned}
 use Rattle.laws.specs.BirthHeap.{BirthHeap}
 use Rattle.laws.specs.Invariant.{IsKept, IsClean, StandsFor, Invariant}
 use Rattle.laws.specs.Edits.{copy_object}
@@ -33,13 +34,22 @@ mark_by_copy w p p0 i m a n b o x e k f h =
     let y : d.object ≡ o = (let z = current_there w (resolve w a) d.object d.here in let u = ap w.object_at r in cc) in
     let q : x ≡ Some o.birth = d.birth ∙ ap (λ z. Some z.birth) y in
     let op = i.objects.planned_open a n f in
-    let v = mark_keeps w1 p p0 j n o (record { running = m; here = current_new w p p0 i a n o c; kept = kept_back w p p0 i a n o c o.birth (k o.birth q); page = ap is_protected op }) in
+    let v = mark_keeps w1 p p0 j n o (record {
+      running = m;
+      here = current_new w p p0 i a n o c;
+      kept = kept_back w p p0 i a n o c o.birth (k o.birth q);
+      page = ap is_protected op;
+    }) in
     let s : resolve w1 n ≡ n = unmoved w1 j.objects n (ap is_protected op) (w1.side_entry n) refl in
     record {
       inv = v;
       good = record {
-        names = ap (λ z. birth_of (current w1 z)) s ∙ ap birth_of (current_new w p p0 i a n o c) ∙ ap (λ z. Some z) (sym q);
-        fits = record { outside = λ g. (let z = m in cc); inside = λ z g l. (let u : n ≡ z = cc in ap (put w.marked n true) (sym u) ∙ put_same w.marked n true) };
+        names = ap (λ z. birth_of (current w1 z)) s ∙ ap birth_of (current_new w p p0 i a n o c)
+            ∙ ap (λ z. Some z) (sym q);
+        fits = record {
+          outside = λ g. (let z = m in cc);
+          inside = λ z g l. (let u : n ≡ z = cc in ap (put w.marked n true) (sym u) ∙ put_same w.marked n true);
+        };
       };
       clean = λ z g l. (let u = l in cc);
     }

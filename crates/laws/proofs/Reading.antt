@@ -1,16 +1,19 @@
 -- What the steps need of the invariant: what a usable word names, what a kept object holds, and how a word is marked.
-use Rattle.std.proofs.Common.{◌≡◌, ◌≢◌, ◌⊎◌, ◌<◌, inl, inr, ℕ, Bool, true, false, Option, Some, None, List, length, get_or, set, refl, sym, ◌∙◌, ap, subst, get_or-set_same, get_or-set_other}
+use Rattle.std.proofs.Common.{◌≡◌, ◌≢◌, ◌⊎◌, ◌<◌, inl, inr, ℕ, Bool, true, false, Option, Some, None, List}
+use Rattle.std.proofs.Common.{length, get_or, set, refl, sym, ◌∙◌, ap, subst, get_or-set_same, get_or-set_other}
+use Rattle.std.proofs.lemmas.Bool.{cases_eq}
 use Rattle.model.specs.declared.records.Phase.TheVariants.{Scanning}
 use Rattle.model.specs.declared.records.PageState.{PageState}
 use Rattle.model.specs.declared.records.PageState.TheVariants.{Unused, Open, Closed, From, Gone}
 use Rattle.model.specs.Stores.{is_protected, has_memory}
 use Rattle.model.specs.Phases.{is_marking, is_crossing}
-use Rattle.laws.specs.AddressHeap.{AddressHeap, HeapObject, Word, Null, To, field, current, resolve, resolve_by, names, birth_of, SideEntry, NoEntry, Planned, Copied}
+use Rattle.laws.specs.AddressHeap.{AddressHeap, HeapObject, Word, Null, To, field, current, resolve}
+use Rattle.laws.specs.AddressHeap.{resolve_by, names, birth_of, SideEntry, NoEntry, Planned, Copied}
 use Rattle.laws.specs.BirthHeap.{BirthHeap, ref, InRegister, InGlobal, Start}
 use Rattle.laws.specs.Invariant.{IsKept, IsClean, StandsFor, Invariant}
 use Rattle.laws.specs.Transitions.{IsUsable}
 use Rattle.laws.specs.Edits.{mark_word, marked_word, marked_after}
-use Rattle.laws.proofs.Basics.{put_all, put_same, same_or_not, current_there, marked_here}
+use Rattle.laws.proofs.Basics.{put_all, put_same, current_there, marked_here}
 use Rattle.laws.proofs.MarkObject.{mark_keeps}
 
 -- what a word that isn't null names
@@ -40,7 +43,8 @@ usable_here w p p0 i t a u = go (w.side_entry a) refl
 
 pub used : (w : AddressHeap) (p p0 : BirthHeap) → Invariant w p p0 → (t r a : ℕ) (n : Bool) → w.register t r ≡ To a n
     → IsUsable w t a → NamedObject w a (p.register t r)
-used w p p0 i t r a n e u = subst (λ y. NamedObject w y (p.register t r)) (usable_here w p p0 i t a u) (named w a n (p.register t r) (ap (names w) (sym e) ∙ (i.words.registers t r).names))
+used w p p0 i t r a n e u = subst (λ y. NamedObject w y (p.register t r)) (usable_here w p p0 i t a u)
+    (named w a n (p.register t r) (ap (names w) (sym e) ∙ (i.words.registers t r).names))
 
 pub register_kept : (w : AddressHeap) (p : BirthHeap) (t r b : ℕ) → p.register t r ≡ Some b → IsKept w p b
 register_kept w p t r b e = Start b (inl (InRegister t r e))
@@ -92,11 +96,15 @@ pub clean_register : (w : AddressHeap) (p p0 : BirthHeap) → Invariant w p p0 �
 clean_register w p p0 i e t r = i.marks.registers t r (ap is_marking e) (i.phases.crossed (ap is_crossing e) t)
 
 pub mark_good : (w : AddressHeap) (u v : Word) (x : Option ℕ) → StandsFor w v x → StandsFor (mark_word u w) v x
-mark_good w u v x g = record { names = g.names; fits = record { outside = g.fits.outside; inside = λ y e h. more u y (g.fits.inside y e h) } }
+mark_good w u v x g = record {
+  names = g.names;
+  fits = record { outside = g.fits.outside; inside = λ y e h. more u y (g.fits.inside y e h) };
+}
   where
     more : (u : Word) (y : ℕ) → w.marked y ≡ true → marked_after u w y ≡ true
     more Null y e = e
-    more (To a n) y e = put_all (λ y b. w.marked y ≡ true → b ≡ true) w.marked (resolve w a) true (λ _. refl) (λ y _ e. e) y e
+    more (To a n) y e =
+        put_all (λ y b. w.marked y ≡ true → b ≡ true) w.marked (resolve w a) true (λ _. refl) (λ y _ e. e) y e
 
 -- a word is marked
 pub record MarkedWord (w : AddressHeap) (p p0 : BirthHeap) (v : Word) (x : Option ℕ) : Type 0 where
@@ -113,13 +121,23 @@ mark_word_keeps w p p0 i m Null x e k = record {
 }
 mark_word_keeps w p p0 i m (To a n) x e k =
     let d = named w a n x e in
-    let j : Invariant (mark_word (To a n) w) p p0 = mark_keeps w p p0 i (resolve w a) d.object (record { running = m; here = d.here; kept = k d.object.birth d.birth; page = kept_unprotected w p p0 i m (resolve w a) d.object d.here (k d.object.birth d.birth) }) in
-    let r : resolve w (resolve w a) ≡ resolve w a = marked_here (mark_word (To a n) w) p p0 j (resolve w a) (put_same w.marked (resolve w a) true) in
+    let j : Invariant (mark_word (To a n) w) p p0 = mark_keeps w p p0 i (resolve w a) d.object (record {
+      running = m;
+      here = d.here;
+      kept = k d.object.birth d.birth;
+      page = kept_unprotected w p p0 i m (resolve w a) d.object d.here (k d.object.birth d.birth);
+    }) in
+    let r : resolve w (resolve w a) ≡ resolve w a =
+    marked_here (mark_word (To a n) w) p p0 j (resolve w a) (put_same w.marked (resolve w a) true) in
     record {
       inv = j;
       good = record {
         names = ap (λ z. birth_of (current w z)) r ∙ e;
-        fits = record { outside = λ f. (let z = m in cc); inside = λ y f h. (let z : resolve w a ≡ y = cc in ap (marked_after (To a n) w) (sym z) ∙ put_same w.marked (resolve w a) true) };
+        fits = record {
+          outside = λ f. (let z = m in cc);
+          inside = λ y f h. (let z : resolve w a ≡ y = cc in ap (marked_after (To a n) w) (sym z)
+              ∙ put_same w.marked (resolve w a) true);
+        };
       };
       clean = λ y b h. (let z = h in cc);
     }
@@ -127,7 +145,7 @@ mark_word_keeps w p p0 i m (To a n) x e k =
 -- an element after another was set
 pub set_at : {A : Type 0} (l : List A) (i j : ℕ) (v d : A) → i < length l
     → ((j ≡ i) × (get_or (set l i v) j d ≡ v)) ⊎ ((j ≢ i) × (get_or (set l i v) j d ≡ get_or l j d))
-set_at l i j v d h = go (same_or_not j i)
+set_at l i j v d h = go (cases_eq j i)
   where
     go : (j ≡ i) ⊎ (j ≢ i)
         → ((j ≡ i) × (get_or (set l i v) j d ≡ v)) ⊎ ((j ≢ i) × (get_or (set l i v) j d ≡ get_or l j d))

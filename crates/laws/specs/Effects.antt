@@ -1,5 +1,5 @@
 -- What steps do to the plain heap, and what some of them do to the heap by addresses.
-use Rattle.std.specs.Prelude.{ℕ, ◌+◌, zero, suc, Bool, true, false, not, cond, Option, Some, None, set}
+use Rattle.std.specs.Prelude.{ℕ, ◌+◌, zero, suc, Bool, false, not, cond, Option, Some, None, set}
 use Rattle.model.specs.Phases.{may_nmt_trap, same_bit}
 use Rattle.laws.specs.AddressHeap.{AddressHeap, HeapObject, Word, Null, To, put_at, OpenBarrier, WorkerScan, LoadPlace, field}
 use Rattle.laws.specs.BirthHeap.{BirthHeap, ref}

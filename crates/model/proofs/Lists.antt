@@ -1,7 +1,9 @@
 -- Lists with one element replaced, and lists of equal elements.
-use Rattle.std.proofs.Common.{◌≡◌, ◌≢◌, ◌⊎◌, inl, inr, ℕ, zero, suc, ◌+◌, ◌<◌, Bool, true, false, List, [], ◌∷◌, length, Option, Some, None, replicate, set, count_by, cond, get_or, position, nat_lt, ◌*◌, ◌≤◌, ◌||◌, refl, sym, ◌∙◌, ap, subst, arith}
+use Rattle.std.proofs.Common.{◌≡◌, ◌≢◌, ◌⊎◌, inl, inr, ℕ, zero, suc, ◌+◌, ◌<◌, Bool, true, false, List}
+use Rattle.std.proofs.Common.{[], ◌∷◌, length, Option, Some, None, replicate, set, count_by, cond, get_or}
+use Rattle.std.proofs.Common.{position, nat_lt, ◌*◌, ◌≤◌, ◌||◌, refl, sym, ◌∙◌, ap, subst, arith, is_some}
 use Rattle.std.specs.List.{slice_get, position_or_len}
-use Rattle.std.proofs.lemmas.Option.{get_or_from_slice_get, slice_get_within, slice_get_read}
+use Rattle.std.proofs.lemmas.Option.{get_or_from_slice_get, slice_get_within, slice_get_read, same_Some}
 use Rattle.std.proofs.lemmas.List.Sums.{sum_by-set, sum_by-cons, fails_before_first}
 use Rattle.std.proofs.lemmas.List.Folds.{sum_by-replicate}
 use Rattle.std.proofs.lemmas.List.Quantifiers.{position-Some}
@@ -9,10 +11,8 @@ use Rattle.std.proofs.lemmas.Bool.Decides.{nat_tests}
 use Rattle.model.specs.Owning.{Each}
 use Rattle.model.specs.Heaps.{changed, changed_at}
 
-pub same_or_not : (x a : ℕ) → (x ≡ a) ⊎ (x ≢ a)
-same_or_not x a = grind arith
-
-pub get_set_same : {X : Type 0} (xs : List X) (i : ℕ) (x v : X) → slice_get xs i ≡ Some x → slice_get (set xs i v) i ≡ Some v
+pub get_set_same : {X : Type 0} (xs : List X) (i : ℕ) (x v : X) → slice_get xs i ≡ Some x
+    → slice_get (set xs i v) i ≡ Some v
 get_set_same [] i x v h = absurd (cc)
 get_set_same (y ∷ ys) zero x v h = refl
 get_set_same (y ∷ ys) (suc i) x v h = get_set_same ys i x v h
@@ -25,14 +25,16 @@ get_set_other (y ∷ ys) (suc i) zero v h = refl
 get_set_other (y ∷ ys) (suc i) (suc j) v h = get_set_other ys i j v (λ e. h (ap suc e))
 
 -- what stands in a list with one element replaced is the new element, or stood there
-pub get_set : {X : Type 0} (xs : List X) (i j : ℕ) (v y : X) → slice_get (set xs i v) j ≡ Some y → ((j ≡ i) × (v ≡ y)) ⊎ ((j ≢ i) × (slice_get xs j ≡ Some y))
+pub get_set : {X : Type 0} (xs : List X) (i j : ℕ) (v y : X) → slice_get (set xs i v) j ≡ Some y
+    → ((j ≡ i) × (v ≡ y)) ⊎ ((j ≢ i) × (slice_get xs j ≡ Some y))
 get_set [] i j v y h = absurd (cc)
 get_set (x ∷ xs) zero zero v y h = inl (refl, cc)
 get_set (x ∷ xs) zero (suc j) v y h = inr ((λ e. absurd (omega (arith, e))), h)
 get_set (x ∷ xs) (suc i) zero v y h = inr ((λ e. absurd (omega (arith, e))), h)
 get_set (x ∷ xs) (suc i) (suc j) v y h = up (get_set xs i j v y h)
   where
-    up : ((j ≡ i) × (v ≡ y)) ⊎ ((j ≢ i) × (slice_get xs j ≡ Some y)) → ((suc j ≡ suc i) × (v ≡ y)) ⊎ ((suc j ≢ suc i) × (slice_get xs j ≡ Some y))
+    up : ((j ≡ i) × (v ≡ y)) ⊎ ((j ≢ i) × (slice_get xs j ≡ Some y))
+        → ((suc j ≡ suc i) × (v ≡ y)) ⊎ ((suc j ≢ suc i) × (slice_get xs j ≡ Some y))
     up (inl a) = inl (ap suc a.0, a.1)
     up (inr a) = inr ((λ e. a.0 (omega (arith, e))), a.1)
 
@@ -43,7 +45,8 @@ each_set P xs i v h p j y e = go (get_set xs i j v y e)
     go (inl a) = subst P a.1 p
     go (inr a) = h j y a.1
 
-pub each_changed : {X : Type 0} (P : X → Type 0) (xs : List X) (i : ℕ) (change : X → X) → Each xs P → ((x : X) → P x → P (change x)) → Each (changed xs i change) P
+pub each_changed : {X : Type 0} (P : X → Type 0) (xs : List X) (i : ℕ) (change : X → X) → Each xs P
+    → ((x : X) → P x → P (change x)) → Each (changed xs i change) P
 each_changed {X} P xs i change h k = by_element (slice_get xs i) refl
   where
     by_element : (o : Option X) → slice_get xs i ≡ o → Each (changed_at xs i o change) P
@@ -62,10 +65,12 @@ pub count_replicate : {X : Type 0} (p : X → Bool) (n : ℕ) (x : X) → count_
 count_replicate p n x = sum_by-replicate (λ y. cond (p y) 1 0) n x
 
 -- a replaced element counts as the new one does
-pub count_set : {X : Type 0} (p : X → Bool) (xs : List X) (i : ℕ) (x v : X) → slice_get xs i ≡ Some x → count_by p (set xs i v) + cond (p x) 1 0 ≡ count_by p xs + cond (p v) 1 0
+pub count_set : {X : Type 0} (p : X → Bool) (xs : List X) (i : ℕ) (x v : X) → slice_get xs i ≡ Some x
+    → count_by p (set xs i v) + cond (p x) 1 0 ≡ count_by p xs + cond (p v) 1 0
 count_set p xs i x v h =
     let e : get_or xs i x ≡ x = get_or_from_slice_get xs i x x h in
-    ap (λ y. count_by p (set xs i v) + cond (p y) 1 0) (sym e) ∙ sum_by-set (λ y. cond (p y) 1 0) xs i v x (slice_get_within xs i x h)
+    ap (λ y. count_by p (set xs i v) + cond (p y) 1 0) (sym e)
+    ∙ sum_by-set (λ y. cond (p y) 1 0) xs i v x (slice_get_within xs i x h)
 
 -- a place in a list, by its index
 pub get_within : {X : Type 0} (xs : List X) (i : ℕ) → i < length xs → (x : X) × (slice_get xs i ≡ Some x)
@@ -74,10 +79,12 @@ get_within (x ∷ xs) zero h = (x, refl)
 get_within (x ∷ xs) (suc i) h = get_within xs i (omega arith)
 
 -- the first that passes
-pub position_passes : {X : Type 0} (p : X → Bool) (xs : List X) (i : ℕ) (x : X) → position p xs ≡ Some i → slice_get xs i ≡ Some x → p x ≡ true
-position_passes p xs i x h e = let facts = position-Some p xs i x h in ap p (sym (get_or_from_slice_get xs i x x e)) ∙ facts.1
+pub position_passes : {X : Type 0} (p : X → Bool) (xs : List X) (i : ℕ) (x : X) → position p xs ≡ Some i
+    → slice_get xs i ≡ Some x → p x ≡ true
+position_passes p xs i x h e =
+    let facts = position-Some p xs i x h in ap p (sym (get_or_from_slice_get xs i x x e)) ∙ facts.1
 
-none_far : (a b : ℕ) → cond (nat_lt a b) (Some a) None ≡ None → b ≤ a
+pub none_far : (a b : ℕ) → cond (nat_lt a b) (Some a) None ≡ None → b ≤ a
 none_far a b h = grind (arith, nat_tests)
 
 -- where none passes, each fails
@@ -88,7 +95,8 @@ position_none p xs h i x e =
     ap p (sym (get_or_from_slice_get xs i x x e)) ∙ fails_before_first p xs i x (omega arith)
 
 -- a list is no longer than two counts together, if each element counts in one of them
-pub length_counted : {X : Type 0} (p q : X → Bool) (xs : List X) → Each xs (λ x. p x || q x ≡ true) → length xs ≤ count_by p xs + count_by q xs
+pub length_counted : {X : Type 0} (p q : X → Bool) (xs : List X) → Each xs (λ x. p x || q x ≡ true)
+    → length xs ≤ count_by p xs + count_by q xs
 length_counted p q [] h = omega arith
 length_counted p q (x ∷ xs) h =
     let rest = length_counted p q xs (λ i y e. h (suc i) y e) in
@@ -101,20 +109,23 @@ length_counted p q (x ∷ xs) h =
     counted false true e = omega arith
     counted false false e = absurd (cc)
 
-same_in : {X : Type 0} {x y : X} → Some x ≡ Some y → x ≡ y
-same_in e = cc
+pub no_some : {X : Type 0} (o : Option X) → is_some o ≡ false → o ≡ None
+no_some None e = refl
+no_some (Some x) e = absurd (cc)
 
 abbrev pub as_number : Bool → ℕ
 as_number b = cond b 1 0
 
 -- one that passes counts
-pub count_positive : {X : Type 0} (p : X → Bool) (xs : List X) (i : ℕ) (x : X) → slice_get xs i ≡ Some x → p x ≡ true → 0 < count_by p xs
+pub count_positive : {X : Type 0} (p : X → Bool) (xs : List X) (i : ℕ) (x : X) → slice_get xs i ≡ Some x → p x ≡ true
+    → 0 < count_by p xs
 count_positive p [] i x h e = absurd (cc)
 count_positive p (y ∷ ys) zero x h e =
-    let here : p y ≡ true = ap p (same_in h) ∙ e in
+    let here : p y ≡ true = ap p (same_Some _ _ h) ∙ e in
     let one : as_number (p y) ≡ as_number true = ap as_number here in
     omega (arith, sum_by-cons (λ z. cond (p z) 1 0) y ys, one)
-count_positive p (y ∷ ys) (suc i) x h e = omega (arith, sum_by-cons (λ z. cond (p z) 1 0) y ys, count_positive p ys i x h e)
+count_positive p (y ∷ ys) (suc i) x h e =
+    omega (arith, sum_by-cons (λ z. cond (p z) 1 0) y ys, count_positive p ys i x h e)
 
 -- what is at an index that was read
 pub get_read : {X : Type 0} (xs : List X) (i : ℕ) (x : X) → i < length xs → x ≡ get_or xs i x → slice_get xs i ≡ Some x

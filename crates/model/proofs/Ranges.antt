@@ -1,82 +1,56 @@
 -- A configuration without a fault is in range.
-use Rattle.std.proofs.Common.{◌≡◌, ℕ, ◌≤◌, ◌==◌, ◌||◌, not, Bool, true, false, cond, Option, Some, None, nat_lt, refl, sym, arith, rules, lit≤}
+use Rattle.std.proofs.Common.{◌≡◌, ℕ, ◌≤◌, ◌==◌, ◌||◌, Bool, true, false, cond, Option}
+use Rattle.std.proofs.Common.{Some, None, nat_lt, refl, sym, arith, rules, lit≤}
 use Rattle.std.specs.Option.{IfNone}
+use Rattle.std.proofs.lemmas.Bool.{ltb-false, or_parts, not-false, eqb-true}
 use Rattle.std.proofs.lemmas.Bool.Decides.{nat_tests}
 use Rattle.model.specs.declared.config.Config.{Config}
 use Rattle.model.specs.declared.config.ConfigFault.{ConfigFault}
 use Rattle.model.specs.Configs.{first_fault, is_page_size, is_outside, IsRanged}
 
-record Passes (b : Bool) (rest : Option ConfigFault) : Type 0 where
-  here : b ≡ false
-  there : rest ≡ None
+-- a test that finds no fault, and those behind it
+pub no_fault : (b : Bool) (x : ConfigFault) (rest : Option ConfigFault) → cond b (Some x) rest ≡ None
+    → (b ≡ false) × (rest ≡ None)
+no_fault true x rest e = absurd (cc)
+no_fault false x rest e = (refl, e)
 
-pass : (b : Bool) (x : ConfigFault) (rest : Option ConfigFault) → cond b (Some x) rest ≡ None → Passes b rest
-pass true x rest e = absurd (cc)
-pass false x rest e = record { here = refl; there = e }
+pub within : (n low high : ℕ) → is_outside n low high ≡ false → (low ≤ n) × (n ≤ high)
+within n low high e =
+    let parts = or_parts (nat_lt n low) (nat_lt high n) e in (ltb-false n low parts.0, ltb-false high n parts.1)
 
-no_or : (a b : Bool) → a || b ≡ false → (a ≡ false) × (b ≡ false)
-no_or true b e = absurd (cc)
-no_or false b e = (refl, e)
-
-not_false : (b : Bool) → not b ≡ false → b ≡ true
-not_false true e = refl
-not_false false e = absurd (cc)
-
-inside : (n low high : ℕ) → is_outside n low high ≡ false → (low ≤ n) × (n ≤ high)
-inside n low high e = let parts = no_or (nat_lt n low) (nat_lt high n) e in (at_least n low parts.0, at_least high n parts.1)
-  where
-    at_least : (a b : ℕ) → nat_lt a b ≡ false → b ≤ a
-    at_least a b k = grind (arith, nat_tests)
-
-equal : (n k : ℕ) → (n == k) ≡ true → n ≡ k
-equal n k e = grind (arith, nat_tests)
-
-abbrev InRange : ℕ → Type 0
-InRange n = (16 ≤ n) × (n ≤ 4096)
-
-either : (n : ℕ) (a b : Bool) → (a ≡ true → InRange n) → (b ≡ true → InRange n) → a || b ≡ true → InRange n
-either n true b f g e = f refl
-either n false b f g e = g e
-
-at_size : (n k : ℕ) → 16 ≤ k → k ≤ 4096 → (n == k) ≡ true → InRange n
-at_size n k low high e = let same = equal n k e in (omega arith, omega arith)
-
-page_size_range : (n : ℕ) → is_page_size n ≡ true → InRange n
-page_size_range n =
-    either n _ _ (either n _ _ (either n _ _ (either n _ _ (either n _ _ (either n _ _ (either n _ _ (either n _ _
-    (at_size n 16 (lit≤ tt) (lit≤ tt)) (at_size n 32 (lit≤ tt) (lit≤ tt))) (at_size n 64 (lit≤ tt) (lit≤ tt))) (at_size n 128 (lit≤ tt) (lit≤ tt))) (at_size n 256 (lit≤ tt) (lit≤ tt)))
-    (at_size n 512 (lit≤ tt) (lit≤ tt))) (at_size n 1024 (lit≤ tt) (lit≤ tt))) (at_size n 2048 (lit≤ tt) (lit≤ tt))) (at_size n 4096 (lit≤ tt) (lit≤ tt))
+pub page_size_range : (n : ℕ) → is_page_size n ≡ true → (16 ≤ n) × (n ≤ 4096)
+page_size_range n e = grind (arith, nat_tests)
 
 pub in_range : (c : Config) → first_fault c ≡ None → IsRanged c
 unfolding first_fault
 in_range c e =
-    let a = pass _ _ _ e in
-    let b = pass _ _ _ a.there in
-    let d = pass _ _ _ b.there in
-    let f = pass _ _ _ d.there in
-    let g = pass _ _ _ f.there in
-    let h = pass _ _ _ g.there in
-    let i = pass _ _ _ h.there in
-    let j = pass _ _ _ i.there in
-    let k = pass _ _ _ j.there in
-    let l = pass _ _ _ k.there in
-    let words = page_size_range c.words (not_false _ a.here) in
-    let layouts = no_or _ _ j.here in
+    let a = no_fault _ _ _ e in
+    let b = no_fault _ _ _ a.1 in
+    let d = no_fault _ _ _ b.1 in
+    let f = no_fault _ _ _ d.1 in
+    let g = no_fault _ _ _ f.1 in
+    let h = no_fault _ _ _ g.1 in
+    let i = no_fault _ _ _ h.1 in
+    let j = no_fault _ _ _ i.1 in
+    let k = no_fault _ _ _ j.1 in
+    let l = no_fault _ _ _ k.1 in
+    let words = page_size_range c.words (not-false _ a.0) in
+    let layouts = or_parts _ _ j.0 in
     record {
       words_low = words.0;
       words_high = words.1;
-      frames_low = (inside _ _ _ b.here).0;
-      frames_high = (inside _ _ _ b.here).1;
-      pages_low = (inside _ _ _ d.here).0;
-      pages_high = (inside _ _ _ d.here).1;
-      threads = (inside _ _ _ f.here).1;
-      workers = (inside _ _ _ g.here).1;
-      registers = (inside _ _ _ h.here).1;
-      globals = (inside _ _ _ i.here).1;
-      layouts = (inside _ _ _ layouts.0).1;
-      fitting = not_false _ layouts.1;
-      births = (inside _ _ _ k.here).1;
-      history = (inside _ _ _ l.here).1;
+      frames_low = (within _ _ _ b.0).0;
+      frames_high = (within _ _ _ b.0).1;
+      pages_low = (within _ _ _ d.0).0;
+      pages_high = (within _ _ _ d.0).1;
+      threads = (within _ _ _ f.0).1;
+      workers = (within _ _ _ g.0).1;
+      registers = (within _ _ _ h.0).1;
+      globals = (within _ _ _ i.0).1;
+      layouts = (within _ _ _ layouts.0).1;
+      fitting = not-false _ layouts.1;
+      births = (within _ _ _ k.0).1;
+      history = (within _ _ _ l.0).1;
     }
 
 pub none_in_range : (c : Config) (o : Option ConfigFault) → o ≡ first_fault c → IfNone o (IsRanged c)

@@ -1,40 +1,47 @@
 -- Buffers lie in open pages, whatever is done to the store.
-use Rattle.std.proofs.Common.{◌≡◌, ◌≢◌, ◌⊎◌, inl, inr, ℕ, zero, suc, ◌+◌, ◌-◌, ◌*◌, ◌/◌, ◌^◌, ◌<◌, ◌≤◌, Bool, true, false, ◌&&◌, List, [], ◌∷◌, length, position, Option, Some, None, set, refl, sym, ◌∙◌, ap, subst, arith, rules}
+use Rattle.std.proofs.Common.{◌≡◌, ◌≢◌, ◌⊎◌, inl, inr, ℕ, zero, suc, ◌+◌, ◌-◌, ◌*◌, ◌/◌, ◌^◌, ◌<◌, ◌≤◌, true, List, []}
+use Rattle.std.proofs.Common.{◌∷◌, length, position, Option, Some, None, set, refl, sym, ◌∙◌, ap, subst, arith, rules}
 use Rattle.std.specs.List.{slice_get}
 use Rattle.std.specs.Prelude.{Ok, Err, Result, IfOk}
 use Rattle.std.proofs.Math.Nat.{mul-le-mul_left}
 use Rattle.std.proofs.lemmas.Nat.{mul-add-lt}
 use Rattle.std.proofs.lemmas.Bool.Decides.{nat_tests}
 use Rattle.std.proofs.lemmas.Option.{slice_get_within}
+use Rattle.std.proofs.lemmas.Bool.{cases_eq, and_parts, false≢true}
 use Rattle.refword.specs.Words.{IsAddress}
 use Rattle.model.specs.declared.records.Page.{Page}
 use Rattle.model.specs.declared.records.Room.{Room}
 use Rattle.model.specs.declared.records.Room.TheVariants.{NoFrames, NoPages}
 use Rattle.model.specs.declared.records.Buffer.{Buffer}
-use Rattle.model.specs.Stores.{StoreState, is_open, is_unused, state_in, opened, given, buffer_of, Takes, with_words, with_word, fresh_page, frame_in, page_at, taken, page_with_room, free_frame, unused_page, record_count}
+use Rattle.model.specs.Stores.{StoreState, is_open, is_unused, state_in, opened, given, buffer_of}
+use Rattle.model.specs.Stores.{Takes, with_words, with_word, fresh_page, frame_in, page_at, taken}
+use Rattle.model.specs.Stores.{page_with_room, free_frame, unused_page, record_count}
 use Rattle.model.specs.Owning.{IsStore, LiesIn, TakesWell}
-use Rattle.model.proofs.Lists.{get_set_same, get_set_other, same_or_not, get_within}
-use Rattle.page.proofs.Found.{and_left, position_within, room_left, free_counts, free_within, room_within, room_passes}
+use Rattle.model.proofs.Lists.{get_set_same, get_set_other, get_within}
+use Rattle.page.proofs.Found.{position_within, room_left, free_counts, free_within, room_within, room_passes}
 use Rattle.page.proofs.Keeping.{unused_as, page_at_record, page_at_zero, opened_words, opened_at, given_at}
 
-false_true : false ≡ true → ⊥
-false_true e = cc
-
 -- the page of a buffer has a record
-pub lies_at : (s : StoreState) (b : Buffer) → LiesIn s b → (b.page ≢ 0) × (p : Page) × (slice_get s.pages (b.page - 1) ≡ Some p) × (is_open p.state ≡ true)
-lies_at s b h = by_number (same_or_not b.page 0)
+pub lies_at : (s : StoreState) (b : Buffer) → LiesIn s b
+    → (b.page ≢ 0) × (p : Page) × (slice_get s.pages (b.page - 1) ≡ Some p) × (is_open p.state ≡ true)
+lies_at s b h = by_number (cases_eq b.page 0)
   where
-    by_record : b.page ≢ 0 → (o : Option Page) → slice_get s.pages (b.page - 1) ≡ o → (b.page ≢ 0) × (p : Page) × (slice_get s.pages (b.page - 1) ≡ Some p) × (is_open p.state ≡ true)
-    by_record z None e = absurd (false_true (sym (ap (λ o. is_open (state_in o)) (page_at_record s b.page z ∙ e)) ∙ h.page))
+    by_record : b.page ≢ 0 → (o : Option Page) → slice_get s.pages (b.page - 1) ≡ o
+        → (b.page ≢ 0) × (p : Page) × (slice_get s.pages (b.page - 1) ≡ Some p) × (is_open p.state ≡ true)
+    by_record z None e =
+        absurd (false≢true (sym (ap (λ o. is_open (state_in o)) (page_at_record s b.page z ∙ e)) ∙ h.page))
     by_record z (Some p) e = (z, p, e, sym (ap (λ o. is_open (state_in o)) (page_at_record s b.page z ∙ e)) ∙ h.page)
 
-    by_number : (b.page ≡ 0) ⊎ (b.page ≢ 0) → (b.page ≢ 0) × (p : Page) × (slice_get s.pages (b.page - 1) ≡ Some p) × (is_open p.state ≡ true)
-    by_number (inl z) = absurd (false_true (sym (ap (λ o. is_open (state_in o)) (page_at_zero s b.page z)) ∙ h.page))
+    by_number : (b.page ≡ 0) ⊎ (b.page ≢ 0)
+        → (b.page ≢ 0) × (p : Page) × (slice_get s.pages (b.page - 1) ≡ Some p) × (is_open p.state ≡ true)
+    by_number (inl z) = absurd (false≢true (sym (ap (λ o. is_open (state_in o)) (page_at_zero s b.page z)) ∙ h.page))
     by_number (inr z) = by_record z (slice_get s.pages (b.page - 1)) refl
 
 -- a buffer whose page is open lies in the store
-pub lies_by : (s : StoreState) (b : Buffer) (p : Page) → b.page ≢ 0 → slice_get s.pages (b.page - 1) ≡ Some p → is_open p.state ≡ true → b.next ≤ b.end → b.end ≤ s.words → LiesIn s b
-lies_by s b p z e o order end = record { page = ap (λ o. is_open (state_in o)) (page_at_record s b.page z ∙ e) ∙ o; order = order; end = end }
+pub lies_by : (s : StoreState) (b : Buffer) (p : Page) → b.page ≢ 0 → slice_get s.pages (b.page - 1) ≡ Some p
+    → is_open p.state ≡ true → b.next ≤ b.end → b.end ≤ s.words → LiesIn s b
+lies_by s b p z e o order end =
+    record { page = ap (λ o. is_open (state_in o)) (page_at_record s b.page z ∙ e) ∙ o; order = order; end = end }
 
 -- the records of two stores are the same
 pub lies_same : (s t : StoreState) (b : Buffer) → t.pages ≡ s.pages → t.words ≡ s.words → LiesIn s b → LiesIn t b
@@ -43,33 +50,45 @@ lies_same s t b e w h =
     lies_by t b p z (ap (λ ps. slice_get ps (b.page - 1)) e ∙ at) is_so h.order (rw w h.end)
 
 -- a record is replaced by that of an open page
-pub lies_set : (s t : StoreState) (i : ℕ) (p q : Page) (b : Buffer) → t.pages ≡ set s.pages i q → t.words ≡ s.words → slice_get s.pages i ≡ Some p → is_open q.state ≡ true → LiesIn s b → LiesIn t b
+pub lies_set : (s t : StoreState) (i : ℕ) (p q : Page) (b : Buffer) → t.pages ≡ set s.pages i q → t.words ≡ s.words
+    → slice_get s.pages i ≡ Some p → is_open q.state ≡ true → LiesIn s b → LiesIn t b
 lies_set s t i p q b e w at o h =
     let (z, r, found, is_so) = lies_at s b h in
-    by_place z r found is_so (same_or_not (b.page - 1) i)
+    by_place z r found is_so (cases_eq (b.page - 1) i)
   where
-    by_place : b.page ≢ 0 → (r : Page) → slice_get s.pages (b.page - 1) ≡ Some r → is_open r.state ≡ true → (b.page - 1 ≡ i) ⊎ (b.page - 1 ≢ i) → LiesIn t b
-    by_place z r found is_so (inl k) = lies_by t b q z (ap (λ ps. slice_get ps (b.page - 1)) e ∙ ap (slice_get (set s.pages i q)) k ∙ get_set_same s.pages i p q at) o h.order (rw w h.end)
-    by_place z r found is_so (inr k) = lies_by t b r z (ap (λ ps. slice_get ps (b.page - 1)) e ∙ get_set_other s.pages i (b.page - 1) q k ∙ found) is_so h.order (rw w h.end)
+    by_place : b.page ≢ 0 → (r : Page) → slice_get s.pages (b.page - 1) ≡ Some r → is_open r.state ≡ true
+        → (b.page - 1 ≡ i) ⊎ (b.page - 1 ≢ i) → LiesIn t b
+    by_place z r found is_so (inl k) = lies_by t b q z (ap (λ ps. slice_get ps (b.page - 1)) e
+        ∙ ap (slice_get (set s.pages i q)) k ∙ get_set_same s.pages i p q at) o h.order (rw w h.end)
+    by_place z r found is_so (inr k) = lies_by t b r z (ap (λ ps. slice_get ps (b.page - 1)) e
+        ∙ get_set_other s.pages i (b.page - 1) q k ∙ found) is_so h.order (rw w h.end)
 
 -- words given out of an open page
-given_lies : (s : StoreState) (i n : ℕ) (p : Page) → slice_get s.pages i ≡ Some p → is_open p.state ≡ true → p.top + n ≤ s.words → LiesIn (given s i n).0 (given s i n).1
+given_lies : (s : StoreState) (i n : ℕ) (p : Page) → slice_get s.pages i ≡ Some p → is_open p.state ≡ true
+    → p.top + n ≤ s.words → LiesIn (given s i n).0 (given s i n).1
 given_lies s i n p e o room =
     let q : Page = record p { top = p.top + n } in
     let back : i + 1 - 1 ≡ i = omega arith in
-    rw (given_at s i n p e) (lies_by (record s { pages = set s.pages i q }) (buffer_of i p.top n) q (omega arith) (ap (slice_get (set s.pages i q)) back ∙ get_set_same s.pages i p q e) o (omega arith) room)
+    rw (given_at s i n p e) (lies_by (record s { pages = set s.pages i q }) (buffer_of i p.top n) q (omega arith)
+    (ap (slice_get (set s.pages i q)) back ∙ get_set_same s.pages i p q e) o (omega arith) room)
 
-given_stays : (s : StoreState) (i n : ℕ) (p : Page) (c : Buffer) → slice_get s.pages i ≡ Some p → is_open p.state ≡ true → LiesIn s c → LiesIn (given s i n).0 c
-given_stays s i n p c e o h = rw (given_at s i n p e) (lies_set s (record s { pages = set s.pages i (record p { top = p.top + n }) }) i p (record p { top = p.top + n }) c refl refl e o h)
+given_stays : (s : StoreState) (i n : ℕ) (p : Page) (c : Buffer) → slice_get s.pages i ≡ Some p
+    → is_open p.state ≡ true → LiesIn s c → LiesIn (given s i n).0 c
+given_stays s i n p c e o h = rw (given_at s i n p e) (lies_set s (record s {
+  pages = set s.pages i (record p { top = p.top + n });
+}) i p (record p { top = p.top + n }) c refl refl e o h)
 
-opened_stays : (s : StoreState) (i f : ℕ) (p : Page) (c : Buffer) → slice_get s.pages i ≡ Some p → LiesIn s c → LiesIn (opened s i f) c
+opened_stays : (s : StoreState) (i f : ℕ) (p : Page) (c : Buffer) → slice_get s.pages i ≡ Some p → LiesIn s c
+    → LiesIn (opened s i f) c
 unfolding opened
 opened_stays s i f p c e h = lies_set s (opened s i f) i p (fresh_page f) c refl refl e refl h
 
-well_given : (s : StoreState) (i n : ℕ) (p : Page) → slice_get s.pages i ≡ Some p → is_open p.state ≡ true → p.top + n ≤ s.words → TakesWell s (given s i n).0 (given s i n).1
+well_given : (s : StoreState) (i n : ℕ) (p : Page) → slice_get s.pages i ≡ Some p → is_open p.state ≡ true
+    → p.top + n ≤ s.words → TakesWell s (given s i n).0 (given s i n).1
 well_given s i n p e o room = record { lies = given_lies s i n p e o room; stays = λ c h. given_stays s i n p c e o h }
 
-well_opened : (s : StoreState) (i f n : ℕ) (p : Page) → slice_get s.pages i ≡ Some p → n ≤ s.words → TakesWell s (given (opened s i f) i n).0 (given (opened s i f) i n).1
+well_opened : (s : StoreState) (i f n : ℕ) (p : Page) → slice_get s.pages i ≡ Some p → n ≤ s.words
+    → TakesWell s (given (opened s i f) i n).0 (given (opened s i f) i n).1
 well_opened s i f n p e room =
     let at = opened_at s i f p e in
     let words = opened_words s i f in
@@ -91,25 +110,31 @@ taken_given : (s : StoreState) (n i : ℕ) → page_with_room s.words n s.pages 
 unfolding taken
 taken_given s n i a = rw a refl
 
-taken_no_frame : (s : StoreState) (n : ℕ) → page_with_room s.words n s.pages ≡ None → free_frame s.owners ≡ None → taken s n ≡ Err NoFrames
+taken_no_frame : (s : StoreState) (n : ℕ) → page_with_room s.words n s.pages ≡ None → free_frame s.owners ≡ None
+    → taken s n ≡ Err NoFrames
 unfolding taken
 taken_no_frame s n r a = rw (r, a) refl
 
-taken_no_page : (s : StoreState) (n f : ℕ) → page_with_room s.words n s.pages ≡ None → free_frame s.owners ≡ Some f → unused_page s.count s.pages ≡ None → taken s n ≡ Err NoPages
+taken_no_page : (s : StoreState) (n f : ℕ) → page_with_room s.words n s.pages ≡ None → free_frame s.owners ≡ Some f
+    → unused_page s.count s.pages ≡ None → taken s n ≡ Err NoPages
 unfolding taken
 taken_no_page s n f r a c = rw (r, a, c) refl
 
-taken_opened : (s : StoreState) (n f i : ℕ) → page_with_room s.words n s.pages ≡ None → free_frame s.owners ≡ Some f → unused_page s.count s.pages ≡ Some i → taken s n ≡ Ok (given (opened s i f) i n)
+taken_opened : (s : StoreState) (n f i : ℕ) → page_with_room s.words n s.pages ≡ None → free_frame s.owners ≡ Some f
+    → unused_page s.count s.pages ≡ Some i → taken s n ≡ Ok (given (opened s i f) i n)
 unfolding taken
 taken_opened s n f i r a c = rw (r, a, c) refl
 
-pub takes_well : (s t : StoreState) (n : ℕ) (b : Buffer) → IsStore s → 0 < n → n ≤ s.words → taken s n ≡ Ok (t, b) → TakesWell s t b
+pub takes_well : (s t : StoreState) (n : ℕ) (b : Buffer) → IsStore s → 0 < n → n ≤ s.words → taken s n ≡ Ok (t, b)
+    → TakesWell s t b
 takes_well s t n b h low high e = by_room (page_with_room s.words n s.pages) refl
   where
     as_taken : (x : StoreState × Buffer) → taken s n ≡ Ok x → TakesWell s x.0 x.1 → TakesWell s t b
-    as_taken x k w = let same : x ≡ (t, b) = same_ok x (t, b) (sym k ∙ e) in subst (λ (y : StoreState × Buffer). TakesWell s y.0 y.1) same w
+    as_taken x k w = let same : x ≡ (t, b) = same_ok x (t, b) (sym k ∙ e) in
+        subst (λ (y : StoreState × Buffer). TakesWell s y.0 y.1) same w
 
-    by_fresh : page_with_room s.words n s.pages ≡ None → (f : Option ℕ) → free_frame s.owners ≡ f → (o : Option ℕ) → unused_page s.count s.pages ≡ o → TakesWell s t b
+    by_fresh : page_with_room s.words n s.pages ≡ None → (f : Option ℕ) → free_frame s.owners ≡ f → (o : Option ℕ)
+        → unused_page s.count s.pages ≡ o → TakesWell s t b
     by_fresh r None a o c = absurd (err_ok NoFrames (t, b) (sym (taken_no_frame s n r a) ∙ e))
     by_fresh r (Some f) a None c = absurd (err_ok NoPages (t, b) (sym (taken_no_page s n f r a c) ∙ e))
     by_fresh r (Some f) a (Some i) c =
@@ -125,15 +150,18 @@ takes_well s t n b h low high e = by_room (page_with_room s.words n s.pages) ref
         let within = room_within s.words n s.pages i a (fresh_page 0) in
         let p = get_within s.pages i within in
         let passes = room_passes s.words n s.pages i a p.0 p.1 in
-        as_taken (given s i n) (taken_given s n i a) (well_given s i n p.0 p.1 (and_left (is_open p.0.state) _ passes) (room_left s.words n p.0.top (is_open p.0.state) low passes))
+        as_taken (given s i n) (taken_given s n i a) (well_given s i n p.0 p.1
+        (and_parts (is_open p.0.state) _ passes).0 (room_left s.words n p.0.top (is_open p.0.state) low passes))
 
 -- the same, of a call that took a buffer or failed
-pub takes_by : (s t : StoreState) (n : ℕ) (r : Result Buffer Room) → IsStore s → 0 < n → n ≤ s.words → Takes s r t (taken s n) → IfOk r (TakesWell s t)
+pub takes_by : (s t : StoreState) (n : ℕ) (r : Result Buffer Room) → IsStore s → 0 < n → n ≤ s.words
+    → Takes s r t (taken s n) → IfOk r (TakesWell s t)
 takes_by s t n (Ok b) h low high e = takes_well s t n b h low high e
 takes_by s t n (Err x) h low high e = search rules
 
 -- other words in a page's frame
-pub words_lie : (s : StoreState) (n : ℕ) (change : List ℕ → List ℕ) (b : Buffer) → LiesIn s b → LiesIn (with_words s n change) b
+pub words_lie : (s : StoreState) (n : ℕ) (change : List ℕ → List ℕ) (b : Buffer) → LiesIn s b
+    → LiesIn (with_words s n change) b
 unfolding with_words
 words_lie s n change b h = lies_same s (with_words s n change) b refl refl h
 
@@ -149,7 +177,8 @@ records_few s h = rw h.sized.pages (few (length s.frames) s.count h.sized.count)
     few frames count k = grind (arith, nat_tests)
 
 -- where a buffer's next object starts is an address
-pub buffer_address : (s : StoreState) (b : Buffer) → IsStore s → LiesIn s b → b.next < b.end → IsAddress (b.page * s.words + b.next)
+pub buffer_address : (s : StoreState) (b : Buffer) → IsStore s → LiesIn s b → b.next < b.end
+    → IsAddress (b.page * s.words + b.next)
 buffer_address s b h l room =
     let (page, p, at, is_so) = lies_at s b l in
     let within = slice_get_within s.pages (b.page - 1) p at in
@@ -160,7 +189,8 @@ buffer_address s b h l room =
 
 -- no page has a number past 32 bits
 pub far_frame : (s : StoreState) (n : ℕ) → IsStore s → 2 ^ 32 ≤ n → frame_in (page_at s n) ≡ None
-far_frame s n h low = ap frame_in (page_at_record s n (λ e. absurd (omega (arith, e, low))) ∙ past s.pages (n - 1) (omega (arith, low, records_few s h)))
+far_frame s n h low = ap frame_in (page_at_record s n (λ e. absurd (omega (arith, e, low)))
+    ∙ past s.pages (n - 1) (omega (arith, low, records_few s h)))
   where
     past : (ps : List Page) (i : ℕ) → length ps ≤ i → slice_get ps i ≡ None
     past [] i k = refl

@@ -1,12 +1,15 @@
 -- Trees in a list: the way from the root to a leaf, and what a list's leaves are.
-use Rattle.std.proofs.Common.{◌≡◌, ◌≢◌, ◌⊎◌, inl, inr, ℕ, zero, suc, ◌+◌, ◌-◌, ◌*◌, ◌/◌, ◌^◌, ◌<◌, ◌≤◌, max, List, length, length-append, take, drop, set, replicate, ◌++◌, [], ◌∷◌, get_or, position, nat_le, Some, None, false, true, refl, sym, ◌∙◌, ap, subst, arith}
+use Rattle.std.proofs.Common.{◌≡◌, ◌≢◌, ◌⊎◌, inl, inr, ℕ, zero, suc, ◌+◌, ◌-◌, ◌*◌, ◌/◌, ◌^◌, ◌<◌, ◌≤◌}
+use Rattle.std.proofs.Common.{max, List, length, length-append, take, drop, set, replicate, ◌++◌, [], ◌∷◌}
+use Rattle.std.proofs.Common.{get_or, position, nat_le, Some, None, refl, sym, ◌∙◌, ap, subst, arith}
 use Rattle.std.specs.List.{position_or_len}
 use Rattle.std.proofs.Math.Nat.{le-max_left, le-max_right, one-le-pow, pow-succ', pow-le-pow_right}
 use Rattle.std.proofs.Math.Seq.{take-set-lt}
-use Rattle.std.proofs.lemmas.List.{get_or-set_other, get_or-drop, get_or-take, length-take, length-take-le, length-replicate, length-drop, drop-set-add}
+use Rattle.std.proofs.lemmas.List.{get_or-set_other, get_or-drop, get_or-take, length-take}
+use Rattle.std.proofs.lemmas.List.{length-take-le, length-replicate, length-drop, drop-set-add}
 use Rattle.std.proofs.lemmas.List.Sums.{position_or_len_is}
 use Rattle.std.proofs.lemmas.Bool.Decides.{nat_tests}
-use Rattle.model.proofs.Lists.{same_or_not}
+use Rattle.std.proofs.lemmas.Bool.{cases_eq, le-leb, lt-leb, cases_lt}
 use Rattle.page.specs.Tournaments.{IsWinner, IsTree, IsFirstFrom}
 
 -- the way down
@@ -46,7 +49,8 @@ below xs a h = by_side (side a)
         let same : get_or xs a 0 ≡ get_or xs (2 * (a / 2) + 1) 0 = ap (λ z. get_or xs z 0) e in
         omega (arith, same, h, le-max_right (get_or xs (2 * (a / 2)) 0) (get_or xs (2 * (a / 2) + 1) 0))
 
-rises : (xs : List ℕ) (width k j : ℕ) → IsTree xs width → j < 2 * width → 0 < ancestor k j → get_or xs j 0 ≤ get_or xs (ancestor k j) 0
+rises : (xs : List ℕ) (width k j : ℕ) → IsTree xs width → j < 2 * width → 0 < ancestor k j
+    → get_or xs j 0 ≤ get_or xs (ancestor k j) 0
 rises xs width zero j t h p = omega arith
 rises xs width (suc k) j t h p =
     let before = rises xs width k j t h (omega arith) in
@@ -97,19 +101,22 @@ to_left xs depth n level node next deep h e there = record {
   left = λ j a b c. h.left j a b (omega (arith, above depth level j deep, c));
 }
 
-pub to_right : (xs : List ℕ) (depth n level node next : ℕ) → IsTree xs (2 ^ depth) → level < depth → IsReached xs depth n level node
+pub to_right : (xs : List ℕ) (depth n level node next : ℕ) → IsTree xs (2 ^ depth) → level < depth
+    → IsReached xs depth n level node
     → next ≡ 2 * node → get_or xs next 0 < n → IsReached xs depth n (level + 1) (next + 1)
 to_right xs depth n level node next t deep h e less = record {
   low = omega (arith, twice level, h.low);
   high = omega (arith, twice level, h.high);
   there = right;
-  left = λ j a b c. by_place j a b c (same_or_not (ancestor (depth - (level + 1)) j) next);
+  left = λ j a b c. by_place j a b c (cases_eq (ancestor (depth - (level + 1)) j) next);
 }
   where
     right : n ≤ get_or xs (next + 1) 0
     right =
-        let winner = t node (omega (arith, h.low, one-le-pow level 2 (omega arith))) (inner_node depth level node deep h.high) in
-        rw e (greater (get_or xs (2 * node) 0) (get_or xs (2 * node + 1) 0) (get_or xs node 0) n winner h.there (rw (← e) less))
+        let winner = t node (omega (arith, h.low, one-le-pow level 2 (omega arith)))
+        (inner_node depth level node deep h.high) in
+        rw e (greater (get_or xs (2 * node) 0) (get_or xs (2 * node + 1) 0) (get_or xs node 0) n winner h.there
+        (rw (← e) less))
 
     by_place : (j : ℕ) → 2 ^ depth ≤ j → j < 2 * 2 ^ depth → ancestor (depth - (level + 1)) j < next + 1
         → (ancestor (depth - (level + 1)) j ≡ next) ⊎ (ancestor (depth - (level + 1)) j ≢ next) → get_or xs j 0 < n
@@ -119,7 +126,8 @@ to_right xs depth n level node next t deep h e less = record {
         omega (arith, bound, same, less)
     by_place j a b c (inr z) = h.left j a b (omega (arith, above depth level j deep, c))
 
-pub at_leaf : (xs : List ℕ) (depth n level node : ℕ) → level ≡ depth → IsReached xs depth n level node → IsFirstFrom xs (2 ^ depth) n node
+pub at_leaf : (xs : List ℕ) (depth n level node : ℕ) → level ≡ depth → IsReached xs depth n level node
+    → IsFirstFrom xs (2 ^ depth) n node
 at_leaf xs depth n level node e h =
     let power : 2 ^ level ≡ 2 ^ depth = ap (λ z. 2 ^ z) e in
     record {
@@ -134,36 +142,36 @@ at_leaf xs depth n level node e h =
 
 -- the first number
 
-fails : (n v : ℕ) → v < n → nat_le n v ≡ false
-fails n v h = grind (arith, nat_tests)
-
-passes : (n v : ℕ) → n ≤ v → nat_le n v ≡ true
-passes n v h = grind (arith, nat_tests)
-
 position_at : (n : ℕ) (vs : List ℕ) (i : ℕ) → i < length vs → n ≤ get_or vs i 0 → ((k : ℕ) → k < i → get_or vs k 0 < n)
     → Some i ≡ position (λ v. nat_le n v) vs
 position_at n vs i within there before =
     let at : position_or_len (λ v. nat_le n v) vs ≡ i =
-    position_or_len_is (λ v. nat_le n v) vs i 0 (omega arith) (λ k h. fails n (get_or vs k 0) (before k h)) (λ h. passes n (get_or vs i 0) there) in
+    position_or_len_is (λ v. nat_le n v) vs i 0 (omega arith) (λ k h. lt-leb n (get_or vs k 0) (before k h))
+    (λ h. le-leb n (get_or vs i 0) there) in
     grind (arith, nat_tests, at)
 
-position_nowhere : (n : ℕ) (vs : List ℕ) → ((k : ℕ) → k < length vs → get_or vs k 0 < n) → None ≡ position (λ v. nat_le n v) vs
+position_nowhere : (n : ℕ) (vs : List ℕ) → ((k : ℕ) → k < length vs → get_or vs k 0 < n)
+    → None ≡ position (λ v. nat_le n v) vs
 position_nowhere n vs before =
     let at : position_or_len (λ v. nat_le n v) vs ≡ length vs =
-    position_or_len_is (λ v. nat_le n v) vs (length vs) 0 (omega arith) (λ k h. fails n (get_or vs k 0) (before k h)) (λ h. absurd (omega arith)) in
+    position_or_len_is (λ v. nat_le n v) vs (length vs) 0 (omega arith) (λ k h. lt-leb n (get_or vs k 0) (before k h))
+    (λ h. absurd (omega arith)) in
     grind (arith, nat_tests, at)
 
-pub length_numbers : (xs : List ℕ) (width count : ℕ) → length xs ≡ 2 * width → count ≤ width → length (take count (drop width xs)) ≡ count
+pub length_numbers : (xs : List ℕ) (width count : ℕ) → length xs ≡ 2 * width → count ≤ width
+    → length (take count (drop width xs)) ≡ count
 length_numbers xs width count len le = length-take-le count (drop width xs) (omega (arith, length-drop width xs))
 
-number_at : (xs : List ℕ) (width count k : ℕ) → k < count → get_or (take count (drop width xs)) k 0 ≡ get_or xs (width + k) 0
+number_at : (xs : List ℕ) (width count k : ℕ) → k < count
+    → get_or (take count (drop width xs)) k 0 ≡ get_or xs (width + k) 0
 number_at xs width count k h = get_or-take count (drop width xs) k 0 h ∙ get_or-drop width xs k 0
 
 -- the root is too low, so all numbers are
 pub found_nowhere : (xs : List ℕ) (depth width count n : ℕ) → width ≡ 2 ^ depth → length xs ≡ 2 * width → count ≤ width
     → IsTree xs width → get_or xs 1 0 < n → None ≡ position (λ v. nat_le n v) (take count (drop width xs))
 found_nowhere xs depth width count n e len le t less =
-    position_nowhere n (take count (drop width xs)) (λ k h. each k (omega (arith, length_numbers xs width count len le)))
+    position_nowhere n (take count (drop width xs))
+    (λ k h. each k (omega (arith, length_numbers xs width count len le)))
   where
     each : (k : ℕ) → k < count → get_or (take count (drop width xs)) k 0 < n
     each k h =
@@ -171,20 +179,24 @@ found_nowhere xs depth width count n e len le t less =
         let high = ancestor_high depth 2 (width + k) (omega arith) in
         let root : ancestor depth (width + k) ≡ 1 = omega (arith, low, high) in
         let same : get_or xs (ancestor depth (width + k)) 0 ≡ get_or xs 1 0 = ap (λ z. get_or xs z 0) root in
-        omega (arith, number_at xs width count k h, rises xs width depth (width + k) t (omega arith) (omega arith), same, less)
+        omega (
+          arith,
+          number_at xs width count k h,
+          rises xs width depth (width + k) t (omega arith) (omega arith),
+          same,
+          less,
+        )
 
 -- the leaf that was found has the number
 pub found_first : (xs : List ℕ) (width count n leaf : ℕ) → 0 < n → length xs ≡ 2 * width → count ≤ width
     → ((i : ℕ) → width + count ≤ i → get_or xs i 0 ≡ 0) → IsFirstFrom xs width n leaf
     → Some (leaf - width) ≡ position (λ v. nat_le n v) (take count (drop width xs))
 found_first xs width count n leaf low len le rest h =
-    let inside : leaf - width < count = within (below_or_not leaf (width + count)) in
+    let inside : leaf - width < count = within (cases_lt leaf (width + count)) in
     let size = length_numbers xs width count len le in
-    position_at n (take count (drop width xs)) (leaf - width) (omega (arith, size)) (there inside) (λ k b. before k b inside)
+    position_at n (take count (drop width xs)) (leaf - width) (omega (arith, size)) (there inside)
+    (λ k b. before k b inside)
   where
-    below_or_not : (a b : ℕ) → (a < b) ⊎ (b ≤ a)
-    below_or_not a b = grind arith
-
     within : (leaf < width + count) ⊎ (width + count ≤ leaf) → leaf - width < count
     within (inl a) = omega (arith, h.low)
     within (inr a) = absurd (omega (arith, rest leaf a, h.there))
@@ -196,23 +208,29 @@ found_first xs width count n leaf low len le rest h =
         omega (arith, number_at xs width count (leaf - width) a, same, h.there)
 
     before : (k : ℕ) → k < leaf - width → leaf - width < count → get_or (take count (drop width xs)) k 0 < n
-    before k b a = omega (arith, number_at xs width count k (omega arith), h.first (width + k) (omega arith) (omega arith))
+    before k b a =
+        omega (arith, number_at xs width count k (omega arith), h.first (width + k) (omega arith) (omega arith))
 
 -- a number replaced
 
-pub leaf_same : (xs ys : List ℕ) (width i : ℕ) → drop width ys ≡ drop width xs → width ≤ i → get_or ys i 0 ≡ get_or xs i 0
+pub leaf_same : (xs ys : List ℕ) (width i : ℕ) → drop width ys ≡ drop width xs → width ≤ i
+    → get_or ys i 0 ≡ get_or xs i 0
 leaf_same xs ys width i e le =
     let back : width + (i - width) ≡ i = omega arith in
     let at : get_or ys (width + (i - width)) 0 ≡ get_or xs (width + (i - width)) 0 =
-    sym (get_or-drop width ys (i - width) 0) ∙ ap (λ zs. get_or zs (i - width) 0) e ∙ get_or-drop width xs (i - width) 0 in
+    sym (get_or-drop width ys (i - width) 0) ∙ ap (λ zs. get_or zs (i - width) 0) e
+    ∙ get_or-drop width xs (i - width) 0 in
     subst (λ z. get_or ys z 0 ≡ get_or xs z 0) back at
 
-pub rest_same : (xs ys : List ℕ) (width count index v i : ℕ) → drop width ys ≡ drop width (set xs (width + index) v) → index < count
+pub rest_same : (xs ys : List ℕ) (width count index v i : ℕ) → drop width ys ≡ drop width (set xs (width + index) v)
+    → index < count
     → width + count ≤ i → get_or xs i 0 ≡ 0 → get_or ys i 0 ≡ 0
 rest_same xs ys width count index v i e within le zeros =
-    leaf_same (set xs (width + index) v) ys width i e (omega arith) ∙ get_or-set_other xs (width + index) i v 0 (λ z. absurd (omega (arith, z))) ∙ zeros
+    leaf_same (set xs (width + index) v) ys width i e (omega arith)
+    ∙ get_or-set_other xs (width + index) i v 0 (λ z. absurd (omega (arith, z))) ∙ zeros
 
-pub number_set : (xs ys : List ℕ) (width count index v : ℕ) → drop width ys ≡ drop width (set xs (width + index) v) → index < count
+pub number_set : (xs ys : List ℕ) (width count index v : ℕ) → drop width ys ≡ drop width (set xs (width + index) v)
+    → index < count
     → take count (drop width ys) ≡ set (take count (drop width xs)) index v
 number_set xs ys width count index v e within =
     ap (take count) (e ∙ drop-set-add width xs index v) ∙ take-set-lt count (drop width xs) index v within
@@ -233,10 +251,17 @@ past_first (x ∷ xs) n (suc i) h = past_first xs n i (omega arith)
 pub rest_zero : (width count v i : ℕ) (xs ys zs : List ℕ) → length xs ≡ width
     → ys ≡ take (width + count) xs ++ replicate (width + count - width) v
     → zs ≡ take (2 * width) ys ++ replicate (2 * width - (width + count)) 0 → width + count ≤ i → get_or zs i 0 ≡ 0
-rest_zero width count v i xs ys zs len more all le = rw all (past_first (take (2 * width) ys) (2 * width - (width + count)) i filled)
+rest_zero width count v i xs ys zs len more all le =
+    rw all (past_first (take (2 * width) ys) (2 * width - (width + count)) i filled)
   where
     filled : length (take (2 * width) ys) ≤ i
     filled =
         let copies = replicate (width + count - width) v in
         let size = ap length more ∙ length-append (take (width + count) xs) copies in
-        omega (arith, length-take (2 * width) ys, size, length-take (width + count) xs, length-replicate (width + count - width) v)
+        omega (
+          arith,
+          length-take (2 * width) ys,
+          size,
+          length-take (width + count) xs,
+          length-replicate (width + count - width) v,
+        )

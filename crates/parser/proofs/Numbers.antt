@@ -1,11 +1,13 @@
 -- Numbers in words are read as they are written.
-use Rattle.std.proofs.Common.{◌≡◌, ℕ, ◌+◌, ◌-◌, ◌*◌, ◌^◌, ◌<◌, Bool, true, false, List, [], ◌∷◌, length, get_or, refl, ap, ◌∙◌, arith, rules, inl, inr}
-use Rattle.std.specs.Prelude.{◌⊎◌, ◌&&◌, ◌||◌, not, min, ◌==◌}
+use Rattle.std.proofs.Common.{◌≡◌, ℕ, ◌+◌, ◌-◌, ◌*◌, ◌^◌, ◌<◌, Bool, true, false, List, []}
+use Rattle.std.proofs.Common.{◌∷◌, length, get_or, refl, ap, ◌∙◌, arith, rules, inl, inr}
+use Rattle.std.specs.Prelude.{◌&&◌, ◌||◌, not, min, ◌==◌}
 use Rattle.std.specs.List.{list_all}
 use Rattle.std.specs.Fmt.{decimal}
 use Rattle.std.proofs.lemmas.Bool.Decides.{nat_tests}
-use Rattle.std.proofs.lemmas.Fmt.{decimal-digits_value, digits_decimal, digits_value-decimal, decimal_nonempty, decimal_digit, first_decimal}
-use Rattle.std.proofs.lemmas.Bool.{cases_lt}
+use Rattle.std.proofs.lemmas.Fmt.{decimal-digits_value, digits_decimal, digits_value-decimal}
+use Rattle.std.proofs.lemmas.Fmt.{decimal_nonempty, decimal_digit, first_decimal}
+use Rattle.std.proofs.lemmas.Bool.{cases_lt, and_parts, or_cases, or_right}
 use Rattle.std.proofs.lemmas.Str.Parse.{IsNumeralModel, IsDigitsTest, FoldsDigits, numerals_by_fold}
 use Rattle.parser.specs.Words.{is_digit, starts_with_zero, is_number, capped_from}
 
@@ -44,27 +46,25 @@ record IsNumber (word : List ℕ) : Type 0 where
   nonempty : 0 < length word
   canonical : get_or word 0 0 ≡ 48 → length word ≡ 1
 
-both : (a b : Bool) → (a && b) ≡ true → (a ≡ true) × (b ≡ true)
-both true b h = (refl, h)
-both false b h = absurd cc
-
-either : (a b : Bool) → (a || b) ≡ true → (a ≡ true) ⊎ (b ≡ true)
-either true b h = inl refl
-either false b h = inr h
-
-canonical_in : (word : List ℕ) → ((length word == 1) || not (starts_with_zero word)) ≡ true → get_or word 0 0 ≡ 48 → length word ≡ 1
+canonical_in : (word : List ℕ) → ((length word == 1) || not (starts_with_zero word)) ≡ true → get_or word 0 0 ≡ 48
+    → length word ≡ 1
 canonical_in [] h zero_first = absurd (omega arith)
-canonical_in (b ∷ bs) h zero_first = elim (either (length (b ∷ bs) == 1) (not (b == 48)) h) [ inl one ↦ grind (arith, nat_tests) | inr other ↦ grind (arith, nat_tests) ]
+canonical_in (b ∷ bs) h zero_first = elim (or_cases (length (b ∷ bs) == 1) (not (b == 48)) h) [
+  | inl one ↦ grind (arith, nat_tests)
+  | inr other ↦ grind (arith, nat_tests)
+]
 
 number_tells : (word : List ℕ) → is_number word ≡ true → IsNumber word
 unfolding is_number
 number_tells word h =
-    let p = both (not (length word == 0) && list_all is_digit word) ((length word == 1) || not (starts_with_zero word)) h in
-    let q = both (not (length word == 0)) (list_all is_digit word) p.0 in
+    let p = and_parts (not (length word == 0) && list_all is_digit word)
+    ((length word == 1) || not (starts_with_zero word)) h in
+    let q = and_parts (not (length word == 0)) (list_all is_digit word) p.0 in
     record { digits = q.1; nonempty = grind (arith, nat_tests); canonical = canonical_in word p.1 }
 
 -- a number below 2^64 that is read is written so
-pub number_spelled : (word : List ℕ) → is_number word ≡ true → capped_from 0 word < 2 ^ 64 → decimal (capped_from 0 word) ≡ word
+pub number_spelled : (word : List ℕ) → is_number word ≡ true → capped_from 0 word < 2 ^ 64
+    → decimal (capped_from 0 word) ≡ word
 number_spelled word h small =
     let facts = number_tells word h in
     let e = capped_whole word in
@@ -76,17 +76,15 @@ no_zero : (word : List ℕ) → 48 < get_or word 0 0 → starts_with_zero word �
 no_zero [] h = refl
 no_zero (b ∷ bs) h = grind (arith, nat_tests)
 
-or_right : (a b : Bool) → b ≡ true → (a || b) ≡ true
-or_right true b h = refl
-or_right false b h = h
-
 and_all : (a b c : Bool) → a ≡ true → b ≡ true → c ≡ true → (a && b && c) ≡ true
 and_all a b c p q r = rw (p, q, r) refl
 
 canonical_decimal : (n : ℕ) → n < 2 ^ 64 → ((length (decimal n) == 1) || not (starts_with_zero (decimal n))) ≡ true
 canonical_decimal n h = elim (cases_lt 0 n) [
-  | inl above ↦ or_right (length (decimal n) == 1) (not (starts_with_zero (decimal n))) (ap not (no_zero (decimal n) (first_decimal n above h)))
-  | inr none ↦ let e : n ≡ 0 = omega arith in let d : decimal 0 ≡ 48 ∷ [] = decimal_digit 0 (omega arith) in rw (e, d) refl
+  | inl above ↦ or_right (length (decimal n) == 1) (not (starts_with_zero (decimal n)))
+      (ap not (no_zero (decimal n) (first_decimal n above h)))
+  | inr none ↦ let e : n ≡ 0 = omega arith in let d : decimal 0 ≡ 48 ∷ [] = decimal_digit 0 (omega arith) in
+      rw (e, d) refl
 ]
 
 -- a number is written in digits
@@ -100,6 +98,7 @@ number_read n h =
     let some = decimal_nonempty n h in
     let nonempty : not (length (decimal n) == 0) ≡ true = grind (arith, nat_tests) in
     let value : value_from 0 (decimal n) ≡ n = digits_value-decimal own n h in (
-      and_all (not (length (decimal n) == 0)) (list_all is_digit (decimal n)) ((length (decimal n) == 1) || not (starts_with_zero (decimal n))) nonempty (digits_decimal own n h) (canonical_decimal n h),
+      and_all (not (length (decimal n) == 0)) (list_all is_digit (decimal n)) ((length (decimal n) == 1) || not
+          (starts_with_zero (decimal n))) nonempty (digits_decimal own n h) (canonical_decimal n h),
       omega (arith, capped_whole (decimal n), value),
     )

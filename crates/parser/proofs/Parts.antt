@@ -1,5 +1,6 @@
 -- Parts of a script: the lines that say them, and the commands that they stand for.
-use Rattle.std.proofs.Common.{◌≡◌, ℕ, zero, suc, ◌+◌, ◌*◌, ◌≤◌, List, [], ◌∷◌, ◌++◌, length, Option, Some, None, refl, sym, ap, ◌∙◌, arith, append-nil, append_assoc, length-append}
+use Rattle.std.proofs.Common.{◌≡◌, ℕ, zero, suc, ◌+◌, ◌*◌, ◌≤◌, List, [], ◌∷◌, ◌++◌, length, Option, Some}
+use Rattle.std.proofs.Common.{None, refl, sym, ap, ◌∙◌, arith, append-nil, append_assoc, length-append}
 use Rattle.std.specs.Prelude.{codes, map}
 use Rattle.std.specs.List.{AllByRecursion, flat_map, repeat}
 use Rattle.std.proofs.lemmas.List.{map-append}
@@ -21,56 +22,79 @@ HasTurns (Some turns) = (1 ≤ turns) × (turns ≤ MOST_TURNS)
 
 -- ---- one line more
 
-behind_front : (front rest said after : List (List ℕ)) (line : List ℕ) → said ≡ front ++ rest → rest ++ line ∷ [] ≡ after → said ++ line ∷ [] ≡ front ++ after
-behind_front front rest said after line h k = ap (λ (x : List (List ℕ)). x ++ line ∷ []) h ∙ append_assoc front rest (line ∷ []) ∙ ap (λ (x : List (List ℕ)). front ++ x) k
+behind_front : (front rest said after : List (List ℕ)) (line : List ℕ) → said ≡ front ++ rest
+    → rest ++ line ∷ [] ≡ after → said ++ line ∷ [] ≡ front ++ after
+behind_front front rest said after line h k = ap (λ (x : List (List ℕ)). x ++ line ∷ []) h
+    ∙ append_assoc front rest (line ∷ []) ∙ ap (λ (x : List (List ℕ)). front ++ x) k
 
 one_more : (parts : List Part) (c : Command) (line : List ℕ) → line ≡ command_line_of c →
     (flat_map part_lines parts ++ []) ++ line ∷ [] ≡ flat_map part_lines (parts ++ One c ∷ []) ++ []
 one_more parts c line is =
-    rw (append-nil (flat_map part_lines parts), append-nil (flat_map part_lines (parts ++ One c ∷ [])), flat_map-append part_lines parts (One c ∷ []), is) refl
+    rw (
+      append-nil (flat_map part_lines parts),
+      append-nil (flat_map part_lines (parts ++ One c ∷ [])),
+      flat_map-append part_lines parts (One c ∷ []),
+      is,
+    ) refl
 
 -- a command outside a block
-pub say_one : (front : List (List ℕ)) (parts : List Part) (c : Command) (said : List (List ℕ)) (line : List ℕ) (o : Option ℕ) (body : List Command) → o ≡ None →
-    line ≡ command_line_of c →
-    said ≡ front ++ (flat_map part_lines parts ++ open_lines o body) →
-    said ++ line ∷ [] ≡ front ++ (flat_map part_lines (parts ++ One c ∷ []) ++ open_lines o body)
+pub say_one : (front : List (List ℕ))
+    (parts : List Part) (c : Command) (said : List (List ℕ)) (line : List ℕ) (o : Option ℕ) (body : List Command)
+    → o ≡ None → line ≡ command_line_of c → said ≡ front ++ (flat_map part_lines parts ++ open_lines o body)
+    → said ++ line ∷ [] ≡ front ++ (flat_map part_lines (parts ++ One c ∷ []) ++ open_lines o body)
 say_one front parts c said line o body none is h =
-    behind_front front (flat_map part_lines parts ++ open_lines o body) said (flat_map part_lines (parts ++ One c ∷ []) ++ open_lines o body) line h (rw none (one_more parts c line is))
+    behind_front front (flat_map part_lines parts ++ open_lines o body) said
+    (flat_map part_lines (parts ++ One c ∷ []) ++ open_lines o body) line h (rw none (one_more parts c line is))
 
-inside_more : (lines : List (List ℕ)) (turns : ℕ) (body : List Command) (c : Command) (line : List ℕ) → line ≡ command_line_of c →
-    (lines ++ open_lines (Some turns) body) ++ line ∷ [] ≡ lines ++ open_lines (Some turns) (body ++ c ∷ [])
+inside_more : (lines : List (List ℕ)) (turns : ℕ) (body : List Command) (c : Command) (line : List ℕ)
+    → line ≡ command_line_of c
+    → (lines ++ open_lines (Some turns) body) ++ line ∷ [] ≡ lines ++ open_lines (Some turns) (body ++ c ∷ [])
 inside_more lines turns body c line is =
-    append_assoc lines (times_line_of turns ∷ map command_line_of body) (line ∷ []) ∙ rw (is, map-append command_line_of body (c ∷ [])) refl
+    append_assoc lines (times_line_of turns ∷ map command_line_of body) (line ∷ [])
+    ∙ rw (is, map-append command_line_of body (c ∷ [])) refl
 
 -- a command in a block
-pub say_inside : (front : List (List ℕ)) (parts : List Part) (turns : ℕ) (c : Command) (said : List (List ℕ)) (line : List ℕ) (o : Option ℕ) (body : List Command) → o ≡ Some turns → line ≡ command_line_of c →
-    said ≡ front ++ (flat_map part_lines parts ++ open_lines o body) → said ++ line ∷ [] ≡ front ++ (flat_map part_lines parts ++ open_lines o (body ++ c ∷ []))
+pub say_inside : (front : List (List ℕ)) (parts : List Part)
+    (turns : ℕ) (c : Command) (said : List (List ℕ)) (line : List ℕ) (o : Option ℕ) (body : List Command)
+    → o ≡ Some turns → line ≡ command_line_of c → said ≡ front ++ (flat_map part_lines parts ++ open_lines o body)
+    → said ++ line ∷ [] ≡ front ++ (flat_map part_lines parts ++ open_lines o (body ++ c ∷ []))
 say_inside front parts turns c said line o body some is h =
-    behind_front front (flat_map part_lines parts ++ open_lines o body) said (flat_map part_lines parts ++ open_lines o (body ++ c ∷ [])) line h (rw some (inside_more (flat_map part_lines parts) turns body c line is))
+    behind_front front (flat_map part_lines parts ++ open_lines o body) said (flat_map part_lines parts ++ open_lines o
+    (body ++ c ∷ [])) line h (rw some (inside_more (flat_map part_lines parts) turns body c line is))
 
-begin_more : (lines : List (List ℕ)) (turns : ℕ) (line : List ℕ) → line ≡ times_line_of turns → (lines ++ []) ++ line ∷ [] ≡ lines ++ open_lines (Some turns) []
+begin_more : (lines : List (List ℕ)) (turns : ℕ) (line : List ℕ) → line ≡ times_line_of turns
+    → (lines ++ []) ++ line ∷ [] ≡ lines ++ open_lines (Some turns) []
 begin_more lines turns line is = rw (append-nil lines, is) refl
 
 -- a block begins
-pub say_times : (front : List (List ℕ)) (parts : List Part) (turns : ℕ) (said : List (List ℕ)) (line : List ℕ) (o : Option ℕ) (body : List Command) → o ≡ None →
-    line ≡ times_line_of turns →
-    said ≡ front ++ (flat_map part_lines parts ++ open_lines o body) → said ++ line ∷ [] ≡ front ++ (flat_map part_lines parts ++ open_lines (Some turns) [])
+pub say_times : (front : List (List ℕ))
+    (parts : List Part) (turns : ℕ) (said : List (List ℕ)) (line : List ℕ) (o : Option ℕ) (body : List Command)
+    → o ≡ None → line ≡ times_line_of turns → said ≡ front ++ (flat_map part_lines parts ++ open_lines o body)
+    → said ++ line ∷ [] ≡ front ++ (flat_map part_lines parts ++ open_lines (Some turns) [])
 say_times front parts turns said line o body none is h =
-    behind_front front (flat_map part_lines parts ++ open_lines o body) said (flat_map part_lines parts ++ open_lines (Some turns) []) line h (rw none (begin_more (flat_map part_lines parts) turns line is))
+    behind_front front (flat_map part_lines parts ++ open_lines o body) said (flat_map part_lines parts ++ open_lines
+    (Some turns) []) line h (rw none (begin_more (flat_map part_lines parts) turns line is))
 
-end_more : (parts : List Part) (turns : ℕ) (body : List Command) (line : List ℕ) → line ≡ codes "end" →
-    (flat_map part_lines parts ++ open_lines (Some turns) body) ++ line ∷ [] ≡ flat_map part_lines (parts ++ Times turns body ∷ []) ++ []
+end_more : (parts : List Part) (turns : ℕ) (body : List Command) (line : List ℕ) → line ≡ codes "end"
+    → (flat_map part_lines parts ++ open_lines (Some turns) body) ++ line ∷ [] ≡ flat_map part_lines
+    (parts ++ Times turns body ∷ []) ++ []
 end_more parts turns body line is =
     append_assoc (flat_map part_lines parts) (times_line_of turns ∷ map command_line_of body) (line ∷ [])
-    ∙ rw (append-nil (flat_map part_lines (parts ++ Times turns body ∷ [])), flat_map-append part_lines parts (Times turns body ∷ []), append-nil (part_lines (Times turns body)), is) refl
+    ∙ rw (
+      append-nil (flat_map part_lines (parts ++ Times turns body ∷ [])),
+      flat_map-append part_lines parts (Times turns body ∷ []),
+      append-nil (part_lines (Times turns body)),
+      is,
+    ) refl
 
 -- a block ends
-pub say_end : (front : List (List ℕ)) (parts : List Part) (turns : ℕ) (said : List (List ℕ)) (line : List ℕ) (o : Option ℕ) (body : List Command) →
-    o ≡ Some turns → line ≡ codes "end" →
-    said ≡ front ++ (flat_map part_lines parts ++ open_lines o body) →
-    said ++ line ∷ [] ≡ front ++ (flat_map part_lines (parts ++ Times turns body ∷ []) ++ open_lines None [])
+pub say_end : (front : List (List ℕ))
+    (parts : List Part) (turns : ℕ) (said : List (List ℕ)) (line : List ℕ) (o : Option ℕ) (body : List Command)
+    → o ≡ Some turns → line ≡ codes "end" → said ≡ front ++ (flat_map part_lines parts ++ open_lines o body)
+    → said ++ line ∷ [] ≡ front ++ (flat_map part_lines (parts ++ Times turns body ∷ []) ++ open_lines None [])
 say_end front parts turns said line o body some is h =
-    behind_front front (flat_map part_lines parts ++ open_lines o body) said (flat_map part_lines (parts ++ Times turns body ∷ []) ++ open_lines None []) line h (rw some (end_more parts turns body line is))
+    behind_front front (flat_map part_lines parts ++ open_lines o body) said (flat_map part_lines
+    (parts ++ Times turns body ∷ []) ++ open_lines None []) line h (rw some (end_more parts turns body line is))
 
 -- ---- commands
 
@@ -79,11 +103,13 @@ pub more_commands : (parts : List Part) (p : Part) (cs : List Command) → cs �
     cs ++ part_commands p ≡ flat_map part_commands (parts ++ p ∷ [])
 more_commands parts p cs h = rw (h, flat_map-append part_commands parts (p ∷ []), append-nil (part_commands p)) refl
 
-pub all_both : {A : Type 0} (P : A → Type 0) (xs ys : List A) → AllByRecursion P xs → AllByRecursion P ys → AllByRecursion P (xs ++ ys)
+pub all_both : {A : Type 0} (P : A → Type 0) (xs ys : List A) → AllByRecursion P xs → AllByRecursion P ys
+    → AllByRecursion P (xs ++ ys)
 all_both P [] ys h k = k
 all_both P (x ∷ xs) ys h k = (h.0, all_both P xs ys h.1 k)
 
-pub all_repeated : (P : Command → Type 0) (n : ℕ) (cs : List Command) → AllByRecursion P cs → AllByRecursion P (repeat n cs)
+pub all_repeated : (P : Command → Type 0) (n : ℕ) (cs : List Command) → AllByRecursion P cs
+    → AllByRecursion P (repeat n cs)
 all_repeated P zero cs h = tt
 all_repeated P (suc n) cs h = all_both P cs (repeat n cs) h (all_repeated P n cs h)
 
@@ -95,13 +121,15 @@ no_turn k = omega arith
 
 pub repeated_length : (n : ℕ) (cs : List Command) → length (repeat n cs) ≡ n * length cs
 repeated_length zero cs = no_turn (length cs)
-repeated_length (suc n) cs = length-append cs (repeat n cs) ∙ ap (λ k. length cs + k) (repeated_length n cs) ∙ sym (one_turn n (length cs))
+repeated_length (suc n) cs = length-append cs (repeat n cs) ∙ ap (λ k. length cs + k) (repeated_length n cs)
+    ∙ sym (one_turn n (length cs))
 
 pub all_back : {A : Type 0} (P : A → Type 0) (xs ys : List A) → AllByRecursion P (xs ++ ys) → AllByRecursion P ys
 all_back P [] ys h = h
 all_back P (x ∷ xs) ys h = all_back P xs ys h.1
 
 -- what holds of commands that stand once at least holds of them
-pub all_of_repeated : (P : Command → Type 0) (n : ℕ) (cs : List Command) → 1 ≤ n → AllByRecursion P (repeat n cs) → AllByRecursion P cs
+pub all_of_repeated : (P : Command → Type 0) (n : ℕ) (cs : List Command) → 1 ≤ n → AllByRecursion P (repeat n cs)
+    → AllByRecursion P cs
 all_of_repeated P zero cs some h = absurd (omega arith)
 all_of_repeated P (suc n) cs some h = all_front P cs (repeat n cs) h

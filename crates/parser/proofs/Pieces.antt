@@ -1,31 +1,42 @@
 -- Words, numbers and names at a place: what is read there is written so, and what is written so is read.
-use Rattle.std.proofs.Common.{◌≡◌, ℕ, ◌-◌, ◌^◌, ◌<◌, ◌≤◌, Bool, true, false, cond, nat_lt, List, [], ◌∷◌, length, Option, Some, None, refl, sym, ap, subst, ◌∙◌, arith, lit<}
+use Rattle.std.proofs.Common.{◌≡◌, ℕ, ◌-◌, ◌^◌, ◌<◌, ◌≤◌, Bool, true, false, cond, nat_lt, List, [], ◌⊎◌, inl, inr}
+use Rattle.std.proofs.Common.{◌∷◌, length, Option, Some, None, refl, sym, ap, subst, ◌∙◌, arith, lit<}
 use Rattle.std.specs.Prelude.{Result, Ok, Err, ◌==◌, ◌||◌, not, nat_le}
 use Rattle.std.specs.Str.{bytes_eq}
 use Rattle.std.specs.Fmt.{decimal}
 use Rattle.std.proofs.lemmas.Slice.Eq.{bytes_eq-Decides}
 use Rattle.std.proofs.lemmas.Bool.Decides.{nat_tests, Decides-eqb}
+use Rattle.std.proofs.lemmas.Bool.{or_parts, not-false, leb-false}
 use Rattle.parser.specs.declared.fault.FaultKind.{FaultKind}
 use Rattle.parser.specs.declared.fault.FaultKind.TheVariants as kinds
 use Rattle.parser.specs.declared.fault.Flaw.{Flaw}
-use Rattle.parser.specs.Words.{◌>>=◌, flaw, or_flaw, word_at, word_or, fixed_at, is_number, capped_from, in_range, number_at, small_at, named_in, named_at, end_at}
+use Rattle.parser.specs.Words.{◌>>=◌, flaw, or_flaw, word_at, word_or, fixed_at, is_number}
+use Rattle.parser.specs.Words.{capped_from, in_range, number_at, small_at, named_in, named_at, end_at}
 use Rattle.parser.proofs.Numbers.{number_spelled, number_read}
 use Rattle.parser.proofs.Places.{words_from, word_is, found_word, past_end, end_past, Reads}
 
 -- the value of a step that found no fault
-pub bind_ok : {A B : Type 0} (r : Result A Flaw) (f : A → Result B Flaw) (y : B) → (r >>= f) ≡ Ok y → (x : A) × (r ≡ Ok x) × (f x ≡ Ok y)
+pub bind_ok : {A B : Type 0} (r : Result A Flaw) (f : A → Result B Flaw) (y : B) → (r >>= f) ≡ Ok y
+    → (x : A) × (r ≡ Ok x) × (f x ≡ Ok y)
 bind_ok (Ok x) f y e = (x, refl, e)
 bind_ok (Err d) f y e = absurd cc
 
 -- a test that would have been a fault didn't hold
-pub guard_ok : {A : Type 0} (b : Bool) (d : Flaw) (r : Result A Flaw) (y : A) → cond b (Err d) r ≡ Ok y → (b ≡ false) × (r ≡ Ok y)
+pub guard_ok : {A : Type 0} (b : Bool) (d : Flaw) (r : Result A Flaw) (y : A) → cond b (Err d) r ≡ Ok y
+    → (b ≡ false) × (r ≡ Ok y)
 guard_ok true d r y e = absurd cc
 guard_ok false d r y e = (refl, e)
 
 -- a test without which there would have been a fault did hold
-pub test_ok : {A : Type 0} (b : Bool) (d : Flaw) (r : Result A Flaw) (y : A) → cond b r (Err d) ≡ Ok y → (b ≡ true) × (r ≡ Ok y)
+pub test_ok : {A : Type 0} (b : Bool) (d : Flaw) (r : Result A Flaw) (y : A) → cond b r (Err d) ≡ Ok y
+    → (b ≡ true) × (r ≡ Ok y)
 test_ok true d r y e = (refl, e)
 test_ok false d r y e = absurd cc
+
+-- what a choice came to is one of the two
+pub one_of : {A : Type 0} (b : Bool) (x y z : A) → cond b x y ≡ z → ((b ≡ true) × (x ≡ z)) ⊎ ((b ≡ false) × (y ≡ z))
+one_of true x y z h = inl (refl, h)
+one_of false x y z h = inr (refl, h)
 
 abbrev done : {A : Type 0} → A → Result A Flaw
 done x = Ok x
@@ -37,21 +48,20 @@ pub or_flaw_ok : {A : Type 0} (o : Option A) (d : Flaw) (x : A) → or_flaw o d 
 or_flaw_ok None d x e = absurd cc
 or_flaw_ok (Some y) d x e = ap Some (ok_is y x e)
 
-neither : (a b : Bool) → (a || b) ≡ false → (a ≡ false) × (b ≡ false)
-neither true b h = absurd cc
-neither false b h = (refl, h)
-
 -- ---- words
 
-pub word_ok : (line : List ℕ) (at : ℕ) (kind : FaultKind) (w : List ℕ × ℕ) → word_or line at kind ≡ Ok w → words_from line at ≡ w.0 ∷ words_from line w.1
+pub word_ok : (line : List ℕ) (at : ℕ) (kind : FaultKind) (w : List ℕ × ℕ) → word_or line at kind ≡ Ok w
+    → words_from line at ≡ w.0 ∷ words_from line w.1
 unfolding word_or
 word_ok line at kind w h = word_is line at w (or_flaw_ok (word_at line at) (flaw (length line) kind) w h)
 
-pub word_again : (line : List ℕ) (at : ℕ) (kind : FaultKind) (w : List ℕ) (ws : List (List ℕ)) → words_from line at ≡ w ∷ ws → Reads line (word_or line at kind) w ws
+pub word_again : (line : List ℕ) (at : ℕ) (kind : FaultKind) (w : List ℕ) (ws : List (List ℕ))
+    → words_from line at ≡ w ∷ ws → Reads line (word_or line at kind) w ws
 unfolding word_or
 word_again line at kind w ws h = let found = found_word line at w ws h in (found.0, rw found.1 refl, found.2)
 
-pub fixed_ok : (line : List ℕ) (at : ℕ) (text : List ℕ) (kind : FaultKind) (after : ℕ) → fixed_at line at text kind ≡ Ok after → words_from line at ≡ text ∷ words_from line after
+pub fixed_ok : (line : List ℕ) (at : ℕ) (text : List ℕ) (kind : FaultKind) (after : ℕ)
+    → fixed_at line at text kind ≡ Ok after → words_from line at ≡ text ∷ words_from line after
 unfolding fixed_at
 fixed_ok line at text kind after h =
     let b = bind_ok (word_or line at kind) (λ w. cond (bytes_eq w.0 text) (Ok w.1) (Err (flaw at kind))) after h in
@@ -59,11 +69,13 @@ fixed_ok line at text kind after h =
     let t = test_ok (bytes_eq w.0 text) (flaw at kind) (Ok w.1) after b.2 in
     let same : w.0 ≡ text = (bytes_eq-Decides w.0 text).0 t.0 in
     let place : w.1 ≡ after = ok_is w.1 after t.1 in
-    word_ok line at kind w b.1 ∙ ap (λ (x : List ℕ). x ∷ words_from line w.1) same ∙ ap (λ (x : ℕ). text ∷ words_from line x) place
+    word_ok line at kind w b.1 ∙ ap (λ (x : List ℕ). x ∷ words_from line w.1) same
+    ∙ ap (λ (x : ℕ). text ∷ words_from line x) place
 
 -- where a word stands that has to, the place behind it is read
-pub fixed_again : (line : List ℕ) (at : ℕ) (text : List ℕ) (kind : FaultKind) (ws : List (List ℕ)) → words_from line at ≡ text ∷ ws →
-    (after : ℕ) × (fixed_at line at text kind ≡ Ok after) × (words_from line after ≡ ws)
+pub fixed_again : (line : List ℕ) (at : ℕ) (text : List ℕ) (kind : FaultKind) (ws : List (List ℕ))
+    → words_from line at ≡ text ∷ ws
+    → (after : ℕ) × (fixed_at line at text kind ≡ Ok after) × (words_from line after ≡ ws)
 unfolding fixed_at
 fixed_again line at text kind ws h =
     let w = word_again line at kind text ws h in
@@ -78,26 +90,34 @@ pub record IsNumberAt (line : List ℕ) (at low high : ℕ) (v : ℕ × ℕ) : T
   pub above : low ≤ v.0
   pub below : v.0 ≤ high
 
-pub number_ok : (line : List ℕ) (at low high : ℕ) (v : ℕ × ℕ) → high < 2 ^ 64 → number_at line at low high ≡ Ok v → IsNumberAt line at low high v
+pub number_ok : (line : List ℕ) (at low high : ℕ) (v : ℕ × ℕ) → high < 2 ^ 64 → number_at line at low high ≡ Ok v
+    → IsNumberAt line at low high v
 unfolding number_at
 number_ok line at low high v fits h =
-    let b = bind_ok (word_or line at kinds.NumberExpected) (λ w. cond (not (is_number w.0)) (Err (flaw at kinds.NumberExpected)) (in_range (capped_from 0 w.0) w.1 at low high)) v h in
+    let b = bind_ok (word_or line at kinds.NumberExpected) (λ w. cond (not (is_number w.0))
+    (Err (flaw at kinds.NumberExpected)) (in_range (capped_from 0 w.0) w.1 at low high)) v h in
     let w = b.0 in
     let n = capped_from 0 w.0 in
     let form = guard_ok (not (is_number w.0)) (flaw at kinds.NumberExpected) (in_range n w.1 at low high) v b.2 in
     let range = guard_ok (nat_lt n low || nat_lt high n) (flaw at kinds.NumberOutOfRange) (Ok (n, w.1)) v form.1 in
-    let sides = neither (nat_lt n low) (nat_lt high n) range.0 in
+    let sides = or_parts (nat_lt n low) (nat_lt high n) range.0 in
     let low_side : low ≤ n = grind (arith, nat_tests) in
     let high_side : n ≤ high = grind (arith, nat_tests) in
     let number : is_number w.0 ≡ true = grind arith in
-    let spelled : words_from line at ≡ decimal n ∷ words_from line w.1 = word_ok line at kinds.NumberExpected w b.1 ∙ ap (λ (x : List ℕ). x ∷ words_from line w.1) (sym (number_spelled w.0 number (omega arith))) in
+    let spelled : words_from line at ≡ decimal n ∷ words_from line w.1 = word_ok line at kinds.NumberExpected w b.1
+    ∙ ap (λ (x : List ℕ). x ∷ words_from line w.1) (sym (number_spelled w.0 number (omega arith))) in
     let pair : (n, w.1) ≡ v = ok_is (n, w.1) v range.1 in
-    subst (λ (x : ℕ × ℕ). IsNumberAt line at low high x) pair (record { spelled = spelled; above = low_side; below = high_side })
+    subst (λ (x : ℕ × ℕ). IsNumberAt line at low high x) pair (record {
+      spelled = spelled;
+      above = low_side;
+      below = high_side;
+    })
 
 outside_not : (n low high : ℕ) → low ≤ n → n ≤ high → (nat_lt n low || nat_lt high n) ≡ false
 outside_not n low high a b = grind (arith, nat_tests)
 
-pub number_again : (line : List ℕ) (at low high n : ℕ) (ws : List (List ℕ)) → n < 2 ^ 64 → low ≤ n → n ≤ high → words_from line at ≡ decimal n ∷ ws → Reads line (number_at line at low high) n ws
+pub number_again : (line : List ℕ) (at low high n : ℕ) (ws : List (List ℕ)) → n < 2 ^ 64 → low ≤ n → n ≤ high
+    → words_from line at ≡ decimal n ∷ ws → Reads line (number_at line at low high) n ws
 unfolding number_at
 number_again line at low high n ws fits above below h =
     let w = word_again line at kinds.NumberExpected (decimal n) ws h in
@@ -109,7 +129,8 @@ pub small_ok : (line : List ℕ) (at : ℕ) (v : ℕ × ℕ) → small_at line a
 unfolding small_at
 small_ok line at v h = number_ok line at 0 4294967295 v (lit< tt) h
 
-pub small_again : (line : List ℕ) (at n : ℕ) (ws : List (List ℕ)) → n < 2 ^ 32 → words_from line at ≡ decimal n ∷ ws → Reads line (small_at line at) n ws
+pub small_again : (line : List ℕ) (at n : ℕ) (ws : List (List ℕ)) → n < 2 ^ 32 → words_from line at ≡ decimal n ∷ ws
+    → Reads line (small_at line at) n ws
 unfolding small_at
 small_again line at n ws small h = number_again line at 0 4294967295 n ws (omega arith) (omega arith) (omega arith) h
 
@@ -121,44 +142,50 @@ record IsNamed (word : List ℕ) (after letter count : ℕ) (v : ℕ × ℕ) : T
   place : after ≡ v.1
   below : v.0 < count
 
-named_in_ok : (word : List ℕ) (after at letter count : ℕ) (missing : FaultKind) (v : ℕ × ℕ) → count < 2 ^ 64 → named_in word after at letter count missing ≡ Ok v → IsNamed word after letter count v
+named_in_ok : (word : List ℕ) (after at letter count : ℕ) (missing : FaultKind) (v : ℕ × ℕ) → count < 2 ^ 64
+    → named_in word after at letter count missing ≡ Ok v → IsNamed word after letter count v
 named_in_ok [] after at letter count missing v fits h = absurd cc
 named_in_ok (b ∷ bs) after at letter count missing v fits h =
     let n = capped_from 0 bs in
-    let form = guard_ok (not (b == letter) || not (is_number bs)) (flaw at kinds.UnknownWord) (cond (nat_le count n) (Err (flaw at missing)) (Ok (n, after))) v h in
+    let form = guard_ok (not (b == letter) || not (is_number bs)) (flaw at kinds.UnknownWord)
+    (cond (nat_le count n) (Err (flaw at missing)) (Ok (n, after))) v h in
     let range = guard_ok (nat_le count n) (flaw at missing) (Ok (n, after)) v form.1 in
-    let sides = neither (not (b == letter)) (not (is_number bs)) form.0 in
+    let sides = or_parts (not (b == letter)) (not (is_number bs)) form.0 in
     let first : b ≡ letter = not_not_eq b letter sides.0 in
-    let number : is_number bs ≡ true = not_false (is_number bs) sides.1 in
-    let below : n < count = le_fails count n range.0 in
+    let number : is_number bs ≡ true = not-false (is_number bs) sides.1 in
+    let below : n < count = leb-false count n range.0 in
     let spelled : decimal n ≡ bs = number_spelled bs number (omega arith) in
     let pair : (n, after) ≡ v = ok_is (n, after) v range.1 in
-    subst (λ (x : ℕ × ℕ). IsNamed (b ∷ bs) after letter count x) pair (record { spelled = ap (λ (x : ℕ). x ∷ bs) first ∙ ap (λ (x : List ℕ). letter ∷ x) (sym spelled); place = refl; below = below })
+    subst (λ (x : ℕ × ℕ). IsNamed (b ∷ bs) after letter count x) pair (record {
+      spelled = ap (λ (x : ℕ). x ∷ bs) first ∙ ap (λ (x : List ℕ). letter ∷ x) (sym spelled);
+      place = refl;
+      below = below;
+    })
   where
-    not_false : (a : Bool) → not a ≡ false → a ≡ true
-    not_false true h = refl
-    not_false false h = absurd cc
-
     not_not_eq : (a b : ℕ) → not (a == b) ≡ false → a ≡ b
-    not_not_eq a b h = (Decides-eqb a b).0 (not_false (a == b) h)
-
-    le_fails : (a b : ℕ) → nat_le a b ≡ false → b < a
-    le_fails a b h = grind (arith, nat_tests)
+    not_not_eq a b h = (Decides-eqb a b).0 (not-false (a == b) h)
 
 -- a letter and a number below count are the word at a place
 pub record IsNameAt (line : List ℕ) (at letter count : ℕ) (v : ℕ × ℕ) : Type 0 where
   pub spelled : words_from line at ≡ (letter ∷ decimal v.0) ∷ words_from line v.1
   pub below : v.0 < count
 
-pub named_ok : (line : List ℕ) (at letter count : ℕ) (missing : FaultKind) (v : ℕ × ℕ) → count < 2 ^ 64 → named_at line at letter count missing ≡ Ok v → IsNameAt line at letter count v
+pub named_ok : (line : List ℕ) (at letter count : ℕ) (missing : FaultKind) (v : ℕ × ℕ) → count < 2 ^ 64
+    → named_at line at letter count missing ≡ Ok v → IsNameAt line at letter count v
 unfolding named_at
 named_ok line at letter count missing v fits h =
     let b = bind_ok (word_or line at kinds.UnknownWord) (λ w. named_in w.0 w.1 at letter count missing) v h in
     let w = b.0 in
     let named = named_in_ok w.0 w.1 at letter count missing v fits b.2 in
-    record { spelled = word_ok line at kinds.UnknownWord w b.1 ∙ ap (λ (x : List ℕ). x ∷ words_from line w.1) named.spelled ∙ ap (λ (x : ℕ). (letter ∷ decimal v.0) ∷ words_from line x) named.place; below = named.below }
+    record {
+      spelled = word_ok line at kinds.UnknownWord w b.1 ∙ ap (λ (x : List ℕ). x ∷ words_from line w.1) named.spelled
+          ∙ ap (λ (x : ℕ). (letter ∷ decimal v.0) ∷ words_from line x) named.place;
+      below = named.below;
+    }
 
-pub named_again : (line : List ℕ) (at letter count : ℕ) (missing : FaultKind) (n : ℕ) (ws : List (List ℕ)) → n < 2 ^ 64 → n < count → words_from line at ≡ (letter ∷ decimal n) ∷ ws → Reads line (named_at line at letter count missing) n ws
+pub named_again : (line : List ℕ) (at letter count : ℕ) (missing : FaultKind) (n : ℕ) (ws : List (List ℕ))
+    → n < 2 ^ 64 → n < count → words_from line at ≡ (letter ∷ decimal n) ∷ ws
+    → Reads line (named_at line at letter count missing) n ws
 unfolding named_at
 named_again line at letter count missing n ws fits below h =
     let w = word_again line at kinds.UnknownWord (letter ∷ decimal n) ws h in

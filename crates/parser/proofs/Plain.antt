@@ -1,10 +1,12 @@
 -- Words without spaces, and lines made of them.
-use Rattle.std.proofs.Common.{◌≡◌, ℕ, zero, suc, ◌^◌, ◌<◌, ◌≤◌, Bool, true, false, List, [], ◌∷◌, ◌++◌, refl, ap, ◌∙◌, arith, inl, inr, append_assoc}
-use Rattle.std.specs.Prelude.{◌&&◌, not, codes}
+use Rattle.std.proofs.Common.{◌≡◌, ℕ, zero, suc, ◌^◌, ◌<◌, ◌≤◌, true, false, List, []}
+use Rattle.std.proofs.Common.{◌∷◌, ◌++◌, refl, ap, ◌∙◌, arith, inl, inr, append_assoc}
+use Rattle.std.specs.Prelude.{not, codes}
 use Rattle.std.specs.Fmt.{decimal}
 use Rattle.std.specs.List.{All, AllByRecursion, list_all, slice_split, join_with_byte, flat_map}
 use Rattle.std.proofs.lemmas.Bool.Decides.{nat_tests}
 use Rattle.std.proofs.lemmas.List.Splits.{slice_split_none, slice_split_at}
+use Rattle.std.proofs.lemmas.Bool.{and_parts, not-true}
 use Rattle.model.specs.declared.steps.Actor.{Actor}
 use Rattle.model.specs.declared.steps.Actor.TheVariants.{Thread, Worker}
 use Rattle.parser.specs.declared.heading.Sizes.{Sizes}
@@ -13,7 +15,8 @@ use Rattle.parser.specs.declared.order.Order.TheVariants as orders
 use Rattle.parser.specs.Words.{is_digit}
 use Rattle.parser.specs.Headings.{config_of}
 use Rattle.parser.specs.Reading.{newline}
-use Rattle.parser.specs.Spelling.{actor_word, register_word, order_words, size_words, SpellsLimit, ended, IsActor, IsOrder}
+use Rattle.parser.specs.Spelling.{actor_word, register_word, order_words}
+use Rattle.parser.specs.Spelling.{size_words, SpellsLimit, ended, IsActor, IsOrder}
 use Rattle.parser.proofs.Lists.{HasNoNewlines}
 use Rattle.parser.proofs.Numbers.{decimal_digits}
 use Rattle.parser.proofs.Places.{space}
@@ -29,20 +32,14 @@ by_index P [] h k d lt = absurd (omega arith)
 by_index P (x ∷ xs) h zero d lt = h.0
 by_index P (x ∷ xs) h (suc k) d lt = by_index P xs h.1 k d (omega arith)
 
-both : (a b : Bool) → (a && b) ≡ true → (a ≡ true) × (b ≡ true)
-both true b h = (refl, h)
-both false b h = absurd cc
-
-not_true : (a : Bool) → not a ≡ true → a ≡ false
-not_true true h = absurd cc
-not_true false h = refl
-
 no_spaces : (w : List ℕ) → IsPlain w → AllByRecursion (λ b. space b ≡ false) w
 no_spaces [] h = tt
-no_spaces (b ∷ bs) h = let p = both (not (space b)) (list_all (λ b. not (space b)) bs) h in (not_true (space b) p.0, no_spaces bs p.1)
+no_spaces (b ∷ bs) h = let p = and_parts (not (space b)) (list_all (λ b. not (space b)) bs) h in
+    (not-true (space b) p.0, no_spaces bs p.1)
 
 -- words without spaces are the parts of their line
-pub words_split : (w : List ℕ) (ws : List (List ℕ)) → IsPlain w → AllByRecursion IsPlain ws → slice_split space (join_with_byte 32 (w ∷ ws)) ≡ w ∷ ws
+pub words_split : (w : List ℕ) (ws : List (List ℕ)) → IsPlain w → AllByRecursion IsPlain ws
+    → slice_split space (join_with_byte 32 (w ∷ ws)) ≡ w ∷ ws
 words_split w [] first h = slice_split_none space w (by_index (λ b. space b ≡ false) w (no_spaces w first))
 words_split w (v ∷ vs) first h =
     slice_split_at space w 32 (join_with_byte 32 (v ∷ vs)) (by_index (λ b. space b ≡ false) w (no_spaces w first)) refl
@@ -50,14 +47,17 @@ words_split w (v ∷ vs) first h =
 
 no_newlines : (line : List ℕ) → HasNoNewlines line → AllByRecursion (λ b. newline b ≡ false) line
 no_newlines [] h = tt
-no_newlines (b ∷ bs) h = let ne = h.0 in let first : newline b ≡ false = grind (arith, nat_tests) in (first, no_newlines bs h.1)
+no_newlines (b ∷ bs) h =
+    let ne = h.0 in let first : newline b ≡ false = grind (arith, nat_tests) in (first, no_newlines bs h.1)
 
 -- lines that each end in a newline are the parts of their bytes, with an empty one behind them
-pub lines_split : (lines : List (List ℕ)) → AllByRecursion HasNoNewlines lines → slice_split newline (flat_map ended lines) ≡ lines ++ [] ∷ []
+pub lines_split : (lines : List (List ℕ)) → AllByRecursion HasNoNewlines lines
+    → slice_split newline (flat_map ended lines) ≡ lines ++ [] ∷ []
 lines_split [] h = refl
 lines_split (line ∷ lines) h =
     ap (slice_split newline) (append_assoc line (10 ∷ []) (flat_map ended lines))
-    ∙ slice_split_at newline line 10 (flat_map ended lines) (by_index (λ b. newline b ≡ false) line (no_newlines line h.0)) refl
+    ∙ slice_split_at newline line 10 (flat_map ended lines)
+    (by_index (λ b. newline b ≡ false) line (no_newlines line h.0)) refl
     ∙ ap (λ (t : List (List ℕ)). line ∷ t) (lines_split lines h.1)
 
 digit_plain : (b : ℕ) → is_digit b ≡ true → not (space b) ≡ true
@@ -65,7 +65,8 @@ digit_plain b h = grind (arith, nat_tests)
 
 digits_plain : (ds : List ℕ) → list_all is_digit ds ≡ true → IsPlain ds
 digits_plain [] h = refl
-digits_plain (b ∷ bs) h = let p = both (is_digit b) (list_all is_digit bs) h in rw (digit_plain b p.0) (digits_plain bs p.1)
+digits_plain (b ∷ bs) h =
+    let p = and_parts (is_digit b) (list_all is_digit bs) h in rw (digit_plain b p.0) (digits_plain bs p.1)
 
 decimal_plain : (n : ℕ) → n < 2 ^ 64 → IsPlain (decimal n)
 decimal_plain n h = digits_plain (decimal n) (decimal_digits n h)
@@ -83,38 +84,95 @@ actor_plain sizes (Worker w) few h = decimal_plain w (omega (arith, few.workers,
 pub order_plain : (count : ℕ) (o : Order) → count < 2 ^ 64 → IsOrder count o → AllByRecursion IsPlain (order_words o)
 order_plain count (orders.Take n) few h = (refl, (small_plain n h, tt))
 order_plain count orders.Give few h = (refl, tt)
-order_plain count (orders.New target layout) few h = (refl, (register_plain count target few h.0, (small_plain layout h.1, tt)))
-order_plain count (orders.Load target object index) few h = (refl, (register_plain count target few h.0.0, (register_plain count object few h.0.1, (small_plain index h.1, tt))))
-order_plain count (orders.LoadGlobal target global) few h = (refl, (register_plain count target few h.0, (small_plain global h.1, tt)))
+order_plain count (orders.New target layout) few h =
+    (refl, (register_plain count target few h.0, (small_plain layout h.1, tt)))
+order_plain count (orders.Load target object index) few h = (
+  refl,
+  (register_plain count target few h.0.0, (register_plain count object few h.0.1, (small_plain index h.1, tt))),
+)
+order_plain count (orders.LoadGlobal target global) few h =
+    (refl, (register_plain count target few h.0, (small_plain global h.1, tt)))
 order_plain count orders.Trap few h = (refl, tt)
 order_plain count orders.Heal few h = (refl, tt)
 order_plain count orders.Finish few h = (refl, tt)
-order_plain count (orders.Store object index source) few h = (refl, (register_plain count object few h.0.0, (small_plain index h.0.1, (register_plain count source few h.1, tt))))
-order_plain count (orders.StoreGlobal global source) few h = (refl, (small_plain global h.0, (register_plain count source few h.1, tt)))
-order_plain count (orders.Datum object index) few h = (refl, (register_plain count object few h.0, (small_plain index h.1, tt)))
-order_plain count (orders.Set object index value) few h = (refl, (register_plain count object few h.0.0, (small_plain index h.0.1, (decimal_plain value h.1, tt))))
-order_plain count (orders.Same left right) few h = (refl, (register_plain count left few h.0, (register_plain count right few h.1, tt)))
+order_plain count (orders.Store object index source) few h = (
+  refl,
+  (register_plain count object few h.0.0, (small_plain index h.0.1, (register_plain count source few h.1, tt))),
+)
+order_plain count (orders.StoreGlobal global source) few h =
+    (refl, (small_plain global h.0, (register_plain count source few h.1, tt)))
+order_plain count (orders.Datum object index) few h =
+    (refl, (register_plain count object few h.0, (small_plain index h.1, tt)))
+order_plain count (orders.Set object index value) few h =
+    (refl, (register_plain count object few h.0.0, (small_plain index h.0.1, (decimal_plain value h.1, tt))))
+order_plain count (orders.Same left right) few h =
+    (refl, (register_plain count left few h.0, (register_plain count right few h.1, tt)))
 order_plain count (orders.Null r) few h = (refl, (register_plain count r few h, tt))
-order_plain count (orders.Move target source) few h = (refl, (register_plain count target few h.0, (register_plain count source few h.1, tt)))
+order_plain count (orders.Move target source) few h =
+    (refl, (register_plain count target few h.0, (register_plain count source few h.1, tt)))
 order_plain count (orders.Clear r) few h = (refl, (register_plain count r few h, tt))
 order_plain count orders.Cross few h = (refl, tt)
 order_plain count (orders.Scrub r) few h = (refl, (register_plain count r few h, tt))
 order_plain count orders.Park few h = (refl, tt)
 order_plain count orders.Unpark few h = (refl, tt)
-order_plain count (orders.Get target object index) few h = (refl, (register_plain count target few h.0.0, (register_plain count object few h.0.1, (small_plain index h.1, tt))))
-order_plain count (orders.GetGlobal target global) few h = (refl, (register_plain count target few h.0, (small_plain global h.1, tt)))
+order_plain count (orders.Get target object index) few h = (
+  refl,
+  (register_plain count target few h.0.0, (register_plain count object few h.0.1, (small_plain index h.1, tt))),
+)
+order_plain count (orders.GetGlobal target global) few h =
+    (refl, (register_plain count target few h.0, (small_plain global h.1, tt)))
 
-all_append : (xs ys : List (List ℕ)) → AllByRecursion IsPlain xs → AllByRecursion IsPlain ys → AllByRecursion IsPlain (xs ++ ys)
+all_append : (xs ys : List (List ℕ)) → AllByRecursion IsPlain xs → AllByRecursion IsPlain ys
+    → AllByRecursion IsPlain (xs ++ ys)
 all_append [] ys h g = g
 all_append (x ∷ xs) ys h g = (h.0, all_append xs ys h.1 g)
 
-limit_plain : (name : List ℕ) (most n : ℕ) (words : List (List ℕ)) → IsPlain name → n < 2 ^ 64 → SpellsLimit name most n words → AllByRecursion IsPlain words
+limit_plain : (name : List ℕ) (most n : ℕ) (words : List (List ℕ)) → IsPlain name → n < 2 ^ 64
+    → SpellsLimit name most n words → AllByRecursion IsPlain words
 limit_plain name most n words named small (inl e) = rw e (named, (decimal_plain n small, tt))
 limit_plain name most n words named small (inr e) = rw e.0 tt
 
-pub heap_plain : (s : Sizes) (births history : List (List ℕ)) → IsSizes s → s.words ≤ 4096 → SpellsLimit (codes "births") (2 ^ 32) s.births births → SpellsLimit (codes "history") 1000000 s.history history →
-    AllByRecursion IsPlain (size_words (config_of s []) ++ births ++ history)
+pub heap_plain : (s : Sizes) (births history : List (List ℕ)) → IsSizes s → s.words ≤ 4096
+    → SpellsLimit (codes "births") (2 ^ 32) s.births births → SpellsLimit (codes "history") 1000000 s.history history
+    → AllByRecursion IsPlain (size_words (config_of s []) ++ births ++ history)
 heap_plain s births history r words b y =
     let tail : AllByRecursion IsPlain (births ++ history) =
-    all_append births history (limit_plain (codes "births") (2 ^ 32) s.births births refl (omega (arith, r.births_most)) b) (limit_plain (codes "history") 1000000 s.history history refl (omega (arith, r.history_most)) y) in
-    (refl, (small_plain s.words (omega arith), (refl, (small_plain s.frames (omega (arith, r.frames_most)), (refl, (small_plain s.pages (omega (arith, r.pages_most)), (refl, (small_plain s.threads (omega (arith, r.threads_most)), (refl, (small_plain s.workers (omega (arith, r.workers_most)), (refl, (small_plain s.registers (omega (arith, r.registers_most)), (refl, (small_plain s.globals (omega (arith, r.globals_most)), tail))))))))))))))
+    all_append births history
+    (limit_plain (codes "births") (2 ^ 32) s.births births refl (omega (arith, r.births_most)) b)
+    (limit_plain (codes "history") 1000000 s.history history refl (omega (arith, r.history_most)) y) in (
+      refl,
+      (
+        small_plain s.words (omega arith),
+        (
+          refl,
+          (
+            small_plain s.frames (omega (arith, r.frames_most)),
+            (
+              refl,
+              (
+                small_plain s.pages (omega (arith, r.pages_most)),
+                (
+                  refl,
+                  (
+                    small_plain s.threads (omega (arith, r.threads_most)),
+                    (
+                      refl,
+                      (
+                        small_plain s.workers (omega (arith, r.workers_most)),
+                        (
+                          refl,
+                          (
+                            small_plain s.registers (omega (arith, r.registers_most)),
+                            (refl, (small_plain s.globals (omega (arith, r.globals_most)), tail)),
+                          ),
+                        ),
+                      ),
+                    ),
+                  ),
+                ),
+              ),
+            ),
+          ),
+        ),
+      ),
+    )

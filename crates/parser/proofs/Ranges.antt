@@ -1,19 +1,30 @@
 -- The sizes of a heap line and the layouts make a configuration that is in range, and the other way.
-use Rattle.std.proofs.Common.{◌≡◌, ℕ, ◌^◌, ◌≤◌, Bool, true, false, cond, nat_lt, List, length, Option, Some, None, refl, arith}
+use Rattle.std.proofs.Common.{◌≡◌, ℕ, ◌^◌, ◌≤◌, true, false, List, length, refl, arith}
 use Rattle.std.specs.Prelude.{◌||◌, not}
 use Rattle.std.specs.List.{list_all}
 use Rattle.std.proofs.lemmas.Bool.Decides.{nat_tests}
+use Rattle.std.proofs.lemmas.Bool.{or_parts, not-false}
 use Rattle.layout.specs.declared.shape.Layout.{Layout}
 use Rattle.model.specs.declared.config.Config.{Config}
-use Rattle.model.specs.declared.config.ConfigFault.{ConfigFault}
 use Rattle.model.specs.Configs.{is_page_size, is_outside, fits_page, first_fault, IsConfig}
+use Rattle.model.proofs.Ranges.{no_fault, within}
 use Rattle.parser.specs.declared.heading.Sizes.{Sizes}
 use Rattle.parser.specs.Headings.{config_of}
 use Rattle.parser.proofs.HeapLines.{IsSizes}
 
 -- the sizes in a configuration
 abbrev pub sizes_in : Config → Sizes
-sizes_in c = record { words = c.words; frames = c.frames; pages = c.pages; threads = c.threads; workers = c.workers; registers = c.registers; globals = c.globals; births = c.births; history = c.history }
+sizes_in c = record {
+  words = c.words;
+  frames = c.frames;
+  pages = c.pages;
+  threads = c.threads;
+  workers = c.workers;
+  registers = c.registers;
+  globals = c.globals;
+  births = c.births;
+  history = c.history;
+}
 
 -- some layouts, not too many, each with room in a page
 pub record AreLayouts (words : ℕ) (ls : List Layout) : Type 0 where
@@ -38,21 +49,6 @@ config_in_range s ls r l =
     let history = inside s.history 1 1000000 r.history r.history_most in
     rw (r.words, frames, pages, threads, workers, registers, globals, count, l.room, births, history) refl
 
-no_fault : (b : Bool) (f : ConfigFault) (rest : Option ConfigFault) → cond b (Some f) rest ≡ None → (b ≡ false) × (rest ≡ None)
-no_fault true f rest h = absurd cc
-no_fault false f rest h = (refl, h)
-
-neither : (a b : Bool) → (a || b) ≡ false → (a ≡ false) × (b ≡ false)
-neither true b h = absurd cc
-neither false b h = (refl, h)
-
-not_false : (a : Bool) → not a ≡ false → a ≡ true
-not_false true h = refl
-not_false false h = absurd cc
-
-within : (n low high : ℕ) → is_outside n low high ≡ false → (low ≤ n) × (n ≤ high)
-within n low high h = let p = neither (nat_lt n low) (nat_lt high n) h in (grind (arith, nat_tests), grind (arith, nat_tests))
-
 -- the first three fields and those behind them
 pub record IsInRange (c : Config) : Type 0 where
   pub sizes : IsSizes (sizes_in c)
@@ -71,7 +67,7 @@ config_tells c h =
     let l = no_fault (is_outside (length c.layouts) 1 64 || not (list_all (fits_page c.words) c.layouts)) _ _ g.1 in
     let b = no_fault (is_outside c.births 1 (2 ^ 32)) _ _ l.1 in
     let y = no_fault (is_outside c.history 1 1000000) _ _ b.1 in
-    let both = neither (is_outside (length c.layouts) 1 64) (not (list_all (fits_page c.words) c.layouts)) l.0 in
+    let both = or_parts (is_outside (length c.layouts) 1 64) (not (list_all (fits_page c.words) c.layouts)) l.0 in
     let count = within (length c.layouts) 1 64 both.0 in
     let frames = within c.frames 1 4096 f.0 in
     let pages = within c.pages c.frames 65535 p.0 in
@@ -83,7 +79,7 @@ config_tells c h =
     let history = within c.history 1 1000000 y.0 in
     record {
       sizes = record {
-        words = not_false (is_page_size c.words) w.0;
+        words = not-false (is_page_size c.words) w.0;
         frames = frames.0;
         frames_most = frames.1;
         pages = pages.0;
@@ -100,5 +96,9 @@ config_tells c h =
         history = history.0;
         history_most = history.1;
       };
-      layouts = record { some = count.0; few = count.1; room = not_false (list_all (fits_page c.words) c.layouts) both.1 };
+      layouts = record {
+        some = count.0;
+        few = count.1;
+        room = not-false (list_all (fits_page c.words) c.layouts) both.1;
+      };
     }

@@ -1,5 +1,7 @@
 -- What is read is a script that all limits allow, and is spelled by the bytes.
-use Rattle.std.proofs.Common.{◌≡◌, ℕ, ◌+◌, ◌<◌, ◌≤◌, Bool, true, false, cond, nat_lt, ◌*◌, List, [], ◌∷◌, ◌++◌, length, Option, Some, None, refl, sym, ap, subst, ◌∙◌, arith, inl, inr, lit<, append-nil, append_assoc, length-append}
+use Rattle.std.proofs.Common.{◌≡◌, ℕ, ◌+◌, ◌<◌, ◌≤◌, Bool, true, false, cond, nat_lt, ◌*◌, List}
+use Rattle.std.proofs.Common.{[], ◌∷◌, ◌++◌, length, Option, Some, None, refl, sym, ap, subst}
+use Rattle.std.proofs.Common.{◌∙◌, arith, inl, inr, lit<, append-nil, append_assoc, length-append}
 use Rattle.std.specs.Prelude.{Result, Ok, Err, ◌==◌, ◌&&◌, not, codes, ◌⊎◌, map, filter}
 use Rattle.std.specs.Str.{bytes_eq}
 use Rattle.std.specs.Fmt.{decimal}
@@ -8,7 +10,7 @@ use Rattle.std.proofs.lemmas.List.{map-append}
 use Rattle.std.proofs.lemmas.List.Folds.{list_all-append}
 use Rattle.std.proofs.lemmas.List.Splits.{join_with_byte-slice_split}
 use Rattle.std.proofs.lemmas.Slice.Eq.{bytes_eq-Decides}
-use Rattle.std.proofs.lemmas.Bool.{ltb-true, ltb-false}
+use Rattle.std.proofs.lemmas.Bool.{ltb-true, ltb-false, and_parts, not-true}
 use Rattle.std.proofs.lemmas.Bool.Decides.{nat_tests}
 use Rattle.layout.specs.declared.shape.Layout.{Layout}
 use Rattle.model.specs.Configs.{fits_page}
@@ -21,21 +23,30 @@ use Rattle.parser.specs.declared.reading.TheConstants.{MOST_COMMANDS, MOST_LAYOU
 use Rattle.parser.specs.Words.{word_at, number_at, end_at}
 use Rattle.parser.specs.Headings.{config_of, heap_in, layout_in}
 use Rattle.parser.specs.Orders.{actor_at, order_at}
-use Rattle.parser.specs.Reading.{ScriptValue, script_of, ReadSoFar, nothing, newline, is_idle, first_word_in, first_word, heap_line, layout_line, is_full, with_command, command_line, times_in, times_line, end_in, end_line, part_line, later_line, line_after, line_in, in_line, goes_on, fault_at_start, closed, whole, finished, last_line, lines_in, script_in}
-use Rattle.parser.specs.Spelling.{line_of, actor_word, order_words, command_line_of, layout_line_of, Part, One, Times, times_line_of, part_lines, part_commands, IsPart, SpellsHeap, says_something, Spells, IsLayout, IsCommand, IsScript}
+use Rattle.parser.specs.Reading.{ScriptValue, script_of, ReadSoFar, nothing, newline, is_idle, first_word_in}
+use Rattle.parser.specs.Reading.{first_word, heap_line, layout_line, is_full, with_command, command_line, times_in}
+use Rattle.parser.specs.Reading.{times_line, end_in, end_line, part_line, later_line, line_after, line_in, in_line}
+use Rattle.parser.specs.Reading.{goes_on, fault_at_start, closed, whole, finished, last_line, lines_in, script_in}
+use Rattle.parser.specs.Spelling.{line_of, actor_word, order_words, command_line_of, layout_line_of}
+use Rattle.parser.specs.Spelling.{Part, One, Times, times_line_of, part_lines, part_commands, IsPart}
+use Rattle.parser.specs.Spelling.{SpellsHeap, says_something, Spells, IsLayout, IsCommand, IsScript}
 use Rattle.parser.proofs.Splitting.{split_cons}
 use Rattle.parser.proofs.Places.{words_from, word_is, no_word_is, words_whole}
-use Rattle.parser.proofs.Pieces.{bind_ok, guard_ok, test_ok, ok_is, number_ok, end_ok}
+use Rattle.parser.proofs.Pieces.{bind_ok, guard_ok, test_ok, ok_is, number_ok, end_ok, one_of}
 use Rattle.parser.proofs.Operands.{AreFew, order_ok, actor_ok, line_is}
 use Rattle.parser.proofs.HeapLines.{IsSizes, heap_ok, layout_ok}
 use Rattle.parser.proofs.Ranges.{AreLayouts, config_in_range}
-use Rattle.parser.proofs.Parts.{open_lines, HasTurns, say_one, say_inside, say_times, say_end, more_commands, all_both, all_repeated, repeated_length}
-use Rattle.parser.proofs.Lists.{all_push, all_front, told, filter_told, joined_lines, split_lines, all_from, lines_from, HasNoNewlines}
+use Rattle.parser.proofs.Parts.{open_lines, HasTurns, say_one, say_inside, say_times, say_end}
+use Rattle.parser.proofs.Parts.{more_commands, all_both, all_repeated, repeated_length}
+use Rattle.parser.proofs.Lists.{all_push, all_front, told, filter_told, joined_lines}
+use Rattle.parser.proofs.Lists.{split_lines, all_from, lines_from, HasNoNewlines}
 
 -- ---- the first word
 
-first_found : (line : List ℕ) (o : Option (List ℕ × ℕ)) → word_at line 0 ≡ o → words_from line 0 ≡ (first_word_in o).0 ∷ words_from line (first_word_in o).1
-first_found line None e = let none = no_word_is line 0 e in let whole_line = words_whole line in let some = split_cons (λ b. b == 32) line in let first = some.is in absurd cc
+first_found : (line : List ℕ) (o : Option (List ℕ × ℕ)) → word_at line 0 ≡ o
+    → words_from line 0 ≡ (first_word_in o).0 ∷ words_from line (first_word_in o).1
+first_found line None e = let none = no_word_is line 0 e in let whole_line = words_whole line in
+    let some = split_cons (λ b. b == 32) line in let first = some.is in absurd cc
 first_found line (Some w) e = word_is line 0 w e
 
 -- the words of a line are the first one and those behind it
@@ -44,9 +55,11 @@ unfolding first_word
 first_words line = first_found line (word_at line 0) refl
 
 -- a line by its first word and what stands behind it
-pub line_by_words : (line w : List ℕ) (ws : List (List ℕ)) → (first_word line).0 ≡ w → words_from line (first_word line).1 ≡ ws → line ≡ line_of (w ∷ ws)
+pub line_by_words : (line w : List ℕ) (ws : List (List ℕ)) → (first_word line).0 ≡ w
+    → words_from line (first_word line).1 ≡ ws → line ≡ line_of (w ∷ ws)
 line_by_words line w ws first rest =
-    line_is line (w ∷ ws) (first_words line ∙ ap (λ (t : List ℕ). t ∷ words_from line (first_word line).1) first ∙ ap (λ (t : List (List ℕ)). w ∷ t) rest)
+    line_is line (w ∷ ws) (first_words line ∙ ap (λ (t : List ℕ). t ∷ words_from line (first_word line).1) first
+    ∙ ap (λ (t : List (List ℕ)). w ∷ t) rest)
 
 -- ---- what was read so far
 
@@ -83,8 +96,12 @@ record IsBefore (said : List (List ℕ)) (r : ReadSoFar) : Type 0 where
 abbrev Said : List (List ℕ) → ReadSoFar → Type 0
 Said said r = IsBefore said r ⊎ IsBehind said r
 
-few_actors : (s : Sizes) → IsSizes s → AreFew s
-few_actors s r = record { threads = omega (arith, r.threads_most); workers = omega (arith, r.workers_most); registers = omega (arith, r.registers_most) }
+pub few_actors : (s : Sizes) → IsSizes s → AreFew s
+few_actors s r = record {
+  threads = omega (arith, r.threads_most);
+  workers = omega (arith, r.workers_most);
+  registers = omega (arith, r.registers_most);
+}
 
 heap_step : (line : List ℕ) (t : ReadSoFar) → heap_line nothing line ≡ Ok t → IsBehind (line ∷ []) t
 unfolding heap_line
@@ -97,7 +114,13 @@ heap_step line t h =
       sizes = s.0;
       sizes_is = refl;
       heap = line;
-      heap_spelled = record { births = sizes.births; history = sizes.history; births_spelled = sizes.births_spelled; history_spelled = sizes.history_spelled; line_is = line_by_words line (codes "heap") _ first sizes.spelled };
+      heap_spelled = record {
+        births = sizes.births;
+        history = sizes.history;
+        births_spelled = sizes.births_spelled;
+        history_spelled = sizes.history_spelled;
+        line_is = line_by_words line (codes "heap") _ first sizes.spelled;
+      };
       parts = [];
       said_is = refl;
       commands_are = refl;
@@ -113,38 +136,45 @@ heap_step line t h =
       count = omega arith;
     })
 
-add_layout : (heap : List ℕ) (ls : List Layout) (l : Layout) (said : List (List ℕ)) (line : List ℕ) (parts : List Part) (o : Option ℕ) (body : List Command) →
-    parts ≡ [] → o ≡ None → line ≡ layout_line_of l →
-    said ≡ (heap ∷ map layout_line_of ls) ++ (flat_map part_lines parts ++ open_lines o body) →
-    said ++ line ∷ [] ≡ (heap ∷ map layout_line_of (ls ++ l ∷ [])) ++ (flat_map part_lines parts ++ open_lines o body)
+add_layout : (heap : List ℕ) (ls : List Layout) (l : Layout) (said : List (List ℕ)) (line : List ℕ)
+    (parts : List Part) (o : Option ℕ) (body : List Command) → parts ≡ [] → o ≡ None → line ≡ layout_line_of l
+    → said ≡ (heap ∷ map layout_line_of ls) ++ (flat_map part_lines parts ++ open_lines o body) → said
+    ++ line ∷ [] ≡ (heap ∷ map layout_line_of (ls ++ l ∷ [])) ++ (flat_map part_lines parts ++ open_lines o body)
 add_layout heap ls l said line parts o body none no_block is h =
-    rw (h, none, no_block, is, append-nil (map layout_line_of ls), append-nil (map layout_line_of (ls ++ l ∷ [])), map-append layout_line_of ls (l ∷ [])) refl
+    rw (
+      h,
+      none,
+      no_block,
+      is,
+      append-nil (map layout_line_of ls),
+      append-nil (map layout_line_of (ls ++ l ∷ [])),
+      map-append layout_line_of ls (l ∷ []),
+    ) refl
 
-both_true : (a b : Bool) → (a && b) ≡ true → (a ≡ true) × (b ≡ true)
-both_true true b h = (refl, h)
-both_true false b h = absurd cc
-
-room_more : (words : ℕ) (ls : List Layout) (l : Layout) → list_all (fits_page words) ls ≡ true → 1 + l.refs + l.nums ≤ words →
-    list_all (fits_page words) (ls ++ l ∷ []) ≡ true
+room_more : (words : ℕ) (ls : List Layout) (l : Layout) → list_all (fits_page words) ls ≡ true
+    → 1 + l.refs + l.nums ≤ words → list_all (fits_page words) (ls ++ l ∷ []) ≡ true
 room_more words ls l h room =
     let fits : fits_page words l ≡ true = grind (arith, nat_tests) in
     list_all-append (fits_page words) ls (l ∷ []) ∙ (rw (h, fits) refl)
 
-layout_step : (said : List (List ℕ)) (r t : ReadSoFar) (b : IsBehind said r) (line : List ℕ) → (first_word line).0 ≡ codes "layout" → r.begun ≡ false →
-    length r.layouts < MOST_LAYOUTS → layout_line r b.sizes line ≡ Ok t → IsBehind (said ++ line ∷ []) t
+layout_step : (said : List (List ℕ)) (r t : ReadSoFar) (b : IsBehind said r) (line : List ℕ)
+    → (first_word line).0 ≡ codes "layout" → r.begun ≡ false → length r.layouts < MOST_LAYOUTS
+    → layout_line r b.sizes line ≡ Ok t → IsBehind (said ++ line ∷ []) t
 unfolding layout_line
 layout_step said r t b line first not_begun few h =
     let fresh = b.fresh not_begun in
     let l = bind_ok (layout_in b.sizes line (first_word line).1) _ t h in
     let layout = layout_ok b.sizes line (first_word line).1 l.0 l.1 in
     let line_is_layout : line ≡ layout_line_of l.0 = line_by_words line (codes "layout") _ first layout.spelled in
-    subst (λ (x : ReadSoFar). IsBehind (said ++ line ∷ []) x) (ok_is (record r { layouts = r.layouts ++ l.0 ∷ [] }) t l.2) (record {
+    subst (λ (x : ReadSoFar). IsBehind (said ++ line ∷ []) x)
+    (ok_is (record r { layouts = r.layouts ++ l.0 ∷ [] }) t l.2) (record {
       sizes = b.sizes;
       sizes_is = b.sizes_is;
       heap = b.heap;
       heap_spelled = b.heap_spelled;
       parts = b.parts;
-      said_is = add_layout b.heap r.layouts l.0 said line b.parts r.turns r.body fresh.no_parts fresh.no_block line_is_layout b.said_is;
+      said_is = add_layout b.heap r.layouts l.0 said line b.parts r.turns r.body fresh.no_parts fresh.no_block
+          line_is_layout b.said_is;
       commands_are = b.commands_are;
       turns = b.turns;
       block_turns = b.block_turns;
@@ -160,8 +190,9 @@ layout_step said r t b line first not_begun few h =
 
 -- ---- commands and blocks
 
-command_behind : (said : List (List ℕ)) (r : ReadSoFar) (b : IsBehind said r) (c : Command) (line : List ℕ) → line ≡ command_line_of c →
-    IsCommand (config_of b.sizes []) c → (o : Option ℕ) → r.turns ≡ o → is_full o r.commands ≡ false → IsBehind (said ++ line ∷ []) (with_command r o c)
+command_behind : (said : List (List ℕ)) (r : ReadSoFar) (b : IsBehind said r) (c : Command) (line : List ℕ)
+    → line ≡ command_line_of c → IsCommand (config_of b.sizes []) c → (o : Option ℕ) → r.turns ≡ o
+    → is_full o r.commands ≡ false → IsBehind (said ++ line ∷ []) (with_command r o c)
 command_behind said r b c line is own None none room =
     let fits : length r.commands < MOST_COMMANDS = grind (arith, nat_tests) in
     record {
@@ -189,7 +220,8 @@ command_behind said r b c line is own (Some turns) some room = record {
   heap = b.heap;
   heap_spelled = b.heap_spelled;
   parts = b.parts;
-  said_is = say_inside (b.heap ∷ map layout_line_of r.layouts) b.parts turns c said line r.turns r.body some is b.said_is;
+  said_is = say_inside (b.heap ∷ map layout_line_of r.layouts) b.parts turns c said line r.turns r.body some is
+      b.said_is;
   commands_are = b.commands_are;
   turns = b.turns;
   block_turns = b.block_turns;
@@ -203,8 +235,8 @@ command_behind said r b c line is own (Some turns) some room = record {
   count = b.count;
 }
 
-command_step : (said : List (List ℕ)) (r t : ReadSoFar) (b : IsBehind said r) (line : List ℕ) → command_line r b.sizes line ≡ Ok t →
-    IsBehind (said ++ line ∷ []) t
+command_step : (said : List (List ℕ)) (r t : ReadSoFar) (b : IsBehind said r) (line : List ℕ)
+    → command_line r b.sizes line ≡ Ok t → IsBehind (said ++ line ∷ []) t
 unfolding command_line
 command_step said r t b line h =
     let few = few_actors b.sizes b.range in
@@ -214,26 +246,33 @@ command_step said r t b line h =
     let actor = actor_ok b.sizes line a.0 few a.1 in
     let order = order_ok b.sizes line a.0.0 a.0.1 o.0 few.registers o.1 in
     let command : Command = record { actor = a.0.0; order = o.0 } in
-    let line_is_command : line ≡ command_line_of command = line_is line (actor_word a.0.0 ∷ order_words o.0) (actor.spelled ∙ ap (λ (t : List (List ℕ)). actor_word a.0.0 ∷ t) order.spelled) in
-    let own : IsCommand (config_of b.sizes []) command = record { actor = actor.there; own = order.own; order = order.fits } in
-    subst (λ (x : ReadSoFar). IsBehind (said ++ line ∷ []) x) (ok_is (with_command r r.turns command) t o.2) (command_behind said r b command line line_is_command own r.turns refl g.0)
+    let line_is_command : line ≡ command_line_of command = line_is line (actor_word a.0.0 ∷ order_words o.0)
+    (actor.spelled ∙ ap (λ (t : List (List ℕ)). actor_word a.0.0 ∷ t) order.spelled) in
+    let own : IsCommand (config_of b.sizes []) command =
+    record { actor = actor.there; own = order.own; order = order.fits } in
+    subst (λ (x : ReadSoFar). IsBehind (said ++ line ∷ []) x) (ok_is (with_command r r.turns command) t o.2)
+    (command_behind said r b command line line_is_command own r.turns refl g.0)
 
-times_behind : (said : List (List ℕ)) (r t : ReadSoFar) (b : IsBehind said r) (line : List ℕ) → (first_word line).0 ≡ codes "times" → (o : Option ℕ) →
-    r.turns ≡ o → times_in r o line ≡ Ok t → IsBehind (said ++ line ∷ []) t
+times_behind : (said : List (List ℕ)) (r t : ReadSoFar) (b : IsBehind said r) (line : List ℕ)
+    → (first_word line).0 ≡ codes "times" → (o : Option ℕ) → r.turns ≡ o → times_in r o line ≡ Ok t
+    → IsBehind (said ++ line ∷ []) t
 times_behind said r t b line first (Some turns) some h = absurd cc
 times_behind said r t b line first None none h =
     let n = bind_ok (number_at line (first_word line).1 1 MOST_TURNS) _ t h in
     let e = bind_ok (end_at line n.0.1) _ t n.2 in
     let number = number_ok line (first_word line).1 1 MOST_TURNS n.0 (lit< tt) n.1 in
     let last = end_ok line n.0.1 e.0 e.1 in
-    let line_is_times : line ≡ times_line_of n.0.0 = line_by_words line (codes "times") _ first (number.spelled ∙ ap (λ (x : List (List ℕ)). decimal n.0.0 ∷ x) last) in
-    subst (λ (x : ReadSoFar). IsBehind (said ++ line ∷ []) x) (ok_is (record r { begun = true; turns = Some n.0.0; body = [] }) t e.2) (record {
+    let line_is_times : line ≡ times_line_of n.0.0 = line_by_words line (codes "times") _ first
+    (number.spelled ∙ ap (λ (x : List (List ℕ)). decimal n.0.0 ∷ x) last) in
+    subst (λ (x : ReadSoFar). IsBehind (said ++ line ∷ []) x)
+    (ok_is (record r { begun = true; turns = Some n.0.0; body = [] }) t e.2) (record {
       sizes = b.sizes;
       sizes_is = b.sizes_is;
       heap = b.heap;
       heap_spelled = b.heap_spelled;
       parts = b.parts;
-      said_is = say_times (b.heap ∷ map layout_line_of r.layouts) b.parts n.0.0 said line r.turns r.body none line_is_times b.said_is;
+      said_is = say_times (b.heap ∷ map layout_line_of r.layouts) b.parts n.0.0 said line r.turns r.body none
+          line_is_times b.said_is;
       commands_are = b.commands_are;
       turns = b.turns;
       block_turns = (number.above, number.below);
@@ -247,13 +286,14 @@ times_behind said r t b line first None none h =
       count = b.count;
     })
 
-times_step : (said : List (List ℕ)) (r t : ReadSoFar) (b : IsBehind said r) (line : List ℕ) → (first_word line).0 ≡ codes "times" → times_line r line ≡ Ok t →
-    IsBehind (said ++ line ∷ []) t
+times_step : (said : List (List ℕ)) (r t : ReadSoFar) (b : IsBehind said r) (line : List ℕ)
+    → (first_word line).0 ≡ codes "times" → times_line r line ≡ Ok t → IsBehind (said ++ line ∷ []) t
 unfolding times_line
 times_step said r t b line first h = times_behind said r t b line first r.turns refl h
 
-end_behind : (said : List (List ℕ)) (r t : ReadSoFar) (b : IsBehind said r) (line : List ℕ) → (first_word line).0 ≡ codes "end" → (o : Option ℕ) → r.turns ≡ o →
-    end_in r o line ≡ Ok t → IsBehind (said ++ line ∷ []) t
+end_behind : (said : List (List ℕ)) (r t : ReadSoFar) (b : IsBehind said r) (line : List ℕ)
+    → (first_word line).0 ≡ codes "end" → (o : Option ℕ) → r.turns ≡ o → end_in r o line ≡ Ok t
+    → IsBehind (said ++ line ∷ []) t
 end_behind said r t b line first None none h = absurd cc
 end_behind said r t b line first (Some turns) some h =
     let g = guard_ok (nat_lt MOST_COMMANDS (length r.commands + turns * length r.body)) _ _ t h in
@@ -261,14 +301,17 @@ end_behind said r t b line first (Some turns) some h =
     let last = end_ok line (first_word line).1 e.0 e.1 in
     let line_is_end : line ≡ codes "end" = line_by_words line (codes "end") _ first last in
     let has : HasTurns (Some turns) = subst HasTurns some b.block_turns in
-    let fits : length r.commands + turns * length r.body ≤ MOST_COMMANDS = ltb-false MOST_COMMANDS (length r.commands + turns * length r.body) g.0 in
-    subst (λ (x : ReadSoFar). IsBehind (said ++ line ∷ []) x) (ok_is (record r { commands = r.commands ++ repeat turns r.body; turns = None; body = [] }) t e.2) (record {
+    let fits : length r.commands + turns * length r.body ≤ MOST_COMMANDS =
+    ltb-false MOST_COMMANDS (length r.commands + turns * length r.body) g.0 in
+    subst (λ (x : ReadSoFar). IsBehind (said ++ line ∷ []) x)
+    (ok_is (record r { commands = r.commands ++ repeat turns r.body; turns = None; body = [] }) t e.2) (record {
       sizes = b.sizes;
       sizes_is = b.sizes_is;
       heap = b.heap;
       heap_spelled = b.heap_spelled;
       parts = b.parts ++ Times turns r.body ∷ [];
-      said_is = say_end (b.heap ∷ map layout_line_of r.layouts) b.parts turns said line r.turns r.body some line_is_end b.said_is;
+      said_is = say_end (b.heap ∷ map layout_line_of r.layouts) b.parts turns said line r.turns r.body some
+          line_is_end b.said_is;
       commands_are = more_commands b.parts (Times turns r.body) r.commands b.commands_are;
       turns = all_push IsPart b.parts (Times turns r.body) b.turns has;
       block_turns = tt;
@@ -277,63 +320,64 @@ end_behind said r t b line first (Some turns) some h =
       layouts = b.layouts;
       room = b.room;
       few = b.few;
-      commands = all_both (IsCommand (config_of b.sizes [])) r.commands (repeat turns r.body) b.commands (all_repeated (IsCommand (config_of b.sizes [])) turns r.body b.body);
+      commands = all_both (IsCommand (config_of b.sizes [])) r.commands (repeat turns r.body) b.commands
+          (all_repeated (IsCommand (config_of b.sizes [])) turns r.body b.body);
       body = tt;
       count = omega (arith, length-append r.commands (repeat turns r.body), repeated_length turns r.body, fits);
     })
 
-end_step : (said : List (List ℕ)) (r t : ReadSoFar) (b : IsBehind said r) (line : List ℕ) → (first_word line).0 ≡ codes "end" → end_line r line ≡ Ok t →
-    IsBehind (said ++ line ∷ []) t
+end_step : (said : List (List ℕ)) (r t : ReadSoFar) (b : IsBehind said r) (line : List ℕ)
+    → (first_word line).0 ≡ codes "end" → end_line r line ≡ Ok t → IsBehind (said ++ line ∷ []) t
 unfolding end_line
 end_step said r t b line first h = end_behind said r t b line first r.turns refl h
 
-one_of : {A : Type 0} (b : Bool) (x y : Result A Flaw) (z : A) → cond b x y ≡ Ok z → ((b ≡ true) × (x ≡ Ok z)) ⊎ ((b ≡ false) × (y ≡ Ok z))
-one_of true x y z h = inl (refl, h)
-one_of false x y z h = inr (refl, h)
-
-part_step : (said : List (List ℕ)) (r t : ReadSoFar) (b : IsBehind said r) (line : List ℕ) → part_line r b.sizes line ≡ Ok t → IsBehind (said ++ line ∷ []) t
+part_step : (said : List (List ℕ)) (r t : ReadSoFar) (b : IsBehind said r) (line : List ℕ)
+    → part_line r b.sizes line ≡ Ok t → IsBehind (said ++ line ∷ []) t
 unfolding part_line
 part_step said r t b line h =
-    elim (one_of (bytes_eq (first_word line).0 (codes "times")) _ _ t h) [
+    elim (one_of (bytes_eq (first_word line).0 (codes "times")) _ _ (Ok t) h) [
       | inl p ↦ times_step said r t b line ((bytes_eq-Decides (first_word line).0 (codes "times")).0 p.0) p.1
       | inr p ↦
-          elim (one_of (bytes_eq (first_word line).0 (codes "end")) _ _ t p.1) [
+          elim (one_of (bytes_eq (first_word line).0 (codes "end")) _ _ (Ok t) p.1) [
             | inl q ↦ end_step said r t b line ((bytes_eq-Decides (first_word line).0 (codes "end")).0 q.0) q.1
             | inr q ↦ command_step said r t b line q.1
           ]
     ]
 
-not_true : (a : Bool) → not a ≡ true → a ≡ false
-not_true true h = absurd cc
-not_true false h = refl
-
-later_step : (said : List (List ℕ)) (r t : ReadSoFar) (b : IsBehind said r) (line : List ℕ) → later_line r b.sizes line ≡ Ok t → IsBehind (said ++ line ∷ []) t
+later_step : (said : List (List ℕ)) (r t : ReadSoFar) (b : IsBehind said r) (line : List ℕ)
+    → later_line r b.sizes line ≡ Ok t → IsBehind (said ++ line ∷ []) t
 unfolding later_line
 later_step said r t b line h =
-    elim (one_of (bytes_eq (first_word line).0 (codes "layout") && not r.begun && nat_lt (length r.layouts) MOST_LAYOUTS) _ _ t h) [
+    elim (one_of (bytes_eq (first_word line).0 (codes "layout") && not r.begun && nat_lt
+    (length r.layouts) MOST_LAYOUTS) _ _ (Ok t) h) [
       | inl p ↦
-          let most = both_true (bytes_eq (first_word line).0 (codes "layout") && not r.begun) (nat_lt (length r.layouts) MOST_LAYOUTS) p.0 in
-          let first = both_true (bytes_eq (first_word line).0 (codes "layout")) (not r.begun) most.0 in
+          let most = and_parts (bytes_eq (first_word line).0 (codes "layout") && not r.begun)
+          (nat_lt (length r.layouts) MOST_LAYOUTS) p.0 in
+          let first = and_parts (bytes_eq (first_word line).0 (codes "layout")) (not r.begun) most.0 in
           let few : length r.layouts < MOST_LAYOUTS = ltb-true (length r.layouts) MOST_LAYOUTS most.1 in
-          layout_step said r t b line ((bytes_eq-Decides (first_word line).0 (codes "layout")).0 first.0) (not_true r.begun first.1) few p.1
+          layout_step said r t b line ((bytes_eq-Decides (first_word line).0 (codes "layout")).0 first.0)
+          (not-true r.begun first.1) few p.1
       | inr p ↦ let g = guard_ok (length r.layouts == 0) _ _ t p.1 in part_step said r t b line g.1
     ]
 
 -- ---- a line, and the lines
 
-line_step : (said : List (List ℕ)) (r t : ReadSoFar) (line : List ℕ) → Said said r → is_idle line ≡ false → line_after r r.sizes line ≡ Ok t →
-    Said (said ++ line ∷ []) t
+line_step : (said : List (List ℕ)) (r t : ReadSoFar) (line : List ℕ) → Said said r → is_idle line ≡ false
+    → line_after r r.sizes line ≡ Ok t → Said (said ++ line ∷ []) t
 line_step said r t line (inl before) idle h =
-    let first : heap_line nothing line ≡ Ok t = subst (λ (x : ReadSoFar). line_after x x.sizes line ≡ Ok t) before.is h in
+    let first : heap_line nothing line ≡ Ok t =
+    subst (λ (x : ReadSoFar). line_after x x.sizes line ≡ Ok t) before.is h in
     inr (rw before.said_is (heap_step line t first))
 line_step said r t line (inr behind) idle h =
-    let later : later_line r behind.sizes line ≡ Ok t = subst (λ (o : Option Sizes). line_after r o line ≡ Ok t) behind.sizes_is h in
+    let later : later_line r behind.sizes line ≡ Ok t =
+    subst (λ (o : Option Sizes). line_after r o line ≡ Ok t) behind.sizes_is h in
     inr (later_step said r t behind line later)
 
-line_ok : (said : List (List ℕ)) (r t : ReadSoFar) (line : List ℕ) → Said said r → line_in r line ≡ Ok t → Said (said ++ told says_something line) t
+line_ok : (said : List (List ℕ)) (r t : ReadSoFar) (line : List ℕ) → Said said r → line_in r line ≡ Ok t
+    → Said (said ++ told says_something line) t
 unfolding line_in
 line_ok said r t line so_far h =
-    elim (one_of (is_idle line) _ _ t h) [
+    elim (one_of (is_idle line) _ _ (Ok t) h) [
       | inl p ↦ rw (p.0, append-nil said, ← ok_is r t p.1) so_far
       | inr p ↦ rw p.0 (line_step said r t line so_far p.0 p.1)
     ]
@@ -351,9 +395,11 @@ record IsTold (said : List (List ℕ)) (s : ScriptValue) : Type 0 where
 commands_with : (s : Sizes) (ls : List Layout) (cs : List Command) → AllByRecursion (IsCommand (config_of s [])) cs →
     AllByRecursion (IsCommand (config_of s ls)) cs
 commands_with s ls [] h = tt
-commands_with s ls (c ∷ cs) h = (record { actor = h.0.actor; own = h.0.own; order = h.0.order }, commands_with s ls cs h.1)
+commands_with s ls (c ∷ cs) h =
+    (record { actor = h.0.actor; own = h.0.own; order = h.0.order }, commands_with s ls cs h.1)
 
-guard_line : {A : Type 0} (b : Bool) (d : LineFault) (x : Result A LineFault) (y : A) → cond b (Err d) x ≡ Ok y → (b ≡ false) × (x ≡ Ok y)
+guard_line : {A : Type 0} (b : Bool) (d : LineFault) (x : Result A LineFault) (y : A) → cond b (Err d) x ≡ Ok y
+    → (b ≡ false) × (x ≡ Ok y)
 guard_line true d x y e = absurd cc
 guard_line false d x y e = (refl, e)
 
@@ -365,32 +411,43 @@ closed_ok : (n : ℕ) (r : ReadSoFar) (z : Sizes) (o : Option ℕ) (s : ScriptVa
 closed_ok n r z None s h = (refl, cc)
 closed_ok n r z (Some turns) s h = absurd cc
 
-all_said : (front lines said : List (List ℕ)) (o : Option ℕ) (body : List Command) → o ≡ None → said ≡ front ++ (lines ++ open_lines o body) →
-    said ≡ front ++ lines
+all_said : (front lines said : List (List ℕ)) (o : Option ℕ) (body : List Command) → o ≡ None
+    → said ≡ front ++ (lines ++ open_lines o body) → said ≡ front ++ lines
 all_said front lines said o body none h = h ∙ ap (λ (x : List (List ℕ)). front ++ x) (rw none (append-nil lines))
 
-finished_ok : (n : ℕ) (said : List (List ℕ)) (r : ReadSoFar) (s : ScriptValue) → Said said r → finished n r ≡ Ok s → IsTold said s
+finished_ok : (n : ℕ) (said : List (List ℕ)) (r : ReadSoFar) (s : ScriptValue) → Said said r → finished n r ≡ Ok s
+    → IsTold said s
 unfolding finished
 finished_ok n said r s (inl before) h =
     let e : whole n nothing None ≡ Ok s = subst (λ (x : ReadSoFar). whole n x x.sizes ≡ Ok s) before.is h in absurd cc
 finished_ok n said r s (inr b) h =
     let e : whole n r (Some b.sizes) ≡ Ok s = subst (λ (o : Option Sizes). whole n r o ≡ Ok s) b.sizes_is h in
-    let g = guard_line (length r.layouts == 0) (fault_at_start n kinds.LayoutLineExpected) (closed n r b.sizes r.turns) s e in
+    let g = guard_line (length r.layouts == 0) (fault_at_start n kinds.LayoutLineExpected)
+    (closed n r b.sizes r.turns) s e in
     let c = closed_ok n r b.sizes r.turns s g.1 in
-    let layouts : AreLayouts b.sizes.words r.layouts = record { some = some_layouts r.layouts g.0; few = b.few; room = b.room } in
+    let layouts : AreLayouts b.sizes.words r.layouts =
+    record { some = some_layouts r.layouts g.0; few = b.few; room = b.room } in
     subst (λ (x : ScriptValue). IsTold said x) c.1 (record {
       script = record {
         config = config_in_range b.sizes r.layouts b.range layouts;
         layouts = all_from IsLayout r.layouts b.layouts;
-        commands = all_from (IsCommand (config_of b.sizes r.layouts)) r.commands (commands_with b.sizes r.layouts r.commands b.commands);
+        commands = all_from (IsCommand (config_of b.sizes r.layouts)) r.commands
+            (commands_with b.sizes r.layouts r.commands b.commands);
         count = b.count;
       };
       heap = b.heap;
-      heap_spelled = record { births = b.heap_spelled.births; history = b.heap_spelled.history; births_spelled = b.heap_spelled.births_spelled; history_spelled = b.heap_spelled.history_spelled; line_is = b.heap_spelled.line_is };
+      heap_spelled = record {
+        births = b.heap_spelled.births;
+        history = b.heap_spelled.history;
+        births_spelled = b.heap_spelled.births_spelled;
+        history_spelled = b.heap_spelled.history_spelled;
+        line_is = b.heap_spelled.line_is;
+      };
       parts = b.parts;
       turns = b.turns;
       commands_are = b.commands_are;
-      said_is = all_said (b.heap ∷ map layout_line_of r.layouts) (flat_map part_lines b.parts) said r.turns r.body c.0 b.said_is;
+      said_is = all_said (b.heap ∷ map layout_line_of r.layouts)
+          (flat_map part_lines b.parts) said r.turns r.body c.0 b.said_is;
     })
 
 -- the lines of what is left, and what they say behind what was said
@@ -407,29 +464,34 @@ pick_false : {A : Type 0} (c : Bool) (x y z : A) → c ≡ false → cond c x y 
 pick_false true x y z e h = absurd cc
 pick_false false x y z e h = h
 
-last_ok : (n : ℕ) (said : List (List ℕ)) (r : ReadSoFar) (rest : List ℕ) (s : ScriptValue) → Said said r → last_line n r rest ≡ Ok s →
-    IsReadFrom said (rest ∷ []) s
+last_ok : (n : ℕ) (said : List (List ℕ)) (r : ReadSoFar) (rest : List ℕ) (s : ScriptValue) → Said said r
+    → last_line n r rest ≡ Ok s → IsReadFrom said (rest ∷ []) s
 unfolding last_line
-last_ok n said r [] s so_far h = record { lines = []; parts_are = refl; all_told = rw (append-nil said) (finished_ok n said r s so_far h) }
+last_ok n said r [] s so_far h =
+    record { lines = []; parts_are = refl; all_told = rw (append-nil said) (finished_ok n said r s so_far h) }
 last_ok n said r (b ∷ bs) s so_far h =
     let some : (length (b ∷ bs) == 0) ≡ false = grind (arith, nat_tests) in
     absurd (never (in_line n (line_in r (b ∷ bs))) _ s (pick_false (length (b ∷ bs) == 0) _ _ (Ok s) some h))
 
-on_ok : {A B : Type 0} (n : ℕ) (x : Result A Flaw) (f : A → Result B LineFault) (y : B) → goes_on (in_line n x) f ≡ Ok y → (t : A) × (x ≡ Ok t) × (f t ≡ Ok y)
+on_ok : {A B : Type 0} (n : ℕ) (x : Result A Flaw) (f : A → Result B LineFault) (y : B)
+    → goes_on (in_line n x) f ≡ Ok y → (t : A) × (x ≡ Ok t) × (f t ≡ Ok y)
 on_ok n (Ok t) f y e = (t, refl, e)
 on_ok n (Err d) f y e = absurd cc
 
-lines_ok : (n : ℕ) (said : List (List ℕ)) (r : ReadSoFar) (line : List ℕ) (more : List (List ℕ)) (s : ScriptValue) → Said said r →
-    lines_in n r (line ∷ more) ≡ Ok s → IsReadFrom said (line ∷ more) s
+lines_ok : (n : ℕ) (said : List (List ℕ)) (r : ReadSoFar) (line : List ℕ) (more : List (List ℕ)) (s : ScriptValue)
+    → Said said r → lines_in n r (line ∷ more) ≡ Ok s → IsReadFrom said (line ∷ more) s
 unfolding lines_in
 lines_ok n said r line [] s so_far h = last_ok n said r line s so_far h
 lines_ok n said r line (next ∷ more) s so_far h =
     let t = on_ok n (line_in r line) _ s h in
-    let rest = lines_ok (n + 1) (said ++ told says_something line) t.0 next more s (line_ok said r t.0 line so_far t.1) t.2 in
+    let rest =
+    lines_ok (n + 1) (said ++ told says_something line) t.0 next more s (line_ok said r t.0 line so_far t.1) t.2 in
     record {
       lines = line ∷ rest.lines;
       parts_are = ap (λ (x : List (List ℕ)). line ∷ x) rest.parts_are;
-      all_told = subst (λ (x : List (List ℕ)). IsTold x s) (append_assoc said (told says_something line) (filter says_something rest.lines) ∙ ap (λ (x : List (List ℕ)). said ++ x) (sym (filter_told says_something line rest.lines))) rest.all_told;
+      all_told = subst (λ (x : List (List ℕ)). IsTold x s)
+          (append_assoc said (told says_something line) (filter says_something rest.lines) ∙ ap
+          (λ (x : List (List ℕ)). said ++ x) (sym (filter_told says_something line rest.lines))) rest.all_told;
     }
 
 -- what is read of bytes is a script that all limits allow, and the bytes spell it
@@ -437,15 +499,18 @@ pub record IsSpelled (bytes : List ℕ) (s : ScriptValue) : Type 0 where
   pub script : IsScript s
   pub spelled : Spells bytes s
 
-parts_ok : (bytes : List ℕ) (parts : List (List ℕ)) (s : ScriptValue) → slice_split newline bytes ≡ parts → IsReadFrom [] parts s → IsSpelled bytes s
+parts_ok : (bytes : List ℕ) (parts : List (List ℕ)) (s : ScriptValue) → slice_split newline bytes ≡ parts
+    → IsReadFrom [] parts s → IsSpelled bytes s
 parts_ok bytes parts s e h =
     let whole_split : slice_split newline bytes ≡ h.lines ++ [] ∷ [] = e ∙ h.parts_are in
     record {
       script = h.all_told.script;
       spelled = record {
         lines = h.lines;
-        each = lines_from h.lines (all_front HasNoNewlines h.lines ([] ∷ []) (subst (λ (x : List (List ℕ)). AllByRecursion HasNoNewlines x) whole_split (split_lines bytes)));
-        bytes_are = sym (join_with_byte-slice_split 10 bytes) ∙ ap (join_with_byte 10) whole_split ∙ joined_lines h.lines;
+        each = lines_from h.lines (all_front HasNoNewlines h.lines ([] ∷ [])
+            (subst (λ (x : List (List ℕ)). AllByRecursion HasNoNewlines x) whole_split (split_lines bytes)));
+        bytes_are = sym (join_with_byte-slice_split 10 bytes) ∙ ap (join_with_byte 10) whole_split
+            ∙ joined_lines h.lines;
         heap = h.all_told.heap;
         heap_spelled = h.all_told.heap_spelled;
         parts = h.all_told.parts;

@@ -1,35 +1,43 @@
 -- What is spelled by the bytes, and within all limits, is read.
-use Rattle.std.proofs.Common.{◌≡◌, ℕ, ◌+◌, ◌*◌, ◌^◌, ◌<◌, ◌≤◌, Bool, true, false, nat_lt, List, [], ◌∷◌, ◌++◌, length, Option, Some, None, refl, sym, ap, subst, ◌∙◌, arith, inl, inr, append-nil, append_assoc, length-append}
-use Rattle.std.specs.Prelude.{Ok, ◌==◌, ◌&&◌, nat_le, codes, ◌⊎◌, map, filter}
+use Rattle.std.proofs.Common.{◌≡◌, ℕ, ◌+◌, ◌*◌, ◌^◌, ◌<◌, ◌≤◌, Bool, true, false, nat_lt, List}
+use Rattle.std.proofs.Common.{[], ◌∷◌, ◌++◌, length, Option, Some, None, refl, sym, ap, subst}
+use Rattle.std.proofs.Common.{◌∙◌, arith, inl, inr, append-nil, append_assoc, length-append}
+use Rattle.std.specs.Prelude.{Ok, ◌==◌, nat_le, codes, ◌⊎◌, map, filter}
 use Rattle.std.specs.Str.{bytes_eq}
 use Rattle.std.specs.Fmt.{decimal}
 use Rattle.std.specs.List.{AllByRecursion, list_all, slice_split, flat_map, repeat}
 use Rattle.std.proofs.lemmas.Slice.Eq.{bytes_eq-Decides}
-use Rattle.std.proofs.lemmas.Bool.{lt-ltb, le-ltb}
+use Rattle.std.proofs.lemmas.Bool.{lt-ltb, le-ltb, and_parts}
 use Rattle.std.proofs.lemmas.Bool.Decides.{nat_tests}
 use Rattle.layout.specs.declared.shape.Layout.{Layout}
 use Rattle.model.specs.declared.config.Config.{Config}
 use Rattle.model.specs.declared.steps.Actor.{Actor}
 use Rattle.model.specs.declared.steps.Actor.TheVariants.{Thread, Worker}
 use Rattle.model.specs.Configs.{fits_page}
+use Rattle.model.proofs.Ranges.{page_size_range}
 use Rattle.parser.specs.declared.heading.Sizes.{Sizes}
 use Rattle.parser.specs.declared.order.Command.{Command}
 use Rattle.parser.specs.declared.reading.TheConstants.{MOST_COMMANDS, MOST_LAYOUTS, MOST_TURNS}
 use Rattle.parser.specs.Words.{is_digit}
 use Rattle.parser.specs.Headings.{config_of}
-use Rattle.parser.specs.Reading.{ScriptValue, script_of, ReadSoFar, nothing, newline, is_idle, first_word, heap_line, layout_line, is_full, with_command, command_line, times_in, times_line, end_in, end_line, part_line, later_line, line_after, line_in, closed, whole, finished, last_line, lines_in, script_in}
-use Rattle.parser.specs.Spelling.{line_of, actor_word, order_words, command_line_of, layout_line_of, size_words, SpellsHeap, Part, One, Times, times_line_of, part_lines, part_commands, IsPart, says_something, Spells, IsLayout, IsActor, IsCommand, IsScript}
+use Rattle.parser.specs.Reading.{ScriptValue, script_of, ReadSoFar, nothing, newline, is_idle, first_word}
+use Rattle.parser.specs.Reading.{heap_line, layout_line, is_full, with_command, command_line, times_in}
+use Rattle.parser.specs.Reading.{times_line, end_in, end_line, part_line, later_line, line_after, line_in}
+use Rattle.parser.specs.Reading.{closed, whole, finished, last_line, lines_in, script_in}
+use Rattle.parser.specs.Spelling.{line_of, actor_word, order_words, command_line_of, layout_line_of, size_words}
+use Rattle.parser.specs.Spelling.{SpellsHeap, Part, One, Times, times_line_of, part_lines, part_commands}
+use Rattle.parser.specs.Spelling.{IsPart, says_something, Spells, IsLayout, IsActor, IsCommand, IsScript}
 use Rattle.parser.proofs.Splitting.{IsCons}
 use Rattle.parser.proofs.Numbers.{decimal_digits}
-use Rattle.parser.proofs.Places.{words_from, words_whole, space}
+use Rattle.parser.proofs.Places.{words_from, words_whole, space, cons_is}
 use Rattle.parser.proofs.Pieces.{number_again, end_again}
 use Rattle.parser.proofs.Operands.{AreFew, order_again, actor_again}
-use Rattle.parser.proofs.HeapLines.{IsSizes, heap_again, layout_again, page_size_range}
+use Rattle.parser.proofs.HeapLines.{IsSizes, heap_again, layout_again}
 use Rattle.parser.proofs.Ranges.{sizes_in, config_tells}
 use Rattle.parser.proofs.Lines.{lines_cons}
 use Rattle.parser.proofs.Lists.{all_to, all_front, lines_to}
 use Rattle.parser.proofs.Parts.{repeated_length, all_back, all_of_repeated}
-use Rattle.parser.proofs.ReadIsSpelled.{first_words}
+use Rattle.parser.proofs.ReadIsSpelled.{first_words, few_actors}
 use Rattle.parser.proofs.Plain.{IsPlain, words_split, lines_split, small_plain, actor_plain, order_plain, heap_plain}
 
 -- ---- one line
@@ -40,17 +48,12 @@ record HasWords (line w : List ℕ) (ws : List (List ℕ)) : Type 0 where
   first : (first_word line).0 ≡ w
   rest : words_from line (first_word line).1 ≡ ws
 
-cons_is : (x y : List ℕ) (xs ys : List (List ℕ)) → x ∷ xs ≡ y ∷ ys → (x ≡ y) × (xs ≡ ys)
-cons_is x y xs ys e = (cc, cc)
-
-words_are : (line w : List ℕ) (ws : List (List ℕ)) → line ≡ line_of (w ∷ ws) → IsPlain w → AllByRecursion IsPlain ws → HasWords line w ws
+words_are : (line w : List ℕ) (ws : List (List ℕ)) → line ≡ line_of (w ∷ ws) → IsPlain w → AllByRecursion IsPlain ws
+    → HasWords line w ws
 words_are line w ws is first rest =
     let all : words_from line 0 ≡ w ∷ ws = words_whole line ∙ ap (slice_split space) is ∙ words_split w ws first rest in
     let parts = cons_is (first_word line).0 w (words_from line (first_word line).1) ws (sym (first_words line) ∙ all) in
     record { all = all; first = parts.0; rest = parts.1 }
-
-few_actors : (s : Sizes) → IsSizes s → AreFew s
-few_actors s r = record { threads = omega (arith, r.threads_most); workers = omega (arith, r.workers_most); registers = omega (arith, r.registers_most) }
 
 -- behind the heap line
 record IsReady (z : Sizes) (r : ReadSoFar) : Type 0 where
@@ -75,40 +78,51 @@ tail_is b v w e = cc
 
 -- digits follow an actor's letter
 no_digits : (n : ℕ) → n < 2 ^ 64 → decimal n ≡ codes "imes" → ⊥
-no_digits n h e = let digits : list_all is_digit (codes "imes") ≡ true = ap (list_all is_digit) (sym e) ∙ decimal_digits n h in absurd cc
+no_digits n h e = let digits : list_all is_digit (codes "imes") ≡ true =
+    ap (list_all is_digit) (sym e) ∙ decimal_digits n h in absurd cc
 
 no_line_word : (z : Sizes) (a : Actor) → AreFew z → IsActor (config_of z []) a → IsNoLineWord (actor_word a)
-no_line_word z (Thread t) few there = record { layout = refl; times = not_equal (actor_word (Thread t)) (codes "times") (λ e. no_digits t (omega (arith, few.threads, there)) (tail_is 116 (decimal t) (codes "imes") e)); end = refl }
+no_line_word z (Thread t) few there = record {
+  layout = refl;
+  times = not_equal (actor_word (Thread t)) (codes "times")
+      (λ e. no_digits t (omega (arith, few.threads, there)) (tail_is 116 (decimal t) (codes "imes") e));
+  end = refl;
+}
 no_line_word z (Worker w) few there = record { layout = refl; times = refl; end = refl }
 
-said_line : (r : ReadSoFar) (z : Sizes) (line : List ℕ) → is_idle line ≡ false → r.sizes ≡ Some z → line_in r line ≡ later_line r z line
+said_line : (r : ReadSoFar) (z : Sizes) (line : List ℕ) → is_idle line ≡ false → r.sizes ≡ Some z
+    → line_in r line ≡ later_line r z line
 unfolding line_in
 said_line r z line idle sizes_is = rw idle (ap (λ (o : Option Sizes). line_after r o line) sizes_is)
 
 -- behind the layout lines, where the line's first word is no layout line's
-part_taken : (z : Sizes) (r : ReadSoFar) (line w : List ℕ) → IsReady z r → 1 ≤ length r.layouts → is_idle line ≡ false → (first_word line).0 ≡ w →
-    bytes_eq w (codes "layout") ≡ false → line_in r line ≡ part_line r z line
+part_taken : (z : Sizes) (r : ReadSoFar) (line w : List ℕ) → IsReady z r → 1 ≤ length r.layouts → is_idle line ≡ false
+    → (first_word line).0 ≡ w → bytes_eq w (codes "layout") ≡ false → line_in r line ≡ part_line r z line
 unfolding later_line
 part_taken z r line w ready some idle first no_layout =
-    let layout : bytes_eq (first_word line).0 (codes "layout") ≡ false = ap (λ (x : List ℕ). bytes_eq x (codes "layout")) first ∙ no_layout in
+    let layout : bytes_eq (first_word line).0 (codes "layout") ≡ false =
+    ap (λ (x : List ℕ). bytes_eq x (codes "layout")) first ∙ no_layout in
     let layouts : (length r.layouts == 0) ≡ false = grind (arith, nat_tests) in
     said_line r z line idle ready.sizes_is ∙ rw (layout, layouts) refl
 
-command_line_taken : (z : Sizes) (r : ReadSoFar) (line : List ℕ) (w : List ℕ) → (first_word line).0 ≡ w → IsNoLineWord w →
-    part_line r z line ≡ command_line r z line
+command_line_taken : (z : Sizes) (r : ReadSoFar) (line : List ℕ) (w : List ℕ) → (first_word line).0 ≡ w
+    → IsNoLineWord w → part_line r z line ≡ command_line r z line
 unfolding part_line
 command_line_taken z r line w first other =
-    let times : bytes_eq (first_word line).0 (codes "times") ≡ false = ap (λ (x : List ℕ). bytes_eq x (codes "times")) first ∙ other.times in
-    let end : bytes_eq (first_word line).0 (codes "end") ≡ false = ap (λ (x : List ℕ). bytes_eq x (codes "end")) first ∙ other.end in
+    let times : bytes_eq (first_word line).0 (codes "times") ≡ false =
+    ap (λ (x : List ℕ). bytes_eq x (codes "times")) first ∙ other.times in
+    let end : bytes_eq (first_word line).0 (codes "end") ≡ false = ap (λ (x : List ℕ). bytes_eq x (codes "end")) first
+    ∙ other.end in
     rw (times, end) refl
 
-command_taken : (z : Sizes) (r : ReadSoFar) (c : Command) (line : List ℕ) (o : Option ℕ) → IsReady z r → 1 ≤ length r.layouts → r.turns ≡ o →
-    is_full o r.commands ≡ false → IsCommand (config_of z []) c → is_idle line ≡ false → line ≡ command_line_of c →
-    line_in r line ≡ Ok (with_command r o c)
+command_taken : (z : Sizes) (r : ReadSoFar) (c : Command) (line : List ℕ) (o : Option ℕ)
+    → IsReady z r → 1 ≤ length r.layouts → r.turns ≡ o → is_full o r.commands ≡ false → IsCommand (config_of z []) c
+    → is_idle line ≡ false → line ≡ command_line_of c → line_in r line ≡ Ok (with_command r o c)
 unfolding command_line
 command_taken z r c line o ready some turns room h idle is =
     let few = few_actors z ready.range in
-    let words = words_are line (actor_word c.actor) (order_words c.order) is (actor_plain z c.actor few h.actor) (order_plain z.registers c.order few.registers h.order) in
+    let words = words_are line (actor_word c.actor) (order_words c.order) is (actor_plain z c.actor few h.actor)
+    (order_plain z.registers c.order few.registers h.order) in
     let other = no_line_word z c.actor few h.actor in
     let free : is_full r.turns r.commands ≡ false = ap (λ (x : Option ℕ). is_full x r.commands) turns ∙ room in
     let actor = actor_again z line c.actor (order_words c.order) few h.actor words.all in
@@ -119,42 +133,52 @@ command_taken z r c line o ready some turns room h idle is =
     ∙ added
     ∙ ap (λ (x : Option ℕ). Ok (with_command r x c)) turns
 
-times_taken : (z : Sizes) (r : ReadSoFar) (n : ℕ) (line : List ℕ) → IsReady z r → 1 ≤ length r.layouts → r.turns ≡ None → 1 ≤ n → n ≤ MOST_TURNS →
-    is_idle line ≡ false → line ≡ times_line_of n →
-    line_in r line ≡ Ok (record r { begun = true; turns = Some n; body = [] })
+times_taken : (z : Sizes) (r : ReadSoFar) (n : ℕ) (line : List ℕ) → IsReady z r
+    → 1 ≤ length r.layouts → r.turns ≡ None → 1 ≤ n → n ≤ MOST_TURNS → is_idle line ≡ false → line ≡ times_line_of n
+    → line_in r line ≡ Ok (record r { begun = true; turns = Some n; body = [] })
 unfolding part_line times_line
 times_taken z r n line ready some none low high idle is =
     let words = words_are line (codes "times") (decimal n ∷ []) is refl (small_plain n (omega (arith, high)), tt) in
-    let times : bytes_eq (first_word line).0 (codes "times") ≡ true = ap (λ (w : List ℕ). bytes_eq w (codes "times")) words.first in
+    let times : bytes_eq (first_word line).0 (codes "times") ≡ true =
+    ap (λ (w : List ℕ). bytes_eq w (codes "times")) words.first in
     let number = number_again line (first_word line).1 1 MOST_TURNS n [] (omega (arith, high)) low high words.rest in
     let e = end_again line number.0 number.2 in
     let here : part_line r z line ≡ times_in r r.turns line = rw times refl in
-    let read : times_in r None line ≡ Ok (record r { begun = true; turns = Some n; body = [] }) = rw (number.1, e) refl in
-    part_taken z r line (codes "times") ready some idle words.first refl ∙ here ∙ ap (λ (x : Option ℕ). times_in r x line) none ∙ read
+    let read : times_in r None line ≡ Ok (record r { begun = true; turns = Some n; body = [] }) =
+    rw (number.1, e) refl in
+    part_taken z r line (codes "times") ready some idle words.first refl ∙ here
+    ∙ ap (λ (x : Option ℕ). times_in r x line) none ∙ read
 
-end_taken : (z : Sizes) (r : ReadSoFar) (n : ℕ) (line : List ℕ) → IsReady z r → 1 ≤ length r.layouts → r.turns ≡ Some n →
-    length r.commands + n * length r.body ≤ MOST_COMMANDS → is_idle line ≡ false → line ≡ codes "end" →
-    line_in r line ≡ Ok (record r { commands = r.commands ++ repeat n r.body; turns = None; body = [] })
+end_taken : (z : Sizes) (r : ReadSoFar) (n : ℕ) (line : List ℕ) → IsReady z r → 1 ≤ length r.layouts → r.turns ≡ Some n
+    → length r.commands + n * length r.body ≤ MOST_COMMANDS → is_idle line ≡ false → line ≡ codes "end"
+    → line_in r line ≡ Ok (record r { commands = r.commands ++ repeat n r.body; turns = None; body = [] })
 unfolding part_line end_line
 end_taken z r n line ready some block room idle is =
     let words = words_are line (codes "end") [] is refl tt in
-    let times : bytes_eq (first_word line).0 (codes "times") ≡ false = ap (λ (w : List ℕ). bytes_eq w (codes "times")) words.first in
-    let end : bytes_eq (first_word line).0 (codes "end") ≡ true = ap (λ (w : List ℕ). bytes_eq w (codes "end")) words.first in
-    let fits : nat_lt MOST_COMMANDS (length r.commands + n * length r.body) ≡ false = le-ltb MOST_COMMANDS (length r.commands + n * length r.body) room in
+    let times : bytes_eq (first_word line).0 (codes "times") ≡ false =
+    ap (λ (w : List ℕ). bytes_eq w (codes "times")) words.first in
+    let end : bytes_eq (first_word line).0 (codes "end") ≡ true =
+    ap (λ (w : List ℕ). bytes_eq w (codes "end")) words.first in
+    let fits : nat_lt MOST_COMMANDS (length r.commands + n * length r.body) ≡ false =
+    le-ltb MOST_COMMANDS (length r.commands + n * length r.body) room in
     let e = end_again line (first_word line).1 words.rest in
     let here : part_line r z line ≡ end_in r r.turns line = rw (times, end) refl in
-    let read : end_in r (Some n) line ≡ Ok (record r { commands = r.commands ++ repeat n r.body; turns = None; body = [] }) = rw (fits, e) refl in
-    part_taken z r line (codes "end") ready some idle words.first refl ∙ here ∙ ap (λ (x : Option ℕ). end_in r x line) block ∙ read
+    let read : end_in r (Some n) line ≡ Ok
+    (record r { commands = r.commands ++ repeat n r.body; turns = None; body = [] }) = rw (fits, e) refl in
+    part_taken z r line (codes "end") ready some idle words.first refl ∙ here
+    ∙ ap (λ (x : Option ℕ). end_in r x line) block ∙ read
 
-layout_taken : (z : Sizes) (r : ReadSoFar) (l : Layout) (line : List ℕ) → IsReady z r → r.begun ≡ false → length r.layouts < MOST_LAYOUTS → IsLayout l →
-    fits_page z.words l ≡ true → is_idle line ≡ false → line ≡ layout_line_of l →
-    line_in r line ≡ Ok (record r { layouts = r.layouts ++ l ∷ [] })
+layout_taken : (z : Sizes) (r : ReadSoFar) (l : Layout) (line : List ℕ) → IsReady z r → r.begun ≡ false
+    → length r.layouts < MOST_LAYOUTS → IsLayout l → fits_page z.words l ≡ true → is_idle line ≡ false
+    → line ≡ layout_line_of l → line_in r line ≡ Ok (record r { layouts = r.layouts ++ l ∷ [] })
 unfolding later_line layout_line
 layout_taken z r l line ready not_begun few h room idle is =
     let refs = h.refs in
     let nums = h.nums in
-    let words = words_are line (codes "layout") (decimal l.refs ∷ decimal l.nums ∷ []) is refl (small_plain l.refs (omega arith), (small_plain l.nums (omega arith), tt)) in
-    let layout : bytes_eq (first_word line).0 (codes "layout") ≡ true = ap (λ (w : List ℕ). bytes_eq w (codes "layout")) words.first in
+    let words = words_are line (codes "layout") (decimal l.refs ∷ decimal l.nums ∷ []) is refl
+    (small_plain l.refs (omega arith), (small_plain l.nums (omega arith), tt)) in
+    let layout : bytes_eq (first_word line).0 (codes "layout") ≡ true =
+    ap (λ (w : List ℕ). bytes_eq w (codes "layout")) words.first in
     let below : nat_lt (length r.layouts) MOST_LAYOUTS ≡ true = lt-ltb (length r.layouts) MOST_LAYOUTS few in
     let size : 1 + l.refs + l.nums ≤ z.words = grind (arith, nat_tests) in
     let read = layout_again z line (first_word line).1 l (record { spelled = words.rest; is = h; room = size }) in
@@ -165,20 +189,30 @@ heap_taken : (z : Sizes) (line : List ℕ) → IsSizes z → SpellsHeap line (co
 unfolding line_in heap_line
 heap_taken z line range h idle =
     let words_range = page_size_range z.words range.words in
-    let words = words_are line (codes "heap") (size_words (config_of z []) ++ h.births ++ h.history) h.line_is refl (heap_plain z h.births h.history range words_range.1 h.births_spelled h.history_spelled) in
-    let first : bytes_eq (first_word line).0 (codes "heap") ≡ true = ap (λ (w : List ℕ). bytes_eq w (codes "heap")) words.first in
-    let read = heap_again line (first_word line).1 z (record { births = h.births; history = h.history; births_spelled = h.births_spelled; history_spelled = h.history_spelled; spelled = words.rest; range = range }) in
+    let words = words_are line (codes "heap") (size_words (config_of z []) ++ h.births ++ h.history) h.line_is refl
+    (heap_plain z h.births h.history range words_range.1 h.births_spelled h.history_spelled) in
+    let first : bytes_eq (first_word line).0 (codes "heap") ≡ true =
+    ap (λ (w : List ℕ). bytes_eq w (codes "heap")) words.first in
+    let read = heap_again line (first_word line).1 z (record {
+      births = h.births;
+      history = h.history;
+      births_spelled = h.births_spelled;
+      history_spelled = h.history_spelled;
+      spelled = words.rest;
+      range = range;
+    }) in
     rw (idle, first, read) refl
 
 -- ---- all lines
 
 -- a first line says nothing, or is the first that says something
-told_first : (line : List ℕ) (lines xs : List (List ℕ)) → filter says_something (line ∷ lines) ≡ xs →
-    ((is_idle line ≡ true) × (filter says_something lines ≡ xs)) ⊎ ((is_idle line ≡ false) × (line ∷ filter says_something lines ≡ xs))
+told_first : (line : List ℕ) (lines xs : List (List ℕ))
+    → filter says_something (line ∷ lines) ≡ xs → ((is_idle line ≡ true) × (filter says_something lines ≡ xs))
+    ⊎ ((is_idle line ≡ false) × (line ∷ filter says_something lines ≡ xs))
 told_first line lines xs h = by_test (is_idle line) refl
   where
-    by_test : (b : Bool) → is_idle line ≡ b →
-        ((is_idle line ≡ true) × (filter says_something lines ≡ xs)) ⊎ ((is_idle line ≡ false) × (line ∷ filter says_something lines ≡ xs))
+    by_test : (b : Bool) → is_idle line ≡ b → ((is_idle line ≡ true) × (filter says_something lines ≡ xs))
+        ⊎ ((is_idle line ≡ false) × (line ∷ filter says_something lines ≡ xs))
     by_test true e = inl (e, rw e at h)
     by_test false e = inr (e, rw e at h)
 
@@ -221,7 +255,8 @@ IsPartOf z (One c) = IsCommand (config_of z []) c
 IsPartOf z (Times n cs) = AllByRecursion (IsCommand (config_of z [])) cs × ((1 ≤ n) × (n ≤ MOST_TURNS))
 
 -- what was read, and what is left to lead to all commands
-record IsLeft (z : Sizes) (r : ReadSoFar) (o : Option ℕ) (cs : List Command) (parts : List Part) (all : List Command) : Type 0 where
+record IsLeft (z : Sizes) (r : ReadSoFar) (o : Option ℕ) (cs : List Command) (parts : List Part) (all : List Command) :
+    Type 0 where
   ready : IsReady z r
   some : 1 ≤ length r.layouts
   turns : r.turns ≡ o
@@ -230,81 +265,132 @@ record IsLeft (z : Sizes) (r : ReadSoFar) (o : Option ℕ) (cs : List Command) (
   all_is : commands_with r o cs parts ≡ all
   count : length all ≤ MOST_COMMANDS
 
-fits_one : (cs ds all : List Command) (c : Command) → cs ++ (c ∷ ds) ≡ all → length all ≤ MOST_COMMANDS → nat_le MOST_COMMANDS (length cs) ≡ false
+fits_one : (cs ds all : List Command) (c : Command) → cs ++ (c ∷ ds) ≡ all → length all ≤ MOST_COMMANDS
+    → nat_le MOST_COMMANDS (length cs) ≡ false
 fits_one cs ds all c e h =
     let long : length all ≡ length cs + length (c ∷ ds) = ap length (sym e) ∙ length-append cs (c ∷ ds) in
     grind (arith, nat_tests)
 
-fits_block : (cs body ds all : List Command) (n : ℕ) → (cs ++ repeat n (body ++ [])) ++ ds ≡ all → length all ≤ MOST_COMMANDS →
-    length cs + n * length body ≤ MOST_COMMANDS
+fits_block : (cs body ds all : List Command) (n : ℕ) → (cs ++ repeat n (body ++ [])) ++ ds ≡ all
+    → length all ≤ MOST_COMMANDS → length cs + n * length body ≤ MOST_COMMANDS
 fits_block cs body ds all n e h =
-    let long : length all ≡ length (cs ++ repeat n (body ++ [])) + length ds = ap length (sym e) ∙ length-append (cs ++ repeat n (body ++ [])) ds in
-    let front : length (cs ++ repeat n (body ++ [])) ≡ length cs + n * length body = length-append cs (repeat n (body ++ [])) ∙ ap (λ (x : List Command). length cs + length (repeat n x)) (append-nil body) ∙ ap (λ (k : ℕ). length cs + k) (repeated_length n body) in
+    let long : length all ≡ length (cs ++ repeat n (body ++ [])) + length ds =
+    ap length (sym e) ∙ length-append (cs ++ repeat n (body ++ [])) ds in
+    let front : length (cs ++ repeat n (body ++ [])) ≡ length cs + n * length body =
+    length-append cs (repeat n (body ++ [])) ∙ ap (λ (x : List Command). length cs + length (repeat n x))
+    (append-nil body) ∙ ap (λ (k : ℕ). length cs + k) (repeated_length n body) in
     omega (arith, long, front, h)
 
 -- all lines behind the layout lines
-parts_read : (n : ℕ) (z : Sizes) (lines : List (List ℕ)) (r : ReadSoFar) (o : Option ℕ) (cs : List Command) (parts : List Part) (all : List Command) →
-    IsLeft z r o cs parts all →
-    filter says_something lines ≡ lines_left o cs parts → lines_in n r (lines ++ [] ∷ []) ≡ Ok (script_of (config_of z r.layouts) all)
+parts_read : (n : ℕ) (z : Sizes)
+    (lines : List (List ℕ)) (r : ReadSoFar) (o : Option ℕ) (cs : List Command) (parts : List Part) (all : List Command)
+    → IsLeft z r o cs parts all → filter says_something lines ≡ lines_left o cs parts
+    → lines_in n r (lines ++ [] ∷ []) ≡ Ok (script_of (config_of z r.layouts) all)
 parts_read n z [] r None cs [] all left said =
-    end_read n z r left.ready left.some left.turns ∙ ap (λ (x : List Command). Ok (script_of (config_of z r.layouts) x)) (sym (append-nil r.commands) ∙ left.all_is)
+    end_read n z r left.ready left.some left.turns ∙ ap
+    (λ (x : List Command). Ok (script_of (config_of z r.layouts) x)) (sym (append-nil r.commands) ∙ left.all_is)
 parts_read n z [] r None cs (One c ∷ parts) all left said = absurd cc
 parts_read n z [] r None cs (Times m ds ∷ parts) all left said = absurd cc
 parts_read n z [] r (Some m) [] parts all left said = absurd cc
 parts_read n z [] r (Some m) (c ∷ cs) parts all left said = absurd cc
 parts_read n z (line ∷ lines) r None cs [] all left said =
     elim (told_first line lines [] said) [
-      | inl idle ↦ goes n r r line lines (idle_taken r line idle.0) ∙ parts_read (n + 1) z lines r None cs [] all left idle.1
+      | inl idle ↦ goes n r r line lines (idle_taken r line idle.0)
+          ∙ parts_read (n + 1) z lines r None cs [] all left idle.1
       | inr told ↦ let e = told.1 in absurd cc
     ]
 parts_read n z (line ∷ lines) r None cs (One c ∷ parts) all left said =
     elim (told_first line lines (lines_left None cs (One c ∷ parts)) said) [
-      | inl idle ↦ goes n r r line lines (idle_taken r line idle.0) ∙ parts_read (n + 1) z lines r None cs (One c ∷ parts) all left idle.1
+      | inl idle ↦ goes n r r line lines (idle_taken r line idle.0)
+          ∙ parts_read (n + 1) z lines r None cs (One c ∷ parts) all left idle.1
       | inr told ↦
-          let heads = cons_is line (command_line_of c) (filter says_something lines) (flat_map part_lines parts) told.1 in
+          let heads =
+          cons_is line (command_line_of c) (filter says_something lines) (flat_map part_lines parts) told.1 in
           let t : ReadSoFar = with_command r None c in
-          let taken = command_taken z r c line None left.ready left.some left.turns (fits_one r.commands (flat_map part_commands parts) all c left.all_is left.count) left.parts_are.0 told.0 heads.0 in
+          let taken = command_taken z r c line None left.ready left.some left.turns (fits_one r.commands
+          (flat_map part_commands parts) all c left.all_is left.count) left.parts_are.0 told.0 heads.0 in
           let all_is = append_assoc r.commands (c ∷ []) (flat_map part_commands parts) ∙ left.all_is in
           let after : IsLeft z t None cs parts all =
-          record { ready = record { sizes_is = left.ready.sizes_is; range = left.ready.range }; some = left.some; turns = left.turns; each = left.each; parts_are = left.parts_are.1; all_is = all_is; count = left.count } in
+          record {
+            ready = record { sizes_is = left.ready.sizes_is; range = left.ready.range };
+            some = left.some;
+            turns = left.turns;
+            each = left.each;
+            parts_are = left.parts_are.1;
+            all_is = all_is;
+            count = left.count;
+          } in
           goes n r t line lines taken ∙ parts_read (n + 1) z lines t None cs parts all after heads.1
     ]
 parts_read n z (line ∷ lines) r None cs (Times m ds ∷ parts) all left said =
     elim (told_first line lines (lines_left None cs (Times m ds ∷ parts)) said) [
-      | inl idle ↦ goes n r r line lines (idle_taken r line idle.0) ∙ parts_read (n + 1) z lines r None cs (Times m ds ∷ parts) all left idle.1
+      | inl idle ↦ goes n r r line lines (idle_taken r line idle.0)
+          ∙ parts_read (n + 1) z lines r None cs (Times m ds ∷ parts) all left idle.1
       | inr told ↦
           let rest = append_assoc (map command_line_of ds) (codes "end" ∷ []) (flat_map part_lines parts) in
-          let heads = cons_is line (times_line_of m) (filter says_something lines) ((map command_line_of ds ++ codes "end" ∷ []) ++ flat_map part_lines parts) told.1 in
+          let heads = cons_is line (times_line_of m) (filter says_something lines)
+          ((map command_line_of ds ++ codes "end" ∷ []) ++ flat_map part_lines parts) told.1 in
           let t : ReadSoFar = record r { begun = true; turns = Some m; body = [] } in
           let own = left.parts_are.0 in
           let taken = times_taken z r m line left.ready left.some left.turns own.1.0 own.1.1 told.0 heads.0 in
           let all_is = append_assoc r.commands (repeat m ds) (flat_map part_commands parts) ∙ left.all_is in
           let after : IsLeft z t (Some m) ds parts all =
-          record { ready = record { sizes_is = left.ready.sizes_is; range = left.ready.range }; some = left.some; turns = refl; each = own.0; parts_are = left.parts_are.1; all_is = all_is; count = left.count } in
+          record {
+            ready = record { sizes_is = left.ready.sizes_is; range = left.ready.range };
+            some = left.some;
+            turns = refl;
+            each = own.0;
+            parts_are = left.parts_are.1;
+            all_is = all_is;
+            count = left.count;
+          } in
           goes n r t line lines taken ∙ parts_read (n + 1) z lines t (Some m) ds parts all after (heads.1 ∙ rest)
     ]
 parts_read n z (line ∷ lines) r (Some m) [] parts all left said =
     elim (told_first line lines (lines_left (Some m) [] parts) said) [
-      | inl idle ↦ goes n r r line lines (idle_taken r line idle.0) ∙ parts_read (n + 1) z lines r (Some m) [] parts all left idle.1
+      | inl idle ↦ goes n r r line lines (idle_taken r line idle.0)
+          ∙ parts_read (n + 1) z lines r (Some m) [] parts all left idle.1
       | inr told ↦
           let heads = cons_is line (codes "end") (filter says_something lines) (flat_map part_lines parts) told.1 in
           let t : ReadSoFar = record r { commands = r.commands ++ repeat m r.body; turns = None; body = [] } in
-          let taken = end_taken z r m line left.ready left.some left.turns (fits_block r.commands r.body (flat_map part_commands parts) all m left.all_is left.count) told.0 heads.0 in
-          let all_is = ap (λ (x : List Command). (r.commands ++ repeat m x) ++ flat_map part_commands parts) (sym (append-nil r.body)) ∙ left.all_is in
+          let taken = end_taken z r m line left.ready left.some left.turns (fits_block r.commands r.body
+          (flat_map part_commands parts) all m left.all_is left.count) told.0 heads.0 in
+          let all_is = ap (λ (x : List Command). (r.commands ++ repeat m x) ++ flat_map part_commands parts)
+          (sym (append-nil r.body)) ∙ left.all_is in
           let after : IsLeft z t None [] parts all =
-          record { ready = record { sizes_is = left.ready.sizes_is; range = left.ready.range }; some = left.some; turns = refl; each = tt; parts_are = left.parts_are; all_is = all_is; count = left.count } in
+          record {
+            ready = record { sizes_is = left.ready.sizes_is; range = left.ready.range };
+            some = left.some;
+            turns = refl;
+            each = tt;
+            parts_are = left.parts_are;
+            all_is = all_is;
+            count = left.count;
+          } in
           goes n r t line lines taken ∙ parts_read (n + 1) z lines t None [] parts all after heads.1
     ]
 parts_read n z (line ∷ lines) r (Some m) (c ∷ cs) parts all left said =
     elim (told_first line lines (lines_left (Some m) (c ∷ cs) parts) said) [
-      | inl idle ↦ goes n r r line lines (idle_taken r line idle.0) ∙ parts_read (n + 1) z lines r (Some m) (c ∷ cs) parts all left idle.1
+      | inl idle ↦ goes n r r line lines (idle_taken r line idle.0)
+          ∙ parts_read (n + 1) z lines r (Some m) (c ∷ cs) parts all left idle.1
       | inr told ↦
-          let heads = cons_is line (command_line_of c) (filter says_something lines) (map command_line_of cs ++ codes "end" ∷ flat_map part_lines parts) told.1 in
+          let heads = cons_is line (command_line_of c) (filter says_something lines)
+          (map command_line_of cs ++ codes "end" ∷ flat_map part_lines parts) told.1 in
           let t : ReadSoFar = with_command r (Some m) c in
-          let taken = command_taken z r c line (Some m) left.ready left.some left.turns refl left.each.0 told.0 heads.0 in
-          let all_is = ap (λ (x : List Command). (r.commands ++ repeat m x) ++ flat_map part_commands parts) (append_assoc r.body (c ∷ []) cs) ∙ left.all_is in
+          let taken =
+          command_taken z r c line (Some m) left.ready left.some left.turns refl left.each.0 told.0 heads.0 in
+          let all_is = ap (λ (x : List Command). (r.commands ++ repeat m x) ++ flat_map part_commands parts)
+          (append_assoc r.body (c ∷ []) cs) ∙ left.all_is in
           let after : IsLeft z t (Some m) cs parts all =
-          record { ready = record { sizes_is = left.ready.sizes_is; range = left.ready.range }; some = left.some; turns = left.turns; each = left.each.1; parts_are = left.parts_are; all_is = all_is; count = left.count } in
+          record {
+            ready = record { sizes_is = left.ready.sizes_is; range = left.ready.range };
+            some = left.some;
+            turns = left.turns;
+            each = left.each.1;
+            parts_are = left.parts_are;
+            all_is = all_is;
+            count = left.count;
+          } in
           goes n r t line lines taken ∙ parts_read (n + 1) z lines t (Some m) cs parts all after heads.1
     ]
 
@@ -329,72 +415,92 @@ record AreAll (z : Sizes) (parts : List Part) (all : List Command) : Type 0 wher
   all_is : flat_map part_commands parts ≡ all
   count : length all ≤ MOST_COMMANDS
 
-both : (a b : Bool) → (a && b) ≡ true → (a ≡ true) × (b ≡ true)
-both true b h = (refl, h)
-both false b h = absurd cc
-
 -- where no layouts are left the parts follow
-no_more : (n : ℕ) (z : Sizes) (lines : List (List ℕ)) (r : ReadSoFar) (parts : List Part) (all : List Command) → IsReady z r → IsFresh r → AreNext z r [] →
-    AreAll z parts all → filter says_something lines ≡ flat_map part_lines parts →
-    lines_in n r (lines ++ [] ∷ []) ≡ Ok (script_of (config_of z (r.layouts ++ [])) all)
+no_more : (n : ℕ) (z : Sizes) (lines : List (List ℕ)) (r : ReadSoFar) (parts : List Part) (all : List Command)
+    → IsReady z r → IsFresh r
+    → AreNext z r [] → AreAll z parts all → filter says_something lines ≡ flat_map part_lines parts
+    → lines_in n r (lines ++ [] ∷ []) ≡ Ok (script_of (config_of z (r.layouts ++ [])) all)
 no_more n z lines r parts all ready fresh next are said =
     let some = next.some in
-    let all_is : r.commands ++ flat_map part_commands parts ≡ all = ap (λ (x : List Command). x ++ flat_map part_commands parts) fresh.no_commands ∙ are.all_is in
-    let left : IsLeft z r None [] parts all = record { ready = ready; some = omega arith; turns = fresh.no_block; each = tt; parts_are = are.parts_are; all_is = all_is; count = are.count } in
-    parts_read n z lines r None [] parts all left said ∙ ap (λ (x : List Layout). Ok (script_of (config_of z x) all)) (sym (append-nil r.layouts))
+    let all_is : r.commands ++ flat_map part_commands parts ≡ all =
+    ap (λ (x : List Command). x ++ flat_map part_commands parts) fresh.no_commands ∙ are.all_is in
+    let left : IsLeft z r None [] parts all = record {
+      ready = ready;
+      some = omega arith;
+      turns = fresh.no_block;
+      each = tt;
+      parts_are = are.parts_are;
+      all_is = all_is;
+      count = are.count;
+    } in
+    parts_read n z lines r None [] parts all left said
+    ∙ ap (λ (x : List Layout). Ok (script_of (config_of z x) all)) (sym (append-nil r.layouts))
 
-layouts_read : (n : ℕ) (z : Sizes) (lines : List (List ℕ)) (r : ReadSoFar) (ls : List Layout) (parts : List Part) (all : List Command) → IsReady z r →
-    IsFresh r → AreNext z r ls → AreAll z parts all →
-    filter says_something lines ≡ map layout_line_of ls ++ flat_map part_lines parts →
-    lines_in n r (lines ++ [] ∷ []) ≡ Ok (script_of (config_of z (r.layouts ++ ls)) all)
+layouts_read : (n : ℕ) (z : Sizes) (lines : List (List ℕ)) (r : ReadSoFar)
+    (ls : List Layout) (parts : List Part) (all : List Command) → IsReady z r → IsFresh r → AreNext z r ls
+    → AreAll z parts all → filter says_something lines ≡ map layout_line_of ls ++ flat_map part_lines parts
+    → lines_in n r (lines ++ [] ∷ []) ≡ Ok (script_of (config_of z (r.layouts ++ ls)) all)
 layouts_read n z [] r [] parts all ready fresh next are said = no_more n z [] r parts all ready fresh next are said
 layouts_read n z [] r (l ∷ ls) parts all ready fresh next are said = absurd cc
-layouts_read n z (line ∷ lines) r [] parts all ready fresh next are said = no_more n z (line ∷ lines) r parts all ready fresh next are said
+layouts_read n z (line ∷ lines) r [] parts all ready fresh next are said =
+    no_more n z (line ∷ lines) r parts all ready fresh next are said
 layouts_read n z (line ∷ lines) r (l ∷ ls) parts all ready fresh next are said =
     elim (told_first line lines (map layout_line_of (l ∷ ls) ++ flat_map part_lines parts) said) [
-      | inl idle ↦ goes n r r line lines (idle_taken r line idle.0) ∙ layouts_read (n + 1) z lines r (l ∷ ls) parts all ready fresh next are idle.1
+      | inl idle ↦ goes n r r line lines (idle_taken r line idle.0)
+          ∙ layouts_read (n + 1) z lines r (l ∷ ls) parts all ready fresh next are idle.1
       | inr told ↦
-          let heads = cons_is line (layout_line_of l) (filter says_something lines) (map layout_line_of ls ++ flat_map part_lines parts) told.1 in
+          let heads = cons_is line (layout_line_of l) (filter says_something lines)
+          (map layout_line_of ls ++ flat_map part_lines parts) told.1 in
           let t : ReadSoFar = record r { layouts = r.layouts ++ l ∷ [] } in
           let few = next.few in
           let some = next.some in
           let longer = length-append r.layouts (l ∷ []) in
-          let room = both (fits_page z.words l) (list_all (fits_page z.words) ls) next.room in
+          let room = and_parts (fits_page z.words l) (list_all (fits_page z.words) ls) next.room in
           let taken = layout_taken z r l line ready fresh.not_begun (omega arith) next.each.0 room.0 told.0 heads.0 in
-          let after : AreNext z t ls = record { some = omega arith; few = omega arith; each = next.each.1; room = room.1 } in
-          let still : IsFresh t = record { not_begun = fresh.not_begun; no_commands = fresh.no_commands; no_block = fresh.no_block } in
-          let rest = layouts_read (n + 1) z lines t ls parts all (record { sizes_is = ready.sizes_is; range = ready.range }) still after are heads.1 in
-          goes n r t line lines taken ∙ rest ∙ ap (λ (x : List Layout). Ok (script_of (config_of z x) all)) (append_assoc r.layouts (l ∷ []) ls)
+          let after : AreNext z t ls =
+          record { some = omega arith; few = omega arith; each = next.each.1; room = room.1 } in
+          let still : IsFresh t =
+          record { not_begun = fresh.not_begun; no_commands = fresh.no_commands; no_block = fresh.no_block } in
+          let rest = layouts_read (n + 1) z lines t ls parts all
+          (record { sizes_is = ready.sizes_is; range = ready.range }) still after are heads.1 in
+          goes n r t line lines taken ∙ rest
+          ∙ ap (λ (x : List Layout). Ok (script_of (config_of z x) all)) (append_assoc r.layouts (l ∷ []) ls)
     ]
 
-heap_read : (n : ℕ) (z : Sizes) (heap : List ℕ) (lines : List (List ℕ)) (ls : List Layout) (parts : List Part) (all : List Command) → IsSizes z →
-    SpellsHeap heap (config_of z []) → AreNext z nothing ls → AreAll z parts all →
-    filter says_something lines ≡ heap ∷ (map layout_line_of ls ++ flat_map part_lines parts) →
-    lines_in n nothing (lines ++ [] ∷ []) ≡ Ok (script_of (config_of z ls) all)
+heap_read : (n : ℕ) (z : Sizes) (heap : List ℕ) (lines : List (List ℕ)) (ls : List Layout)
+    (parts : List Part) (all : List Command) → IsSizes z → SpellsHeap heap (config_of z []) → AreNext z nothing ls
+    → AreAll z parts all → filter says_something lines ≡ heap ∷ (map layout_line_of ls ++ flat_map part_lines parts)
+    → lines_in n nothing (lines ++ [] ∷ []) ≡ Ok (script_of (config_of z ls) all)
 heap_read n z heap [] ls parts all range h next are said = absurd cc
 heap_read n z heap (line ∷ lines) ls parts all range h next are said =
     elim (told_first line lines (heap ∷ (map layout_line_of ls ++ flat_map part_lines parts)) said) [
-      | inl idle ↦ goes n nothing nothing line lines (idle_taken nothing line idle.0) ∙ heap_read (n + 1) z heap lines ls parts all range h next are idle.1
+      | inl idle ↦ goes n nothing nothing line lines (idle_taken nothing line idle.0)
+          ∙ heap_read (n + 1) z heap lines ls parts all range h next are idle.1
       | inr told ↦
-          let heads = cons_is line heap (filter says_something lines) (map layout_line_of ls ++ flat_map part_lines parts) told.1 in
+          let heads = cons_is line heap (filter says_something lines)
+          (map layout_line_of ls ++ flat_map part_lines parts) told.1 in
           let t : ReadSoFar = record nothing { sizes = Some z } in
           let spelled = subst (λ (x : List ℕ). SpellsHeap x (config_of z [])) (sym heads.0) h in
-          let after : AreNext z t ls = record { some = next.some; few = next.few; each = next.each; room = next.room } in
+          let after : AreNext z t ls =
+          record { some = next.some; few = next.few; each = next.each; room = next.room } in
           let fresh : IsFresh t = record { not_begun = refl; no_commands = refl; no_block = refl } in
-          goes n nothing t line lines (heap_taken z line range spelled told.0) ∙ layouts_read (n + 1) z lines t ls parts all (record { sizes_is = refl; range = range }) fresh after are heads.1
+          goes n nothing t line lines (heap_taken z line range spelled told.0) ∙ layouts_read
+          (n + 1) z lines t ls parts all (record { sizes_is = refl; range = range }) fresh after are heads.1
     ]
 
-commands_of : (c : Config) (cs : List Command) → AllByRecursion (IsCommand c) cs → AllByRecursion (IsCommand (config_of (sizes_in c) [])) cs
+commands_of : (c : Config) (cs : List Command) → AllByRecursion (IsCommand c) cs
+    → AllByRecursion (IsCommand (config_of (sizes_in c) [])) cs
 commands_of c [] h = tt
-commands_of c (x ∷ xs) h = (record { actor = actor_of c x.actor h.0.actor; own = h.0.own; order = h.0.order }, commands_of c xs h.1)
+commands_of c (x ∷ xs) h =
+    (record { actor = actor_of c x.actor h.0.actor; own = h.0.own; order = h.0.order }, commands_of c xs h.1)
   where
     actor_of : (c : Config) (a : Actor) → IsActor c a → IsActor (config_of (sizes_in c) []) a
     actor_of c (Thread t) h = h
     actor_of c (Worker w) h = h
 
 -- the parts of commands that are there
-parts_of : (z : Sizes) (parts : List Part) → AllByRecursion IsPart parts → AllByRecursion (IsCommand (config_of z [])) (flat_map part_commands parts) →
-    AllByRecursion (IsPartOf z) parts
+parts_of : (z : Sizes) (parts : List Part) → AllByRecursion IsPart parts
+    → AllByRecursion (IsCommand (config_of z [])) (flat_map part_commands parts) → AllByRecursion (IsPartOf z) parts
 parts_of z [] h each = tt
 parts_of z (One c ∷ parts) h each = (each.0, parts_of z parts h.1 each.1)
 parts_of z (Times n cs ∷ parts) h each =
@@ -409,11 +515,29 @@ spelled_is_read bytes s h spells =
     let z = sizes_in c in
     let told = config_tells c h.config in
     let heap : SpellsHeap spells.heap (config_of z []) =
-    record { births = spells.heap_spelled.births; history = spells.heap_spelled.history; births_spelled = spells.heap_spelled.births_spelled; history_spelled = spells.heap_spelled.history_spelled; line_is = spells.heap_spelled.line_is } in
+    record {
+      births = spells.heap_spelled.births;
+      history = spells.heap_spelled.history;
+      births_spelled = spells.heap_spelled.births_spelled;
+      history_spelled = spells.heap_spelled.history_spelled;
+      line_is = spells.heap_spelled.line_is;
+    } in
     let some = told.layouts.some in
     let few = told.layouts.few in
-    let next : AreNext z nothing c.layouts = record { some = omega arith; few = omega arith; each = all_to IsLayout c.layouts h.layouts; room = told.layouts.room } in
-    let each = subst (λ (x : List Command). AllByRecursion (IsCommand (config_of z [])) x) spells.commands_are (commands_of c s.commands (all_to (IsCommand c) s.commands h.commands)) in
-    let are : AreAll z spells.parts s.commands = record { parts_are = parts_of z spells.parts (all_to IsPart spells.parts spells.turns) each; all_is = sym spells.commands_are; count = h.count } in
-    let cut : slice_split newline bytes ≡ spells.lines ++ [] ∷ [] = ap (slice_split newline) spells.bytes_are ∙ lines_split spells.lines (lines_to spells.lines spells.each) in
-    ap (lines_in 1 nothing) cut ∙ heap_read 1 z spells.heap spells.lines c.layouts spells.parts s.commands told.sizes heap next are spells.said
+    let next : AreNext z nothing c.layouts = record {
+      some = omega arith;
+      few = omega arith;
+      each = all_to IsLayout c.layouts h.layouts;
+      room = told.layouts.room;
+    } in
+    let each = subst (λ (x : List Command). AllByRecursion (IsCommand (config_of z [])) x) spells.commands_are
+    (commands_of c s.commands (all_to (IsCommand c) s.commands h.commands)) in
+    let are : AreAll z spells.parts s.commands = record {
+      parts_are = parts_of z spells.parts (all_to IsPart spells.parts spells.turns) each;
+      all_is = sym spells.commands_are;
+      count = h.count;
+    } in
+    let cut : slice_split newline bytes ≡ spells.lines ++ [] ∷ [] =
+    ap (slice_split newline) spells.bytes_are ∙ lines_split spells.lines (lines_to spells.lines spells.each) in
+    ap (lines_in 1 nothing) cut
+    ∙ heap_read 1 z spells.heap spells.lines c.layouts spells.parts s.commands told.sizes heap next are spells.said

@@ -1,5 +1,6 @@
 -- Commands that stand several times over.
-use Rattle.std.proofs.Common.{◌≡◌, ℕ, zero, suc, ◌+◌, true, List, [], ◌∷◌, ◌++◌, length, refl, ap, sym, ◌∙◌, arith, append-nil, append_assoc}
+use Rattle.std.proofs.Common.{◌≡◌, ℕ, zero, suc, ◌+◌, true, List, [], ◌∷◌, ◌++◌, length}
+use Rattle.std.proofs.Common.{refl, ap, sym, ◌∙◌, arith, append-nil, append_assoc}
 use Rattle.std.specs.Prelude.{◌==◌}
 use Rattle.std.specs.List.{repeat}
 use Rattle.std.proofs.lemmas.Bool.Decides.{nat_tests}
@@ -22,5 +23,7 @@ once_more : (n : ℕ) (cs : List Command) → repeat n cs ++ cs ≡ repeat (n + 
 once_more n cs = let e : suc n ≡ n + 1 = omega arith in turned n cs ∙ ap (λ k. repeat k cs) e
 
 -- one turn more behind the turns so far
-pub add_turn : (n : ℕ) (before cs so_far new : List Command) → so_far ≡ before ++ repeat n cs → new ≡ so_far ++ cs → new ≡ before ++ repeat (n + 1) cs
-add_turn n before cs so_far new h k = k ∙ ap (λ (xs : List Command). xs ++ cs) h ∙ append_assoc before (repeat n cs) cs ∙ ap (λ (xs : List Command). before ++ xs) (once_more n cs)
+pub add_turn : (n : ℕ) (before cs so_far new : List Command) → so_far ≡ before ++ repeat n cs → new ≡ so_far ++ cs
+    → new ≡ before ++ repeat (n + 1) cs
+add_turn n before cs so_far new h k = k ∙ ap (λ (xs : List Command). xs ++ cs) h ∙ append_assoc before (repeat n cs) cs
+    ∙ ap (λ (xs : List Command). before ++ xs) (once_more n cs)

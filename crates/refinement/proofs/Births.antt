@@ -1,12 +1,15 @@
 -- The steps of the model's plain heap are those of the laws' plain heap.
-use Rattle.std.proofs.Common.{◌≡◌, ◌≢◌, ℕ, zero, suc, ◌<◌, List, [], ◌∷◌, ◌++◌, length, set, replicate, Option, Some, None, refl, sym, ◌∙◌, ap, arith, length-append}
+use Rattle.std.proofs.Common.{◌≡◌, ◌≢◌, ℕ, zero, suc, ◌<◌, List, [], ◌∷◌, ◌++◌, length, set}
+use Rattle.std.proofs.Common.{replicate, Option, Some, None, refl, sym, ◌∙◌, ap, arith, length-append}
 use mathlib.Core.Path.{fun_ext}
 use Rattle.std.specs.List.{slice_get}
 use Rattle.std.specs.Option.{option_map}
 use Rattle.std.proofs.Math.ListN.{length-set}
 use Rattle.layout.specs.declared.shape.Layout.{Layout}
 use Rattle.model.specs.Heaps.{HeapState, flat, changed}
-use Rattle.model.specs.Plain.{PlainHeap, PlainThread, Object, name_of, name_in, naming, set_name, born, blank_object, storing, set_field, writing, set_datum, Pending, pending_in, loading, start_load, finishing, end_load}
+use Rattle.model.specs.Plain.{PlainHeap, PlainThread, Object, name_of, name_in, naming, set_name}
+use Rattle.model.specs.Plain.{born, blank_object, storing, set_field, writing, set_datum}
+use Rattle.model.specs.Plain.{Pending, pending_in, loading, start_load, finishing, end_load}
 use Rattle.model.proofs.Lists.{get_set_same, get_set_other, get_within, each_changed}
 use Rattle.laws.specs.AddressHeap.{put, put_at}
 use Rattle.laws.specs.Edits.{plain_born, plain_set_pending, plain_end_load, plain_set_global}
@@ -19,11 +22,14 @@ use Rattle.refinement.proofs.Changes.{get_changed, kept_of, read_changed, length
 -- registers
 
 -- the registers of threads, of which one has its register r changed
-name_changed : (ts : List PlainThread) (t r : ℕ) (v : Option ℕ) (f : PlainThread → PlainThread) (y : PlainThread) → slice_get ts t ≡ Some y → r < length y.registers → (f y).registers ≡ set y.registers r v
+name_changed : (ts : List PlainThread) (t r : ℕ) (v : Option ℕ) (f : PlainThread → PlainThread) (y : PlainThread)
+    → slice_get ts t ≡ Some y → r < length y.registers → (f y).registers ≡ set y.registers r v
     → (u s : ℕ) → name_in (slice_get (changed ts t f) u) s ≡ put_at (λ u s. name_in (slice_get ts u) s) t r v u s
 name_changed ts t r v f y e k is u s =
-    ap (λ o. name_in o s) (get_changed ts t f u) ∙ put_all (λ u z. (q : ℕ) → name_in (put (slice_get ts) t now u) q ≡ z q)
-    (λ u q. name_in (slice_get ts u) q) t (put (λ q. name_in (slice_get ts t) q) r v) here (λ u d q. ap (λ o. name_in o q) (put_other (slice_get ts) t now u d)) u s
+    ap (λ o. name_in o s) (get_changed ts t f u)
+    ∙ put_all (λ u z. (q : ℕ) → name_in (put (slice_get ts) t now u) q ≡ z q)
+    (λ u q. name_in (slice_get ts u) q) t (put (λ q. name_in (slice_get ts t) q) r v) here
+    (λ u d q. ap (λ o. name_in o q) (put_other (slice_get ts) t now u d)) u s
   where
     in_thread : (q : ℕ) → flat (slice_get (set y.registers r v) q) ≡ put (λ q. flat (slice_get y.registers q)) r v q
     in_thread = put_all (λ q z. flat (slice_get (set y.registers r v) q) ≡ z) (λ q. flat (slice_get y.registers q)) r v
@@ -35,28 +41,33 @@ name_changed ts t r v f y e k is u s =
 
     here : (q : ℕ) → name_in (put (slice_get ts) t now t) q ≡ put (λ q. name_in (slice_get ts t) q) r v q
     here q =
-        ap (λ o. name_in o q) (put_same (slice_get ts) t now ∙ ap (option_map f) e) ∙ ap (λ l. flat (slice_get l q)) is ∙ in_thread q
+        ap (λ o. name_in o q) (put_same (slice_get ts) t now ∙ ap (option_map f) e) ∙ ap (λ l. flat (slice_get l q)) is
+        ∙ in_thread q
         ∙ ap (λ o. put (λ q. name_in o q) r v q) (sym e)
 
 -- a register gets a birth
-pub naming_is : (p : PlainHeap) (t r : ℕ) (v : Option ℕ) (y : PlainThread) → slice_get p.threads t ≡ Some y → r < length y.registers → births_of (naming p t r v) ≡ plain_set_register t r v (births_of p)
+pub naming_is : (p : PlainHeap) (t r : ℕ) (v : Option ℕ) (y : PlainThread) → slice_get p.threads t ≡ Some y
+    → r < length y.registers → births_of (naming p t r v) ≡ plain_set_register t r v (births_of p)
 unfolding naming name_of
 naming_is p t r v y e k = λ z. record (births_of p) {
   register = fun_ext (λ u. fun_ext (name_changed p.threads t r v (set_name r v) y e k refl u)) z;
   pending = fun_ext (kept_of (λ o. option_map as_pair (pending_in o)) p.threads t (set_name r v) (λ x. refl)) z;
 }
 
-pub naming_roots : (h : HeapState) (p : PlainHeap) (t r : ℕ) (v : Option ℕ) → HasRootsOf h p → HasRootsOf h (naming p t r v)
+pub naming_roots : (h : HeapState) (p : PlainHeap) (t r : ℕ) (v : Option ℕ) → HasRootsOf h p
+    → HasRootsOf h (naming p t r v)
 unfolding naming
 naming_roots h p t r v k = record {
   threads = length_changed p.threads t (set_name r v) ∙ k.threads;
-  registers = each_changed (λ y. length y.registers ≡ h.config.registers) p.threads t (set_name r v) k.registers (λ y e. length-set y.registers r v ∙ e);
+  registers = each_changed (λ y. length y.registers ≡ h.config.registers) p.threads t (set_name r v) k.registers
+      (λ y e. length-set y.registers r v ∙ e);
   globals = k.globals;
 }
 
 -- objects
 
-object_more : (xs : List Object) (o : Object) (b : ℕ) → slice_get (xs ++ o ∷ []) b ≡ put (slice_get xs) (length xs) (Some o) b
+object_more : (xs : List Object) (o : Object) (b : ℕ)
+    → slice_get (xs ++ o ∷ []) b ≡ put (slice_get xs) (length xs) (Some o) b
 object_more xs o = put_all (λ b y. slice_get (xs ++ o ∷ []) b ≡ y) (slice_get xs) (length xs) (Some o) here elsewhere
   where
     here : slice_get (xs ++ o ∷ []) (length xs) ≡ Some o
@@ -72,20 +83,28 @@ object_more xs o = put_all (λ b y. slice_get (xs ++ o ∷ []) b ≡ y) (slice_g
         by_list (x ∷ xs) (suc b) d = by_list xs b (λ e. d (ap suc e))
 
 -- what is read of a function with a value put in
-put_read : {X B : Type 0} (P : Option X → B) (f : ℕ → Option X) (a : ℕ) (v : Option X) (b : ℕ) → P (put f a v b) ≡ put (λ c. P (f c)) a (P v) b
-put_read P f a v = put_all (λ b y. P (put f a v b) ≡ y) (λ c. P (f c)) a (P v) (ap P (put_same f a v)) (λ b d. ap P (put_other f a v b d))
+put_read : {X B : Type 0} (P : Option X → B) (f : ℕ → Option X) (a : ℕ) (v : Option X) (b : ℕ)
+    → P (put f a v b) ≡ put (λ c. P (f c)) a (P v) b
+put_read P f a v = put_all (λ b y. P (put f a v b) ≡ y) (λ c. P (f c)) a (P v) (ap P (put_same f a v))
+    (λ b d. ap P (put_other f a v b d))
 
 -- an object is born
-pub born_is : (p : PlainHeap) (t r number : ℕ) (l : Layout) (y : PlainThread) → slice_get p.threads t ≡ Some y → r < length y.registers
-    → births_of (born p t r number (Some l)) ≡ plain_born number (replicate l.refs None) (replicate l.nums 0) t r (births_of p)
+pub born_is : (p : PlainHeap) (t r number : ℕ) (l : Layout) (y : PlainThread) → slice_get p.threads t ≡ Some y
+    → r < length y.registers
+    → births_of (born p t r number (Some l)) ≡ plain_born number (replicate l.refs None) (replicate l.nums 0) t r
+    (births_of p)
 unfolding naming name_of
 born_is p t r number l y e k = λ z. record (births_of p) {
   births = count z;
-  layout = fun_ext (λ b. ap layout_in (more b) ∙ put_read layout_in (slice_get p.objects) (length p.objects) (Some new) b) z;
+  layout = fun_ext (λ b. ap layout_in (more b)
+      ∙ put_read layout_in (slice_get p.objects) (length p.objects) (Some new) b) z;
   refs = fun_ext (λ b. ap refs_in (more b) ∙ put_read refs_in (slice_get p.objects) (length p.objects) (Some new) b) z;
-  data_words = fun_ext (λ b. ap data_in (more b) ∙ put_read data_in (slice_get p.objects) (length p.objects) (Some new) b) z;
-  register = fun_ext (λ u. fun_ext (name_changed p.threads t r (Some (length p.objects)) (set_name r (Some (length p.objects))) y e k refl u)) z;
-  pending = fun_ext (kept_of (λ o. option_map as_pair (pending_in o)) p.threads t (set_name r (Some (length p.objects))) (λ x. refl)) z;
+  data_words = fun_ext (λ b. ap data_in (more b)
+      ∙ put_read data_in (slice_get p.objects) (length p.objects) (Some new) b) z;
+  register = fun_ext (λ u. fun_ext (name_changed p.threads t r (Some (length p.objects))
+      (set_name r (Some (length p.objects))) y e k refl u)) z;
+  pending = fun_ext (kept_of (λ o. option_map as_pair (pending_in o)) p.threads t
+      (set_name r (Some (length p.objects))) (λ x. refl)) z;
 }
   where
     new : Object
@@ -97,11 +116,13 @@ born_is p t r number l y e k = λ z. record (births_of p) {
     count : length (p.objects ++ new ∷ []) ≡ suc (length p.objects)
     count = omega (arith, length-append p.objects (new ∷ []))
 
-pub born_roots : (h : HeapState) (p : PlainHeap) (t r number : ℕ) (l : Layout) → HasRootsOf h p → HasRootsOf h (born p t r number (Some l))
+pub born_roots : (h : HeapState) (p : PlainHeap) (t r number : ℕ) (l : Layout) → HasRootsOf h p
+    → HasRootsOf h (born p t r number (Some l))
 unfolding naming
 born_roots h p t r number l k = record {
   threads = length_changed p.threads t (set_name r (Some (length p.objects))) ∙ k.threads;
-  registers = each_changed (λ y. length y.registers ≡ h.config.registers) p.threads t (set_name r (Some (length p.objects))) k.registers (λ y e. length-set y.registers r (Some (length p.objects)) ∙ e);
+  registers = each_changed (λ y. length y.registers ≡ h.config.registers) p.threads t (set_name r
+      (Some (length p.objects))) k.registers (λ y e. length-set y.registers r (Some (length p.objects)) ∙ e);
   globals = k.globals;
 }
 
@@ -112,39 +133,49 @@ writing_is p None j v = refl
 writing_is p (Some b) j v = λ z. record (births_of p) {
   births = length_changed p.objects b (set_datum j v) z;
   layout = fun_ext (kept_of layout_in p.objects b (set_datum j v) (λ x. refl)) z;
-  refs = fun_ext (λ c. kept_of refs_in p.objects b (set_datum j v) (λ x. refl) c ∙ sym (ap (λ f. f c) (put_id (λ c. refs_in (slice_get p.objects c)) b (refs_in (slice_get p.objects b)) refl))) z;
-  data_words = fun_ext (λ c. ap data_in (get_changed p.objects b (set_datum j v) c) ∙ put_read data_in (slice_get p.objects) b (option_map (set_datum j v) (slice_get p.objects b)) c ∙ ap (λ d. put (λ c. data_in (slice_get p.objects c)) b d c) (set_in (slice_get p.objects b))) z;
+  refs = fun_ext (λ c. kept_of refs_in p.objects b (set_datum j v) (λ x. refl) c ∙ sym
+      (ap (λ f. f c) (put_id (λ c. refs_in (slice_get p.objects c)) b (refs_in (slice_get p.objects b)) refl))) z;
+  data_words = fun_ext (λ c. ap data_in (get_changed p.objects b (set_datum j v) c)
+      ∙ put_read data_in (slice_get p.objects) b (option_map (set_datum j v) (slice_get p.objects b)) c
+      ∙ ap (λ d. put (λ c. data_in (slice_get p.objects c)) b d c) (set_in (slice_get p.objects b))) z;
 }
   where
     set_in : (o : Option Object) → data_in (option_map (set_datum j v) o) ≡ set (data_in o) j v
     set_in None = refl
     set_in (Some o) = refl
 
-pub writing_roots : (h : HeapState) (p : PlainHeap) (o : Option ℕ) (j v : ℕ) → HasRootsOf h p → HasRootsOf h (writing p o j v)
+pub writing_roots : (h : HeapState) (p : PlainHeap) (o : Option ℕ) (j v : ℕ) → HasRootsOf h p
+    → HasRootsOf h (writing p o j v)
 writing_roots h p None j v k = k
 writing_roots h p (Some b) j v k = record { threads = k.threads; registers = k.registers; globals = k.globals }
 
 -- a reference is written
-pub storing_is : (p : PlainHeap) (o : Option ℕ) (i : ℕ) (v : Option ℕ) → births_of (storing p o i v) ≡ store_at o i v (births_of p)
+pub storing_is : (p : PlainHeap) (o : Option ℕ) (i : ℕ) (v : Option ℕ)
+    → births_of (storing p o i v) ≡ store_at o i v (births_of p)
 unfolding name_of
 storing_is p None i v = refl
 storing_is p (Some b) i v = λ z. record (births_of p) {
   births = length_changed p.objects b (set_field i v) z;
   layout = fun_ext (kept_of layout_in p.objects b (set_field i v) (λ x. refl)) z;
-  refs = fun_ext (λ c. ap refs_in (get_changed p.objects b (set_field i v) c) ∙ put_read refs_in (slice_get p.objects) b (option_map (set_field i v) (slice_get p.objects b)) c ∙ ap (λ d. put (λ c. refs_in (slice_get p.objects c)) b d c) (set_in (slice_get p.objects b))) z;
-  data_words = fun_ext (λ c. kept_of data_in p.objects b (set_field i v) (λ x. refl) c ∙ sym (ap (λ f. f c) (put_id (λ c. data_in (slice_get p.objects c)) b (data_in (slice_get p.objects b)) refl))) z;
+  refs = fun_ext (λ c. ap refs_in (get_changed p.objects b (set_field i v) c)
+      ∙ put_read refs_in (slice_get p.objects) b (option_map (set_field i v) (slice_get p.objects b)) c
+      ∙ ap (λ d. put (λ c. refs_in (slice_get p.objects c)) b d c) (set_in (slice_get p.objects b))) z;
+  data_words = fun_ext (λ c. kept_of data_in p.objects b (set_field i v) (λ x. refl) c ∙ sym
+      (ap (λ f. f c) (put_id (λ c. data_in (slice_get p.objects c)) b (data_in (slice_get p.objects b)) refl))) z;
 }
   where
     set_in : (o : Option Object) → refs_in (option_map (set_field i v) o) ≡ set (refs_in o) i v
     set_in None = refl
     set_in (Some o) = refl
 
-pub storing_roots : (h : HeapState) (p : PlainHeap) (o : Option ℕ) (i : ℕ) (v : Option ℕ) → HasRootsOf h p → HasRootsOf h (storing p o i v)
+pub storing_roots : (h : HeapState) (p : PlainHeap) (o : Option ℕ) (i : ℕ) (v : Option ℕ) → HasRootsOf h p
+    → HasRootsOf h (storing p o i v)
 storing_roots h p None i v k = k
 storing_roots h p (Some b) i v k = record { threads = k.threads; registers = k.registers; globals = k.globals }
 
 -- a global gets a birth
-pub global_is : (p : PlainHeap) (g : ℕ) (v : Option ℕ) → g < length p.globals → births_of (record p { globals = set p.globals g v }) ≡ plain_set_global g v (births_of p)
+pub global_is : (p : PlainHeap) (g : ℕ) (v : Option ℕ) → g < length p.globals
+    → births_of (record p { globals = set p.globals g v }) ≡ plain_set_global g v (births_of p)
 unfolding name_of
 global_is p g v k = λ z. record (births_of p) { global = fun_ext globals z }
   where
@@ -154,31 +185,39 @@ global_is p g v k = λ z. record (births_of p) { global = fun_ext globals z }
         (λ n d. ap flat (get_set_other p.globals g n v d))
 
 -- a load begins
-pub loading_is : (p : PlainHeap) (t r : ℕ) (b : Option ℕ) (y : PlainThread) → slice_get p.threads t ≡ Some y → births_of (loading p t r (Some b)) ≡ plain_set_pending t (r, b) (births_of p)
+pub loading_is : (p : PlainHeap) (t r : ℕ) (b : Option ℕ) (y : PlainThread) → slice_get p.threads t ≡ Some y
+    → births_of (loading p t r (Some b)) ≡ plain_set_pending t (r, b) (births_of p)
 unfolding name_of
 loading_is p t r b y e = λ z. record (births_of p) {
   register = fun_ext (λ u. fun_ext (λ s. kept_of (λ o. name_in o s) p.threads t (start_load r b) (λ x. refl) u)) z;
-  pending = fun_ext (read_changed (λ o. option_map as_pair (pending_in o)) p.threads t (start_load r b) y (Some (r, b)) e refl) z;
+  pending = fun_ext (read_changed (λ o. option_map as_pair (pending_in o)) p.threads t (start_load r b) y
+      (Some (r, b)) e refl) z;
 }
 
-pub loading_roots : (h : HeapState) (p : PlainHeap) (t r : ℕ) (b : Option ℕ) → HasRootsOf h p → HasRootsOf h (loading p t r (Some b))
+pub loading_roots : (h : HeapState) (p : PlainHeap) (t r : ℕ) (b : Option ℕ) → HasRootsOf h p
+    → HasRootsOf h (loading p t r (Some b))
 loading_roots h p t r b k = record {
   threads = length_changed p.threads t (start_load r b) ∙ k.threads;
-  registers = each_changed (λ y. length y.registers ≡ h.config.registers) p.threads t (start_load r b) k.registers (λ y e. e);
+  registers = each_changed (λ y. length y.registers ≡ h.config.registers) p.threads t (start_load r b) k.registers
+      (λ y e. e);
   globals = k.globals;
 }
 
 -- a load ends
-pub finishing_is : (p : PlainHeap) (t : ℕ) (l : Pending) (y : PlainThread) → slice_get p.threads t ≡ Some y → l.target < length y.registers → births_of (finishing p t (Some l)) ≡ plain_end_load t l.target l.found (births_of p)
+pub finishing_is : (p : PlainHeap) (t : ℕ) (l : Pending) (y : PlainThread)
+    → slice_get p.threads t ≡ Some y → l.target < length y.registers
+    → births_of (finishing p t (Some l)) ≡ plain_end_load t l.target l.found (births_of p)
 unfolding name_of
 finishing_is p t l y e k = λ z. record (births_of p) {
   register = fun_ext (λ u. fun_ext (name_changed p.threads t l.target l.found (end_load l) y e k refl u)) z;
   pending = fun_ext (read_changed (λ o. option_map as_pair (pending_in o)) p.threads t (end_load l) y None e refl) z;
 }
 
-pub finishing_roots : (h : HeapState) (p : PlainHeap) (t : ℕ) (l : Pending) → HasRootsOf h p → HasRootsOf h (finishing p t (Some l))
+pub finishing_roots : (h : HeapState) (p : PlainHeap) (t : ℕ) (l : Pending) → HasRootsOf h p
+    → HasRootsOf h (finishing p t (Some l))
 finishing_roots h p t l k = record {
   threads = length_changed p.threads t (end_load l) ∙ k.threads;
-  registers = each_changed (λ y. length y.registers ≡ h.config.registers) p.threads t (end_load l) k.registers (λ y e. length-set y.registers l.target l.found ∙ e);
+  registers = each_changed (λ y. length y.registers ≡ h.config.registers) p.threads t (end_load l) k.registers
+      (λ y e. length-set y.registers l.target l.found ∙ e);
   globals = k.globals;
 }

@@ -1,11 +1,14 @@
 -- An object that is made in a buffer is born.
-use Rattle.std.proofs.Common.{◌≡◌, ◌≢◌, ◌⊎◌, inl, inr, ℕ, suc, ◌+◌, ◌-◌, ◌*◌, ◌/◌, ◌%◌, ◌^◌, ◌<◌, ◌≤◌, Bool, true, List, length, Option, Some, None, refl, sym, ◌∙◌, ap, ap₂, subst, arith, div-add-mod', replicate}
+use Rattle.std.proofs.Common.{◌≡◌, ◌≢◌, ◌⊎◌, inl, inr, ℕ, suc, ◌+◌, ◌-◌, ◌*◌, ◌/◌, ◌%◌, ◌^◌}
+use Rattle.std.proofs.Common.{◌<◌, ◌≤◌, Bool, true, List, length, Option, Some, None, refl}
+use Rattle.std.proofs.Common.{sym, ◌∙◌, ap, ap₂, subst, arith, div-add-mod', replicate}
 use mathlib.Core.Path.{fun_ext}
 use Rattle.std.specs.List.{slice_get}
 use Rattle.std.specs.Option.{option_map}
 use Rattle.std.proofs.Math.ListN.{length-set, length-replicate}
 use Rattle.std.proofs.lemmas.Nat.{div-mul-add, mod-mul-add}
-use Rattle.std.proofs.lemmas.Option.{slice_get_within}
+use Rattle.std.proofs.lemmas.Option.{slice_get_within, same_Some}
+use Rattle.std.proofs.lemmas.Bool.{cases_eq}
 use Rattle.layout.specs.declared.shape.Layout.{Layout}
 use Rattle.layout.specs.Objects.{size_of}
 use Rattle.model.specs.declared.records.Page.{Page}
@@ -17,14 +20,15 @@ use Rattle.model.specs.Owning.{IsStore, LiesIn}
 use Rattle.model.specs.Heaps.{HeapState, ThreadState, register_of, buffer_in, changed, put_bit, fresh_object}
 use Rattle.model.specs.Outcome.{placed, handed, used_buffer, has_crossed, is_parked_in}
 use Rattle.model.proofs.Lists.{get_within, each_changed}
-use Rattle.model.proofs.Memory.{some_in, open_state, words_sized, memory_words, page_there}
+use Rattle.model.proofs.Memory.{open_state, words_sized, memory_words, page_there, length_overlaid}
 use Rattle.laws.specs.AddressHeap.{HeapObject, Word, Null, SideEntry, NoEntry, Planned, Copied, put}
 use Rattle.laws.specs.Invariant.{SoundObjects}
 use Rattle.laws.specs.Edits.{born}
-use Rattle.laws.proofs.Basics.{put_all, put_after, put_same, put_other, same_or_not}
+use Rattle.laws.proofs.Basics.{put_all, put_after, put_same, put_other}
 use Rattle.refinement.specs.Worlds.{world_of, object_at, bit_at, barrier_in}
-use Rattle.refinement.specs.Claims.{IsLaid, AreRows, AreApart, Claim, OfObject, OfBuffer, OfPlan, OfEnd, Extent, extent, object_size, size_at, sized_extent, planned_extent, buffer_extent}
-use Rattle.refinement.proofs.Runs.{Agree, overlaid_before, overlaid_behind, length_overlaid}
+use Rattle.refinement.specs.Claims.{IsLaid, AreRows, AreApart, Claim, OfObject, OfBuffer, OfPlan, OfEnd, Extent}
+use Rattle.refinement.specs.Claims.{extent, object_size, size_at, sized_extent, planned_extent, buffer_extent}
+use Rattle.refinement.proofs.Runs.{Agree, overlaid_before, overlaid_behind}
 use Rattle.refinement.proofs.Reading.{IsRead, read_fits, read_fresh, new_object}
 use Rattle.refinement.proofs.Objects.{Rewrites, there, rewritten}
 use Rattle.refinement.proofs.Changes.{get_changed, kept_of, rows_changed, length_put, bit_put}
@@ -32,9 +36,11 @@ use Rattle.refinement.proofs.Claims.{object_extent, Splits, split_apart}
 use Rattle.refinement.proofs.Registers.{register_changed}
 
 -- a buffer's page is open
-pub open_at : (h : HeapState) (b : Buffer) → LiesIn h.store b → b.next < h.store.words → (world_of h).page_state (b.page * h.store.words + b.next) ≡ Open
+pub open_at : (h : HeapState) (b : Buffer) → LiesIn h.store b → b.next < h.store.words
+    → (world_of h).page_state (b.page * h.store.words + b.next) ≡ Open
 unfolding state_at
-open_at h b lies low = ap (state_at h.store) (div-mul-add b.page h.store.words b.next low) ∙ open_state (state_in (page_at h.store b.page)) lies.page
+open_at h b lies low = ap (state_at h.store) (div-mul-add b.page h.store.words b.next low)
+    ∙ open_state (state_in (page_at h.store b.page)) lies.page
 
 -- what holds where an object is made in a buffer
 pub record MayPlace (h : HeapState) (t target number : ℕ) (shape : Layout) (b : Buffer) (x : ThreadState) : Type 0 where
@@ -47,7 +53,8 @@ pub record MayPlace (h : HeapState) (t target number : ℕ) (shape : Layout) (b 
   pub births : h.births < 2 ^ 32
   pub unplanned : (m : ℕ) → (world_of h).side_entry (b.page * h.store.words + b.next) ≢ Planned m
 
-module _ (h : HeapState) (s : IsStore h.store) (l : IsLaid h) (t target number : ℕ) (shape : Layout) (b : Buffer) (x : ThreadState) (m : MayPlace h t target number shape b x) where
+module _ (h : HeapState) (s : IsStore h.store) (l : IsLaid h) (t target number : ℕ) (shape : Layout) (b : Buffer)
+    (x : ThreadState) (m : MayPlace h t target number shape b x) where
   -- the address of the new object
   abbrev pub address : ℕ
   address = b.page * h.store.words + b.next
@@ -86,30 +93,37 @@ module _ (h : HeapState) (s : IsStore h.store) (l : IsLaid h) (t target number :
   record_there : (p : Page) × (b.page ≡ b.page - 1 + 1) × (slice_get h.store.pages (b.page - 1) ≡ Some p)
   record_there = by_page (page_at h.store b.page) refl m.lies.page
     where
-      by_page : (o : Option Page) → page_at h.store b.page ≡ o → is_open (state_in o) ≡ true → (p : Page) × (b.page ≡ b.page - 1 + 1) × (slice_get h.store.pages (b.page - 1) ≡ Some p)
+      by_page : (o : Option Page) → page_at h.store b.page ≡ o → is_open (state_in o) ≡ true
+          → (p : Page) × (b.page ≡ b.page - 1 + 1) × (slice_get h.store.pages (b.page - 1) ≡ Some p)
       by_page None e k = absurd (cc)
       by_page (Some p) e k = let (f, g) = page_there h.store b.page p e in (p, f, g)
 
   page_is : address / h.store.words ≡ suc (b.page - 1)
   page_is = omega (arith, address_page, record_there.1)
 
-  row : (rows : List (List Bool)) → AreRows h.store rows → (r : List Bool) × (slice_get rows (b.page - 1) ≡ Some r) × (b.next < length r)
+  row : (rows : List (List Bool)) → AreRows h.store rows
+      → (r : List Bool) × (slice_get rows (b.page - 1) ≡ Some r) × (b.next < length r)
   row rows r =
       let within = slice_get_within h.store.pages (b.page - 1) record_there.0 record_there.2 in
       let (y, e) = get_within rows (b.page - 1) (omega (arith, within, r.pages)) in
       (y, e, omega (arith, next_in, r.words (b.page - 1) y e))
 
-  put_at_address : (rows : List (List Bool)) → AreRows h.store rows → (bit : Bool) (y : ℕ) → bit_at (changed rows (b.page - 1) (put_bit b.next bit)) h.store.words y ≡ put (bit_at rows h.store.words) address bit y
+  put_at_address : (rows : List (List Bool)) → AreRows h.store rows → (bit : Bool) (y : ℕ) → bit_at
+      (changed rows (b.page - 1) (put_bit b.next bit)) h.store.words y ≡ put (bit_at rows h.store.words) address bit y
   put_at_address rows r bit y =
       let (z, e, k) = row rows r in
-      subst (λ o. bit_at (changed rows (b.page - 1) (put_bit o bit)) h.store.words y ≡ put (bit_at rows h.store.words) address bit y) address_offset (bit_put h.store.words rows (b.page - 1) address bit z page_is e (omega (arith, k, address_offset)) y)
+      subst (λ o. bit_at (changed rows (b.page - 1) (put_bit o bit)) h.store.words y ≡ put
+      (bit_at rows h.store.words) address bit y) address_offset
+      (bit_put h.store.words rows (b.page - 1) address bit z page_is e (omega (arith, k, address_offset)) y)
 
   buffer_had : extent h (OfBuffer t) ≡ Some (buffer_extent h.store.words b)
-  buffer_had = ap (λ o. option_map (buffer_extent h.store.words) (buffer_in o)) m.thread ∙ ap (option_map (buffer_extent h.store.words)) m.buffer
+  buffer_had = ap (λ o. option_map (buffer_extent h.store.words) (buffer_in o)) m.thread
+      ∙ ap (option_map (buffer_extent h.store.words)) m.buffer
 
   -- what another claim has is apart from the buffer
   clear : (c : Claim) (y : Extent) → c ≢ OfBuffer t → extent h c ≡ Some y → AreApart y (buffer_extent h.store.words b)
-  clear c y d e = elim (l.apart c (OfBuffer t) y (buffer_extent h.store.words b) e buffer_had) [ inl k ↦ absurd (d k) | inr k ↦ k ]
+  clear c y d e =
+      elim (l.apart c (OfBuffer t) y (buffer_extent h.store.words b) e buffer_had) [ inl k ↦ absurd (d k) | inr k ↦ k ]
 
   -- no object stands there yet
   pub place_free : object_at h address ≡ None
@@ -117,14 +131,21 @@ module _ (h : HeapState) (s : IsStore h.store) (l : IsLaid h) (t target number :
     where
       by_object : (o : Option HeapObject) → object_at h address ≡ o → o ≡ None
       by_object None e = refl
-      by_object (Some q) e = absurd (elim (clear (OfObject address) _ (λ k. cc) (object_extent h address q e)) [ inl k ↦ omega (arith, k) | inr k ↦ omega (arith, k, m.room) ])
+      by_object (Some q) e = absurd (elim (clear (OfObject address) _ (λ k. cc) (object_extent h address q e)) [
+        | inl k ↦ omega (arith, k)
+        | inr k ↦ omega (arith, k, m.room)
+      ])
 
   -- and none will be copied there
   pub unplanned_place : SoundObjects (world_of h) → (y : ℕ) → (world_of h).side_entry y ≢ Planned address
   unplanned_place o y e =
       let (q, is) = o.planned_object y address e in
-      let had : extent h (OfPlan y) ≡ Some (sized_extent address (object_size q)) = ap₂ planned_extent e (ap (option_map object_size) is) in
-      elim (clear (OfPlan y) _ (λ k. cc) had) [ inl k ↦ absurd (omega (arith, k)) | inr k ↦ absurd (omega (arith, k, m.room)) ]
+      let had : extent h (OfPlan y) ≡ Some (sized_extent address (object_size q)) =
+      ap₂ planned_extent e (ap (option_map object_size) is) in
+      elim (clear (OfPlan y) _ (λ k. cc) had) [
+        | inl k ↦ absurd (omega (arith, k))
+        | inr k ↦ absurd (omega (arith, k, m.room))
+      ]
 
   abbrev change : List ℕ → List ℕ
   change words = overlaid words b.next (fresh_object h.births number shape)
@@ -142,9 +163,11 @@ module _ (h : HeapState) (s : IsStore h.store) (l : IsLaid h) (t target number :
   fits = omega (arith, long, size, m.room, m.lies.end, m.lies.order)
 
   read : IsRead h.config.layouts (change ws.0) (address % h.store.words) fresh
-  read = subst (λ o. IsRead h.config.layouts (change ws.0) o fresh) (sym address_offset) (read_fresh h.config.layouts ws.0 b.next h.births number shape m.known m.births (omega (arith, long, fits)))
+  read = subst (λ o. IsRead h.config.layouts (change ws.0) o fresh) (sym address_offset)
+      (read_fresh h.config.layouts ws.0 b.next h.births number shape m.known m.births (omega (arith, long, fits)))
 
-  agree : (y : ℕ) (o : HeapObject) → y ≢ address → y / h.store.words ≡ b.page → object_at h y ≡ Some o → Agree (change ws.0) ws.0 (y % h.store.words) (y % h.store.words + object_size o)
+  agree : (y : ℕ) (o : HeapObject) → y ≢ address → y / h.store.words ≡ b.page → object_at h y ≡ Some o
+      → Agree (change ws.0) ws.0 (y % h.store.words) (y % h.store.words + object_size o)
   agree y o d p e = go (clear (OfObject y) _ (λ k. cc) (object_extent h y o e))
     where
       base : y / h.store.words * h.store.words ≡ b.page * h.store.words
@@ -153,12 +176,16 @@ module _ (h : HeapState) (s : IsStore h.store) (l : IsLaid h) (t target number :
       end : y % h.store.words + object_size o ≤ length ws.0
       end =
           let r = there h y o e in
-          let same : r.words ≡ ws.0 = some_in (sym r.page ∙ ap (words_at h.store) p ∙ ws.1) in
-          subst (λ v. y % h.store.words + object_size o ≤ length v) same (read_fits h.config.layouts r.words (y % h.store.words) o r.read)
+          let same : r.words ≡ ws.0 = same_Some _ _ (sym r.page ∙ ap (words_at h.store) p ∙ ws.1) in
+          subst (λ v. y % h.store.words + object_size o ≤ length v) same
+          (read_fits h.config.layouts r.words (y % h.store.words) o r.read)
 
-      go : AreApart (record { from = y; upto = y + object_size o }) (buffer_extent h.store.words b) → Agree (change ws.0) ws.0 (y % h.store.words) (y % h.store.words + object_size o)
-      go (inl k) i low high = overlaid_before ws.0 (fresh_object h.births number shape) b.next i fits (omega (arith, k, base, div-add-mod' y h.store.words, high))
-      go (inr k) i low high = overlaid_behind ws.0 (fresh_object h.births number shape) b.next i fits (omega (arith, k, base, div-add-mod' y h.store.words, low, long, m.room)) (omega (arith, high, end))
+      go : AreApart (record { from = y; upto = y + object_size o }) (buffer_extent h.store.words b)
+          → Agree (change ws.0) ws.0 (y % h.store.words) (y % h.store.words + object_size o)
+      go (inl k) i low high = overlaid_before ws.0 (fresh_object h.births number shape) b.next i fits
+          (omega (arith, k, base, div-add-mod' y h.store.words, high))
+      go (inr k) i low high = overlaid_behind ws.0 (fresh_object h.births number shape) b.next i fits
+          (omega (arith, k, base, div-add-mod' y h.store.words, low, long, m.room)) (omega (arith, high, end))
 
   abbrev starts : List (List Bool)
   starts = changed h.starts (b.page - 1) (put_bit b.next true)
@@ -167,7 +194,7 @@ module _ (h : HeapState) (s : IsStore h.store) (l : IsLaid h) (t target number :
   rewrites = record {
     words = ws.0;
     before = ws.1;
-    sized = length_overlaid ws.0 (fresh_object h.births number shape) b.next fits;
+    sized = length_overlaid ws.0 b.next (fresh_object h.births number shape);
     on_page = address_page;
     bit = put_at_address h.starts l.starts true address ∙ put_same (bit_at h.starts h.store.words) address true;
     read = read;
@@ -186,12 +213,16 @@ module _ (h : HeapState) (s : IsStore h.store) (l : IsLaid h) (t target number :
   born_world = λ z. record (world_of h) {
     object_at = fun_ext born_objects z;
     births = one h.births z;
-    register = fun_ext (λ u. fun_ext (register_changed h.threads t target (Some (address, h.nmt)) (handed target (Some (address, h.nmt)) (used_buffer b (size_of shape))) x m.thread m.register refl u)) z;
+    register = fun_ext (λ u. fun_ext (register_changed h.threads t target (Some (address, h.nmt))
+        (handed target (Some (address, h.nmt)) (used_buffer b (size_of shape))) x m.thread m.register refl u)) z;
     marked = fun_ext (put_at_address h.mark l.mark (is_marking h.phase)) z;
     todo = fun_ext (put_at_address h.todo l.todo (is_mark_crossing h.phase)) z;
-    crossed = fun_ext (kept_of has_crossed h.threads t (handed target (Some (address, h.nmt)) (used_buffer b (size_of shape))) (λ y. refl)) z;
-    parked = fun_ext (kept_of is_parked_in h.threads t (handed target (Some (address, h.nmt)) (used_buffer b (size_of shape))) (λ y. refl)) z;
-    barrier = fun_ext (kept_of barrier_in h.threads t (handed target (Some (address, h.nmt)) (used_buffer b (size_of shape))) (λ y. refl)) z;
+    crossed = fun_ext (kept_of has_crossed h.threads t
+        (handed target (Some (address, h.nmt)) (used_buffer b (size_of shape))) (λ y. refl)) z;
+    parked = fun_ext (kept_of is_parked_in h.threads t
+        (handed target (Some (address, h.nmt)) (used_buffer b (size_of shape))) (λ y. refl)) z;
+    barrier = fun_ext (kept_of barrier_in h.threads t
+        (handed target (Some (address, h.nmt)) (used_buffer b (size_of shape))) (λ y. refl)) z;
   }
     where
       one : (n : ℕ) → n + 1 ≡ suc n
@@ -208,14 +239,20 @@ module _ (h : HeapState) (s : IsStore h.store) (l : IsLaid h) (t target number :
   sizes_other y d = ap (option_map object_size) (born_objects y ∙ put_other (object_at h) address (Some fresh) y d)
 
   size_here : size_at after address ≡ Some (size_of shape)
-  size_here = ap (option_map object_size) (born_objects address ∙ put_same (object_at h) address (Some fresh)) ∙ ap Some fresh_size
+  size_here = ap (option_map object_size) (born_objects address ∙ put_same (object_at h) address (Some fresh))
+      ∙ ap Some fresh_size
 
-  buffers : (u : ℕ) → extent after (OfBuffer u) ≡ put (λ v. extent h (OfBuffer v)) t (Some (buffer_extent h.store.words rest)) u
+  buffers : (u : ℕ)
+      → extent after (OfBuffer u) ≡ put (λ v. extent h (OfBuffer v)) t (Some (buffer_extent h.store.words rest)) u
   unfolding placed with_words
   buffers u = ap (λ o. option_map (buffer_extent h.store.words) (buffer_in o)) (get_changed h.threads t change_thread u)
-      ∙ put_all (λ v y. option_map (buffer_extent h.store.words) (buffer_in (put (slice_get h.threads) t (option_map change_thread (slice_get h.threads t)) v)) ≡ y) (λ v. extent h (OfBuffer v)) t (Some (buffer_extent h.store.words rest))
-      (ap (λ o. option_map (buffer_extent h.store.words) (buffer_in o)) (put_same (slice_get h.threads) t (option_map change_thread (slice_get h.threads t)) ∙ ap (option_map change_thread) m.thread))
-      (λ v d. ap (λ o. option_map (buffer_extent h.store.words) (buffer_in o)) (put_other (slice_get h.threads) t (option_map change_thread (slice_get h.threads t)) v d)) u
+      ∙ put_all (λ v y. option_map (buffer_extent h.store.words)
+      (buffer_in (put (slice_get h.threads) t (option_map change_thread (slice_get h.threads t)) v)) ≡ y)
+      (λ v. extent h (OfBuffer v)) t (Some (buffer_extent h.store.words rest))
+      (ap (λ o. option_map (buffer_extent h.store.words) (buffer_in o)) (put_same (slice_get h.threads) t
+      (option_map change_thread (slice_get h.threads t)) ∙ ap (option_map change_thread) m.thread))
+      (λ v d. ap (λ o. option_map (buffer_extent h.store.words) (buffer_in o))
+      (put_other (slice_get h.threads) t (option_map change_thread (slice_get h.threads t)) v d)) u
     where
       change_thread : ThreadState → ThreadState
       change_thread = handed target (Some (address, h.nmt)) rest
@@ -223,27 +260,33 @@ module _ (h : HeapState) (s : IsStore h.store) (l : IsLaid h) (t target number :
   plan_of : SideEntry → Option ℕ → Option Extent
   plan_of = planned_extent
 
-  unplanned_extent : (e : SideEntry) (o p : Option ℕ) → ((n : ℕ) → e ≢ Planned n) → planned_extent e o ≡ planned_extent e p
+  unplanned_extent : (e : SideEntry) (o p : Option ℕ) → ((n : ℕ) → e ≢ Planned n)
+      → planned_extent e o ≡ planned_extent e p
   unplanned_extent NoEntry o p d = refl
   unplanned_extent (Copied n) o p d = refl
   unplanned_extent (Planned n) o p d = absurd (d n refl)
 
   others : (c : Claim) → (c ≡ OfBuffer t) ⊎ (c ≡ OfObject address) ⊎ (extent after c ≡ extent h c)
   unfolding placed with_words page_at
-  others (OfObject y) = go (same_or_not y address)
+  others (OfObject y) = go (cases_eq y address)
     where
-      go : (y ≡ address) ⊎ (y ≢ address) → (OfObject y ≡ OfBuffer t) ⊎ (OfObject y ≡ OfObject address) ⊎ (extent after (OfObject y) ≡ extent h (OfObject y))
+      go : (y ≡ address) ⊎ (y ≢ address) → (OfObject y ≡ OfBuffer t) ⊎ (OfObject y ≡ OfObject address)
+          ⊎ (extent after (OfObject y) ≡ extent h (OfObject y))
       go (inl k) = inr (inl (ap OfObject k))
       go (inr k) = inr (inr (ap (option_map (sized_extent y)) (sizes_other y k)))
-  others (OfBuffer u) = go (same_or_not u t)
+  others (OfBuffer u) = go (cases_eq u t)
     where
-      go : (u ≡ t) ⊎ (u ≢ t) → (OfBuffer u ≡ OfBuffer t) ⊎ (OfBuffer u ≡ OfObject address) ⊎ (extent after (OfBuffer u) ≡ extent h (OfBuffer u))
+      go : (u ≡ t) ⊎ (u ≢ t) → (OfBuffer u ≡ OfBuffer t) ⊎ (OfBuffer u ≡ OfObject address)
+          ⊎ (extent after (OfBuffer u) ≡ extent h (OfBuffer u))
       go (inl k) = inl (ap OfBuffer k)
-      go (inr k) = inr (inr (buffers u ∙ put_other (λ v. extent h (OfBuffer v)) t (Some (buffer_extent h.store.words rest)) u k))
-  others (OfPlan y) = go (same_or_not y address)
+      go (inr k) = inr
+          (inr (buffers u ∙ put_other (λ v. extent h (OfBuffer v)) t (Some (buffer_extent h.store.words rest)) u k))
+  others (OfPlan y) = go (cases_eq y address)
     where
-      go : (y ≡ address) ⊎ (y ≢ address) → (OfPlan y ≡ OfBuffer t) ⊎ (OfPlan y ≡ OfObject address) ⊎ (extent after (OfPlan y) ≡ extent h (OfPlan y))
-      go (inl k) = inr (inr (unplanned_extent ((world_of h).side_entry y) (size_at after y) (size_at h y) (λ n e. m.unplanned n (ap (world_of h).side_entry (sym k) ∙ e))))
+      go : (y ≡ address) ⊎ (y ≢ address)
+          → (OfPlan y ≡ OfBuffer t) ⊎ (OfPlan y ≡ OfObject address) ⊎ (extent after (OfPlan y) ≡ extent h (OfPlan y))
+      go (inl k) = inr (inr (unplanned_extent ((world_of h).side_entry y) (size_at after y) (size_at h y)
+          (λ n e. m.unplanned n (ap (world_of h).side_entry (sym k) ∙ e))))
       go (inr k) = inr (inr (ap (planned_extent ((world_of h).side_entry y)) (sizes_other y k)))
   others (OfEnd n) = inr (inr refl)
 
@@ -253,42 +296,57 @@ module _ (h : HeapState) (s : IsStore h.store) (l : IsLaid h) (t target number :
     had = buffer_had;
     new = ap (λ o. option_map (sized_extent address) (option_map object_size o)) place_free;
     rest = λ y e. let k = left y e in record { from = omega (arith, k.0, m.room); upto = omega (arith, k.1) };
-    part = λ y e. let k = part y e in record { from = omega (arith, k.0); upto = omega (arith, k.1, m.room, m.lies.order) };
+    part = λ y e. let k = part y e in
+        record { from = omega (arith, k.0); upto = omega (arith, k.1, m.room, m.lies.order) };
     apart = λ y z e f. inr (let k = left y e in let g = part z f in omega (arith, k.0, g.1));
     others = others;
   }
     where
-      left : (y : Extent) → extent after (OfBuffer t) ≡ Some y → (y.from ≡ b.page * h.store.words + (b.next + size_of shape)) × (y.upto ≡ b.page * h.store.words + b.end)
+      left : (y : Extent) → extent after (OfBuffer t) ≡ Some y
+          → (y.from ≡ b.page * h.store.words + (b.next + size_of shape)) × (y.upto ≡ b.page * h.store.words + b.end)
       left y e =
-          let k : buffer_extent h.store.words rest ≡ y = some_in (sym (buffers t ∙ put_same (λ v. extent h (OfBuffer v)) t (Some (buffer_extent h.store.words rest))) ∙ e) in
+          let k : buffer_extent h.store.words rest ≡ y = same_Some _ _ (sym
+          (buffers t ∙ put_same (λ v. extent h (OfBuffer v)) t (Some (buffer_extent h.store.words rest))) ∙ e) in
           (sym (ap (λ (z : Extent). z.from) k), sym (ap (λ (z : Extent). z.upto) k))
 
-      part : (y : Extent) → extent after (OfObject address) ≡ Some y → (y.from ≡ address) × (y.upto ≡ address + size_of shape)
+      part : (y : Extent) → extent after (OfObject address) ≡ Some y
+          → (y.from ≡ address) × (y.upto ≡ address + size_of shape)
       part y e =
-          let k : sized_extent address (size_of shape) ≡ y = some_in (sym (ap (option_map (sized_extent address)) size_here) ∙ e) in
+          let k : sized_extent address (size_of shape) ≡ y =
+          same_Some _ _ (sym (ap (option_map (sized_extent address)) size_here) ∙ e) in
           (sym (ap (λ (z : Extent). z.from) k), sym (ap (λ (z : Extent). z.upto) k))
 
-  objects : (y : ℕ) → bit_at starts h.store.words y ≡ true → has_memory (state_at h.store (y / h.store.words)) ≡ true → (o : HeapObject) × (object_at after y ≡ Some o)
-  objects y e k = go (same_or_not y address)
+  objects : (y : ℕ) → bit_at starts h.store.words y ≡ true → has_memory (state_at h.store (y / h.store.words)) ≡ true
+      → (o : HeapObject) × (object_at after y ≡ Some o)
+  objects y e k = go (cases_eq y address)
     where
       go : (y ≡ address) ⊎ (y ≢ address) → (o : HeapObject) × (object_at after y ≡ Some o)
-      go (inl d) = (fresh, born_objects y ∙ ap (put (object_at h) address (Some fresh)) d ∙ put_same (object_at h) address (Some fresh))
+      go (inl d) = (
+        fresh,
+        born_objects y ∙ ap (put (object_at h) address (Some fresh)) d ∙ put_same (object_at h) address (Some fresh),
+      )
       go (inr d) =
-          let (o, is) = l.objects y (sym (put_at_address h.starts l.starts true y ∙ put_other (bit_at h.starts h.store.words) address true y d) ∙ e) k in
+          let (o, is) = l.objects y (sym (put_at_address h.starts l.starts true y
+          ∙ put_other (bit_at h.starts h.store.words) address true y d) ∙ e) k in
           (o, born_objects y ∙ put_other (object_at h) address (Some fresh) y d ∙ is)
 
   -- an object that was there stays
   stays : (y : ℕ) (o : HeapObject) → object_at h y ≡ Some o → (q : HeapObject) × (object_at after y ≡ Some q)
-  stays y o is = go (same_or_not y address)
+  stays y o is = go (cases_eq y address)
     where
       go : (y ≡ address) ⊎ (y ≢ address) → (q : HeapObject) × (object_at after y ≡ Some q)
-      go (inl e) = (fresh, born_objects y ∙ ap (put (object_at h) address (Some fresh)) e ∙ put_same (object_at h) address (Some fresh))
+      go (inl e) = (
+        fresh,
+        born_objects y ∙ ap (put (object_at h) address (Some fresh)) e ∙ put_same (object_at h) address (Some fresh),
+      )
       go (inr e) = (o, born_objects y ∙ put_other (object_at h) address (Some fresh) y e ∙ is)
 
-  planned : (y n : ℕ) (o : HeapObject) → (world_of h).side_entry y ≡ Planned n → put (object_at h) address (Some fresh) y ≡ Some o → n % h.store.words + object_size o ≤ h.store.words
+  planned : (y n : ℕ) (o : HeapObject) → (world_of h).side_entry y ≡ Planned n
+      → put (object_at h) address (Some fresh) y ≡ Some o → n % h.store.words + object_size o ≤ h.store.words
   planned y n o k f = go (put_after (object_at h) address (Some fresh) y (Some o) f)
     where
-      go : ((y ≡ address) × (Some fresh ≡ Some o)) ⊎ ((y ≢ address) × (object_at h y ≡ Some o)) → n % h.store.words + object_size o ≤ h.store.words
+      go : ((y ≡ address) × (Some fresh ≡ Some o)) ⊎ ((y ≢ address) × (object_at h y ≡ Some o))
+          → n % h.store.words + object_size o ≤ h.store.words
       go (inl d) = absurd (m.unplanned n (ap (world_of h).side_entry (sym d.0) ∙ k))
       go (inr d) = l.planned y n o k d.1
 
@@ -301,7 +359,9 @@ module _ (h : HeapState) (s : IsStore h.store) (l : IsLaid h) (t target number :
     mark = rows h.mark l.mark (is_marking h.phase);
     todo = rows h.todo l.todo (is_mark_crossing h.phase);
     sides = record { pages = l.sides.pages; rising = l.sides.rising };
-    registers = each_changed (λ y. length y.registers ≡ h.config.registers) h.threads t (handed target (Some (address, h.nmt)) rest) l.registers (λ y e. length-set y.registers target (Some (address, h.nmt)) ∙ e);
+    registers = each_changed (λ y. length y.registers ≡ h.config.registers) h.threads t
+        (handed target (Some (address, h.nmt)) rest) l.registers
+        (λ y e. length-set y.registers target (Some (address, h.nmt)) ∙ e);
     objects = objects;
     apart = split_apart (extent h) (extent after) l.apart (OfBuffer t) (OfObject address) splits;
     planned = λ y n o k f. planned y n o k (sym (born_objects y) ∙ f);
@@ -309,5 +369,7 @@ module _ (h : HeapState) (s : IsStore h.store) (l : IsLaid h) (t target number :
     unused = l.unused;
   }
     where
-      rows : (xs : List (List Bool)) → AreRows h.store xs → (bit : Bool) → AreRows after.store (changed xs (b.page - 1) (put_bit b.next bit))
-      rows xs r bit = let k = rows_changed h.store xs (b.page - 1) (put_bit b.next bit) r (length_put b.next bit) in record { pages = k.pages; words = k.words }
+      rows : (xs : List (List Bool)) → AreRows h.store xs → (bit : Bool)
+          → AreRows after.store (changed xs (b.page - 1) (put_bit b.next bit))
+      rows xs r bit = let k = rows_changed h.store xs (b.page - 1) (put_bit b.next bit) r (length_put b.next bit) in
+          record { pages = k.pages; words = k.words }

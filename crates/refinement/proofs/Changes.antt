@@ -1,38 +1,49 @@
 -- One element of a list is changed: threads, and the bits of rows.
-use Rattle.std.proofs.Common.{◌≡◌, ◌≢◌, ◌⊎◌, inl, inr, ℕ, zero, suc, ◌+◌, ◌*◌, ◌/◌, ◌%◌, ◌<◌, ◌≤◌, Bool, false, List, [], ◌∷◌, length, get_or, set, replicate, Option, Some, None, refl, sym, ◌∙◌, ap, ap₂, arith, div-add-mod'}
+use Rattle.std.proofs.Common.{◌≡◌, ◌≢◌, ◌⊎◌, inl, inr, ℕ, zero, suc, ◌+◌, ◌*◌, ◌/◌, ◌%◌, ◌<◌}
+use Rattle.std.proofs.Common.{◌≤◌, Bool, false, List, [], ◌∷◌, length, get_or, set, replicate}
+use Rattle.std.proofs.Common.{Option, Some, None, refl, sym, ◌∙◌, ap, ap₂, arith, div-add-mod'}
 use Rattle.std.specs.List.{slice_get}
 use Rattle.std.specs.Option.{option_map}
 use Rattle.std.proofs.lemmas.Option.{get_or_from_slice_get}
 use Rattle.std.proofs.lemmas.List.{get_or_past}
 use Rattle.std.proofs.Math.ListN.{length-set, length-replicate}
+use Rattle.std.proofs.lemmas.Bool.{cases_eq}
 use Rattle.model.specs.Stores.{StoreState}
-use Rattle.model.specs.Owning.{Each}
 use Rattle.model.specs.Heaps.{changed, changed_at, blank_row, put_bit}
-use Rattle.model.proofs.Lists.{get_set_same, get_set_other, each_set, get_within, each_changed}
+use Rattle.model.proofs.Lists.{get_set_same, get_set_other, get_within, each_changed}
 use Rattle.laws.specs.AddressHeap.{put}
-use Rattle.laws.proofs.Basics.{put_all, put_same, put_other, put_id, same_or_not}
+use Rattle.laws.proofs.Basics.{put_all, put_same, put_other, put_id}
 use Rattle.refinement.specs.Worlds.{of_page, bit_at}
 use Rattle.refinement.specs.Claims.{AreRows}
 
 -- what is read of a list with one element changed
-pub get_changed : {X : Type 0} (xs : List X) (t : ℕ) (f : X → X) (u : ℕ) → slice_get (changed xs t f) u ≡ put (slice_get xs) t (option_map f (slice_get xs t)) u
+pub get_changed : {X : Type 0} (xs : List X) (t : ℕ) (f : X → X) (u : ℕ)
+    → slice_get (changed xs t f) u ≡ put (slice_get xs) t (option_map f (slice_get xs t)) u
 get_changed {X} xs t f u = go (slice_get xs t) refl
   where
-    go : (o : Option X) → slice_get xs t ≡ o → slice_get (changed_at xs t o f) u ≡ put (slice_get xs) t (option_map f o) u
+    go : (o : Option X) → slice_get xs t ≡ o
+        → slice_get (changed_at xs t o f) u ≡ put (slice_get xs) t (option_map f o) u
     go None e = sym (ap (λ g. g u) (put_id (slice_get xs) t None e))
-    go (Some x) e = put_all (λ v y. slice_get (set xs t (f x)) v ≡ y) (slice_get xs) t (Some (f x)) (get_set_same xs t x (f x) e) (λ v d. get_set_other xs t v (f x) d) u
+    go (Some x) e = put_all (λ v y. slice_get (set xs t (f x)) v ≡ y) (slice_get xs) t (Some (f x))
+        (get_set_same xs t x (f x) e) (λ v d. get_set_other xs t v (f x) d) u
 
 -- what a change leaves of every element
-pub kept_of : {X B : Type 0} (P : Option X → B) (xs : List X) (t : ℕ) (f : X → X) → ((x : X) → P (Some (f x)) ≡ P (Some x)) → (u : ℕ) → P (slice_get (changed xs t f) u) ≡ P (slice_get xs u)
-kept_of {X} P xs t f h u = ap P (get_changed xs t f u) ∙ put_all (λ v y. P y ≡ P (slice_get xs v)) (slice_get xs) t (option_map f (slice_get xs t)) (here (slice_get xs t)) (λ v d. refl) u
+pub kept_of : {X B : Type 0} (P : Option X → B) (xs : List X) (t : ℕ) (f : X → X)
+    → ((x : X) → P (Some (f x)) ≡ P (Some x)) → (u : ℕ) → P (slice_get (changed xs t f) u) ≡ P (slice_get xs u)
+kept_of {X} P xs t f h u = ap P (get_changed xs t f u) ∙ put_all (λ v y. P y ≡ P (slice_get xs v)) (slice_get xs) t
+    (option_map f (slice_get xs t)) (here (slice_get xs t)) (λ v d. refl) u
   where
     here : (o : Option X) → P (option_map f o) ≡ P o
     here None = refl
     here (Some x) = h x
 
 -- what is read of the changed element, and of the others
-pub read_changed : {X B : Type 0} (P : Option X → B) (xs : List X) (t : ℕ) (f : X → X) (x : X) (v : B) → slice_get xs t ≡ Some x → P (Some (f x)) ≡ v → (u : ℕ) → P (slice_get (changed xs t f) u) ≡ put (λ w. P (slice_get xs w)) t v u
-read_changed {X} P xs t f x v e k u = ap P (get_changed xs t f u) ∙ put_all (λ w y. P (put (slice_get xs) t now w) ≡ y) (λ w. P (slice_get xs w)) t v (ap P (put_same (slice_get xs) t now ∙ ap (option_map f) e) ∙ k) (λ w d. ap P (put_other (slice_get xs) t now w d)) u
+pub read_changed : {X B : Type 0} (P : Option X → B) (xs : List X) (t : ℕ) (f : X → X) (x : X) (v : B)
+    → slice_get xs t ≡ Some x → P (Some (f x)) ≡ v → (u : ℕ)
+    → P (slice_get (changed xs t f) u) ≡ put (λ w. P (slice_get xs w)) t v u
+read_changed {X} P xs t f x v e k u = ap P (get_changed xs t f u) ∙ put_all (λ w y. P (put (slice_get xs) t now w) ≡ y)
+    (λ w. P (slice_get xs w)) t v (ap P (put_same (slice_get xs) t now ∙ ap (option_map f) e) ∙ k)
+    (λ w d. ap P (put_other (slice_get xs) t now w d)) u
   where
     now : Option X
     now = option_map f (slice_get xs t)
@@ -46,7 +57,8 @@ length_changed {X} xs t f = go (slice_get xs t)
 
 -- rows
 
-pub rows_changed : (s : StoreState) (rows : List (List Bool)) (i : ℕ) (f : List Bool → List Bool) → AreRows s rows → ((row : List Bool) → length (f row) ≡ length row) → AreRows s (changed rows i f)
+pub rows_changed : (s : StoreState) (rows : List (List Bool)) (i : ℕ) (f : List Bool → List Bool) → AreRows s rows
+    → ((row : List Bool) → length (f row) ≡ length row) → AreRows s (changed rows i f)
 rows_changed s rows i f r h = record {
   pages = length_changed rows i f ∙ r.pages;
   words = each_changed (λ row. length row ≡ s.words) rows i f r.words (λ row e. h row ∙ e);
@@ -63,20 +75,25 @@ row_read (x ∷ xs) zero = refl
 row_read (x ∷ xs) (suc i) = row_read xs i
 
 -- the rows of the pages with the row of one changed
-pub page_changed : (rows : List (List Bool)) (i : ℕ) (f : List Bool → List Bool) (row : List Bool) → slice_get rows i ≡ Some row → (m : ℕ) → of_page (changed rows i f) m ≡ put (of_page rows) (suc i) (f row) m
-page_changed rows i f row e = put_all (λ m y. of_page (changed rows i f) m ≡ y) (of_page rows) (suc i) (f row) here elsewhere
+pub page_changed : (rows : List (List Bool)) (i : ℕ) (f : List Bool → List Bool) (row : List Bool)
+    → slice_get rows i ≡ Some row → (m : ℕ) → of_page (changed rows i f) m ≡ put (of_page rows) (suc i) (f row) m
+page_changed rows i f row e =
+    put_all (λ m y. of_page (changed rows i f) m ≡ y) (of_page rows) (suc i) (f row) here elsewhere
   where
     here : get_or (changed rows i f) i [] ≡ f row
-    here = row_read (changed rows i f) i ∙ ap row_of (get_changed rows i f i ∙ put_same (slice_get rows) i (option_map f (slice_get rows i)) ∙ ap (option_map f) e)
+    here = row_read (changed rows i f) i ∙ ap row_of (get_changed rows i f i
+        ∙ put_same (slice_get rows) i (option_map f (slice_get rows i)) ∙ ap (option_map f) e)
 
     elsewhere : (m : ℕ) → m ≢ suc i → of_page (changed rows i f) m ≡ of_page rows m
     elsewhere zero d = refl
-    elsewhere (suc m) d = row_read (changed rows i f) m ∙ ap row_of (get_changed rows i f m ∙ put_other (slice_get rows) i (option_map f (slice_get rows i)) m (λ k. d (ap suc k))) ∙ sym (row_read rows m)
+    elsewhere (suc m) d = row_read (changed rows i f) m ∙ ap row_of (get_changed rows i f m
+        ∙ put_other (slice_get rows) i (option_map f (slice_get rows i)) m (λ k. d (ap suc k))) ∙ sym (row_read rows m)
 
 bit_read : (row : List Bool) (o : ℕ) (b : Bool) → slice_get row o ≡ Some b → get_or row o false ≡ b
 bit_read row o b e = get_or_from_slice_get row o b false e
 
-put_in_row : (row : List Bool) (o : ℕ) (b : Bool) → o < length row → (i : ℕ) → get_or (put_bit o b row) i false ≡ put (λ j. get_or row j false) o b i
+put_in_row : (row : List Bool) (o : ℕ) (b : Bool) → o < length row → (i : ℕ)
+    → get_or (put_bit o b row) i false ≡ put (λ j. get_or row j false) o b i
 put_in_row row o b h = put_all (λ i y. get_or (set row o b) i false ≡ y) (λ j. get_or row j false) o b here elsewhere
   where
     here : get_or (set row o b) o false ≡ b
@@ -86,7 +103,8 @@ put_in_row row o b h = put_all (λ i y. get_or (set row o b) i false ≡ y) (λ 
     elsewhere i d = by_bit (slice_get row i) refl
       where
         by_bit : (x : Option Bool) → slice_get row i ≡ x → get_or (set row o b) i false ≡ get_or row i false
-        by_bit None e = get_or_past (set row o b) i false (ends (set row o b) i (get_set_other row o i b d ∙ e)) ∙ sym (get_or_past row i false (ends row i e))
+        by_bit None e = get_or_past (set row o b) i false (ends (set row o b) i (get_set_other row o i b d ∙ e))
+            ∙ sym (get_or_past row i false (ends row i e))
           where
             ends : (xs : List Bool) (i : ℕ) → slice_get xs i ≡ None → length xs ≤ i
             ends [] i k = omega arith
@@ -105,19 +123,30 @@ length_blank row = length-replicate (length row) false
 pub same_place : (w x a : ℕ) → x / w ≡ a / w → x % w ≡ a % w → x ≡ a
 same_place w x a e f = sym (div-add-mod' x w) ∙ ap₂ (λ q r. q * w + r) e f ∙ div-add-mod' a w
 
-row_there : (rows : List (List Bool)) (i : ℕ) (row : List Bool) → slice_get rows i ≡ Some row → of_page rows (suc i) ≡ row
+row_there : (rows : List (List Bool)) (i : ℕ) (row : List Bool) → slice_get rows i ≡ Some row
+    → of_page rows (suc i) ≡ row
 row_there rows i row e = row_read rows i ∙ ap row_of e
 
 -- a bit is set or cleared
-pub bit_put : (w : ℕ) (rows : List (List Bool)) (i a : ℕ) (b : Bool) (row : List Bool) → a / w ≡ suc i → slice_get rows i ≡ Some row → a % w < length row → (x : ℕ) → bit_at (changed rows i (put_bit (a % w) b)) w x ≡ put (bit_at rows w) a b x
-bit_put w rows i a b row p e h = put_all (λ x y. bit_at (changed rows i (put_bit (a % w) b)) w x ≡ y) (bit_at rows w) a b (on_page a p ∙ put_same (λ j. get_or row j false) (a % w) b) (λ x d. elsewhere x d (same_or_not (x / w) (suc i)))
+pub bit_put : (w : ℕ) (rows : List (List Bool)) (i a : ℕ) (b : Bool) (row : List Bool)
+    → a / w ≡ suc i → slice_get rows i ≡ Some row → a % w < length row → (x : ℕ)
+    → bit_at (changed rows i (put_bit (a % w) b)) w x ≡ put (bit_at rows w) a b x
+bit_put w rows i a b row p e h = put_all (λ x y. bit_at (changed rows i (put_bit (a % w) b)) w x ≡ y) (bit_at rows w) a
+    b (on_page a p ∙ put_same (λ j. get_or row j false) (a % w) b) (λ x d. elsewhere x d (cases_eq (x / w) (suc i)))
   where
-    on_page : (x : ℕ) → x / w ≡ suc i → bit_at (changed rows i (put_bit (a % w) b)) w x ≡ put (λ j. get_or row j false) (a % w) b (x % w)
-    on_page x q = ap (λ r. get_or r (x % w) false) (page_changed rows i (put_bit (a % w) b) row e (x / w) ∙ ap (put (of_page rows) (suc i) (put_bit (a % w) b row)) q ∙ put_same (of_page rows) (suc i) (put_bit (a % w) b row)) ∙ put_in_row row (a % w) b h (x % w)
+    on_page : (x : ℕ) → x / w ≡ suc i
+        → bit_at (changed rows i (put_bit (a % w) b)) w x ≡ put (λ j. get_or row j false) (a % w) b (x % w)
+    on_page x q = ap (λ r. get_or r (x % w) false) (page_changed rows i (put_bit (a % w) b) row e (x / w)
+        ∙ ap (put (of_page rows) (suc i) (put_bit (a % w) b row)) q
+        ∙ put_same (of_page rows) (suc i) (put_bit (a % w) b row)) ∙ put_in_row row (a % w) b h (x % w)
 
-    elsewhere : (x : ℕ) → x ≢ a → (x / w ≡ suc i) ⊎ (x / w ≢ suc i) → bit_at (changed rows i (put_bit (a % w) b)) w x ≡ bit_at rows w x
-    elsewhere x d (inl q) = on_page x q ∙ put_other (λ j. get_or row j false) (a % w) b (x % w) (λ k. d (same_place w x a (q ∙ sym p) k)) ∙ ap (λ r. get_or r (x % w) false) (sym (ap (of_page rows) q ∙ row_there rows i row e))
-    elsewhere x d (inr q) = ap (λ r. get_or r (x % w) false) (page_changed rows i (put_bit (a % w) b) row e (x / w) ∙ put_other (of_page rows) (suc i) (put_bit (a % w) b row) (x / w) q)
+    elsewhere : (x : ℕ) → x ≢ a → (x / w ≡ suc i) ⊎ (x / w ≢ suc i)
+        → bit_at (changed rows i (put_bit (a % w) b)) w x ≡ bit_at rows w x
+    elsewhere x d (inl q) =
+        on_page x q ∙ put_other (λ j. get_or row j false) (a % w) b (x % w) (λ k. d (same_place w x a (q ∙ sym p) k))
+        ∙ ap (λ r. get_or r (x % w) false) (sym (ap (of_page rows) q ∙ row_there rows i row e))
+    elsewhere x d (inr q) = ap (λ r. get_or r (x % w) false) (page_changed rows i (put_bit (a % w) b) row e (x / w)
+        ∙ put_other (of_page rows) (suc i) (put_bit (a % w) b row) (x / w) q)
 
 pub blank_bit : (n i : ℕ) → get_or (replicate n false) i false ≡ false
 blank_bit zero i = refl
@@ -125,8 +154,13 @@ blank_bit (suc n) zero = refl
 blank_bit (suc n) (suc i) = blank_bit n i
 
 -- a row is cleared
-pub blank_here : (w : ℕ) (rows : List (List Bool)) (i : ℕ) (row : List Bool) (x : ℕ) → slice_get rows i ≡ Some row → x / w ≡ suc i → bit_at (changed rows i blank_row) w x ≡ false
-blank_here w rows i row x e q = ap (λ r. get_or r (x % w) false) (page_changed rows i blank_row row e (x / w) ∙ ap (put (of_page rows) (suc i) (blank_row row)) q ∙ put_same (of_page rows) (suc i) (blank_row row)) ∙ blank_bit (length row) (x % w)
+pub blank_here : (w : ℕ) (rows : List (List Bool)) (i : ℕ) (row : List Bool) (x : ℕ) → slice_get rows i ≡ Some row
+    → x / w ≡ suc i → bit_at (changed rows i blank_row) w x ≡ false
+blank_here w rows i row x e q = ap (λ r. get_or r (x % w) false) (page_changed rows i blank_row row e (x / w)
+    ∙ ap (put (of_page rows) (suc i) (blank_row row)) q ∙ put_same (of_page rows) (suc i) (blank_row row))
+    ∙ blank_bit (length row) (x % w)
 
-pub blank_other : (w : ℕ) (rows : List (List Bool)) (i : ℕ) (row : List Bool) (x : ℕ) → slice_get rows i ≡ Some row → x / w ≢ suc i → bit_at (changed rows i blank_row) w x ≡ bit_at rows w x
-blank_other w rows i row x e q = ap (λ r. get_or r (x % w) false) (page_changed rows i blank_row row e (x / w) ∙ put_other (of_page rows) (suc i) (blank_row row) (x / w) q)
+pub blank_other : (w : ℕ) (rows : List (List Bool)) (i : ℕ) (row : List Bool) (x : ℕ) → slice_get rows i ≡ Some row
+    → x / w ≢ suc i → bit_at (changed rows i blank_row) w x ≡ bit_at rows w x
+blank_other w rows i row x e q = ap (λ r. get_or r (x % w) false) (page_changed rows i blank_row row e (x / w)
+    ∙ put_other (of_page rows) (suc i) (blank_row row) (x / w) q)

@@ -1,5 +1,6 @@
 -- What no two claims overlapping says of objects, and where a claim is split.
-use Rattle.std.proofs.Common.{◌≡◌, ◌≢◌, ◌⊎◌, inl, inr, ℕ, ◌+◌, ◌*◌, ◌/◌, ◌%◌, ◌<◌, ◌≤◌, Option, Some, None, sym, ◌∙◌, ap, arith, div-add-mod'}
+use Rattle.std.proofs.Common.{◌≡◌, ◌≢◌, ◌⊎◌, inl, inr, ℕ, ◌+◌, ◌*◌, ◌/◌, ◌%◌, ◌<◌, ◌≤◌}
+use Rattle.std.proofs.Common.{Option, Some, None, sym, ◌∙◌, ap, arith, div-add-mod'}
 use Rattle.std.specs.Option.{option_map}
 use Rattle.std.proofs.lemmas.Nat.{div-mul-add, mod-mul-add}
 use Rattle.model.specs.Heaps.{HeapState}
@@ -10,24 +11,31 @@ use Rattle.refinement.specs.Claims.{Claim, OfObject, Extent, AreApart, Apart, ex
 -- an address within the page of another
 pub within_page : (w a k : ℕ) → a % w + k < w → ((a + k) / w ≡ a / w) × ((a + k) % w ≡ a % w + k)
 within_page w a k h =
-    let whole : a / w * w + (a % w + k) ≡ a + k = omega (arith, div-add-mod' a w) in
-    (ap (λ n. n / w) (sym whole) ∙ div-mul-add (a / w) w (a % w + k) h, ap (λ n. n % w) (sym whole) ∙ mod-mul-add (a / w) w (a % w + k) h)
+    let whole : a / w * w + (a % w + k) ≡ a + k = omega (arith, div-add-mod' a w) in (
+      ap (λ n. n / w) (sym whole) ∙ div-mul-add (a / w) w (a % w + k) h,
+      ap (λ n. n % w) (sym whole) ∙ mod-mul-add (a / w) w (a % w + k) h,
+    )
 
-pub object_extent : (h : HeapState) (a : ℕ) (q : HeapObject) → object_at h a ≡ Some q → extent h (OfObject a) ≡ Some (record { from = a; upto = a + object_size q })
+pub object_extent : (h : HeapState) (a : ℕ) (q : HeapObject) → object_at h a ≡ Some q
+    → extent h (OfObject a) ≡ Some (record { from = a; upto = a + object_size q })
 object_extent h a q e = ap (λ o. option_map (sized_extent a) (option_map object_size o)) e
 
 same_object : (a c : ℕ) → OfObject a ≡ OfObject c → a ≡ c
 same_object a c e = cc
 
 -- two objects of one page don't overlap
-pub objects_apart : (h : HeapState) (x a : ℕ) (o q : HeapObject) → Apart (extent h) → object_at h x ≡ Some o → object_at h a ≡ Some q → x ≢ a → x / h.store.words ≡ a / h.store.words
+pub objects_apart : (h : HeapState) (x a : ℕ) (o q : HeapObject) → Apart (extent h) → object_at h x ≡ Some o
+    → object_at h a ≡ Some q → x ≢ a → x / h.store.words ≡ a / h.store.words
     → (x % h.store.words + object_size o ≤ a % h.store.words) ⊎ (a % h.store.words + object_size q ≤ x % h.store.words)
-objects_apart h x a o q apart e f d page = go (apart (OfObject x) (OfObject a) _ _ (object_extent h x o e) (object_extent h a q f))
+objects_apart h x a o q apart e f d page =
+    go (apart (OfObject x) (OfObject a) _ _ (object_extent h x o e) (object_extent h a q f))
   where
     base : x / h.store.words * h.store.words ≡ a / h.store.words * h.store.words
     base = ap (λ n. n * h.store.words) page
 
-    go : (OfObject x ≡ OfObject a) ⊎ AreApart (record { from = x; upto = x + object_size o }) (record { from = a; upto = a + object_size q }) → (x % h.store.words + object_size o ≤ a % h.store.words) ⊎ (a % h.store.words + object_size q ≤ x % h.store.words)
+    go : (OfObject x ≡ OfObject a) ⊎ AreApart (record { from = x; upto = x + object_size o })
+        (record { from = a; upto = a + object_size q }) → (x % h.store.words + object_size o ≤ a % h.store.words)
+        ⊎ (a % h.store.words + object_size q ≤ x % h.store.words)
     go (inl s) = absurd (d (same_object x a s))
     go (inr (inl l)) = inl (omega (arith, l, base, div-add-mod' x h.store.words, div-add-mod' a h.store.words))
     go (inr (inr l)) = inr (omega (arith, l, base, div-add-mod' x h.store.words, div-add-mod' a h.store.words))
@@ -66,9 +74,14 @@ module _ (e f : Claim → Option Extent) (a : Apart e) (c d : Claim) (s : Splits
   swap x y (inr h) = inl h
 
   -- what c or d has now, and what another has
-  one : (u v : Claim) (x y : Extent) → f u ≡ Some x → f v ≡ Some y → (u ≡ c) ⊎ (u ≡ d) → f v ≡ e v → (u ≡ v) ⊎ AreApart x y
-  one u v x y h k (inl p) q = elim (far x y v (s.rest x (ap f (sym p) ∙ h)) (sym q ∙ k)) [ inl r ↦ inl (p ∙ r) | inr r ↦ inr r ]
-  one u v x y h k (inr p) q = inr (elim (far x y v (s.part x (ap f (sym p) ∙ h)) (sym q ∙ k)) [ inl r ↦ swap y x (s.apart y x (ap f r ∙ k) (ap f (sym p) ∙ h)) | inr r ↦ r ])
+  one : (u v : Claim) (x y : Extent) → f u ≡ Some x → f v ≡ Some y → (u ≡ c) ⊎ (u ≡ d) → f v ≡ e v
+      → (u ≡ v) ⊎ AreApart x y
+  one u v x y h k (inl p) q =
+      elim (far x y v (s.rest x (ap f (sym p) ∙ h)) (sym q ∙ k)) [ inl r ↦ inl (p ∙ r) | inr r ↦ inr r ]
+  one u v x y h k (inr p) q = inr (elim (far x y v (s.part x (ap f (sym p) ∙ h)) (sym q ∙ k)) [
+    | inl r ↦ swap y x (s.apart y x (ap f r ∙ k) (ap f (sym p) ∙ h))
+    | inr r ↦ r
+  ])
 
   -- where a claim is split, no two overlap
   pub split_apart : Apart f

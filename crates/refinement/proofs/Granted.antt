@@ -1,40 +1,51 @@
 -- A thread gets words of an open page as its buffer: the objects stay, and the free end of the page is split.
-use Rattle.std.proofs.Common.{◌≡◌, ◌≢◌, ◌⊎◌, inl, inr, ℕ, ◌+◌, ◌-◌, ◌*◌, ◌/◌, ◌%◌, ◌≤◌, Bool, true, List, length, set, Option, Some, None, refl, sym, ◌∙◌, ap, ap₂, arith, cond}
+use Rattle.std.proofs.Common.{◌≡◌, ◌≢◌, ◌⊎◌, inl, inr, ℕ, ◌+◌, ◌-◌, ◌*◌, ◌/◌, ◌%◌, ◌≤◌, Bool, true, List}
+use Rattle.std.proofs.Common.{length, set, Option, Some, None, refl, sym, ◌∙◌, ap, ap₂, arith, cond}
 use mathlib.Core.Path.{fun_ext}
 use Rattle.std.specs.List.{slice_get}
 use Rattle.std.specs.Option.{option_map, option_and_then}
 use Rattle.std.proofs.Math.ListN.{length-set}
+use Rattle.std.proofs.lemmas.Bool.{cases_eq}
+use Rattle.std.proofs.lemmas.Option.{same_Some}
 use Rattle.model.specs.declared.records.Page.{Page}
-use Rattle.model.specs.Stores.{StoreState, words_at, state_at, state_in, frame_in, page_at, has_memory, is_open, buffer_of}
+use Rattle.model.specs.Stores.{StoreState, words_at, state_at, state_in}
+use Rattle.model.specs.Stores.{frame_in, page_at, has_memory, is_open, buffer_of}
 use Rattle.model.specs.Heaps.{HeapState, ThreadState, register_of, register_in, buffer_in, changed, set_buffer_of}
 use Rattle.model.proofs.Lists.{get_set_same, get_set_other, each_changed}
 use Rattle.page.proofs.Keeping.{page_at_record, page_at_zero}
-use Rattle.model.proofs.Memory.{some_in}
 use Rattle.model.specs.Outcome.{has_crossed, is_parked_in}
 use Rattle.laws.specs.AddressHeap.{put}
-use Rattle.laws.proofs.Basics.{put_all, put_same, put_other, same_or_not}
+use Rattle.laws.proofs.Basics.{put_all, put_same, put_other}
 use Rattle.refinement.specs.Worlds.{world_of, object_at, object_in, bit_at, as_word, barrier_in}
-use Rattle.refinement.specs.Claims.{IsLaid, AreRows, Claim, OfObject, OfBuffer, OfPlan, OfEnd, Extent, extent, object_size, sized_extent, planned_extent, buffer_extent, end_extent, size_at}
+use Rattle.refinement.specs.Claims.{IsLaid, AreRows, Claim, OfObject, OfBuffer, OfPlan, OfEnd, Extent, extent}
+use Rattle.refinement.specs.Claims.{object_size, sized_extent, planned_extent, buffer_extent, end_extent, size_at}
 use Rattle.refinement.proofs.Changes.{get_changed, kept_of}
 use Rattle.refinement.proofs.Claims.{Splits, split_apart}
 
 -- the pages of a store whose record of an index is replaced
-pub page_set : (s r : StoreState) (i : ℕ) (p q : Page) → slice_get s.pages i ≡ Some p → r.pages ≡ set s.pages i q → (m : ℕ) → page_at r m ≡ put (page_at s) (i + 1) (Some q) m
-page_set s r i p q e f = put_all (λ m y. page_at r m ≡ y) (page_at s) (i + 1) (Some q) here (λ m d. elsewhere m d (same_or_not m 0))
+pub page_set : (s r : StoreState) (i : ℕ) (p q : Page) → slice_get s.pages i ≡ Some p → r.pages ≡ set s.pages i q
+    → (m : ℕ) → page_at r m ≡ put (page_at s) (i + 1) (Some q) m
+page_set s r i p q e f =
+    put_all (λ m y. page_at r m ≡ y) (page_at s) (i + 1) (Some q) here (λ m d. elsewhere m d (cases_eq m 0))
   where
     here : page_at r (i + 1) ≡ Some q
-    here = page_at_record r (i + 1) (λ k. absurd (omega (arith, k))) ∙ ap₂ slice_get f (omega arith) ∙ get_set_same s.pages i p q e
+    here = page_at_record r (i + 1) (λ k. absurd (omega (arith, k))) ∙ ap₂ slice_get f (omega arith)
+        ∙ get_set_same s.pages i p q e
 
     elsewhere : (m : ℕ) → m ≢ i + 1 → (m ≡ 0) ⊎ (m ≢ 0) → page_at r m ≡ page_at s m
     elsewhere m d (inl z) = page_at_zero r m z ∙ sym (page_at_zero s m z)
-    elsewhere m d (inr z) = page_at_record r m z ∙ ap (λ ps. slice_get ps (m - 1)) f ∙ get_set_other s.pages i (m - 1) q (λ k. d (omega (arith, k, z))) ∙ sym (page_at_record s m z)
+    elsewhere m d (inr z) = page_at_record r m z ∙ ap (λ ps. slice_get ps (m - 1)) f
+        ∙ get_set_other s.pages i (m - 1) q (λ k. d (omega (arith, k, z))) ∙ sym (page_at_record s m z)
 
 pub page_here : (s : StoreState) (i : ℕ) (p : Page) → slice_get s.pages i ≡ Some p → page_at s (i + 1) ≡ Some p
 page_here s i p e = page_at_record s (i + 1) (λ k. absurd (omega (arith, k))) ∙ ap (slice_get s.pages) (omega arith) ∙ e
 
 -- what the new record has like the old one, all pages keep
-pub page_keeps : {B : Type 0} (P : Option Page → B) (s r : StoreState) (i : ℕ) (p q : Page) → slice_get s.pages i ≡ Some p → r.pages ≡ set s.pages i q → P (Some q) ≡ P (Some p) → (m : ℕ) → P (page_at r m) ≡ P (page_at s m)
-page_keeps P s r i p q e f k m = ap P (page_set s r i p q e f m) ∙ put_all (λ n y. P y ≡ P (page_at s n)) (page_at s) (i + 1) (Some q) (k ∙ ap P (sym (page_here s i p e))) (λ n d. refl) m
+pub page_keeps : {B : Type 0} (P : Option Page → B) (s r : StoreState) (i : ℕ) (p q : Page)
+    → slice_get s.pages i ≡ Some p → r.pages ≡ set s.pages i q → P (Some q) ≡ P (Some p) → (m : ℕ)
+    → P (page_at r m) ≡ P (page_at s m)
+page_keeps P s r i p q e f k m = ap P (page_set s r i p q e f m) ∙ put_all (λ n y. P y ≡ P (page_at s n)) (page_at s)
+    (i + 1) (Some q) (k ∙ ap P (sym (page_here s i p e))) (λ n d. refl) m
 
 -- a page with n more words given out
 abbrev pub with_more : Page → ℕ → Page
@@ -47,7 +58,8 @@ granted h t i p n = record h {
   threads = changed h.threads t (set_buffer_of (Some (buffer_of i p.top n)));
 }
 
-module _ (h : HeapState) (l : IsLaid h) (t i : ℕ) (p : Page) (n : ℕ) (x : ThreadState) (at : slice_get h.store.pages i ≡ Some p) (is_so : is_open p.state ≡ true) (room : p.top + n ≤ h.store.words)
+module _ (h : HeapState) (l : IsLaid h) (t i : ℕ) (p : Page) (n : ℕ) (x : ThreadState)
+    (at : slice_get h.store.pages i ≡ Some p) (is_so : is_open p.state ≡ true) (room : p.top + n ≤ h.store.words)
     (thread : slice_get h.threads t ≡ Some x) (had : x.buffer ≡ None) where
   abbrev after : HeapState
   after = granted h t i p n
@@ -58,10 +70,12 @@ module _ (h : HeapState) (l : IsLaid h) (t i : ℕ) (p : Page) (n : ℕ) (x : Th
 
   words : (m : ℕ) → words_at after.store m ≡ words_at h.store m
   unfolding words_at
-  words = page_keeps (λ o. option_and_then (slice_get h.store.frames) (frame_in o)) h.store after.store i p (with_more p n) at refl refl
+  words = page_keeps (λ o. option_and_then (slice_get h.store.frames) (frame_in o)) h.store after.store i p
+      (with_more p n) at refl refl
 
   objects : (a : ℕ) → object_at after a ≡ object_at h a
-  objects a = ap (λ o. object_in h.config.layouts (bit_at h.starts h.store.words a) o (a % h.store.words)) (words (a / h.store.words))
+  objects a = ap (λ o. object_in h.config.layouts (bit_at h.starts h.store.words a) o (a % h.store.words))
+      (words (a / h.store.words))
 
   -- the heap by addresses stays
   pub granted_world : world_of (granted h t i p n) ≡ world_of h
@@ -69,7 +83,8 @@ module _ (h : HeapState) (l : IsLaid h) (t i : ℕ) (p : Page) (n : ℕ) (x : Th
   granted_world = λ z. record (world_of h) {
     page_state = fun_ext (λ a. states (a / h.store.words)) z;
     object_at = fun_ext objects z;
-    register = fun_ext (λ u. fun_ext (λ s. kept_of (λ o. as_word (register_in o s)) h.threads t change (λ y. refl) u)) z;
+    register =
+        fun_ext (λ u. fun_ext (λ s. kept_of (λ o. as_word (register_in o s)) h.threads t change (λ y. refl) u)) z;
     crossed = fun_ext (kept_of has_crossed h.threads t change (λ y. refl)) z;
     parked = fun_ext (kept_of is_parked_in h.threads t change (λ y. refl)) z;
     barrier = fun_ext (kept_of barrier_in h.threads t change (λ y. refl)) z;
@@ -81,57 +96,85 @@ module _ (h : HeapState) (l : IsLaid h) (t i : ℕ) (p : Page) (n : ℕ) (x : Th
   sizes : (a : ℕ) → size_at after a ≡ size_at h a
   sizes a = ap (option_map object_size) (objects a)
 
-  buffers : (u : ℕ) → extent after (OfBuffer u) ≡ put (λ v. extent h (OfBuffer v)) t (Some (buffer_extent h.store.words (buffer_of i p.top n))) u
+  buffers : (u : ℕ) → extent after (OfBuffer u) ≡ put (λ v. extent h (OfBuffer v)) t
+      (Some (buffer_extent h.store.words (buffer_of i p.top n))) u
   buffers u = ap (λ o. option_map (buffer_extent h.store.words) (buffer_in o)) (get_changed h.threads t change u)
-      ∙ put_all (λ v y. option_map (buffer_extent h.store.words) (buffer_in (put (slice_get h.threads) t (option_map change (slice_get h.threads t)) v)) ≡ y) (λ v. extent h (OfBuffer v)) t (Some (buffer_extent h.store.words (buffer_of i p.top n)))
-      (ap (λ o. option_map (buffer_extent h.store.words) (buffer_in o)) (put_same (slice_get h.threads) t (option_map change (slice_get h.threads t)) ∙ ap (option_map change) thread))
-      (λ v d. ap (λ o. option_map (buffer_extent h.store.words) (buffer_in o)) (put_other (slice_get h.threads) t (option_map change (slice_get h.threads t)) v d)) u
+      ∙ put_all (λ v y. option_map (buffer_extent h.store.words)
+      (buffer_in (put (slice_get h.threads) t (option_map change (slice_get h.threads t)) v)) ≡ y)
+      (λ v. extent h (OfBuffer v)) t (Some (buffer_extent h.store.words (buffer_of i p.top n)))
+      (ap (λ o. option_map (buffer_extent h.store.words) (buffer_in o)) (put_same (slice_get h.threads) t
+      (option_map change (slice_get h.threads t)) ∙ ap (option_map change) thread))
+      (λ v d. ap (λ o. option_map (buffer_extent h.store.words) (buffer_in o))
+      (put_other (slice_get h.threads) t (option_map change (slice_get h.threads t)) v d)) u
     where
       change : ThreadState → ThreadState
       change = set_buffer_of (Some (buffer_of i p.top n))
 
-  ends : (m : ℕ) → extent after (OfEnd m) ≡ end_extent h.store.words m (put (page_at h.store) (i + 1) (Some (with_more p n)) m)
+  ends : (m : ℕ)
+      → extent after (OfEnd m) ≡ end_extent h.store.words m (put (page_at h.store) (i + 1) (Some (with_more p n)) m)
   ends m = ap (end_extent h.store.words m) (page_set h.store after.store i p (with_more p n) at refl m)
 
-  end_had : extent h (OfEnd (i + 1)) ≡ Some (record { from = (i + 1) * h.store.words + p.top; upto = (i + 1) * h.store.words + h.store.words })
-  end_had = ap (end_extent h.store.words (i + 1)) (page_here h.store i p at) ∙ ap (λ b. cond b (Some (record { from = (i + 1) * h.store.words + p.top; upto = (i + 1) * h.store.words + h.store.words })) None) is_so
+  end_had : extent h (OfEnd (i + 1)) ≡ Some (record {
+    from = (i + 1) * h.store.words + p.top;
+    upto = (i + 1) * h.store.words + h.store.words;
+  })
+  end_had = ap (end_extent h.store.words (i + 1)) (page_here h.store i p at) ∙ ap (λ b. cond b (Some (record {
+    from = (i + 1) * h.store.words + p.top;
+    upto = (i + 1) * h.store.words + h.store.words;
+  })) None) is_so
 
-  end_has : extent after (OfEnd (i + 1)) ≡ Some (record { from = (i + 1) * h.store.words + (p.top + n); upto = (i + 1) * h.store.words + h.store.words })
-  end_has = ends (i + 1) ∙ ap (end_extent h.store.words (i + 1)) (put_same (page_at h.store) (i + 1) (Some (with_more p n))) ∙ ap (λ b. cond b (Some (record { from = (i + 1) * h.store.words + (p.top + n); upto = (i + 1) * h.store.words + h.store.words })) None) is_so
+  end_has : extent after (OfEnd (i + 1)) ≡ Some (record {
+    from = (i + 1) * h.store.words + (p.top + n);
+    upto = (i + 1) * h.store.words + h.store.words;
+  })
+  end_has =
+      ends (i + 1) ∙ ap (end_extent h.store.words (i + 1)) (put_same (page_at h.store) (i + 1) (Some (with_more p n)))
+      ∙ ap (λ b. cond b (Some (record {
+        from = (i + 1) * h.store.words + (p.top + n);
+        upto = (i + 1) * h.store.words + h.store.words;
+      })) None) is_so
 
   others : (c : Claim) → (c ≡ OfEnd (i + 1)) ⊎ (c ≡ OfBuffer t) ⊎ (extent after c ≡ extent h c)
   others (OfObject a) = inr (inr (ap (option_map (sized_extent a)) (sizes a)))
-  others (OfBuffer u) = go (same_or_not u t)
+  others (OfBuffer u) = go (cases_eq u t)
     where
-      go : (u ≡ t) ⊎ (u ≢ t) → (OfBuffer u ≡ OfEnd (i + 1)) ⊎ (OfBuffer u ≡ OfBuffer t) ⊎ (extent after (OfBuffer u) ≡ extent h (OfBuffer u))
+      go : (u ≡ t) ⊎ (u ≢ t) → (OfBuffer u ≡ OfEnd (i + 1)) ⊎ (OfBuffer u ≡ OfBuffer t)
+          ⊎ (extent after (OfBuffer u) ≡ extent h (OfBuffer u))
       go (inl k) = inr (inl (ap OfBuffer k))
-      go (inr k) = inr (inr (buffers u ∙ put_other (λ v. extent h (OfBuffer v)) t (Some (buffer_extent h.store.words (buffer_of i p.top n))) u k))
+      go (inr k) = inr (inr (buffers u
+          ∙ put_other (λ v. extent h (OfBuffer v)) t (Some (buffer_extent h.store.words (buffer_of i p.top n))) u k))
   others (OfPlan a) = inr (inr (ap (planned_extent ((world_of h).side_entry a)) (sizes a)))
-  others (OfEnd m) = go (same_or_not m (i + 1))
+  others (OfEnd m) = go (cases_eq m (i + 1))
     where
-      go : (m ≡ i + 1) ⊎ (m ≢ i + 1) → (OfEnd m ≡ OfEnd (i + 1)) ⊎ (OfEnd m ≡ OfBuffer t) ⊎ (extent after (OfEnd m) ≡ extent h (OfEnd m))
+      go : (m ≡ i + 1) ⊎ (m ≢ i + 1)
+          → (OfEnd m ≡ OfEnd (i + 1)) ⊎ (OfEnd m ≡ OfBuffer t) ⊎ (extent after (OfEnd m) ≡ extent h (OfEnd m))
       go (inl k) = inl (ap OfEnd k)
-      go (inr k) = inr (inr (ends m ∙ ap (end_extent h.store.words m) (put_other (page_at h.store) (i + 1) (Some (with_more p n)) m k)))
+      go (inr k) = inr (inr
+          (ends m ∙ ap (end_extent h.store.words m) (put_other (page_at h.store) (i + 1) (Some (with_more p n)) m k)))
 
   splits : Splits (extent h) (extent after) (OfEnd (i + 1)) (OfBuffer t)
   splits = record {
     whole = record { from = (i + 1) * h.store.words + p.top; upto = (i + 1) * h.store.words + h.store.words };
     had = end_had;
-    new = ap (λ o. option_map (buffer_extent h.store.words) (buffer_in o)) thread ∙ ap (option_map (buffer_extent h.store.words)) had;
+    new = ap (λ o. option_map (buffer_extent h.store.words) (buffer_in o)) thread
+        ∙ ap (option_map (buffer_extent h.store.words)) had;
     rest = λ y e. let k = left y e in record { from = omega (arith, k.0); upto = omega (arith, k.1) };
     part = λ y e. let k = part y e in record { from = omega (arith, k.0); upto = omega (arith, k.1, room) };
     apart = λ y z e f. inr (let k = left y e in let g = part z f in omega (arith, k.0, g.1));
     others = others;
   }
     where
-      left : (y : Extent) → extent after (OfEnd (i + 1)) ≡ Some y → (y.from ≡ (i + 1) * h.store.words + (p.top + n)) × (y.upto ≡ (i + 1) * h.store.words + h.store.words)
+      left : (y : Extent) → extent after (OfEnd (i + 1)) ≡ Some y
+          → (y.from ≡ (i + 1) * h.store.words + (p.top + n)) × (y.upto ≡ (i + 1) * h.store.words + h.store.words)
       left y e =
-          let k = some_in (sym end_has ∙ e) in
+          let k = same_Some _ _ (sym end_has ∙ e) in
           (sym (ap (λ (z : Extent). z.from) k), sym (ap (λ (z : Extent). z.upto) k))
 
-      part : (y : Extent) → extent after (OfBuffer t) ≡ Some y → (y.from ≡ (i + 1) * h.store.words + p.top) × (y.upto ≡ (i + 1) * h.store.words + (p.top + n))
+      part : (y : Extent) → extent after (OfBuffer t) ≡ Some y
+          → (y.from ≡ (i + 1) * h.store.words + p.top) × (y.upto ≡ (i + 1) * h.store.words + (p.top + n))
       part y e =
-          let k = some_in (sym (buffers t ∙ put_same (λ v. extent h (OfBuffer v)) t (Some (buffer_extent h.store.words (buffer_of i p.top n)))) ∙ e) in
+          let k = same_Some _ _ (sym (buffers t ∙ put_same (λ v. extent h (OfBuffer v)) t
+          (Some (buffer_extent h.store.words (buffer_of i p.top n)))) ∙ e) in
           (sym (ap (λ (z : Extent). z.from) k), sym (ap (λ (z : Extent). z.upto) k))
 
   rows : (xs : List (List Bool)) → AreRows h.store xs → AreRows after.store xs
@@ -144,11 +187,17 @@ module _ (h : HeapState) (l : IsLaid h) (t i : ℕ) (p : Page) (n : ℕ) (x : Th
     live = rows h.live l.live;
     mark = rows h.mark l.mark;
     todo = rows h.todo l.todo;
-    sides = record { pages = l.sides.pages ∙ sym (length-set h.store.pages i (with_more p n)); rising = l.sides.rising };
-    registers = each_changed (λ y. length y.registers ≡ h.config.registers) h.threads t (set_buffer_of (Some (buffer_of i p.top n))) l.registers (λ y e. e);
-    objects = λ a e k. let (o, is) = l.objects a e (ap has_memory (sym (states (a / h.store.words))) ∙ k) in (o, objects a ∙ is);
+    sides = record {
+      pages = l.sides.pages ∙ sym (length-set h.store.pages i (with_more p n));
+      rising = l.sides.rising;
+    };
+    registers = each_changed (λ y. length y.registers ≡ h.config.registers) h.threads t
+        (set_buffer_of (Some (buffer_of i p.top n))) l.registers (λ y e. e);
+    objects = λ a e k. let (o, is) = l.objects a e (ap has_memory (sym (states (a / h.store.words))) ∙ k) in
+        (o, objects a ∙ is);
     apart = split_apart (extent h) (extent after) l.apart (OfEnd (i + 1)) (OfBuffer t) splits;
     planned = λ a m o k f. l.planned a m o k (sym (objects a) ∙ f);
-    live_objects = λ a e k. (let (o, is) = l.live_objects a e (ap has_memory (sym (states (a / h.store.words))) ∙ k) in (o, objects a ∙ is));
+    live_objects = λ a e k. (let (o, is) =
+        l.live_objects a e (ap has_memory (sym (states (a / h.store.words))) ∙ k) in (o, objects a ∙ is));
     unused = λ a k. l.unused a (sym (states (a / h.store.words)) ∙ k);
   }

@@ -1,26 +1,32 @@
 -- An unused page is opened: no object, mark or claim is on it, and its words are one claim.
-use Rattle.std.proofs.Common.{◌≡◌, ◌≢◌, ◌⊎◌, inl, inr, ℕ, suc, ◌+◌, ◌*◌, ◌/◌, ◌%◌, ◌<◌, ◌≤◌, Bool, true, false, List, set, replicate, Option, Some, None, nat_eq, is_some, refl, sym, ◌∙◌, ap, ap₂, arith, cond, IfSome, div-add-mod', eq-eqb, ne_eqb, mul-le-mul_right}
+use Rattle.std.proofs.Common.{◌≡◌, ◌≢◌, ◌⊎◌, inl, inr, ℕ, suc, ◌+◌, ◌*◌, ◌/◌, ◌%◌, ◌<◌, ◌≤◌, Bool, true}
+use Rattle.std.proofs.Common.{false, List, set, replicate, Option, Some, None, nat_eq, refl, sym, ◌∙◌, ap}
+use Rattle.std.proofs.Common.{ap₂, arith, cond, IfSome, div-add-mod', eq-eqb, ne_eqb, mul-le-mul_right}
 use mathlib.Core.Path.{fun_ext}
 use Rattle.std.proofs.Math.Nat.{suc-mul}
 use Rattle.std.specs.List.{slice_get}
 use Rattle.std.specs.Option.{option_map}
 use Rattle.std.proofs.Math.ListN.{length-set}
-use Rattle.std.proofs.lemmas.Option.{slice_get_within}
+use Rattle.std.proofs.lemmas.Option.{slice_get_within, same_Some, none-some}
+use Rattle.std.proofs.lemmas.Bool.{cases_eq, eqb-true, false≢true}
 use Rattle.model.specs.declared.records.Page.{Page}
 use Rattle.model.specs.declared.records.PageState.TheVariants.{Unused, Open}
 use Rattle.model.specs.declared.records.Buffer.{Buffer}
-use Rattle.model.specs.Stores.{words_at, state_at, state_in, frame_in, page_at, has_memory, is_open, is_unused, opened, fresh_page}
+use Rattle.model.specs.Stores.{words_at, state_at, state_in, frame_in, page_at}
+use Rattle.model.specs.Stores.{has_memory, is_open, is_unused, opened, fresh_page}
 use Rattle.model.specs.Owning.{IsStore, LiesIn}
 use Rattle.model.specs.Holding.{IsHeap}
 use Rattle.model.specs.Heaps.{HeapState, ThreadState, register_of, buffer_in, changed, blank_row}
-use Rattle.model.proofs.Lists.{get_set_other, get_within}
-use Rattle.model.proofs.Memory.{some_in, open_state, unused_state, words_in, page_record, words_sized, words_memory}
+use Rattle.model.proofs.Lists.{get_set_other, get_within, no_some}
+use Rattle.model.proofs.Memory.{open_state, unused_state, words_in, page_record, words_sized, words_memory}
 use Rattle.laws.specs.AddressHeap.{HeapObject, SideEntry, NoEntry, Planned, Copied, put}
 use Rattle.laws.specs.Invariant.{SoundObjects, SoundMarks}
 use Rattle.laws.specs.Edits.{open_page}
-use Rattle.laws.proofs.Basics.{put_same, put_other, same_or_not}
+use Rattle.laws.proofs.Basics.{put_same, put_other}
 use Rattle.refinement.specs.Worlds.{world_of, object_at, object_in, bit_at}
-use Rattle.refinement.specs.Claims.{IsLaid, AreRows, Apart, AreApart, Claim, OfObject, OfBuffer, OfPlan, OfEnd, Extent, extent, object_size, sized_extent, planned_extent, buffer_extent, end_extent, size_at}
+use Rattle.refinement.specs.Claims.{IsLaid, AreRows, Apart, AreApart, Claim, OfObject, OfBuffer}
+use Rattle.refinement.specs.Claims.{OfPlan, OfEnd, Extent, extent, object_size, sized_extent}
+use Rattle.refinement.specs.Claims.{planned_extent, buffer_extent, end_extent, size_at}
 use Rattle.refinement.proofs.Reading.{read_fits}
 use Rattle.refinement.proofs.Objects.{there}
 use Rattle.refinement.proofs.Changes.{blank_here, blank_other, rows_changed, length_blank}
@@ -37,7 +43,8 @@ pub record LiesOnPage (h : HeapState) (x : Extent) : Type 0 where
   pub upto : x.upto ≤ page * h.store.words + h.store.words
 
 module _ (h : HeapState) (s : IsStore h.store) (k : IsHeap h) (l : IsLaid h) (o : SoundObjects (world_of h)) where
-  object_lies : (a : ℕ) (q : HeapObject) (x : Extent) → object_at h a ≡ Some q → sized_extent a (object_size q) ≡ x → LiesOnPage h x
+  object_lies : (a : ℕ) (q : HeapObject) (x : Extent) → object_at h a ≡ Some q → sized_extent a (object_size q) ≡ x
+      → LiesOnPage h x
   object_lies a q x e f =
       let r = there h a q e in
       let size = words_sized h.store (a / h.store.words) r.words s r.page in
@@ -51,9 +58,10 @@ module _ (h : HeapState) (s : IsStore h.store) (k : IsHeap h) (l : IsLaid h) (o 
         upto = omega (arith, upto, size, fits, div-add-mod' a h.store.words);
       }
 
-  object_claim : (a : ℕ) (x : Extent) (y : Option HeapObject) → object_at h a ≡ y → option_map (sized_extent a) (option_map object_size y) ≡ Some x → LiesOnPage h x
+  object_claim : (a : ℕ) (x : Extent) (y : Option HeapObject) → object_at h a ≡ y
+      → option_map (sized_extent a) (option_map object_size y) ≡ Some x → LiesOnPage h x
   object_claim a x None e f = absurd (cc)
-  object_claim a x (Some q) e f = object_lies a q x e (some_in f)
+  object_claim a x (Some q) e f = object_lies a q x e (same_Some _ _ f)
 
   buffer_lies : (b : Buffer) (x : Extent) → LiesIn h.store b → buffer_extent h.store.words b ≡ x → LiesOnPage h x
   unfolding state_at
@@ -67,20 +75,23 @@ module _ (h : HeapState) (s : IsStore h.store) (k : IsHeap h) (l : IsLaid h) (o 
         upto = omega (arith, upto, lies.end);
       }
 
-  thread_claim : (u : ℕ) (x : Extent) (y : Option ThreadState) → slice_get h.threads u ≡ y → option_map (buffer_extent h.store.words) (buffer_in y) ≡ Some x → LiesOnPage h x
+  thread_claim : (u : ℕ) (x : Extent) (y : Option ThreadState) → slice_get h.threads u ≡ y
+      → option_map (buffer_extent h.store.words) (buffer_in y) ≡ Some x → LiesOnPage h x
   thread_claim u x None e f = absurd (cc)
   thread_claim u x (Some y) e f = by_buffer y.buffer (k.buffers u y e) f
     where
-      by_buffer : (c : Option Buffer) → IfSome c (LiesIn h.store) → option_map (buffer_extent h.store.words) c ≡ Some x → LiesOnPage h x
+      by_buffer : (c : Option Buffer) → IfSome c (LiesIn h.store) → option_map (buffer_extent h.store.words) c ≡ Some x
+          → LiesOnPage h x
       by_buffer None g z = absurd (cc)
-      by_buffer (Some b) g z = buffer_lies b x g (some_in z)
+      by_buffer (Some b) g z = buffer_lies b x g (same_Some _ _ z)
 
-  plan_claim : (a : ℕ) (x : Extent) (e : SideEntry) (y : Option HeapObject) → (world_of h).side_entry a ≡ e → object_at h a ≡ y → planned_extent e (option_map object_size y) ≡ Some x → LiesOnPage h x
+  plan_claim : (a : ℕ) (x : Extent) (e : SideEntry) (y : Option HeapObject) → (world_of h).side_entry a ≡ e
+      → object_at h a ≡ y → planned_extent e (option_map object_size y) ≡ Some x → LiesOnPage h x
   plan_claim a x NoEntry y f g z = absurd (cc)
   plan_claim a x (Copied n) y f g z = absurd (cc)
   plan_claim a x (Planned n) None f g z = absurd (cc)
   plan_claim a x (Planned n) (Some q) f g z =
-      let is : sized_extent n (object_size q) ≡ x = some_in z in
+      let is : sized_extent n (object_size q) ≡ x = same_Some _ _ z in
       let from : n ≡ x.from = ap (λ (y : Extent). y.from) is in
       let upto : n + object_size q ≡ x.upto = ap (λ (y : Extent). y.upto) is in
       record {
@@ -90,16 +101,19 @@ module _ (h : HeapState) (s : IsStore h.store) (k : IsHeap h) (l : IsLaid h) (o 
         upto = omega (arith, upto, l.planned a n q f g, div-add-mod' n h.store.words);
       }
 
-  end_claim : (m : ℕ) (x : Extent) (y : Option Page) → page_at h.store m ≡ y → end_extent h.store.words m y ≡ Some x → LiesOnPage h x
+  end_claim : (m : ℕ) (x : Extent) (y : Option Page) → page_at h.store m ≡ y → end_extent h.store.words m y ≡ Some x
+      → LiesOnPage h x
   unfolding state_at
   end_claim m x None e f = absurd (cc)
   end_claim m x (Some p) e f = by_open (is_open p.state) refl f
     where
-      by_open : (b : Bool) → is_open p.state ≡ b → cond b (Some (record { from = m * h.store.words + p.top; upto = m * h.store.words + h.store.words })) None ≡ Some x → LiesOnPage h x
+      by_open : (b : Bool) → is_open p.state ≡ b → cond b
+          (Some (record { from = m * h.store.words + p.top; upto = m * h.store.words + h.store.words })) None ≡ Some x
+          → LiesOnPage h x
       by_open false g z = absurd (cc)
       by_open true g z =
-          let from : m * h.store.words + p.top ≡ x.from = ap (λ (y : Extent). y.from) (some_in z) in
-          let upto : m * h.store.words + h.store.words ≡ x.upto = ap (λ (y : Extent). y.upto) (some_in z) in
+          let from : m * h.store.words + p.top ≡ x.from = ap (λ (y : Extent). y.from) (same_Some _ _ z) in
+          let upto : m * h.store.words + h.store.words ≡ x.upto = ap (λ (y : Extent). y.upto) (same_Some _ _ z) in
           record {
             page = m;
             memory = ap (λ y. has_memory (state_in y)) e ∙ ap has_memory (open_state p.state g);
@@ -128,7 +142,9 @@ opened_heap h i f = record h {
 abbrev pub on_page : HeapState → ℕ → ℕ → Bool
 on_page h i a = nat_eq (a / h.store.words) (i + 1)
 
-module _ (h : HeapState) (s : IsStore h.store) (k : IsHeap h) (l : IsLaid h) (o : SoundObjects (world_of h)) (m : SoundMarks (world_of h)) (i f : ℕ) (p : Page) (at : slice_get h.store.pages i ≡ Some p) (unused : is_unused p.state ≡ true) (free : slice_get h.store.owners f ≡ Some None) where
+module _ (h : HeapState) (s : IsStore h.store) (k : IsHeap h) (l : IsLaid h) (o : SoundObjects (world_of h))
+    (m : SoundMarks (world_of h)) (i f : ℕ) (p : Page) (at : slice_get h.store.pages i ≡ Some p)
+    (unused : is_unused p.state ≡ true) (free : slice_get h.store.owners f ≡ Some None) where
   abbrev after : HeapState
   after = opened_heap h i f
 
@@ -137,15 +153,12 @@ module _ (h : HeapState) (s : IsStore h.store) (k : IsHeap h) (l : IsLaid h) (o 
   state = ap state_in (page_here h.store i p at) ∙ unused_state p.state unused
 
   no_frame : p.frame ≡ None
-  no_frame = by_frame p.frame ((s.pages i p at).memory ∙ ap has_memory (unused_state p.state unused))
-    where
-      by_frame : (c : Option ℕ) → is_some c ≡ false → c ≡ None
-      by_frame None e = refl
-      by_frame (Some y) e = absurd (cc)
+  no_frame = no_some p.frame ((s.pages i p at).memory ∙ ap has_memory (unused_state p.state unused))
 
   no_words : words_at h.store (i + 1) ≡ None
   unfolding words_at
-  no_words = ap (λ y. words_in h.store.frames (frame_in y)) (page_here h.store i p at) ∙ ap (words_in h.store.frames) no_frame
+  no_words = ap (λ y. words_in h.store.frames (frame_in y)) (page_here h.store i p at)
+      ∙ ap (words_in h.store.frames) no_frame
 
   pages : (n : ℕ) → page_at after.store n ≡ put (page_at h.store) (i + 1) (Some (fresh_page f)) n
   unfolding opened
@@ -153,14 +166,17 @@ module _ (h : HeapState) (s : IsStore h.store) (k : IsHeap h) (l : IsLaid h) (o 
 
   words_other : (n : ℕ) → n ≢ i + 1 → words_at after.store n ≡ words_at h.store n
   unfolding words_at opened
-  words_other n d = ap (λ y. words_in after.store.frames (frame_in y)) (pages n ∙ put_other (page_at h.store) (i + 1) (Some (fresh_page f)) n d) ∙ by_frame (frame_in (page_at h.store n)) refl
+  words_other n d = ap (λ y. words_in after.store.frames (frame_in y)) (pages n
+      ∙ put_other (page_at h.store) (i + 1) (Some (fresh_page f)) n d) ∙ by_frame (frame_in (page_at h.store n)) refl
     where
-      by_frame : (c : Option ℕ) → frame_in (page_at h.store n) ≡ c → words_in (set h.store.frames f (replicate h.store.words 0)) c ≡ words_in h.store.frames c
+      by_frame : (c : Option ℕ) → frame_in (page_at h.store n) ≡ c
+          → words_in (set h.store.frames f (replicate h.store.words 0)) c ≡ words_in h.store.frames c
       by_frame None e = refl
       by_frame (Some y) e =
           let (j, q, a, b, c) = page_record h.store n y e in
           let owned = s.owning.owned j y q b c in
-          get_set_other h.store.frames f y (replicate h.store.words 0) (λ z. no (j + 1) (some_in (sym free ∙ ap (slice_get h.store.owners) (sym z) ∙ owned)))
+          get_set_other h.store.frames f y (replicate h.store.words 0)
+          (λ z. no (j + 1) (same_Some _ _ (sym free ∙ ap (slice_get h.store.owners) (sym z) ∙ owned)))
         where
           no : (n : ℕ) → None ≡ Some n → ⊥
           no n z = cc
@@ -171,15 +187,18 @@ module _ (h : HeapState) (s : IsStore h.store) (k : IsHeap h) (l : IsLaid h) (o 
   page_suc : (n : ℕ) → n ≡ i + 1 → n ≡ suc i
   page_suc n e = omega (arith, e)
 
-  blank : (xs : List (List Bool)) → AreRows h.store xs → (a : ℕ) → a / h.store.words ≡ i + 1 → bit_at (changed xs i blank_row) h.store.words a ≡ false
+  blank : (xs : List (List Bool)) → AreRows h.store xs → (a : ℕ) → a / h.store.words ≡ i + 1
+      → bit_at (changed xs i blank_row) h.store.words a ≡ false
   blank xs r a e = let (y, is) = row xs r in blank_here h.store.words xs i y a is (page_suc (a / h.store.words) e)
 
-  other_bit : (xs : List (List Bool)) → AreRows h.store xs → (a : ℕ) → a / h.store.words ≢ i + 1 → bit_at (changed xs i blank_row) h.store.words a ≡ bit_at xs h.store.words a
+  other_bit : (xs : List (List Bool)) → AreRows h.store xs → (a : ℕ) → a / h.store.words ≢ i + 1
+      → bit_at (changed xs i blank_row) h.store.words a ≡ bit_at xs h.store.words a
   other_bit xs r a d = let (y, is) = row xs r in blank_other h.store.words xs i y a is (λ e. d (omega (arith, e)))
 
   -- there was no object on the page
   no_object : (a : ℕ) → a / h.store.words ≡ i + 1 → object_at h a ≡ None
-  no_object a e = ap (λ y. object_in h.config.layouts (bit_at h.starts h.store.words a) y (a % h.store.words)) (ap (words_at h.store) e ∙ no_words) ∙ by_bit (bit_at h.starts h.store.words a)
+  no_object a e = ap (λ y. object_in h.config.layouts (bit_at h.starts h.store.words a) y (a % h.store.words))
+      (ap (words_at h.store) e ∙ no_words) ∙ by_bit (bit_at h.starts h.store.words a)
     where
       by_bit : (b : Bool) → object_in h.config.layouts b None (a % h.store.words) ≡ None
       by_bit true = refl
@@ -187,21 +206,27 @@ module _ (h : HeapState) (s : IsStore h.store) (k : IsHeap h) (l : IsLaid h) (o 
 
   pub opened_objects : (a : ℕ) → object_at after a ≡ object_at h a
   unfolding opened
-  opened_objects a = by_page (same_or_not (a / h.store.words) (i + 1))
+  opened_objects a = by_page (cases_eq (a / h.store.words) (i + 1))
     where
       unset : (y : Option (List ℕ)) → object_in h.config.layouts false y (a % h.store.words) ≡ None
       unset None = refl
       unset (Some y) = refl
 
       by_page : (a / h.store.words ≡ i + 1) ⊎ (a / h.store.words ≢ i + 1) → object_at after a ≡ object_at h a
-      by_page (inl e) = ap (λ b. object_in h.config.layouts b (words_at after.store (a / h.store.words)) (a % h.store.words)) (blank h.starts l.starts a e) ∙ unset (words_at after.store (a / h.store.words)) ∙ sym (no_object a e)
-      by_page (inr d) = ap₂ (λ b y. object_in h.config.layouts b y (a % h.store.words)) (other_bit h.starts l.starts a d) (words_other (a / h.store.words) d)
+      by_page (inl e) =
+          ap (λ b. object_in h.config.layouts b (words_at after.store (a / h.store.words)) (a % h.store.words))
+          (blank h.starts l.starts a e) ∙ unset (words_at after.store (a / h.store.words)) ∙ sym (no_object a e)
+      by_page (inr d) = ap₂ (λ b y. object_in h.config.layouts b y (a % h.store.words))
+          (other_bit h.starts l.starts a d) (words_other (a / h.store.words) d)
 
   -- a row that has no bit on the page stays
-  stays : (xs : List (List Bool)) → AreRows h.store xs → ((a : ℕ) → a / h.store.words ≡ i + 1 → bit_at xs h.store.words a ≡ false) → (a : ℕ) → bit_at (changed xs i blank_row) h.store.words a ≡ bit_at xs h.store.words a
-  stays xs r none a = by_page (same_or_not (a / h.store.words) (i + 1))
+  stays : (xs : List (List Bool))
+      → AreRows h.store xs → ((a : ℕ) → a / h.store.words ≡ i + 1 → bit_at xs h.store.words a ≡ false) → (a : ℕ)
+      → bit_at (changed xs i blank_row) h.store.words a ≡ bit_at xs h.store.words a
+  stays xs r none a = by_page (cases_eq (a / h.store.words) (i + 1))
     where
-      by_page : (a / h.store.words ≡ i + 1) ⊎ (a / h.store.words ≢ i + 1) → bit_at (changed xs i blank_row) h.store.words a ≡ bit_at xs h.store.words a
+      by_page : (a / h.store.words ≡ i + 1) ⊎ (a / h.store.words ≢ i + 1)
+          → bit_at (changed xs i blank_row) h.store.words a ≡ bit_at xs h.store.words a
       by_page (inl e) = blank xs r a e ∙ sym (none a e)
       by_page (inr d) = other_bit xs r a d
 
@@ -210,10 +235,7 @@ module _ (h : HeapState) (s : IsStore h.store) (k : IsHeap h) (l : IsLaid h) (o 
     where
       by_bit : (b : Bool) → bit_at h.mark h.store.words a ≡ b → b ≡ false
       by_bit false g = refl
-      by_bit true g = let (q, is) = m.object a g in absurd (no (sym (no_object a e) ∙ is))
-        where
-          no : {q : HeapObject} → None ≡ Some q → ⊥
-          no z = cc
+      by_bit true g = let (q, is) = m.object a g in absurd (none-some _ (sym (no_object a e) ∙ is))
 
   not_todo : (a : ℕ) → a / h.store.words ≡ i + 1 → bit_at h.todo h.store.words a ≡ false
   not_todo a e = by_bit (bit_at h.todo h.store.words a) refl
@@ -225,11 +247,13 @@ module _ (h : HeapState) (s : IsStore h.store) (k : IsHeap h) (l : IsLaid h) (o 
   not_live : (a : ℕ) → a / h.store.words ≡ i + 1 → bit_at h.live h.store.words a ≡ false
   not_live a e = l.unused a (ap (state_at h.store) e ∙ state)
 
-  states : (a : ℕ) → state_at after.store (a / h.store.words) ≡ cond (on_page h i a) Open (state_at h.store (a / h.store.words))
+  states : (a : ℕ)
+      → state_at after.store (a / h.store.words) ≡ cond (on_page h i a) Open (state_at h.store (a / h.store.words))
   unfolding state_at
   states a = ap state_in (pages (a / h.store.words)) ∙ by_test (on_page h i a)
     where
-      by_test : (b : Bool) → state_in (cond b (Some (fresh_page f)) (page_at h.store (a / h.store.words))) ≡ cond b Open (state_in (page_at h.store (a / h.store.words)))
+      by_test : (b : Bool) → state_in (cond b (Some (fresh_page f)) (page_at h.store (a / h.store.words)))
+          ≡ cond b Open (state_in (page_at h.store (a / h.store.words)))
       by_test true = refl
       by_test false = refl
 
@@ -246,15 +270,13 @@ module _ (h : HeapState) (s : IsStore h.store) (k : IsHeap h) (l : IsLaid h) (o 
 
   -- it was unused
   pub was_unused : (a : ℕ) → on_page h i a ≡ true → (world_of h).page_state a ≡ Unused
-  was_unused a e = ap (state_at h.store) (equal (a / h.store.words) (i + 1) e) ∙ state
-    where
-      equal : (x y : ℕ) → nat_eq x y ≡ true → x ≡ y
-      equal x y g = grind arith
+  was_unused a e = ap (state_at h.store) (eqb-true (a / h.store.words) (i + 1) e) ∙ state
 
   sizes : (a : ℕ) → size_at after a ≡ size_at h a
   sizes a = ap (option_map object_size) (opened_objects a)
 
-  ends : (n : ℕ) → extent after (OfEnd n) ≡ end_extent h.store.words n (put (page_at h.store) (i + 1) (Some (fresh_page f)) n)
+  ends : (n : ℕ)
+      → extent after (OfEnd n) ≡ end_extent h.store.words n (put (page_at h.store) (i + 1) (Some (fresh_page f)) n)
   unfolding opened
   ends n = ap (end_extent h.store.words n) (pages n)
 
@@ -264,53 +286,68 @@ module _ (h : HeapState) (s : IsStore h.store) (k : IsHeap h) (l : IsLaid h) (o 
   old_or_new (OfObject a) = inr (ap (option_map (sized_extent a)) (sizes a))
   old_or_new (OfBuffer u) = inr refl
   old_or_new (OfPlan a) = inr (ap (planned_extent ((world_of h).side_entry a)) (sizes a))
-  old_or_new (OfEnd n) = go (same_or_not n (i + 1))
+  old_or_new (OfEnd n) = go (cases_eq n (i + 1))
     where
       go : (n ≡ i + 1) ⊎ (n ≢ i + 1) → (OfEnd n ≡ OfEnd (i + 1)) ⊎ (extent after (OfEnd n) ≡ extent h (OfEnd n))
       go (inl e) = inl (ap OfEnd e)
-      go (inr d) = inr (ends n ∙ ap (end_extent h.store.words n) (put_other (page_at h.store) (i + 1) (Some (fresh_page f)) n d))
+      go (inr d) = inr
+          (ends n ∙ ap (end_extent h.store.words n) (put_other (page_at h.store) (i + 1) (Some (fresh_page f)) n d))
 
-  new_extent : (y : Extent) → extent after (OfEnd (i + 1)) ≡ Some y → (y.from ≡ (i + 1) * h.store.words + 0) × (y.upto ≡ (i + 1) * h.store.words + h.store.words)
+  new_extent : (y : Extent) → extent after (OfEnd (i + 1)) ≡ Some y
+      → (y.from ≡ (i + 1) * h.store.words + 0) × (y.upto ≡ (i + 1) * h.store.words + h.store.words)
   new_extent y e =
-      let is : Some (record { from = (i + 1) * h.store.words + 0; upto = (i + 1) * h.store.words + h.store.words }) ≡ Some y =
-      sym (ends (i + 1) ∙ ap (end_extent h.store.words (i + 1)) (put_same (page_at h.store) (i + 1) (Some (fresh_page f)))) ∙ e in
-      (sym (ap (λ (z : Extent). z.from) (some_in is)), sym (ap (λ (z : Extent). z.upto) (some_in is)))
+      let is : Some (record { from = (i + 1) * h.store.words + 0; upto = (i + 1) * h.store.words + h.store.words })
+      ≡ Some y =
+      sym (ends (i + 1)
+      ∙ ap (end_extent h.store.words (i + 1)) (put_same (page_at h.store) (i + 1) (Some (fresh_page f)))) ∙ e in
+      (sym (ap (λ (z : Extent). z.from) (same_Some _ _ is)), sym (ap (λ (z : Extent). z.upto) (same_Some _ _ is)))
 
   -- what lies on another page is apart from the words of this one
-  other_page : (n : ℕ) → n ≢ i + 1 → (x : Extent) → n * h.store.words ≤ x.from → x.upto ≤ n * h.store.words + h.store.words → (x.upto ≤ (i + 1) * h.store.words) ⊎ ((i + 1) * h.store.words + h.store.words ≤ x.from)
+  other_page : (n : ℕ) → n ≢ i + 1 → (x : Extent)
+      → n * h.store.words ≤ x.from → x.upto ≤ n * h.store.words + h.store.words
+      → (x.upto ≤ (i + 1) * h.store.words) ⊎ ((i + 1) * h.store.words + h.store.words ≤ x.from)
   other_page n d x low high = by_order (less n (i + 1) d)
     where
       less : (a b : ℕ) → a ≢ b → (a < b) ⊎ (b < a)
       less a b d = grind arith
 
-      times : (a b w : ℕ) → a < b → a * w + w ≤ b * w
-      times a b w e = mul_less a b w e
+      by_order : (n < i + 1) ⊎ (i + 1 < n)
+          → (x.upto ≤ (i + 1) * h.store.words) ⊎ ((i + 1) * h.store.words + h.store.words ≤ x.from)
+      by_order (inl e) = inl (omega (arith, high, mul_less n (i + 1) h.store.words e))
+      by_order (inr e) = inr (omega (arith, low, mul_less (i + 1) n h.store.words e))
 
-      by_order : (n < i + 1) ⊎ (i + 1 < n) → (x.upto ≤ (i + 1) * h.store.words) ⊎ ((i + 1) * h.store.words + h.store.words ≤ x.from)
-      by_order (inl e) = inl (omega (arith, high, times n (i + 1) h.store.words e))
-      by_order (inr e) = inr (omega (arith, low, times (i + 1) n h.store.words e))
-
-  far : (c : Claim) (x y : Extent) → extent h c ≡ Some x → (y.from ≡ (i + 1) * h.store.words + 0) × (y.upto ≡ (i + 1) * h.store.words + h.store.words) → (x.upto ≤ y.from) ⊎ (y.upto ≤ x.from)
+  far : (c : Claim) (x y : Extent) → extent h c ≡ Some x
+      → (y.from ≡ (i + 1) * h.store.words + 0) × (y.upto ≡ (i + 1) * h.store.words + h.store.words)
+      → (x.upto ≤ y.from) ⊎ (y.upto ≤ x.from)
   far c x y e g =
       let z = claim_lies h s k l o c x e in
-      let elsewhere : z.page ≢ i + 1 = λ q. no (sym (ap (λ n. has_memory (state_at h.store n)) q ∙ ap has_memory state) ∙ z.memory) in
-      elim (other_page z.page elsewhere x z.from z.upto) [ inl q ↦ inl (omega (arith, q, g.0)) | inr q ↦ inr (omega (arith, q, g.1)) ]
-    where
-      no : false ≡ true → ⊥
-      no z = cc
+      let elsewhere : z.page ≢ i + 1 =
+      λ q. false≢true (sym (ap (λ n. has_memory (state_at h.store n)) q ∙ ap has_memory state) ∙ z.memory) in
+      elim (other_page z.page elsewhere x z.from z.upto) [
+        | inl q ↦ inl (omega (arith, q, g.0))
+        | inr q ↦ inr (omega (arith, q, g.1))
+      ]
 
   apart : Apart (extent after)
   apart c d x y e g = go (old_or_new c) (old_or_new d)
     where
-      go : (c ≡ OfEnd (i + 1)) ⊎ (extent after c ≡ extent h c) → (d ≡ OfEnd (i + 1)) ⊎ (extent after d ≡ extent h d) → (c ≡ d) ⊎ AreApart x y
+      go : (c ≡ OfEnd (i + 1)) ⊎ (extent after c ≡ extent h c) → (d ≡ OfEnd (i + 1)) ⊎ (extent after d ≡ extent h d)
+          → (c ≡ d) ⊎ AreApart x y
       go (inl a) (inl b) = inl (a ∙ sym b)
-      go (inl a) (inr b) = elim (far d y x (sym b ∙ g) (new_extent x (ap (extent after) (sym a) ∙ e))) [ inl q ↦ inr (inr q) | inr q ↦ inr (inl q) ]
-      go (inr a) (inl b) = elim (far c x y (sym a ∙ e) (new_extent y (ap (extent after) (sym b) ∙ g))) [ inl q ↦ inr (inl q) | inr q ↦ inr (inr q) ]
+      go (inl a) (inr b) = elim (far d y x (sym b ∙ g) (new_extent x (ap (extent after) (sym a) ∙ e))) [
+        | inl q ↦ inr (inr q)
+        | inr q ↦ inr (inl q)
+      ]
+      go (inr a) (inl b) = elim (far c x y (sym a ∙ e) (new_extent y (ap (extent after) (sym b) ∙ g))) [
+        | inl q ↦ inr (inl q)
+        | inr q ↦ inr (inr q)
+      ]
       go (inr a) (inr b) = l.apart c d x y (sym a ∙ e) (sym b ∙ g)
 
   rows : (xs : List (List Bool)) → AreRows h.store xs → AreRows after.store (changed xs i blank_row)
   unfolding opened
-  rows xs r = let z = rows_changed h.store xs i blank_row r length_blank in record { pages = z.pages ∙ sym (length-set h.store.pages i (fresh_page f)); words = z.words }
+  rows xs r = let z = rows_changed h.store xs i blank_row r length_blank in
+      record { pages = z.pages ∙ sym (length-set h.store.pages i (fresh_page f)); words = z.words }
 
   -- and memory is in order
   pub opened_laid : IsLaid after
@@ -326,38 +363,46 @@ module _ (h : HeapState) (s : IsStore h.store) (k : IsHeap h) (l : IsLaid h) (o 
     apart = apart;
     planned = λ a n q e g. l.planned a n q e (sym (opened_objects a) ∙ g);
     live_objects = live;
-    unused = λ a e. stays h.live l.live not_live a ∙ by_page a (same_or_not (a / h.store.words) (i + 1)) e;
+    unused = λ a e. stays h.live l.live not_live a ∙ by_page a (cases_eq (a / h.store.words) (i + 1)) e;
   }
     where
-      old_state : (a : ℕ) → a / h.store.words ≢ i + 1 → state_at after.store (a / h.store.words) ≡ state_at h.store (a / h.store.words)
-      old_state a d = states a ∙ ap (λ b. cond b Open (state_at h.store (a / h.store.words))) (ne_eqb (a / h.store.words) (i + 1) d)
+      old_state : (a : ℕ) → a / h.store.words ≢ i + 1
+          → state_at after.store (a / h.store.words) ≡ state_at h.store (a / h.store.words)
+      old_state a d = states a
+          ∙ ap (λ b. cond b Open (state_at h.store (a / h.store.words))) (ne_eqb (a / h.store.words) (i + 1) d)
 
       new_state : (a : ℕ) → a / h.store.words ≡ i + 1 → state_at after.store (a / h.store.words) ≡ Open
-      new_state a e = states a ∙ ap (λ b. cond b Open (state_at h.store (a / h.store.words))) (eq-eqb (a / h.store.words) (i + 1) e)
+      new_state a e = states a
+          ∙ ap (λ b. cond b Open (state_at h.store (a / h.store.words))) (eq-eqb (a / h.store.words) (i + 1) e)
 
-      by_page : (a : ℕ) → (a / h.store.words ≡ i + 1) ⊎ (a / h.store.words ≢ i + 1) → state_at after.store (a / h.store.words) ≡ Unused → bit_at h.live h.store.words a ≡ false
+      by_page : (a : ℕ) → (a / h.store.words ≡ i + 1) ⊎ (a / h.store.words ≢ i + 1)
+          → state_at after.store (a / h.store.words) ≡ Unused → bit_at h.live h.store.words a ≡ false
       by_page a (inl e) g = absurd (no (sym (new_state a e) ∙ g))
         where
           no : Open ≡ Unused → ⊥
           no z = cc
       by_page a (inr d) g = l.unused a (sym (old_state a d) ∙ g)
 
-      live : (a : ℕ) → bit_at (changed h.live i blank_row) h.store.words a ≡ true → has_memory (state_at after.store (a / h.store.words)) ≡ true → (q : HeapObject) × (object_at after a ≡ Some q)
-      live a e g = go (same_or_not (a / h.store.words) (i + 1))
+      live : (a : ℕ) → bit_at (changed h.live i blank_row) h.store.words a ≡ true
+          → has_memory (state_at after.store (a / h.store.words)) ≡ true
+          → (q : HeapObject) × (object_at after a ≡ Some q)
+      live a e g = go (cases_eq (a / h.store.words) (i + 1))
         where
-          no : false ≡ true → ⊥
-          no z = cc
+          go : (a / h.store.words ≡ i + 1) ⊎ (a / h.store.words ≢ i + 1)
+              → (q : HeapObject) × (object_at after a ≡ Some q)
+          go (inl z) = absurd (false≢true (sym (blank h.live l.live a z) ∙ e))
+          go (inr d) = let (q, is) =
+              l.live_objects a (sym (other_bit h.live l.live a d) ∙ e) (ap has_memory (sym (old_state a d)) ∙ g) in
+              (q, opened_objects a ∙ is)
 
-          go : (a / h.store.words ≡ i + 1) ⊎ (a / h.store.words ≢ i + 1) → (q : HeapObject) × (object_at after a ≡ Some q)
-          go (inl z) = absurd (no (sym (blank h.live l.live a z) ∙ e))
-          go (inr d) = let (q, is) = l.live_objects a (sym (other_bit h.live l.live a d) ∙ e) (ap has_memory (sym (old_state a d)) ∙ g) in (q, opened_objects a ∙ is)
-
-      objects : (a : ℕ) → bit_at (changed h.starts i blank_row) h.store.words a ≡ true → has_memory (state_at after.store (a / h.store.words)) ≡ true → (q : HeapObject) × (object_at after a ≡ Some q)
-      objects a e g = go (same_or_not (a / h.store.words) (i + 1))
+      objects : (a : ℕ) → bit_at (changed h.starts i blank_row) h.store.words a ≡ true
+          → has_memory (state_at after.store (a / h.store.words)) ≡ true
+          → (q : HeapObject) × (object_at after a ≡ Some q)
+      objects a e g = go (cases_eq (a / h.store.words) (i + 1))
         where
-          no : false ≡ true → ⊥
-          no z = cc
-
-          go : (a / h.store.words ≡ i + 1) ⊎ (a / h.store.words ≢ i + 1) → (q : HeapObject) × (object_at after a ≡ Some q)
-          go (inl z) = absurd (no (sym (blank h.starts l.starts a z) ∙ e))
-          go (inr d) = let (q, is) = l.objects a (sym (other_bit h.starts l.starts a d) ∙ e) (ap has_memory (sym (old_state a d)) ∙ g) in (q, opened_objects a ∙ is)
+          go : (a / h.store.words ≡ i + 1) ⊎ (a / h.store.words ≢ i + 1)
+              → (q : HeapObject) × (object_at after a ≡ Some q)
+          go (inl z) = absurd (false≢true (sym (blank h.starts l.starts a z) ∙ e))
+          go (inr d) = let (q, is) =
+              l.objects a (sym (other_bit h.starts l.starts a d) ∙ e) (ap has_memory (sym (old_state a d)) ∙ g) in
+              (q, opened_objects a ∙ is)

@@ -1,17 +1,19 @@
 -- The words of registers, barriers, globals and memory: what is written is read back.
-use Rattle.std.proofs.Common.{◌≡◌, ℕ, ◌<◌, Bool, List, Option, Some, None, refl, sym, ◌∙◌, ap, subst}
+use Rattle.std.proofs.Common.{◌≡◌, ℕ, Bool, List, Option, Some, None, refl, ap, subst}
 use Rattle.std.specs.List.{slice_get}
 use Rattle.std.specs.Option.{IfSome}
+use Rattle.std.proofs.lemmas.Option.{same_Some}
 use Rattle.refword.specs.Words.{IsWord, read_word, bits_of}
 use Rattle.refword.proofs.Reading.{reads_back, read_word-is_word}
 use Rattle.model.specs.declared.records.Barrier.{Barrier}
 use Rattle.model.specs.declared.records.Buffer.{Buffer}
 use Rattle.model.specs.declared.records.Global.{Global}
 use Rattle.model.specs.Owning.{Each}
-use Rattle.model.specs.Heaps.{HeapState, ThreadState, Reference, flat, register_of, register_in, global_of, word_of_global, barrier_of, stored, set_register_of, set_buffer_of, set_barrier_of, set_loaded_of, set_parked_of}
+use Rattle.model.specs.Heaps.{HeapState, ThreadState, Reference, flat, register_of}
+use Rattle.model.specs.Heaps.{register_in, global_of, word_of_global, stored, set_register_of}
+use Rattle.model.specs.Heaps.{set_buffer_of, set_barrier_of, set_loaded_of, set_parked_of}
 use Rattle.model.specs.Outcome.{handed}
 use Rattle.model.proofs.Lists.{each_set}
-use Rattle.model.proofs.Memory.{some_in}
 use Rattle.refinement.specs.Roots.{IsLoad, HoldsWords, HasWords}
 
 word_there : (ws : List Reference) (r : ℕ) → Each ws IsWord → IsWord (flat (slice_get ws r))
@@ -40,12 +42,13 @@ global_word h g k = go (slice_get h.globals g) refl
     go (Some x) e = k.globals g x e
 
 -- the load of a thread
-pub load_there : (h : HeapState) (t : ℕ) (x : ThreadState) (b : Barrier) → HasWords h → slice_get h.threads t ≡ Some x → x.barrier ≡ Some b → IsLoad h.config.registers b
+pub load_there : (h : HeapState) (t : ℕ) (x : ThreadState) (b : Barrier) → HasWords h → slice_get h.threads t ≡ Some x
+    → x.barrier ≡ Some b → IsLoad h.config.registers b
 load_there h t x b k at e = go x.barrier e (k.threads t x at).barrier
   where
     go : (o : Option Barrier) → o ≡ Some b → IfSome o (IsLoad h.config.registers) → IsLoad h.config.registers b
     go None f l = absurd (cc)
-    go (Some c) f l = subst (IsLoad h.config.registers) (some_in f) l
+    go (Some c) f l = subst (IsLoad h.config.registers) (same_Some _ _ f) l
 
 -- what is read from memory
 pub stored_word : (bits : ℕ) → IsWord (stored bits)
@@ -61,20 +64,28 @@ stored_again w k = ap flat (reads_back w k)
 
 -- what changes of a thread keep
 
-pub register_holds_words : (n r : ℕ) (w : Reference) (y : ThreadState) → IsWord w → HoldsWords n y → HoldsWords n (set_register_of r w y)
-register_holds_words n r w y k l = record { registers_hold = each_set IsWord y.registers r w l.registers_hold k; barrier = l.barrier }
+pub register_holds_words : (n r : ℕ) (w : Reference) (y : ThreadState) → IsWord w → HoldsWords n y
+    → HoldsWords n (set_register_of r w y)
+register_holds_words n r w y k l =
+    record { registers_hold = each_set IsWord y.registers r w l.registers_hold k; barrier = l.barrier }
 
-pub buffer_holds_words : (n : ℕ) (b : Option Buffer) (y : ThreadState) → HoldsWords n y → HoldsWords n (set_buffer_of b y)
+pub buffer_holds_words : (n : ℕ) (b : Option Buffer) (y : ThreadState) → HoldsWords n y
+    → HoldsWords n (set_buffer_of b y)
 buffer_holds_words n b y l = record { registers_hold = l.registers_hold; barrier = l.barrier }
 
-pub handed_holds_words : (n r : ℕ) (w : Reference) (b : Buffer) (y : ThreadState) → IsWord w → HoldsWords n y → HoldsWords n (handed r w b y)
-handed_holds_words n r w b y k l = record { registers_hold = each_set IsWord y.registers r w l.registers_hold k; barrier = l.barrier }
+pub handed_holds_words : (n r : ℕ) (w : Reference) (b : Buffer) (y : ThreadState) → IsWord w → HoldsWords n y
+    → HoldsWords n (handed r w b y)
+handed_holds_words n r w b y k l =
+    record { registers_hold = each_set IsWord y.registers r w l.registers_hold k; barrier = l.barrier }
 
-pub barrier_holds_words : (n : ℕ) (b : Barrier) (y : ThreadState) → IsLoad n b → HoldsWords n y → HoldsWords n (set_barrier_of (Some b) y)
+pub barrier_holds_words : (n : ℕ) (b : Barrier) (y : ThreadState) → IsLoad n b → HoldsWords n y
+    → HoldsWords n (set_barrier_of (Some b) y)
 barrier_holds_words n b y k l = record { registers_hold = l.registers_hold; barrier = k }
 
-pub loaded_holds_words : (n r : ℕ) (w : Reference) (y : ThreadState) → IsWord w → HoldsWords n y → HoldsWords n (set_loaded_of r w y)
-loaded_holds_words n r w y k l = record { registers_hold = each_set IsWord y.registers r w l.registers_hold k; barrier = tt }
+pub loaded_holds_words : (n r : ℕ) (w : Reference) (y : ThreadState) → IsWord w → HoldsWords n y
+    → HoldsWords n (set_loaded_of r w y)
+loaded_holds_words n r w y k l =
+    record { registers_hold = each_set IsWord y.registers r w l.registers_hold k; barrier = tt }
 
 pub parked_holds_words : (n : ℕ) (b : Bool) (y : ThreadState) → HoldsWords n y → HoldsWords n (set_parked_of b y)
 parked_holds_words n b y l = record { registers_hold = l.registers_hold; barrier = l.barrier }

@@ -21,7 +21,9 @@ frames_stay s n f = by_frame (frame_in (page_at s n))
     by_frame (Some x) = by_words x (slice_get s.frames x)
 
 -- a heap of as many threads, globals and frames has the sizes of another, where all else stays
-pub sizes_stay : (h g : HeapState) → HasSizes h → g.config ≡ h.config → g.store.words ≡ h.store.words → length g.store.frames ≡ length h.store.frames → g.store.count ≡ h.store.count → length g.threads ≡ length h.threads → g.workers ≡ h.workers → length g.globals ≡ length h.globals → HasSizes g
+pub sizes_stay : (h g : HeapState) → HasSizes h → g.config ≡ h.config
+    → g.store.words ≡ h.store.words → length g.store.frames ≡ length h.store.frames → g.store.count ≡ h.store.count
+    → length g.threads ≡ length h.threads → g.workers ≡ h.workers → length g.globals ≡ length h.globals → HasSizes g
 sizes_stay h g k c w f n t x y = record {
   words = w ∙ k.words ∙ sym (ap (λ (z : Config). z.words) c);
   frames = f ∙ k.frames ∙ sym (ap (λ (z : Config). z.frames) c);

@@ -20,7 +20,9 @@ use Rattle.refinement.proofs.Loading.{load_holds, load_global_holds}
 use Rattle.refinement.proofs.Ending.{trap_holds, heal_holds, finish_holds}
 use Rattle.refinement.proofs.Parking.{park_holds, unpark_holds, scrub_holds}
 
-row_holds : (h : HeapState) (p p0 : PlainHeap) (t : ℕ) (step : Step) (y : HeapState × Answer) → IsStore h.store → IsHeap h → Holds h p p0 → Passed h t step → thread_row h t step ≡ accepted y → StepHolds h p p0 (Thread t) step y.0 y.1
+row_holds : (h : HeapState) (p p0 : PlainHeap) (t : ℕ) (step : Step) (y : HeapState × Answer) → IsStore h.store
+    → IsHeap h → Holds h p p0 → Passed h t step → thread_row h t step ≡ accepted y
+    → StepHolds h p p0 (Thread t) step y.0 y.1
 unfolding cross_outcome
 row_holds h p p0 t (steps.Take n) y s d k g e = take_holds h p p0 s d k t n g y e
 row_holds h p p0 t steps.GiveBack y s d k g e = give_back_holds h p p0 s d k t y e
@@ -43,7 +45,10 @@ row_holds h p p0 t steps.Park y s d k g e = park_holds h p p0 s d k t g y e
 row_holds h p p0 t steps.Unpark y s d k g e = unpark_holds h p p0 s d k t g y e
 row_holds h p p0 t _ y s d k g e = absurd (cc)
 
-pub step_holds : (h : HeapState) (p p0 : PlainHeap) (actor : Actor) (step : Step) (g : HeapState) (answer : Answer) → IsStore h.store → IsHeap h → Holds h p p0 → outcome h actor step ≡ accepted (g, answer) → StepHolds h p p0 actor step g answer
+pub step_holds : (h : HeapState) (p p0 : PlainHeap) (actor : Actor) (step : Step) (g : HeapState) (answer : Answer)
+    → IsStore h.store → IsHeap h → Holds h p p0 → outcome h actor step ≡ accepted (g, answer)
+    → StepHolds h p p0 actor step g answer
 unfolding outcome
-step_holds h p p0 (Thread t) step g answer s d k e = let (passes, row) = passed h t step (g, answer) e in row_holds h p p0 t step (g, answer) s d k passes row
+step_holds h p p0 (Thread t) step g answer s d k e =
+    let (passes, row) = passed h t step (g, answer) e in row_holds h p p0 t step (g, answer) s d k passes row
 step_holds h p p0 (Worker w) step g answer s d k e = absurd (cc)

@@ -1,9 +1,10 @@
 -- What an accepted step has passed: the tests before its row, and those of the row.
-use Rattle.std.proofs.Common.{◌≡◌, ◌⊎◌, inl, inr, ℕ, ◌+◌, ◌/◌, ◌%◌, ◌<◌, ◌&&◌, ◌||◌, Bool, true, false, not, cond, List, length, nat_le, nat_lt, is_some, Option, Some, None, refl, sym, ◌∙◌, ap, subst, arith}
+use Rattle.std.proofs.Common.{◌≡◌, ◌⊎◌, inl, inr, ℕ, ◌+◌, ◌%◌, ◌<◌, ◌&&◌, ◌||◌, Bool, true, false, not, cond}
+use Rattle.std.proofs.Common.{length, nat_le, nat_lt, is_some, Option, Some, None, refl, sym, ◌∙◌, ap, subst}
 use Rattle.std.specs.Prelude.{Result, Ok, Err}
 use Rattle.std.specs.List.{slice_get}
 use Rattle.std.specs.Option.{option_and_then}
-use Rattle.std.proofs.lemmas.Bool.Decides.{nat_tests}
+use Rattle.std.proofs.lemmas.Bool.{or_parts, leb-false, ltb-true}
 use Rattle.model.specs.declared.steps.Actor.TheVariants.{Thread}
 use Rattle.model.specs.declared.steps.Step.{Step}
 use Rattle.model.specs.declared.steps.Answer.{Answer}
@@ -12,11 +13,14 @@ use Rattle.model.specs.declared.steps.Refusal.TheVariants as refusals
 use Rattle.model.specs.declared.records.Barrier.{Barrier}
 use Rattle.model.specs.declared.records.Phase.{Phase}
 use Rattle.model.specs.declared.records.Phase.TheVariants.{Idle, MarkCrossing, Scanning, ProtectCrossing, Relocating}
-use Rattle.model.specs.Stores.{StoreState, word_at, word_in, spot_of, at_offset, words_at, page_at, frame_in}
-use Rattle.model.specs.Heaps.{HeapState, ThreadState, Reference, register_of, layout_at, layout_in, header_layout, field_address, datum_address}
+use Rattle.model.specs.Heaps.{HeapState, ThreadState, Reference, register_of, layout_at}
+use Rattle.model.specs.Heaps.{layout_in, header_layout, field_address, datum_address}
 use Rattle.model.specs.Refusing.{◌>>=◌, or_refuse}
-use Rattle.model.specs.Outcome.{outcome, thread_gate, thread_row, has_bad_index, is_for_threads, is_for_parked, is_for_loading, is_parked_in, is_loading_in, usable, use_word, usable_or_null, use_or_null, let_through, held_back, has_crossed, field_at, field_place, datum_at, datum_place}
-use Rattle.model.proofs.Lists.{get_within}
+use Rattle.model.specs.Outcome.{outcome, thread_gate, thread_row, has_bad_index, is_for_threads}
+use Rattle.model.specs.Outcome.{is_for_parked, is_for_loading, is_parked_in, is_loading_in, usable}
+use Rattle.model.specs.Outcome.{use_word, usable_or_null, use_or_null, let_through, held_back}
+use Rattle.model.specs.Outcome.{has_crossed, field_at, field_place, datum_at, datum_place}
+use Rattle.model.proofs.Lists.{get_within, no_some}
 use Rattle.model.proofs.Memory.{word_on_page}
 use Rattle.laws.specs.AddressHeap.{HeapObject}
 use Rattle.laws.specs.Transitions.{IsUsable}
@@ -28,7 +32,8 @@ use Rattle.refinement.proofs.Objects.{IsThere}
 abbrev pub accepted : {A : Type 0} → A → Result A Refusal
 accepted x = Ok x
 
-pub bind_ok : {A B : Type 0} (r : Result A Refusal) (f : A → Result B Refusal) (y : B) → r >>= f ≡ accepted y → (x : A) × (r ≡ accepted x) × (f x ≡ accepted y)
+pub bind_ok : {A B : Type 0} (r : Result A Refusal) (f : A → Result B Refusal) (y : B) → r >>= f ≡ accepted y
+    → (x : A) × (r ≡ accepted x) × (f x ≡ accepted y)
 bind_ok (Ok x) f y e = (x, refl, e)
 bind_ok (Err n) f y e = absurd (cc)
 
@@ -39,7 +44,8 @@ found_ok (Some y) n x e = cc
 pub same_result : {A : Type 0} (x y : A) → accepted x ≡ accepted y → x ≡ y
 same_result x y e = cc
 
-pub not_refused : {A : Type 0} (b : Bool) (n : Refusal) (r : Result A Refusal) (y : A) → cond b (Err n) r ≡ accepted y → (b ≡ false) × (r ≡ accepted y)
+pub not_refused : {A : Type 0} (b : Bool) (n : Refusal) (r : Result A Refusal) (y : A) → cond b (Err n) r ≡ accepted y
+    → (b ≡ false) × (r ≡ accepted y)
 not_refused true n r y e = absurd (cc)
 not_refused false n r y e = (refl, e)
 
@@ -52,19 +58,11 @@ pub record Passed (h : HeapState) (t : ℕ) (s : Step) : Type 0 where
   pub awake : is_for_parked s ≡ false → thread.parked ≡ false
   pub closed : is_for_loading s ≡ false → thread.barrier ≡ None
 
-both_false : (a b : Bool) → a || b ≡ false → a ≡ false
-both_false false b e = refl
-both_false true b e = absurd (cc)
-
 pub first_false : (a b : Bool) → a || b ≡ false → a ≡ false
-first_false a b e = both_false a b e
+first_false a b e = (or_parts a b e).0
 
 pub second_false : (a b : Bool) → a || b ≡ false → b ≡ false
-second_false false b e = e
-second_false true b e = absurd (cc)
-
-pub not_le : (m n : ℕ) → nat_le m n ≡ false → n < m
-not_le m n e = grind (arith, nat_tests)
+second_false a b e = (or_parts a b e).1
 
 -- a test that only some steps pass
 unless : (a b : Bool) → a && not b ≡ false → b ≡ false → a ≡ false
@@ -72,25 +70,26 @@ unless false b e f = refl
 unless true true e f = absurd (cc)
 unless true false e f = absurd (cc)
 
-no_barrier : (b : Option Barrier) → is_some b ≡ false → b ≡ None
-no_barrier None e = refl
-no_barrier (Some b) e = absurd (cc)
-
-pub passed : (h : HeapState) (t : ℕ) (s : Step) (x : HeapState × Answer) → outcome h (Thread t) s ≡ accepted x → Passed h t s × (thread_row h t s ≡ accepted x)
+pub passed : (h : HeapState) (t : ℕ) (s : Step) (x : HeapState × Answer) → outcome h (Thread t) s ≡ accepted x
+    → Passed h t s × (thread_row h t s ≡ accepted x)
 unfolding outcome thread_gate
 passed h t s x e =
     let (u, gate, row) = bind_ok (thread_gate h t s) (λ u. thread_row h t s) x e in
     let (a, rest) = not_refused (nat_le (length h.threads) t || not (is_for_threads s)) refusals.NoActor _ u gate in
     let (b, rest2) = not_refused (has_bad_index h s) refusals.BadIndex _ u rest in
-    let (c, rest3) = not_refused (is_parked_in (slice_get h.threads t) && not (is_for_parked s)) refusals.Parked _ u rest2 in
-    let (d, rest4) = not_refused (is_loading_in (slice_get h.threads t) && not (is_for_loading s)) refusals.Busy _ u rest3 in
-    let (y, at) = get_within h.threads t (not_le (length h.threads) t (both_false (nat_le (length h.threads) t) (not (is_for_threads s)) a)) in (
+    let (c, rest3) =
+    not_refused (is_parked_in (slice_get h.threads t) && not (is_for_parked s)) refusals.Parked _ u rest2 in
+    let (d, rest4) =
+    not_refused (is_loading_in (slice_get h.threads t) && not (is_for_loading s)) refusals.Busy _ u rest3 in
+    let (y, at) = get_within h.threads t
+    (leb-false (length h.threads) t (first_false (nat_le (length h.threads) t) (not (is_for_threads s)) a)) in (
       record {
         thread = y;
         there = at;
         indices = b;
         awake = λ f. ap is_parked_in (sym at) ∙ unless (is_parked_in (slice_get h.threads t)) (is_for_parked s) c f;
-        closed = λ f. no_barrier y.barrier (ap is_loading_in (sym at) ∙ unless (is_loading_in (slice_get h.threads t)) (is_for_loading s) d f);
+        closed = λ f. no_some y.barrier (ap is_loading_in (sym at)
+            ∙ unless (is_loading_in (slice_get h.threads t)) (is_for_loading s) d f);
       },
       row,
     )
@@ -110,16 +109,19 @@ held MarkCrossing c e = absurd (cc)
 held Scanning c e = absurd (cc)
 held Relocating c e = absurd (cc)
 
-through : (h : HeapState) (t a : ℕ) (x : ThreadState) → slice_get h.threads t ≡ Some x → let_through h t a ≡ accepted tt → IsUsable (world_of h) t a
+through : (h : HeapState) (t a : ℕ) (x : ThreadState) → slice_get h.threads t ≡ Some x
+    → let_through h t a ≡ accepted tt → IsUsable (world_of h) t a
 unfolding let_through
 through h t a x at e p =
-    let z = held h.phase (has_crossed (slice_get h.threads t)) (sym (ap (λ b. cond b (held_back h.phase (has_crossed (slice_get h.threads t))) (Ok tt)) p) ∙ e) in
+    let z = held h.phase (has_crossed (slice_get h.threads t))
+    (sym (ap (λ b. cond b (held_back h.phase (has_crossed (slice_get h.threads t))) (Ok tt)) p) ∙ e) in
     (z.0, ap has_crossed at ∙ sym (ap has_crossed at) ∙ z.1)
 
 one_unit : (u : Unit {0}) → u ≡ tt
 one_unit tt = refl
 
-pub used_ok : (h : HeapState) (t r a : ℕ) (x : ThreadState) → slice_get h.threads t ≡ Some x → usable h t r ≡ accepted a → IsUsed h t r a
+pub used_ok : (h : HeapState) (t r a : ℕ) (x : ThreadState) → slice_get h.threads t ≡ Some x
+    → usable h t r ≡ accepted a → IsUsed h t r a
 unfolding usable
 used_ok h t r a x at e = by_word (register_of h t r) refl e
   where
@@ -135,40 +137,52 @@ used_ok h t r a x at e = by_word (register_of h t r) refl e
         }
 
 -- a register that is null, or may be used
-pub used_or_null : (h : HeapState) (t r : ℕ) (o : Option ℕ) (x : ThreadState) → slice_get h.threads t ≡ Some x → usable_or_null h t r ≡ accepted o → ((o ≡ None) × (register_of h t r ≡ None)) ⊎ ((a : ℕ) × (o ≡ Some a) × IsUsed h t r a)
+pub used_or_null : (h : HeapState) (t r : ℕ) (o : Option ℕ) (x : ThreadState)
+    → slice_get h.threads t ≡ Some x → usable_or_null h t r ≡ accepted o
+    → ((o ≡ None) × (register_of h t r ≡ None)) ⊎ ((a : ℕ) × (o ≡ Some a) × IsUsed h t r a)
 unfolding usable_or_null
 used_or_null h t r o x at e = by_word (register_of h t r) refl e
   where
-    by_word : (w : Reference) → register_of h t r ≡ w → use_or_null h t w ≡ accepted o → ((o ≡ None) × (register_of h t r ≡ None)) ⊎ ((a : ℕ) × (o ≡ Some a) × IsUsed h t r a)
+    by_word : (w : Reference) → register_of h t r ≡ w → use_or_null h t w ≡ accepted o
+        → ((o ≡ None) × (register_of h t r ≡ None)) ⊎ ((a : ℕ) × (o ≡ Some a) × IsUsed h t r a)
     by_word None f k = inl (sym (same_result None o k), f)
     by_word (Some w) f k =
         let (u, pass, is) = bind_ok (let_through h t w.0) (λ u. Ok (Some w.0)) o k in
-        inr (w.0, sym (same_result (Some w.0) o is), record { bit = w.1; word = f; usable = through h t w.0 x at (pass ∙ ap accepted (one_unit u)) })
+        inr (
+          w.0,
+          sym (same_result (Some w.0) o is),
+          record { bit = w.1; word = f; usable = through h t w.0 x at (pass ∙ ap accepted (one_unit u)) },
+        )
 
 -- data
 
 -- the layout of an object that is there
 shape_there : (h : HeapState) (a : ℕ) (q : HeapObject) (t : IsThere h a q) → layout_at h a ≡ Some t.read.shape
 unfolding layout_at
-shape_there h a q t = ap (λ o. layout_in h.config.layouts (header_layout o)) (word_on_page h.store a ∙ ap (option_and_then (λ ws. slice_get ws (a % h.store.words))) t.page ∙ t.read.at) ∙ t.read.known
-
-less : (m n : ℕ) → nat_lt m n ≡ true → m < n
-less m n e = grind (arith, nat_tests)
+shape_there h a q t = ap (λ o. layout_in h.config.layouts (header_layout o)) (word_on_page h.store a
+    ∙ ap (option_and_then (λ ws. slice_get ws (a % h.store.words))) t.page ∙ t.read.at) ∙ t.read.known
 
 -- where a reference of an object stands
-pub field_there : (h : HeapState) (a : ℕ) (q : HeapObject) (t : IsThere h a q) (i place : ℕ) → field_at h a i ≡ Some place → (i < t.read.shape.refs) × (a + 1 + i ≡ place)
+pub field_there : (h : HeapState) (a : ℕ) (q : HeapObject) (t : IsThere h a q) (i place : ℕ)
+    → field_at h a i ≡ Some place → (i < t.read.shape.refs) × (a + 1 + i ≡ place)
 unfolding field_at
-field_there h a q t i place e = by_test (nat_lt i t.read.shape.refs) refl (sym (ap (field_place a i) (shape_there h a q t)) ∙ e)
+field_there h a q t i place e =
+    by_test (nat_lt i t.read.shape.refs) refl (sym (ap (field_place a i) (shape_there h a q t)) ∙ e)
   where
-    by_test : (b : Bool) → nat_lt i t.read.shape.refs ≡ b → cond b (Some (field_address a i)) None ≡ Some place → (i < t.read.shape.refs) × (a + 1 + i ≡ place)
-    by_test true f k = (less i t.read.shape.refs f, cc)
+    by_test : (b : Bool) → nat_lt i t.read.shape.refs ≡ b → cond b (Some (field_address a i)) None ≡ Some place
+        → (i < t.read.shape.refs) × (a + 1 + i ≡ place)
+    by_test true f k = (ltb-true i t.read.shape.refs f, cc)
     by_test false f k = absurd (cc)
 
 -- where a datum of an object stands
-pub datum_there : (h : HeapState) (a : ℕ) (q : HeapObject) (t : IsThere h a q) (j place : ℕ) → datum_at h a j ≡ Some place → (j < t.read.shape.nums) × (a + 1 + t.read.shape.refs + j ≡ place)
+pub datum_there : (h : HeapState) (a : ℕ) (q : HeapObject) (t : IsThere h a q) (j place : ℕ)
+    → datum_at h a j ≡ Some place → (j < t.read.shape.nums) × (a + 1 + t.read.shape.refs + j ≡ place)
 unfolding datum_at
-datum_there h a q t j place e = by_test (nat_lt j t.read.shape.nums) refl (sym (ap (datum_place a j) (shape_there h a q t)) ∙ e)
+datum_there h a q t j place e =
+    by_test (nat_lt j t.read.shape.nums) refl (sym (ap (datum_place a j) (shape_there h a q t)) ∙ e)
   where
-    by_test : (b : Bool) → nat_lt j t.read.shape.nums ≡ b → cond b (Some (datum_address a t.read.shape j)) None ≡ Some place → (j < t.read.shape.nums) × (a + 1 + t.read.shape.refs + j ≡ place)
-    by_test true f k = (less j t.read.shape.nums f, cc)
+    by_test : (b : Bool)
+        → nat_lt j t.read.shape.nums ≡ b → cond b (Some (datum_address a t.read.shape j)) None ≡ Some place
+        → (j < t.read.shape.nums) × (a + 1 + t.read.shape.refs + j ≡ place)
+    by_test true f k = (ltb-true j t.read.shape.nums f, cc)
     by_test false f k = absurd (cc)

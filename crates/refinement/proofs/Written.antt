@@ -1,20 +1,24 @@
 -- A word of an object that is written in memory: the object reads as another of its size, and all others stay.
-use Rattle.std.proofs.Common.{◌≡◌, ◌≢◌, ◌⊎◌, inl, inr, ℕ, ◌+◌, ◌/◌, ◌%◌, ◌<◌, ◌≤◌, true, List, length, set, Some, refl, sym, ◌∙◌, ap, ap₂, subst, arith}
+use Rattle.std.proofs.Common.{◌≡◌, ◌≢◌, ◌⊎◌, inl, inr, ℕ, ◌+◌, ◌/◌, ◌%◌, ◌<◌, ◌≤◌, true}
+use Rattle.std.proofs.Common.{List, length, set, Some, refl, sym, ◌∙◌, ap, ap₂, subst, arith}
 use mathlib.Core.Path.{fun_ext}
 use Rattle.std.proofs.Math.ListN.{length-set}
 use Rattle.std.specs.List.{slice_get}
 use Rattle.std.specs.Option.{option_map, option_and_then}
+use Rattle.std.proofs.lemmas.Bool.{cases_eq}
+use Rattle.std.proofs.lemmas.Option.{same_Some}
 use Rattle.model.specs.Stores.{words_at, word_at, with_words, with_word, state_at, page_at, has_memory}
 use Rattle.model.specs.Owning.{IsStore}
 use Rattle.model.specs.Heaps.{HeapState, register_of}
 use Rattle.model.proofs.Lists.{get_set_other}
-use Rattle.model.proofs.Memory.{some_in, words_sized, words_memory, word_on_page}
+use Rattle.model.proofs.Memory.{words_sized, words_memory, word_on_page}
 use Rattle.laws.specs.AddressHeap.{HeapObject, Planned, put}
 use Rattle.laws.specs.Edits.{set_object}
 use Rattle.laws.specs.Effects.{with_datum, with_field}
-use Rattle.laws.proofs.Basics.{put_all, put_after, put_same, put_other, same_or_not}
+use Rattle.laws.proofs.Basics.{put_all, put_after, put_same, put_other}
 use Rattle.refinement.specs.Worlds.{world_of, object_at, bit_at, word_in_memory}
-use Rattle.refinement.specs.Claims.{IsLaid, Claim, OfObject, OfBuffer, OfPlan, OfEnd, extent, object_size, size_at, sized_extent, planned_extent}
+use Rattle.refinement.specs.Claims.{IsLaid, Claim, OfObject, OfBuffer, OfPlan, OfEnd, extent}
+use Rattle.refinement.specs.Claims.{object_size, size_at, sized_extent, planned_extent}
 use Rattle.refinement.proofs.Runs.{Agree}
 use Rattle.refinement.proofs.Reading.{IsRead, read_refs, read_data, read_fits, read_datum, read_field}
 use Rattle.refinement.proofs.Objects.{Rewrites, IsThere, there, rewritten}
@@ -24,9 +28,11 @@ use Rattle.refinement.proofs.Claims.{within_page, objects_apart, extents_same}
 pub record IsWrite (h : HeapState) (a : ℕ) (q : HeapObject) (k v : ℕ) (p : HeapObject) : Type 0 where
   pub within : k < object_size q
   pub size : object_size p ≡ object_size q
-  pub reads : (ws : List ℕ) → IsRead h.config.layouts ws (a % h.store.words) q → IsRead h.config.layouts (set ws (a % h.store.words + k) v) (a % h.store.words) p
+  pub reads : (ws : List ℕ) → IsRead h.config.layouts ws (a % h.store.words) q
+      → IsRead h.config.layouts (set ws (a % h.store.words + k) v) (a % h.store.words) p
 
-module _ (h : HeapState) (s : IsStore h.store) (l : IsLaid h) (a : ℕ) (q : HeapObject) (e : object_at h a ≡ Some q) (k v : ℕ) where
+module _ (h : HeapState) (s : IsStore h.store) (l : IsLaid h) (a : ℕ) (q : HeapObject) (e : object_at h a ≡ Some q)
+    (k v : ℕ) where
   abbrev t : IsThere h a q
   t = there h a q e
 
@@ -48,7 +54,8 @@ module _ (h : HeapState) (s : IsStore h.store) (l : IsLaid h) (a : ℕ) (q : Hea
 
   -- the word that stands there
   pub word_there : k < object_size q → word_at h.store place ≡ slice_get t.words (a % h.store.words + k)
-  word_there m = word_on_page h.store place ∙ ap₂ (λ o n. option_and_then (λ ws. slice_get ws n) o) (ap (words_at h.store) (place_page m) ∙ t.page) (place_offset m)
+  word_there m = word_on_page h.store place ∙ ap₂ (λ o n. option_and_then (λ ws. slice_get ws n) o)
+      (ap (words_at h.store) (place_page m) ∙ t.page) (place_offset m)
 
   -- the heap with the word written
   abbrev pub after : HeapState
@@ -59,14 +66,20 @@ module _ (h : HeapState) (s : IsStore h.store) (l : IsLaid h) (a : ℕ) (q : Hea
     change ws = set ws (place % h.store.words) v
 
     read : IsRead h.config.layouts (change t.words) (a % h.store.words) p
-    read = subst (λ i. IsRead h.config.layouts (set t.words i v) (a % h.store.words) p) (sym (place_offset w.within)) (w.reads t.words t.read)
+    read = subst (λ i. IsRead h.config.layouts (set t.words i v) (a % h.store.words) p) (sym (place_offset w.within))
+        (w.reads t.words t.read)
 
-    apart : (x : ℕ) (o : HeapObject) → x ≢ a → x / h.store.words ≡ place / h.store.words → object_at h x ≡ Some o → Agree (change t.words) t.words (x % h.store.words) (x % h.store.words + object_size o)
+    apart : (x : ℕ) (o : HeapObject) → x ≢ a → x / h.store.words ≡ place / h.store.words → object_at h x ≡ Some o
+        → Agree (change t.words) t.words (x % h.store.words) (x % h.store.words + object_size o)
     apart x o d g f = go (objects_apart h x a o q l.apart f e d (g ∙ place_page w.within))
       where
-        go : (x % h.store.words + object_size o ≤ a % h.store.words) ⊎ (a % h.store.words + object_size q ≤ x % h.store.words) → Agree (change t.words) t.words (x % h.store.words) (x % h.store.words + object_size o)
-        go (inl b) i low high = get_set_other t.words (place % h.store.words) i v (λ z. absurd (omega (arith, z, b, high, place_offset w.within)))
-        go (inr b) i low high = get_set_other t.words (place % h.store.words) i v (λ z. absurd (omega (arith, z, b, low, w.within, place_offset w.within)))
+        go : (x % h.store.words + object_size o ≤ a % h.store.words)
+            ⊎ (a % h.store.words + object_size q ≤ x % h.store.words)
+            → Agree (change t.words) t.words (x % h.store.words) (x % h.store.words + object_size o)
+        go (inl b) i low high = get_set_other t.words (place % h.store.words) i v
+            (λ z. absurd (omega (arith, z, b, high, place_offset w.within)))
+        go (inr b) i low high = get_set_other t.words (place % h.store.words) i v
+            (λ z. absurd (omega (arith, z, b, low, w.within, place_offset w.within)))
 
     rewrites : Rewrites h h.starts (place / h.store.words) a change p
     rewrites = record {
@@ -77,7 +90,8 @@ module _ (h : HeapState) (s : IsStore h.store) (l : IsLaid h) (a : ℕ) (q : Hea
       bit = t.bit;
       read = read;
       bits = λ x d. refl;
-      known = λ x g b. l.objects x b (ap (λ n. has_memory (state_at h.store n)) (g ∙ place_page w.within) ∙ words_memory h.store (a / h.store.words) t.words s t.page);
+      known = λ x g b. l.objects x b (ap (λ n. has_memory (state_at h.store n)) (g ∙ place_page w.within)
+          ∙ words_memory h.store (a / h.store.words) t.words s t.page);
       apart = apart;
     }
 
@@ -90,7 +104,8 @@ module _ (h : HeapState) (s : IsStore h.store) (l : IsLaid h) (a : ℕ) (q : Hea
     written_world = λ z. record (world_of h) { object_at = fun_ext objects_after z }
 
     sizes : (x : ℕ) → size_at after x ≡ size_at h x
-    sizes x = ap (option_map object_size) (objects_after x) ∙ put_all (λ y o. option_map object_size o ≡ size_at h y) (object_at h) a (Some p) here (λ y d. refl) x
+    sizes x = ap (option_map object_size) (objects_after x)
+        ∙ put_all (λ y o. option_map object_size o ≡ size_at h y) (object_at h) a (Some p) here (λ y d. refl) x
       where
         here : Some (object_size p) ≡ size_at h a
         here = ap Some w.size ∙ ap (option_map object_size) (sym e)
@@ -103,24 +118,28 @@ module _ (h : HeapState) (s : IsStore h.store) (l : IsLaid h) (a : ℕ) (q : Hea
     extents (OfEnd n) = refl
 
     stays : (x : ℕ) (o : HeapObject) → object_at h x ≡ Some o → (o : HeapObject) × (object_at after x ≡ Some o)
-    stays x o is = go (same_or_not x a)
+    stays x o is = go (cases_eq x a)
       where
         go : (x ≡ a) ⊎ (x ≢ a) → (o : HeapObject) × (object_at after x ≡ Some o)
         go (inl f) = (p, objects_after x ∙ ap (put (object_at h) a (Some p)) f ∙ put_same (object_at h) a (Some p))
         go (inr f) = (o, objects_after x ∙ put_other (object_at h) a (Some p) x f ∙ is)
 
-    live : (x : ℕ) → bit_at h.live h.store.words x ≡ true → has_memory (state_at h.store (x / h.store.words)) ≡ true → (o : HeapObject) × (object_at after x ≡ Some o)
+    live : (x : ℕ) → bit_at h.live h.store.words x ≡ true → has_memory (state_at h.store (x / h.store.words)) ≡ true
+        → (o : HeapObject) × (object_at after x ≡ Some o)
     live x b f = let (o, is) = l.live_objects x b f in stays x o is
 
-    objects : (x : ℕ) → bit_at h.starts h.store.words x ≡ true → has_memory (state_at h.store (x / h.store.words)) ≡ true → (o : HeapObject) × (object_at after x ≡ Some o)
+    objects : (x : ℕ) → bit_at h.starts h.store.words x ≡ true
+        → has_memory (state_at h.store (x / h.store.words)) ≡ true → (o : HeapObject) × (object_at after x ≡ Some o)
     objects x b f = let (o, is) = l.objects x b f in stays x o is
 
-    planned : (x n : ℕ) (o : HeapObject) → (world_of h).side_entry x ≡ Planned n → put (object_at h) a (Some p) x ≡ Some o → n % h.store.words + object_size o ≤ h.store.words
+    planned : (x n : ℕ) (o : HeapObject) → (world_of h).side_entry x ≡ Planned n
+        → put (object_at h) a (Some p) x ≡ Some o → n % h.store.words + object_size o ≤ h.store.words
     planned x n o g f = go (put_after (object_at h) a (Some p) x (Some o) f)
       where
-        go : ((x ≡ a) × (Some p ≡ Some o)) ⊎ ((x ≢ a) × (object_at h x ≡ Some o)) → n % h.store.words + object_size o ≤ h.store.words
+        go : ((x ≡ a) × (Some p ≡ Some o)) ⊎ ((x ≢ a) × (object_at h x ≡ Some o))
+            → n % h.store.words + object_size o ≤ h.store.words
         go (inl (f, z)) =
-            let size : object_size p ≡ object_size o = ap object_size (some_in z) in
+            let size : object_size p ≡ object_size o = ap object_size (same_Some _ _ z) in
             omega (arith, size, w.size, l.planned x n q g (ap (object_at h) f ∙ e))
         go (inr (f, z)) = l.planned x n o g z
 
@@ -141,19 +160,25 @@ module _ (h : HeapState) (s : IsStore h.store) (l : IsLaid h) (a : ℕ) (q : Hea
     }
 
 -- a datum is written
-pub datum_write : (h : HeapState) (a : ℕ) (q : HeapObject) (e : object_at h a ≡ Some q) (j v : ℕ) → j < length q.data_words → IsWrite h a q (1 + length q.refs + j) v (with_datum q j v)
+pub datum_write : (h : HeapState) (a : ℕ) (q : HeapObject) (e : object_at h a ≡ Some q) (j v : ℕ)
+    → j < length q.data_words → IsWrite h a q (1 + length q.refs + j) v (with_datum q j v)
 datum_write h a q e j v m = record {
   within = omega (arith, m);
   size = omega (arith, length-set q.data_words j v);
-  reads = λ ws r. subst (λ i. IsRead h.config.layouts (set ws i v) (a % h.store.words) (with_datum q j v)) (omega (arith, read_refs h.config.layouts ws (a % h.store.words) q r))
-      (read_datum h.config.layouts ws (a % h.store.words) q r j v (omega (arith, m, read_data h.config.layouts ws (a % h.store.words) q r)));
+  reads = λ ws r. subst (λ i. IsRead h.config.layouts (set ws i v) (a % h.store.words) (with_datum q j v))
+      (omega (arith, read_refs h.config.layouts ws (a % h.store.words) q r))
+      (read_datum h.config.layouts ws (a % h.store.words) q r j v
+      (omega (arith, m, read_data h.config.layouts ws (a % h.store.words) q r)));
 }
 
 -- a reference is written
-pub field_write : (h : HeapState) (a : ℕ) (q : HeapObject) (e : object_at h a ≡ Some q) (i v : ℕ) → i < length q.refs → IsWrite h a q (1 + i) v (with_field q i (word_in_memory v))
+pub field_write : (h : HeapState) (a : ℕ) (q : HeapObject) (e : object_at h a ≡ Some q) (i v : ℕ) → i < length q.refs
+    → IsWrite h a q (1 + i) v (with_field q i (word_in_memory v))
 field_write h a q e i v m = record {
   within = omega (arith, m);
   size = omega (arith, length-set q.refs i (word_in_memory v));
-  reads = λ ws r. subst (λ n. IsRead h.config.layouts (set ws n v) (a % h.store.words) (with_field q i (word_in_memory v))) (omega arith)
-      (read_field h.config.layouts ws (a % h.store.words) q r i v (omega (arith, m, read_refs h.config.layouts ws (a % h.store.words) q r)));
+  reads = λ ws r. subst
+      (λ n. IsRead h.config.layouts (set ws n v) (a % h.store.words) (with_field q i (word_in_memory v))) (omega arith)
+      (read_field h.config.layouts ws (a % h.store.words) q r i v
+      (omega (arith, m, read_refs h.config.layouts ws (a % h.store.words) q r)));
 }

@@ -1,5 +1,6 @@
 -- Texts that are written one after another.
-use Rattle.std.proofs.Common.{◌≡◌, ℕ, ◌+◌, ◌<◌, ◌≤◌, List, [], ◌∷◌, ◌++◌, length, drop, get_or, Option, Some, None, refl, ap, sym, subst, ◌∙◌, add-one, drop-cons, append_assoc, append-nil, rules}
+use Rattle.std.proofs.Common.{◌≡◌, ℕ, ◌+◌, ◌<◌, ◌≤◌, List, [], ◌∷◌, ◌++◌, length, drop, get_or, Option, Some, None}
+use Rattle.std.proofs.Common.{refl, ap, sym, subst, ◌∙◌, add-one, drop-cons, append_assoc, append-nil, rules}
 use Rattle.std.proofs.lemmas.List.{drop_all}
 use Rattle.std.specs.Io.KnownBytes.{Appends}
 use Rattle.std.specs.Prelude.{Result, Ok, Err, OnOk}
@@ -14,33 +15,44 @@ split : {X : Type 0} (xs : List X) (i : ℕ) (d : X) → i < length xs → drop 
 split xs i d h = rw (add-one, drop-cons xs i d) refl
 
 -- the first of the texts that are left
-pub texts_next : {X : Type 0} (f : ℕ → X → List ℕ) (i : ℕ) (xs : List X) (d : X) → i < length xs → texts_from f i (drop i xs) ≡ f i (get_or xs i d) ++ texts_from f (i + 1) (drop (i + 1) xs)
+pub texts_next : {X : Type 0} (f : ℕ → X → List ℕ) (i : ℕ) (xs : List X) (d : X) → i < length xs
+    → texts_from f i (drop i xs) ≡ f i (get_or xs i d) ++ texts_from f (i + 1) (drop (i + 1) xs)
 unfolding texts_from
 texts_next f i xs d h = rw (split xs i d h) refl
 
-pub texts_end : {X : Type 0} (f : ℕ → X → List ℕ) (i : ℕ) (xs : List X) → length xs ≤ i → texts_from f i (drop i xs) ≡ []
+pub texts_end : {X : Type 0} (f : ℕ → X → List ℕ) (i : ℕ) (xs : List X) → length xs ≤ i
+    → texts_from f i (drop i xs) ≡ []
 unfolding texts_from
 texts_end f i xs h = rw (drop_all i xs h) refl
 
-pub told_next : {X : Type 0} (f : ℕ → X → List ℕ) (i : ℕ) (xs : List X) (d : X) (old c new : Option (List ℕ)) (all : List ℕ) →
-    Leads old c (texts_from f i (drop i xs)) all → i < length xs → Appends c new (f i (get_or xs i d)) → Leads old new (texts_from f (i + 1) (drop (i + 1) xs)) all
+pub told_next : {X : Type 0} (f : ℕ → X → List ℕ) (i : ℕ) (xs : List X) (d : X) (old c new : Option (List ℕ))
+    (all : List ℕ) → Leads old c (texts_from f i (drop i xs)) all → i < length xs → Appends c new (f i (get_or xs i d))
+    → Leads old new (texts_from f (i + 1) (drop (i + 1) xs)) all
 told_next f i xs d old c new all h le a =
-    let k : Leads old c (f i (get_or xs i d) ++ texts_from f (i + 1) (drop (i + 1) xs)) all = rw (← texts_next f i xs d le) h in
+    let k : Leads old c (f i (get_or xs i d) ++ texts_from f (i + 1) (drop (i + 1) xs)) all =
+    rw (← texts_next f i xs d le) h in
     leads_step old c new _ _ all k a
 
-pub told_end : {X : Type 0} (f : ℕ → X → List ℕ) (i : ℕ) (xs : List X) (old c : Option (List ℕ)) (all : List ℕ) → Leads old c (texts_from f i (drop i xs)) all → length xs ≤ i → Appends old c all
+pub told_end : {X : Type 0} (f : ℕ → X → List ℕ) (i : ℕ) (xs : List X) (old c : Option (List ℕ)) (all : List ℕ)
+    → Leads old c (texts_from f i (drop i xs)) all → length xs ≤ i → Appends old c all
 told_end f i xs old c all h le = let k : Leads old c [] all = rw (← texts_end f i xs le) h in leads_end old c all k
 
 -- the same in a text
-pub put_next : {X : Type 0} (f : ℕ → X → List ℕ) (i : ℕ) (xs : List X) (d : X) (c new all : List ℕ) → c ++ texts_from f i (drop i xs) ≡ all → i < length xs → new ≡ c ++ f i (get_or xs i d) → new ++ texts_from f (i + 1) (drop (i + 1) xs) ≡ all
-put_next f i xs d c new all h le a = ap (λ ys. ys ++ texts_from f (i + 1) (drop (i + 1) xs)) a ∙ append_assoc c (f i (get_or xs i d)) (texts_from f (i + 1) (drop (i + 1) xs)) ∙ ap (λ ys. c ++ ys) (sym (texts_next f i xs d le)) ∙ h
+pub put_next : {X : Type 0} (f : ℕ → X → List ℕ) (i : ℕ) (xs : List X) (d : X) (c new all : List ℕ)
+    → c ++ texts_from f i (drop i xs) ≡ all → i < length xs → new ≡ c ++ f i (get_or xs i d)
+    → new ++ texts_from f (i + 1) (drop (i + 1) xs) ≡ all
+put_next f i xs d c new all h le a = ap (λ ys. ys ++ texts_from f (i + 1) (drop (i + 1) xs)) a
+    ∙ append_assoc c (f i (get_or xs i d)) (texts_from f (i + 1) (drop (i + 1) xs))
+    ∙ ap (λ ys. c ++ ys) (sym (texts_next f i xs d le)) ∙ h
 
-pub put_end : {X : Type 0} (f : ℕ → X → List ℕ) (i : ℕ) (xs : List X) (c all : List ℕ) → c ++ texts_from f i (drop i xs) ≡ all → length xs ≤ i → c ≡ all
+pub put_end : {X : Type 0} (f : ℕ → X → List ℕ) (i : ℕ) (xs : List X) (c all : List ℕ)
+    → c ++ texts_from f i (drop i xs) ≡ all → length xs ≤ i → c ≡ all
 put_end f i xs c all h le = sym (append-nil c) ∙ ap (λ ys. c ++ ys) (sym (texts_end f i xs le)) ∙ h
 
 -- the marks that ended
 
-cycles_next : (k i : ℕ) (es : List Entry) (d : Entry) → i < length es → cycles_from k (drop i es) ≡ cycle_line k (get_or es i d).answer ++ cycles_from (next_cycle k (get_or es i d).answer) (drop (i + 1) es)
+cycles_next : (k i : ℕ) (es : List Entry) (d : Entry) → i < length es → cycles_from k (drop i es) ≡ cycle_line k
+    (get_or es i d).answer ++ cycles_from (next_cycle k (get_or es i d).answer) (drop (i + 1) es)
 unfolding cycles_from
 cycles_next k i es d h = rw (split es i d h) refl
 
@@ -48,54 +60,74 @@ cycles_end : (k i : ℕ) (es : List Entry) → length es ≤ i → cycles_from k
 unfolding cycles_from
 cycles_end k i es h = rw (drop_all i es h) refl
 
-pub cycle_told : (k n i : ℕ) (es : List Entry) (d : Entry) (old c new : Option (List ℕ)) (all : List ℕ) →
-    Leads old c (cycles_from k (drop i es)) all → i < length es → Appends c new (cycle_line k (get_or es i d).answer) → n ≡ next_cycle k (get_or es i d).answer → Leads old new (cycles_from n (drop (i + 1) es)) all
+pub cycle_told : (k n i : ℕ) (es : List Entry) (d : Entry) (old c new : Option (List ℕ)) (all : List ℕ)
+    → Leads old c (cycles_from k (drop i es)) all → i < length es → Appends c new (cycle_line k (get_or es i d).answer)
+    → n ≡ next_cycle k (get_or es i d).answer → Leads old new (cycles_from n (drop (i + 1) es)) all
 cycle_told k n i es d old c new all h le a e =
-    let there : Leads old c (cycle_line k (get_or es i d).answer ++ cycles_from n (drop (i + 1) es)) all = rw (e, ← cycles_next k i es d le) h in
+    let there : Leads old c (cycle_line k (get_or es i d).answer ++ cycles_from n (drop (i + 1) es)) all =
+    rw (e, ← cycles_next k i es d le) h in
     leads_step old c new _ _ all there a
 
-pub cycles_told : (k i : ℕ) (es : List Entry) (old c : Option (List ℕ)) (all : List ℕ) → Leads old c (cycles_from k (drop i es)) all → length es ≤ i → Appends old c all
-cycles_told k i es old c all h le = let there : Leads old c [] all = rw (← cycles_end k i es le) h in leads_end old c all there
+pub cycles_told : (k i : ℕ) (es : List Entry) (old c : Option (List ℕ)) (all : List ℕ)
+    → Leads old c (cycles_from k (drop i es)) all → length es ≤ i → Appends old c all
+cycles_told k i es old c all h le =
+    let there : Leads old c [] all = rw (← cycles_end k i es le) h in leads_end old c all there
 
 -- commands
 
-lines_next : (n i : ℕ) (b : BookState) (cs : List Command) (d : Command) → i < length cs →
-    lines_text n b (drop i cs) ≡ line_text n (get_or cs i d).actor (done b (get_or cs i d)).replies ++ lines_text (n + 1) (done b (get_or cs i d)).book (drop (i + 1) cs)
+lines_next : (n i : ℕ) (b : BookState) (cs : List Command) (d : Command) → i < length cs
+    → lines_text n b (drop i cs) ≡ line_text n (get_or cs i d).actor (done b (get_or cs i d)).replies ++ lines_text
+    (n + 1) (done b (get_or cs i d)).book (drop (i + 1) cs)
 unfolding lines_text
 lines_next n i b cs d h = rw (split cs i d h) refl
 
-pub line_told : (n i : ℕ) (b e : BookState) (cs : List Command) (d : Command) (replies : List Reply) (old c new : Option (List ℕ)) (all : List ℕ) →
-    Leads old c (lines_text n b (drop i cs)) all → i < length cs → replies ≡ (done b (get_or cs i d)).replies → e ≡ (done b (get_or cs i d)).book →
-    Appends c new (line_text n (get_or cs i d).actor replies) → Leads old new (lines_text (n + 1) e (drop (i + 1) cs)) all
+pub line_told : (n i : ℕ) (b e : BookState) (cs : List Command)
+    (d : Command) (replies : List Reply) (old c new : Option (List ℕ)) (all : List ℕ)
+    → Leads old c (lines_text n b (drop i cs)) all → i < length cs → replies ≡ (done b (get_or cs i d)).replies
+    → e ≡ (done b (get_or cs i d)).book → Appends c new (line_text n (get_or cs i d).actor replies)
+    → Leads old new (lines_text (n + 1) e (drop (i + 1) cs)) all
 line_told n i b e cs d replies old c new all h le r k a =
-    let there : Leads old c (line_text n (get_or cs i d).actor replies ++ lines_text (n + 1) e (drop (i + 1) cs)) all = rw (r, k, ← lines_next n i b cs d le) h in
+    let there : Leads old c (line_text n (get_or cs i d).actor replies ++ lines_text (n + 1) e (drop (i + 1) cs)) all =
+    rw (r, k, ← lines_next n i b cs d le) h in
     leads_step old c new _ _ all there a
 
 lines_end : (n i : ℕ) (b : BookState) (cs : List Command) → length cs ≤ i → lines_text n b (drop i cs) ≡ []
 unfolding lines_text
 lines_end n i b cs h = rw (drop_all i cs h) refl
 
-pub lines_told : (n i : ℕ) (b : BookState) (cs : List Command) (old c : Option (List ℕ)) (all : List ℕ) → Leads old c (lines_text n b (drop i cs)) all → length cs ≤ i → Appends old c all
-lines_told n i b cs old c all h le = let there : Leads old c [] all = rw (← lines_end n i b cs le) h in leads_end old c all there
+pub lines_told : (n i : ℕ) (b : BookState) (cs : List Command) (old c : Option (List ℕ)) (all : List ℕ)
+    → Leads old c (lines_text n b (drop i cs)) all → length cs ≤ i → Appends old c all
+lines_told n i b cs old c all h le =
+    let there : Leads old c [] all = rw (← lines_end n i b cs le) h in leads_end old c all there
 
-pub book_next : (i : ℕ) (b e f : BookState) (cs : List Command) (d : Command) → book_after b (drop i cs) ≡ f → i < length cs → e ≡ (done b (get_or cs i d)).book → book_after e (drop (i + 1) cs) ≡ f
+pub book_next : (i : ℕ) (b e f : BookState) (cs : List Command) (d : Command) → book_after b (drop i cs) ≡ f
+    → i < length cs → e ≡ (done b (get_or cs i d)).book → book_after e (drop (i + 1) cs) ≡ f
 unfolding book_after
-book_next i b e f cs d h le k = let there : book_after b (drop i cs) ≡ book_after e (drop (i + 1) cs) = rw (split cs i d le, k) refl in sym there ∙ h
+book_next i b e f cs d h le k = let there : book_after b (drop i cs) ≡ book_after e (drop (i + 1) cs) =
+    rw (split cs i d le, k) refl in sym there ∙ h
 
 pub book_end : (i : ℕ) (b f : BookState) (cs : List Command) → book_after b (drop i cs) ≡ f → length cs ≤ i → b ≡ f
 unfolding book_after
 book_end i b f cs h le = let there : book_after b (drop i cs) ≡ b = rw (drop_all i cs le) refl in sym there ∙ h
 
 -- the same of an element that was read
-pub told_item : {X : Type 0} (f : ℕ → X → List ℕ) (i : ℕ) (xs : List X) (x : X) (old c new : Option (List ℕ)) (all : List ℕ) →
-    Leads old c (texts_from f i (drop i xs)) all → i < length xs → x ≡ get_or xs i x → Appends c new (f i x) → Leads old new (texts_from f (i + 1) (drop (i + 1) xs)) all
-told_item f i xs x old c new all h le e a = told_next f i xs x old c new all h le (subst (λ y. Appends c new (f i y)) e a)
+pub told_item : {X : Type 0} (f : ℕ → X → List ℕ) (i : ℕ) (xs : List X) (x : X) (old c new : Option (List ℕ))
+    (all : List ℕ) → Leads old c (texts_from f i (drop i xs)) all → i < length xs → x ≡ get_or xs i x
+    → Appends c new (f i x) → Leads old new (texts_from f (i + 1) (drop (i + 1) xs)) all
+told_item f i xs x old c new all h le e a =
+    told_next f i xs x old c new all h le (subst (λ y. Appends c new (f i y)) e a)
 
-pub cycle_item : (k n i : ℕ) (es : List Entry) (e : Entry) (old c new : Option (List ℕ)) (all : List ℕ) →
-    Leads old c (cycles_from k (drop i es)) all → i < length es → e ≡ get_or es i e → Appends c new (cycle_line k e.answer) → n ≡ next_cycle k e.answer → Leads old new (cycles_from n (drop (i + 1) es)) all
-cycle_item k n i es e old c new all h le q a m = cycle_told k n i es e old c new all h le (subst (λ (y : Entry). Appends c new (cycle_line k y.answer)) q a) (subst (λ (y : Entry). n ≡ next_cycle k y.answer) q m)
+pub cycle_item : (k n i : ℕ) (es : List Entry) (e : Entry) (old c new : Option (List ℕ)) (all : List ℕ)
+    → Leads old c (cycles_from k (drop i es)) all
+    → i < length es → e ≡ get_or es i e → Appends c new (cycle_line k e.answer) → n ≡ next_cycle k e.answer
+    → Leads old new (cycles_from n (drop (i + 1) es)) all
+cycle_item k n i es e old c new all h le q a m =
+    cycle_told k n i es e old c new all h le (subst (λ (y : Entry). Appends c new (cycle_line k y.answer)) q a)
+    (subst (λ (y : Entry). n ≡ next_cycle k y.answer) q m)
 
-pub put_item : {X : Type 0} (f : ℕ → X → List ℕ) (i : ℕ) (xs : List X) (x : X) (c new all : List ℕ) → c ++ texts_from f i (drop i xs) ≡ all → i < length xs → x ≡ get_or xs i x → new ≡ c ++ f i x → new ++ texts_from f (i + 1) (drop (i + 1) xs) ≡ all
+pub put_item : {X : Type 0} (f : ℕ → X → List ℕ) (i : ℕ) (xs : List X) (x : X) (c new all : List ℕ)
+    → c ++ texts_from f i (drop i xs) ≡ all → i < length xs → x ≡ get_or xs i x → new ≡ c ++ f i x
+    → new ++ texts_from f (i + 1) (drop (i + 1) xs) ≡ all
 put_item f i xs x c new all h le e a = put_next f i xs x c new all h le (a ∙ ap (λ y. c ++ f i y) e)
 
 -- what is appended after what was appended

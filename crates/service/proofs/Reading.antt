@@ -1,5 +1,6 @@
 -- Reading a reader to its end, or to one byte more than a script may have.
-use Rattle.std.proofs.Common.{◌≡◌, ℕ, ◌+◌, ◌≤◌, List, [], ◌++◌, length, take, Option, Some, None, IfSome, inl, inr, ◌∙◌, ap, subst, arith, rules}
+use Rattle.std.proofs.Common.{◌≡◌, ℕ, ◌+◌, ◌≤◌, List, [], ◌++◌, length, take, Option}
+use Rattle.std.proofs.Common.{Some, None, IfSome, inl, inr, ◌∙◌, ap, subst, arith, rules}
 use Rattle.std.specs.Option.{option_map}
 use Rattle.std.specs.Prelude.{Result, Ok, Err, IfErr, OnOk}
 use Rattle.std.proofs.lemmas.List.{length-take, take_all}
@@ -13,28 +14,35 @@ whole limit all bytes e h =
     e ∙ take_all (limit + 1) all (omega (arith, size, length-take (limit + 1) all))
 
 -- what was printed of the bytes that were read was printed of all
-pub prints_all : {E : Type 0} (r : Result Unit E) (limit : ℕ) (known : Option (List ℕ)) (bytes : List ℕ) (old new : Option (List ℕ)) →
-    IfSome known (λ all. bytes ≡ take (limit + 1) all) → OnOk r (length bytes ≤ limit) → OnOk r (Prints bytes old new) → OnOk r (IfSome known (λ all. Prints all old new))
+pub prints_all : {E : Type 0} (r : Result Unit E) (limit : ℕ) (known : Option (List ℕ)) (bytes : List ℕ)
+    (old new : Option (List ℕ)) → IfSome known (λ all. bytes ≡ take (limit + 1) all) → OnOk r (length bytes ≤ limit)
+    → OnOk r (Prints bytes old new) → OnOk r (IfSome known (λ all. Prints all old new))
 prints_all (Err e) limit known bytes old new h k p = search rules
 prints_all (Ok u) limit None bytes old new h k p = search rules
-prints_all (Ok u) limit (Some all) bytes old new h k p = subst (λ (b : List ℕ). Prints b old new) (whole limit all bytes h k) p
+prints_all (Ok u) limit (Some all) bytes old new h k p =
+    subst (λ (b : List ℕ). Prints b old new) (whole limit all bytes h k) p
 
 -- what a reader with a limit gives
-pub read_up_to : (limit n : ℕ) (known inner : Option (List ℕ)) (old bytes : List ℕ) → n ≡ limit → inner ≡ known → old ≡ [] → IfSome (option_map (take n) inner) (λ xs. bytes ≡ old ++ xs) → IfSome known (λ all. bytes ≡ take limit all)
+pub read_up_to : (limit n : ℕ) (known inner : Option (List ℕ)) (old bytes : List ℕ)
+    → n ≡ limit → inner ≡ known → old ≡ [] → IfSome (option_map (take n) inner) (λ xs. bytes ≡ old ++ xs)
+    → IfSome known (λ all. bytes ≡ take limit all)
 read_up_to limit n None inner old bytes e i o h = search rules
 read_up_to limit n (Some all) inner old bytes e i o h =
-    let there : IfSome (option_map (take n) (Some all)) (λ xs. bytes ≡ old ++ xs) = subst (λ k. IfSome (option_map (take n) k) (λ xs. bytes ≡ old ++ xs)) i h in
+    let there : IfSome (option_map (take n) (Some all)) (λ xs. bytes ≡ old ++ xs) =
+    subst (λ k. IfSome (option_map (take n) k) (λ xs. bytes ≡ old ++ xs)) i h in
     there ∙ ap (λ xs. xs ++ take n all) o ∙ ap (λ k. take k all) e
 
 -- a fault of what was read is one of all: of too many bytes, or of the same bytes
-pub fault_all : (known : Option (List ℕ)) (bytes : List ℕ) → IfSome known (λ all. bytes ≡ take (4194304 + 1) all) → HasFault bytes → IfSome known HasFault
+pub fault_all : (known : Option (List ℕ)) (bytes : List ℕ) → IfSome known (λ all. bytes ≡ take (4194304 + 1) all)
+    → HasFault bytes → IfSome known HasFault
 fault_all None bytes h k = search rules
 fault_all (Some all) bytes h k = elim (cases_lt 4194304 (length all)) [
   | inl long ↦ inl long
   | inr short ↦ subst HasFault (h ∙ take_all (4194304 + 1) all (omega (arith, short))) k
 ]
 
-pub faults_all : {E : Type 0} (r : Result Unit E) (P : E → Type 0) (known : Option (List ℕ)) (bytes : List ℕ) → ReadsUpTo known bytes
+pub faults_all : {E : Type 0} (r : Result Unit E) (P : E → Type 0) (known : Option (List ℕ)) (bytes : List ℕ)
+    → ReadsUpTo known bytes
     → IfErr r (λ e. P e → HasFault bytes) → IfErr r (λ e. P e → IfSome known HasFault)
 faults_all (Ok u) P known bytes h k = search rules
 faults_all (Err e) P known bytes h k = λ p. fault_all known bytes h (k p)

@@ -9,7 +9,8 @@ leads_start None all = tt
 leads_start (Some o) all = refl
 
 -- a piece that is written is left no more
-pub leads_step : (old c d : Option (List ℕ)) (line rest all : List ℕ) → Leads old c (line ++ rest) all → Appends c d line → Leads old d rest all
+pub leads_step : (old c d : Option (List ℕ)) (line rest all : List ℕ) → Leads old c (line ++ rest) all
+    → Appends c d line → Leads old d rest all
 leads_step None c d line rest all h a = tt
 leads_step (Some o) None d line rest all h a = absurd h
 leads_step (Some o) (Some m) None line rest all h a = a

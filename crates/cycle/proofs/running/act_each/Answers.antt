@@ -8,8 +8,12 @@ steps-preserved c =
     record {
       goes = tt;
       ends = tt;
-      ran = rw c.add.ensures.added (ran_more c.steps.yielded c.steps.replies.items c.args.book.now c.steps.book c.act-reply.new.self (c.in-Some.actor, c.in-Some.step) c.act-reply.result i.ran c.act-reply.ensures.acts);
-      parts = next_part c.steps.yielded _ _ c.args.steps.items (c.in-Some.actor, c.in-Some.step) i.parts c.in-Some.ensures.steps.0;
-      count = one_longer c.steps.replies.items c.add.new.replies.items c.steps.yielded _ (c.in-Some.actor, c.in-Some.step) i.count c.add.ensures.added;
+      ran = rw c.add.ensures.added
+          (ran_more c.steps.yielded c.steps.replies.items c.args.book.now c.steps.book c.act-reply.new.self
+          (c.in-Some.actor, c.in-Some.step) c.act-reply.result i.ran c.act-reply.ensures.acts);
+      parts = next_part c.steps.yielded _ _ c.args.steps.items
+          (c.in-Some.actor, c.in-Some.step) i.parts c.in-Some.ensures.steps.0;
+      count = one_longer c.steps.replies.items c.add.new.replies.items c.steps.yielded
+          _ (c.in-Some.actor, c.in-Some.step) i.count c.add.ensures.added;
       room = omega (arith, i.room, c.add.ensures.room);
     }

@@ -4,13 +4,15 @@ use Rattle.parser.proofs.Turns.{add_none, add_turn}
 use Rattle.parser.proofs.reading.add_turns.Goals as goal
 
 pub returns-then-is_empty : goal.returns-then-is_empty
-returns-then-is_empty c = add_none c.args.turns c.args.commands.now.items c.args.body.now (sym c.is_empty.ensures ∙ c.if-is_empty.true)
+returns-then-is_empty c =
+    add_none c.args.turns c.args.commands.now.items c.args.body.now (sym c.is_empty.ensures ∙ c.if-is_empty.true)
 
 pub loop-init : goal.loop-init
 loop-init c = sym (append-nil c.args.commands.now.items)
 
 pub loop-preserved : goal.loop-preserved
-loop-preserved c = add_turn c.loop.counter c.args.commands.now.items c.args.body.now c.loop.commands.items c.extend_from_slice.new.self.items c.loop.invariant c.in_ok-extend_from_slice.ensures.items
+loop-preserved c = add_turn c.loop.counter c.args.commands.now.items c.args.body.now c.loop.commands.items
+    c.extend_from_slice.new.self.items c.loop.invariant c.in_ok-extend_from_slice.ensures.items
 
 pub returns : goal.returns
 returns c =

@@ -7,7 +7,8 @@ use Rattle.parser.proofs.script.parse.Goals as goal
 
 pub returns-in_err-config-clause-only : goal.returns-in_err-config-clause-only
 returns-in_err-config-clause-only c =
-    λ s valid spells. let h : IsReadOf c.from_residual.result (script_in c.args.bytes.now) = search rules in spelled_read c.args.bytes.now c.from_residual.result s h valid spells
+    λ s valid spells. let h : IsReadOf c.from_residual.result (script_in c.args.bytes.now) = search rules in
+    spelled_read c.args.bytes.now c.from_residual.result s h valid spells
 
 pub invariant_of-result : goal.invariant_of-result
 invariant_of-result c = read_valid c.args.bytes.now _ c.in_ok-config.ensures

@@ -6,4 +6,5 @@ pub returns : goal.returns
 unfolding report_text
 returns g c =
     on_ok c.tell_cycles.result _ _ c.tell_cycles.ensures (λ a.
-    appends_more _ _ _ _ _ c.in_ok-tell_head.ensures (appends_more _ _ _ _ _ c.in_ok-tell_pages.ensures (appends_more _ _ _ _ _ c.in_ok-tell_threads.ensures (appends_more _ _ _ _ _ c.in_ok-tell_globals.ensures a))))
+    appends_more _ _ _ _ _ c.in_ok-tell_head.ensures (appends_more _ _ _ _ _ c.in_ok-tell_pages.ensures
+    (appends_more _ _ _ _ _ c.in_ok-tell_threads.ensures (appends_more _ _ _ _ _ c.in_ok-tell_globals.ensures a))))

@@ -4,4 +4,5 @@ use Rattle.script.specs.Output.{texts_from, global_line}
 use Rattle.script.proofs.reporting.tell_globals.Given as goal
 
 abbrev pub invariant-loop-number : goal.invariant-loop-number
-invariant-loop-number g l = Leads (g.W.Write.contents l.initial.w) (g.W.Write.contents l.w) (texts_from (global_line l.words) l.number (drop l.number l.globals)) (texts_from (global_line l.words) 0 l.globals)
+invariant-loop-number g l = Leads (g.W.Write.contents l.initial.w) (g.W.Write.contents l.w) (texts_from
+    (global_line l.words) l.number (drop l.number l.globals)) (texts_from (global_line l.words) 0 l.globals)

@@ -4,4 +4,5 @@ use Rattle.script.specs.Output.{texts_from, page_line}
 use Rattle.script.proofs.reporting.tell_pages.Given as goal
 
 abbrev pub invariant-loop-index : goal.invariant-loop-index
-invariant-loop-index g l = Leads (g.W.Write.contents l.initial.w) (g.W.Write.contents l.w) (texts_from (page_line l.heap) l.index (drop l.index l.pages)) (texts_from (page_line l.heap) 0 l.pages)
+invariant-loop-index g l = Leads (g.W.Write.contents l.initial.w) (g.W.Write.contents l.w)
+    (texts_from (page_line l.heap) l.index (drop l.index l.pages)) (texts_from (page_line l.heap) 0 l.pages)

@@ -4,4 +4,5 @@ use Rattle.script.specs.Output.{texts_from, thread_line}
 use Rattle.script.proofs.reporting.tell_threads.Given as goal
 
 abbrev pub invariant-loop-number : goal.invariant-loop-number
-invariant-loop-number g l = Leads (g.W.Write.contents l.initial.w) (g.W.Write.contents l.w) (texts_from (thread_line l.words) l.number (drop l.number l.threads)) (texts_from (thread_line l.words) 0 l.threads)
+invariant-loop-number g l = Leads (g.W.Write.contents l.initial.w) (g.W.Write.contents l.w) (texts_from
+    (thread_line l.words) l.number (drop l.number l.threads)) (texts_from (thread_line l.words) 0 l.threads)

@@ -7,11 +7,16 @@ use Rattle.service.proofs.serving.run.Goals as goal
 
 pub returns-clause-prints : goal.returns-clause-prints
 returns-clause-prints g c =
-    let prints = subst (λ (b : List ℕ). OnOk c.run_bytes.result (Prints b (g.O.Write.contents c.args.output.now) (g.O.Write.contents c.run_bytes.new.output))) c.deref.ensures.value c.run_bytes.ensures.prints in
-    let fits = subst (λ (b : List ℕ). OnOk c.run_bytes.result (length b ≤ 4194304)) c.deref.ensures.value c.run_bytes.ensures.fits in
-    prints_all c.run_bytes.result 4194304 (g.R.Read.remaining c.args.reader.now) c.in_ok-bytes.bytes.items _ _ c.in_ok-bytes.ensures.bytes fits prints
+    let prints = subst (λ (b : List ℕ). OnOk c.run_bytes.result (Prints b (g.O.Write.contents c.args.output.now)
+    (g.O.Write.contents c.run_bytes.new.output))) c.deref.ensures.value c.run_bytes.ensures.prints in
+    let fits = subst (λ (b : List ℕ). OnOk c.run_bytes.result (length b ≤ 4194304)) c.deref.ensures.value
+    c.run_bytes.ensures.fits in
+    prints_all c.run_bytes.result 4194304
+    (g.R.Read.remaining c.args.reader.now) c.in_ok-bytes.bytes.items _ _ c.in_ok-bytes.ensures.bytes fits prints
 
 pub returns-clause-faults : goal.returns-clause-faults
 returns-clause-faults g c =
-    let faults = subst (λ (b : List ℕ). IfErr c.run_bytes.result (λ fault. fault_status fault ≡ 2 → HasFault b)) c.deref.ensures.value c.run_bytes.ensures.faults in
-    faults_all c.run_bytes.result (λ fault. fault_status fault ≡ 2) (g.R.Read.remaining c.args.reader.now) c.in_ok-bytes.bytes.items c.in_ok-bytes.ensures.bytes faults
+    let faults = subst (λ (b : List ℕ). IfErr c.run_bytes.result (λ fault. fault_status fault ≡ 2 → HasFault b))
+    c.deref.ensures.value c.run_bytes.ensures.faults in
+    faults_all c.run_bytes.result (λ fault. fault_status fault ≡ 2)
+    (g.R.Read.remaining c.args.reader.now) c.in_ok-bytes.bytes.items c.in_ok-bytes.ensures.bytes faults

@@ -6,4 +6,5 @@ use Rattle.cycle.proofs.Replaying.{promises}
 use Rattle.cycle.proofs.book.Book.law.Goals as goal
 
 pub returns-clause-promises : goal.returns-clause-promises
-returns-clause-promises c = subst (λ (b : BookState). KeepsPromises b) c.self.view_is (promises (book_of c.self.inside) c.self.invariant)
+returns-clause-promises c =
+    subst (λ (b : BookState). KeepsPromises b) c.self.view_is (promises (book_of c.self.inside) c.self.invariant)

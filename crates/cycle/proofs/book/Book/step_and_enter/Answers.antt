@@ -8,7 +8,12 @@ use Rattle.cycle.proofs.book.Book.step_and_enter.Goals as goal
 pub invariant_of-self-2 : goal.invariant_of-self-2
 invariant_of-self-2 c =
     let b = book_of c.self.inside in
-    entered_book b c.args.actor c.args.step c.step.new.self c.in_ok-answer.answer c.enter.new.history.items c.self.invariant
+    entered_book b c.args.actor c.args.step c.step.new.self c.in_ok-answer.answer c.enter.new.history.items
+    c.self.invariant
     (ap is_full c.self.view_is ∙ sym c.is_full.ensures ∙ c.if-is_full.false)
     (c.in_ok-answer.ensures.stands (replayed b).now (replayed b).at_mark)
-    (c.enter.ensures ∙ ap (λ es. es ++ record { actor = c.args.actor; step = c.args.step; answer = c.in_ok-answer.answer } ∷ []) c.reserve.ensures.items)
+    (c.enter.ensures ∙ ap (λ es. es ++ record {
+      actor = c.args.actor;
+      step = c.args.step;
+      answer = c.in_ok-answer.answer;
+    } ∷ []) c.reserve.ensures.items)

@@ -10,10 +10,18 @@ use Rattle.heap.proofs.heap.Heap.place.Goals as goal
 pub hand_over-requires : goal.hand_over-requires
 hand_over-requires c =
     let lies = subst (λ (h : HeapState). LiesIn h.store c.args.buffer) (sym c.self.view_is) c.requires.lies in
-    let room = subst (λ n. n ≤ c.args.buffer.end - c.args.buffer.next) (sym c.size-size.ensures.value) c.requires.room in
-    subst (λ (s : StoreState). LiesIn s (record { page = c.args.buffer.page; next = c.args.buffer.next + c.size-size.result; end = c.args.buffer.end })) (sym c.write_new.ensures) (words_lie c.self.inside.store c.args.buffer.page _ _ (rest_lies c.self.inside.store c.args.buffer c.size-size.result lies room))
+    let room =
+    subst (λ n. n ≤ c.args.buffer.end - c.args.buffer.next) (sym c.size-size.ensures.value) c.requires.room in
+    subst (λ (s : StoreState). LiesIn s (record {
+      page = c.args.buffer.page;
+      next = c.args.buffer.next + c.size-size.result;
+      end = c.args.buffer.end;
+    })) (sym c.write_new.ensures) (words_lie c.self.inside.store c.args.buffer.page
+    _ _ (rest_lies c.self.inside.store c.args.buffer c.size-size.result lies room))
 
 pub invariant_of-self : goal.invariant_of-self
 invariant_of-self c =
     let low = subst (λ (h : HeapState). h.births < h.config.births) (sym c.self.view_is) c.requires.births in
-    birth_keeps (heap_of c.self.inside) c.write_new.new.store c.note_start.new.starts c.note_start.new.mark c.note_start.new.todo c.self.invariant low (λ b lies. subst (λ (s : StoreState). LiesIn s b) (sym c.write_new.ensures) (words_lie c.self.inside.store c.args.buffer.page _ b lies))
+    birth_keeps (heap_of c.self.inside) c.write_new.new.store c.note_start.new.starts c.note_start.new.mark
+    c.note_start.new.todo c.self.invariant low (λ b lies. subst (λ (s : StoreState). LiesIn s b)
+    (sym c.write_new.ensures) (words_lie c.self.inside.store c.args.buffer.page _ b lies))

@@ -15,15 +15,19 @@ invariant_of-self c =
     let old = c.self.invariant in
     let p = c.index_mut-page.result.now in
     let q : Page = record p { top = p.top + c.args.n } in
-    let room = subst (λ (s : StoreState). top_in (slice_get s.pages i) + c.args.n ≤ s.words) (sym c.self.view_is) c.requires.room in
+    let room = subst (λ (s : StoreState). top_in (slice_get s.pages i) + c.args.n ≤ s.words)
+    (sym c.self.view_is) c.requires.room in
     let there = subst (λ (s : StoreState). i < length s.pages) (sym c.self.view_is) c.requires.there in
-    let is_so = subst (λ (s : StoreState). is_open (state_in (slice_get s.pages i)) ≡ true) (sym c.self.view_is) c.requires.open in
+    let is_so = subst (λ (s : StoreState). is_open (state_in (slice_get s.pages i)) ≡ true)
+    (sym c.self.view_is) c.requires.open in
     let at = get_read s.pages i p there c.index_mut-page.ensures.value in
-    let left : s.words - (p.top + c.args.n) ≡ left_in s.words q = rw (sym (ap (λ o. is_open (state_in o)) at) ∙ is_so) refl in
+    let left : s.words - (p.top + c.args.n) ≡ left_in s.words q =
+    rw (sym (ap (λ o. is_open (state_in o)) at) ∙ is_so) refl in
     record {
       store = raise_keeps s i p _ old.store at (top_there s.pages i c.args.n s.words _ at room);
       free = old.free;
-      rooms = c.set.ensures ∙ ap (λ ns. set ns i (s.words - (p.top + c.args.n))) old.rooms ∙ set_mapped (left_in s.words) s.pages i q _ left;
+      rooms = c.set.ensures ∙ ap (λ ns. set ns i (s.words - (p.top + c.args.n))) old.rooms
+          ∙ set_mapped (left_in s.words) s.pages i q _ left;
       unused = old.unused ∙ kept_mapped (λ (p : Page). mark (is_unused p.state)) s.pages i p q at refl;
       spare = old.spare;
     }
@@ -33,4 +37,5 @@ returns c =
     let s = store_of c.self.inside in
     let there = subst (λ (s : StoreState). c.args.index < length s.pages) (sym c.self.view_is) c.requires.there in
     let at = get_read s.pages c.args.index c.index_mut-page.result.now there c.index_mut-page.ensures.value in
-    ap (λ t. given t c.args.index c.args.n) (sym c.self.view_is) ∙ given_at s c.args.index c.args.n c.index_mut-page.result.now at
+    ap (λ t. given t c.args.index c.args.n) (sym c.self.view_is)
+    ∙ given_at s c.args.index c.args.n c.index_mut-page.result.now at

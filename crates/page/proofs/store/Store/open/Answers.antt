@@ -1,4 +1,5 @@
-use Rattle.std.proofs.Common.{◌≡◌, ℕ, ◌<◌, ◌+◌, ◌∙◌, length, set, is_none, Option, None, Some, replicate, sym, subst, ap, refl, arith, true}
+use Rattle.std.proofs.Common.{◌≡◌, ℕ, ◌<◌, ◌+◌, ◌∙◌, length, set, is_none, Option}
+use Rattle.std.proofs.Common.{None, Some, replicate, sym, subst, ap, refl, arith, true}
 use Rattle.std.specs.List.{slice_get}
 use Rattle.model.specs.declared.records.Page.{Page}
 use Rattle.model.specs.Stores.{StoreState, opened, is_unused, fresh_page}
@@ -11,23 +12,33 @@ use Rattle.page.proofs.store.Store.open.Goals as goal
 
 pub overflow_sub-self : goal.overflow_sub-self
 overflow_sub-self c =
-    let free = subst (λ (s : StoreState). slice_get s.owners c.args.frame ≡ Some None) (sym c.self.view_is) c.requires.free in
+    let free =
+    subst (λ (s : StoreState). slice_get s.owners c.args.frame ≡ Some None) (sym c.self.view_is) c.requires.free in
     omega (arith, c.self.invariant.free, count_positive is_none c.self.inside.owners.items c.args.frame None free refl)
 
 pub invariant_of-self : goal.invariant_of-self
 invariant_of-self c =
     let s = store_of c.self.inside in
-    let free = subst (λ (s : StoreState). slice_get s.owners c.args.frame ≡ Some None) (sym c.self.view_is) c.requires.free in
-    let unused = subst (λ (s : StoreState). is_unused_in (slice_get s.pages c.args.index) ≡ true) (sym c.self.view_is) c.requires.unused in
+    let free =
+    subst (λ (s : StoreState). slice_get s.owners c.args.frame ≡ Some None) (sym c.self.view_is) c.requires.free in
+    let unused = subst (λ (s : StoreState). is_unused_in (slice_get s.pages c.args.index) ≡ true)
+    (sym c.self.view_is) c.requires.unused in
     let page = subst (λ (s : StoreState). c.args.index < length s.pages) (sym c.self.view_is) c.requires.page_there in
-    let owner = subst (λ (s : StoreState). c.args.frame < length s.owners) (sym c.self.view_is) c.requires.frame_there in
+    let owner =
+    subst (λ (s : StoreState). c.args.frame < length s.owners) (sym c.self.view_is) c.requires.frame_there in
     let frame = frame_of_owner s c.args.frame c.self.invariant.store owner in
     let words = get_read s.frames c.args.frame c.index_mut-words.result.now frame c.index_mut-words.ensures.value in
-    let zeros : c.clear.new.self ≡ replicate s.words 0 = c.clear.ensures ∙ ap (λ n. replicate n 0) (c.self.invariant.store.sized.frames c.args.frame _ words) in
+    let zeros : c.clear.new.self ≡ replicate s.words 0 =
+    c.clear.ensures ∙ ap (λ n. replicate n 0) (c.self.invariant.store.sized.frames c.args.frame _ words) in
     record {
       store = opened_with s c.args.index c.args.frame c.clear.new.self c.self.invariant.store page unused free zeros;
-      free = omega (arith, c.self.invariant.free, count_set is_none s.owners c.args.frame None (Some (c.args.index + 1)) free);
-      rooms = c.set.ensures ∙ ap (λ ns. set ns c.args.index s.words) c.self.invariant.rooms ∙ set_mapped (left_in s.words) s.pages c.args.index (fresh_page c.args.frame) s.words (omega arith);
+      free = omega (
+        arith,
+        c.self.invariant.free,
+        count_set is_none s.owners c.args.frame None (Some (c.args.index + 1)) free,
+      );
+      rooms = c.set.ensures ∙ ap (λ ns. set ns c.args.index s.words) c.self.invariant.rooms
+          ∙ set_mapped (left_in s.words) s.pages c.args.index (fresh_page c.args.frame) s.words (omega arith);
       unused = c.set-2.ensures ∙ ap (λ ns. set ns c.args.index 0) c.self.invariant.unused
           ∙ set_mapped (λ (p : Page). mark (is_unused p.state)) s.pages c.args.index (fresh_page c.args.frame) 0 refl;
       spare = c.set-3.ensures ∙ ap (λ ns. set ns c.args.frame 0) c.self.invariant.spare
@@ -37,8 +48,11 @@ invariant_of-self c =
 pub returns : goal.returns
 returns c =
     let s = store_of c.self.inside in
-    let owner = subst (λ (s : StoreState). c.args.frame < length s.owners) (sym c.self.view_is) c.requires.frame_there in
+    let owner =
+    subst (λ (s : StoreState). c.args.frame < length s.owners) (sym c.self.view_is) c.requires.frame_there in
     let frame = frame_of_owner s c.args.frame c.self.invariant.store owner in
     let words = get_read s.frames c.args.frame c.index_mut-words.result.now frame c.index_mut-words.ensures.value in
-    let zeros : c.clear.new.self ≡ replicate s.words 0 = c.clear.ensures ∙ ap (λ n. replicate n 0) (c.self.invariant.store.sized.frames c.args.frame _ words) in
-    opened_as s c.args.index c.args.frame c.clear.new.self zeros ∙ ap (λ t. opened t c.args.index c.args.frame) c.self.view_is
+    let zeros : c.clear.new.self ≡ replicate s.words 0 =
+    c.clear.ensures ∙ ap (λ n. replicate n 0) (c.self.invariant.store.sized.frames c.args.frame _ words) in
+    opened_as s c.args.index c.args.frame c.clear.new.self zeros
+    ∙ ap (λ t. opened t c.args.index c.args.frame) c.self.view_is

@@ -6,16 +6,21 @@ use Rattle.page.proofs.store.Store.take_lowest.Goals as goal
 
 pub give-requires-2-clause-there : goal.give-requires-2-clause-there
 give-requires-2-clause-there c =
-    let same = ap (λ (s : StoreState). length s.pages) c.open.ensures ∙ opened_pages c.args.self.now c.in-Some-unused_page.index c.in-Some-free_frame.frame in
+    let same = ap (λ (s : StoreState). length s.pages) c.open.ensures
+    ∙ opened_pages c.args.self.now c.in-Some-unused_page.index c.in-Some-free_frame.frame in
     omega (arith, c.in-Some-unused_page.ensures.there)
 
 pub give-requires-2-clause-open : goal.give-requires-2-clause-open
 give-requires-2-clause-open c =
     ap (λ (s : StoreState). is_open (state_in (slice_get s.pages c.in-Some-unused_page.index))) c.open.ensures
-    ∙ opened_open c.args.self.now c.in-Some-unused_page.index c.in-Some-free_frame.frame c.in-Some-unused_page.ensures.there
+    ∙ opened_open c.args.self.now c.in-Some-unused_page.index c.in-Some-free_frame.frame
+    c.in-Some-unused_page.ensures.there
 
 pub give-requires-2-clause-room : goal.give-requires-2-clause-room
 give-requires-2-clause-room c =
-    let top = ap (λ (s : StoreState). top_in (slice_get s.pages c.in-Some-unused_page.index)) c.open.ensures ∙ opened_top c.args.self.now c.in-Some-unused_page.index c.in-Some-free_frame.frame c.in-Some-unused_page.ensures.there in
-    let words = ap (λ (s : StoreState). s.words) c.open.ensures ∙ opened_words c.args.self.now c.in-Some-unused_page.index c.in-Some-free_frame.frame in
+    let top = ap (λ (s : StoreState). top_in (slice_get s.pages c.in-Some-unused_page.index)) c.open.ensures
+    ∙ opened_top c.args.self.now c.in-Some-unused_page.index c.in-Some-free_frame.frame
+    c.in-Some-unused_page.ensures.there in
+    let words = ap (λ (s : StoreState). s.words) c.open.ensures
+    ∙ opened_words c.args.self.now c.in-Some-unused_page.index c.in-Some-free_frame.frame in
     omega arith

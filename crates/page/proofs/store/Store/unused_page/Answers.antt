@@ -13,11 +13,15 @@ pub returns-clause-first : goal.returns-clause-first
 returns-clause-first c =
     let s = store_of c.self.inside in
     let free = subst (λ (s : StoreState). 0 < count_by is_none s.owners) (sym c.self.view_is) c.requires in
-    let found = c.first_at_least.ensures ∙ ap (position (λ v. nat_le 1 v)) c.self.invariant.unused ∙ unused_in_index s.pages in
-    unused_as s c.self.invariant.store free c.first_at_least.result found ∙ ap (λ (s : StoreState). unused_page s.count s.pages) c.self.view_is
+    let found = c.first_at_least.ensures ∙ ap (position (λ v. nat_le 1 v)) c.self.invariant.unused
+    ∙ unused_in_index s.pages in
+    unused_as s c.self.invariant.store free c.first_at_least.result found
+    ∙ ap (λ (s : StoreState). unused_page s.count s.pages) c.self.view_is
 
 pub returns-clause-unused : goal.returns-clause-unused
 returns-clause-unused c =
     let s = store_of c.self.inside in
-    let found = c.first_at_least.ensures ∙ ap (position (λ v. nat_le 1 v)) c.self.invariant.unused ∙ unused_in_index s.pages in
-    subst (λ (s : StoreState). IfSome c.first_at_least.result (λ i. is_unused_in (slice_get s.pages i) ≡ true)) c.self.view_is (unused_is s.pages c.first_at_least.result found)
+    let found = c.first_at_least.ensures ∙ ap (position (λ v. nat_le 1 v)) c.self.invariant.unused
+    ∙ unused_in_index s.pages in
+    subst (λ (s : StoreState). IfSome c.first_at_least.result (λ i. is_unused_in (slice_get s.pages i) ≡ true))
+    c.self.view_is (unused_is s.pages c.first_at_least.result found)
