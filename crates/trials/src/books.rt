@@ -10,6 +10,11 @@ use std::test::Fail;
 /// A thread, its step, and the reply that it has to have.
 type Row = (u32, Step, Result<Answer, Refusal>);
 
+/// An object of the one layout.
+fn new(target: u32) -> Step {
+    Step::New { target, layout: 0 }
+}
+
 /// Does the step of each row, and compares the reply.
 fn play(rt: &impl Abort, book: &mut Book, rows: Vec<Row>) {
     for (thread, step, reply) in rows {
@@ -21,14 +26,7 @@ fn play(rt: &impl Abort, book: &mut Book, rows: Vec<Row>) {
 fn page_of_objects(alloc: Global) -> Result<Vec<Row>, AllocError> {
     Ok(vec![in alloc;
         (0, Step::Take(4), Ok(Answer::Lent { page: 1, offset: 0 })),
-        (
-            0,
-            Step::New {
-                target: 0,
-                layout: 0
-            },
-            Ok(Answer::Birth(0))
-        ),
+        (0, new(0), Ok(Answer::Birth(0))),
         (
             0,
             Step::SetDatum {
@@ -46,14 +44,7 @@ fn page_of_objects(alloc: Global) -> Result<Vec<Row>, AllocError> {
             },
             Ok(Answer::Datum(9))
         ),
-        (
-            0,
-            Step::New {
-                target: 1,
-                layout: 0
-            },
-            Err(Refusal::NoRoom)
-        ),
+        (0, new(1), Err(Refusal::NoRoom)),
         (0, Step::GiveBack, Ok(Answer::Done)),
         (
             0,
@@ -162,22 +153,8 @@ fn numbers_that_name_nothing(rt: HostRuntime) -> Result<(), Fail> {
 fn limit_rows(alloc: Global) -> Result<Vec<Row>, AllocError> {
     Ok(vec![in alloc;
         (0, Step::Take(16), Ok(Answer::Lent { page: 1, offset: 0 })),
-        (
-            0,
-            Step::New {
-                target: 0,
-                layout: 0
-            },
-            Ok(Answer::Birth(0))
-        ),
-        (
-            0,
-            Step::New {
-                target: 1,
-                layout: 0
-            },
-            Err(Refusal::Births)
-        ),
+        (0, new(0), Ok(Answer::Birth(0))),
+        (0, new(1), Err(Refusal::Births)),
         (0, Step::IsNull(1), Ok(Answer::Truth(true))),
         (0, Step::IsNull(1), Err(Refusal::HistoryFull)),
         (1, Step::IsNull(1), Err(Refusal::HistoryFull)),

@@ -7,6 +7,7 @@ use layout::Layout;
 use model::Actor;
 use parser::{Command, Order, ParseFault, Script, parse};
 use std::alloc::{AllocError, Global};
+use std::process::Abort;
 use std::test::Fail;
 
 const HEAD: &str =
@@ -44,6 +45,16 @@ fn faults(rt: HostRuntime) -> Result<(), Fail> {
     Ok(())
 }
 
+/// The script's commands are these orders of thread 0.
+fn has_orders(rt: &impl Abort, script: &Script, orders: &[Order]) {
+    let commands = script.commands();
+    assert_eq!(rt; commands.len(), orders.len());
+    for (command, order) in commands.iter().zip(orders.iter()) {
+        assert_eq!(rt; command.actor, Actor::Thread(0));
+        assert_eq!(rt; command.order, *order);
+    }
+}
+
 #[test]
 fn blocks_written_out(rt: HostRuntime) -> Result<(), Fail> {
     let rest = "t0 give\ntimes 2\nt0 trap\n\n# a comment\nt0 heal\nend\ntimes 9\nend\n\
@@ -58,11 +69,7 @@ fn blocks_written_out(rt: HostRuntime) -> Result<(), Fail> {
         Order::Cross,
     ];
     let script = parse_parts(rt.alloc(), HEAD, rest)?;
-    let commands = script.commands();
-    assert_eq!(rt; commands.len(), orders.len());
-    for (command, order) in commands.iter().zip(orders.iter()) {
-        assert_eq!(rt; command.order, *order);
-    }
+    has_orders(&rt, &script, &orders);
     Ok(())
 }
 
@@ -100,11 +107,10 @@ fn steps_of_orders(rt: HostRuntime) -> Result<(), Fail> {
 }
 
 #[test]
-fn a_script(rt: HostRuntime) -> Result<(), Fail> {
-    let rest = "\n# all commands\nlayout 3 4\nt0 take 16\nt0 new r1 1\n\nt0 datum r1 3\n\
-        t0 set r1 0 18446744073709551615\nt0 same r0 r1\nt0 null r0\nt0 mov r0 r1\n#\nt0 clear r1\nt0 give\n";
-    let script = parse_parts(rt.alloc(), HEAD, rest)?;
-    let config = script.config();
+fn a_configuration(rt: HostRuntime) -> Result<(), Fail> {
+    let script = parse_parts(rt.alloc(), HEAD, "# layouts\nlayout 3 4\nt0 give\n")?;
+    let (config, commands) = script.into_parts();
+    assert_eq!(rt; commands.len(), 1);
     assert_eq!(rt; (config.words, config.frames, config.pages), (16, 1, 1));
     assert_eq!(rt;
         (config.threads, config.workers, config.registers),
@@ -114,16 +120,20 @@ fn a_script(rt: HostRuntime) -> Result<(), Fail> {
         (config.globals, config.births, config.history),
         (0, 1 << 32, 1_000_000)
     );
-    let layouts = config.layouts.as_slice();
-    assert_eq!(rt;
-        layouts,
-        [Layout { refs: 0, nums: 2 }, Layout { refs: 3, nums: 4 }].as_slice()
-    );
+    let layouts = [Layout { refs: 0, nums: 2 }, Layout { refs: 3, nums: 4 }];
+    assert_eq!(rt; config.layouts.as_slice(), layouts.as_slice());
+    Ok(())
+}
+
+#[test]
+fn orders_of_data(rt: HostRuntime) -> Result<(), Fail> {
+    let rest = "\n# all commands\nt0 take 16\nt0 new r1 0\n\nt0 datum r1 3\n\
+        t0 set r1 0 18446744073709551615\nt0 same r0 r1\nt0 null r0\nt0 mov r0 r1\n#\nt0 clear r1\nt0 give\n";
     let orders = [
         Order::Take(16),
         Order::New {
             target: 1,
-            layout: 1,
+            layout: 0,
         },
         Order::Datum {
             object: 1,
@@ -143,17 +153,8 @@ fn a_script(rt: HostRuntime) -> Result<(), Fail> {
         Order::Clear(1),
         Order::Give,
     ];
-    let (_, commands) = script.into_parts();
-    assert_eq!(rt; commands.len(), orders.len());
-    for (command, order) in commands.iter().zip(orders.iter()) {
-        assert_eq!(rt;
-            *command,
-            Command {
-                actor: Actor::Thread(0),
-                order: *order
-            }
-        );
-    }
+    let script = parse_parts(rt.alloc(), HEAD, rest)?;
+    has_orders(&rt, &script, &orders);
     Ok(())
 }
 

@@ -2,69 +2,74 @@
 
 use model::{Actor, Answer, Buffer, PageState, Phase, Refusal};
 use refword::{Addr, Word};
+use std::alloc::Global;
+use std::process::Abort;
 use std::test::Fail;
 use text::{
     BufferText, FrameText, PageStateText, PhaseText, RefusalText, WordText, put_line, write_line,
 };
 
+/// The line of an answer, as the seventh.
+fn has_line(
+    rt: &impl Abort,
+    alloc: Global,
+    actor: Actor,
+    answer: Answer,
+    line: &str,
+) -> Result<(), Fail> {
+    let mut text = String::new(alloc);
+    put_line(&mut text, 7, actor, &[Ok(answer)])?;
+    assert_eq!(rt; text.as_str(), line);
+    Ok(())
+}
+
 #[test]
-fn answers(rt: HostRuntime) -> Result<(), Fail> {
-    let mut text = String::new(rt.alloc());
-    let worker = Actor::Worker(3);
-    for (actor, answer, line) in [
+fn answers_of_threads(rt: HostRuntime) -> Result<(), Fail> {
+    let lent = Answer::Lent { page: 1, offset: 4 };
+    for (thread, answer, line) in [
+        (0, lent, "7 t0 lent 1.4\n"),
+        (12, Answer::Birth(5), "7 t12 birth 5\n"),
+        (0, Answer::Loaded, "7 t0 loaded\n"),
+        (0, Answer::Moved, "7 t0 moved\n"),
+        (0, Answer::Marked, "7 t0 marked\n"),
+        (0, Answer::Clear, "7 t0 clear\n"),
+        (0, Answer::Healed, "7 t0 healed\n"),
+        (0, Answer::Changed, "7 t0 changed\n"),
+        (0, Answer::Clean, "7 t0 clean\n"),
         (
-            Actor::Thread(0),
-            Answer::Lent { page: 1, offset: 4 },
-            "7 t0 lent 1.4\n",
-        ),
-        (Actor::Thread(12), Answer::Birth(5), "7 t12 birth 5\n"),
-        (Actor::Thread(0), Answer::Loaded, "7 t0 loaded\n"),
-        (Actor::Thread(0), Answer::Moved, "7 t0 moved\n"),
-        (Actor::Thread(0), Answer::Marked, "7 t0 marked\n"),
-        (Actor::Thread(0), Answer::Clear, "7 t0 clear\n"),
-        (Actor::Thread(0), Answer::Healed, "7 t0 healed\n"),
-        (Actor::Thread(0), Answer::Changed, "7 t0 changed\n"),
-        (Actor::Thread(0), Answer::Clean, "7 t0 clean\n"),
-        (
-            Actor::Thread(0),
+            0,
             Answer::Datum(u64::MAX),
             "7 t0 datum 18446744073709551615\n",
         ),
-        (Actor::Thread(0), Answer::Truth(true), "7 t0 true\n"),
-        (Actor::Thread(0), Answer::Truth(false), "7 t0 false\n"),
-        (worker, Answer::Scanned, "7 w3 scanned\n"),
-        (worker, Answer::Finished, "7 w3 done\n"),
-        (worker, Answer::Done, "7 w3 ok\n"),
-        (
-            worker,
-            Answer::MovedTo { page: 2, offset: 0 },
-            "7 w3 copied 2.0\n",
-        ),
-        (
-            worker,
-            Answer::Ended {
-                live: 2,
-                retired: 1,
-            },
-            "7 w3 ended live 2 retired 1\n",
-        ),
-        (
-            worker,
-            Answer::Protected {
-                objects: 5,
-                targets: 1,
-            },
-            "7 w3 protected objects 5 targets 1\n",
-        ),
-        (
-            worker,
-            Answer::Released { free: 2 },
-            "7 w3 released free 2\n",
-        ),
+        (0, Answer::Truth(true), "7 t0 true\n"),
+        (0, Answer::Truth(false), "7 t0 false\n"),
     ] {
-        text.clear();
-        put_line(&mut text, 7, actor, &[Ok(answer)])?;
-        assert_eq!(rt; text.as_str(), line);
+        has_line(&rt, rt.alloc(), Actor::Thread(thread), answer, line)?;
+    }
+    Ok(())
+}
+
+#[test]
+fn answers_of_workers(rt: HostRuntime) -> Result<(), Fail> {
+    let copied = Answer::MovedTo { page: 2, offset: 0 };
+    let ended = Answer::Ended {
+        live: 2,
+        retired: 1,
+    };
+    let protected = Answer::Protected {
+        objects: 5,
+        targets: 1,
+    };
+    for (answer, line) in [
+        (Answer::Scanned, "7 w3 scanned\n"),
+        (Answer::Finished, "7 w3 done\n"),
+        (Answer::Done, "7 w3 ok\n"),
+        (copied, "7 w3 copied 2.0\n"),
+        (ended, "7 w3 ended live 2 retired 1\n"),
+        (protected, "7 w3 protected objects 5 targets 1\n"),
+        (Answer::Released { free: 2 }, "7 w3 released free 2\n"),
+    ] {
+        has_line(&rt, rt.alloc(), Actor::Worker(3), answer, line)?;
     }
     Ok(())
 }
