@@ -18,6 +18,7 @@ use Rattle.model.specs.Outcome.{datum_outcome, same_outcome, is_null_outcome}
 use Rattle.model.specs.Outcome.{usable, usable_or_null, datum_at, same_address}
 use Rattle.model.specs.Plain.{PlainHeap, Object, plain_step, plain_answer}
 use Rattle.model.specs.Plain.{name_of, object_of, datum_of, as_datum, same_name}
+use Rattle.model.proofs.Results.{same_result}
 use Rattle.laws.specs.AddressHeap.{HeapObject, Null, To}
 use Rattle.laws.specs.Transitions.{Uses}
 use Rattle.laws.specs.Promises.{ReadsPlain}
@@ -31,7 +32,7 @@ use Rattle.refinement.proofs.Runs.{get_run}
 use Rattle.refinement.proofs.Reading.{read_refs, read_data}
 use Rattle.refinement.proofs.Objects.{there}
 use Rattle.refinement.proofs.Written.{word_there}
-use Rattle.refinement.proofs.Verdicts.{bind_ok, found_ok, same_result, accepted}
+use Rattle.refinement.proofs.Verdicts.{bind_ok, found_ok, accepted}
 use Rattle.refinement.proofs.Verdicts.{IsUsed, used_ok, used_or_null, datum_there}
 
 -- the object that a usable register names

@@ -19,6 +19,7 @@ use Rattle.model.specs.Outcome.{store_outcome, store_global_outcome, no_register
 use Rattle.model.specs.Outcome.{no_global, usable, usable_or_null, field_at}
 use Rattle.model.specs.Plain.{PlainHeap, plain_step, plain_answer, name_of, storing}
 use Rattle.model.proofs.Lists.{get_within, each_changed}
+use Rattle.model.proofs.Results.{same_result}
 use Rattle.laws.specs.AddressHeap.{HeapObject}
 use Rattle.laws.specs.Edits.{set_object}
 use Rattle.laws.specs.Effects.{with_field}
@@ -36,7 +37,7 @@ use Rattle.refinement.proofs.Sizes.{frames_stay, sizes_stay}
 use Rattle.refinement.proofs.Threads.{global_world, global_laid}
 use Rattle.refinement.proofs.Rooted.{register_word, stored_again}
 use Rattle.refinement.proofs.Births.{storing_is, storing_roots, global_is}
-use Rattle.refinement.proofs.Verdicts.{bind_ok, found_ok, same_result, accepted}
+use Rattle.refinement.proofs.Verdicts.{bind_ok, found_ok, accepted}
 use Rattle.refinement.proofs.Verdicts.{Passed, first_false, used_ok, field_there}
 use Rattle.refinement.proofs.Readers.{names_object}
 use Rattle.refinement.proofs.Writers.{moved, moved_roots}
