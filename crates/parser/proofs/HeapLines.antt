@@ -1,6 +1,6 @@
 -- The heap line and the layout lines: what is read is written so, and what is written so is read.
-use Rattle.std.proofs.Common.{◌≡◌, ℕ, ◌+◌, ◌^◌, ◌<◌, ◌≤◌, true, false, nat_lt, List, [], ◌∷◌, ◌++◌}
-use Rattle.std.proofs.Common.{Option, Some, None, refl, sym, ap, subst, ◌∙◌, arith, inl, inr, lit<, lit≤, append-nil}
+use Rattle.std.proofs.Common.{◌≡◌, ℕ, ◌+◌, ◌^◌, ◌<◌, ◌≤◌, true, false, nat_lt, List, [], ◌∷◌, ◌++◌, Option}
+use Rattle.std.proofs.Common.{Some, None, refl, sym, ap, subst, ◌∙◌, arith, inl, inr, lit<, lit≤, append-nil}
 use Rattle.std.specs.Prelude.{Ok, not, codes}
 use Rattle.std.specs.Str.{bytes_eq}
 use Rattle.std.specs.Fmt.{decimal}
@@ -18,8 +18,7 @@ use Rattle.parser.specs.Headings.{config_of, field_at, page_size_at, limit_in, l
 use Rattle.parser.specs.Headings.{memory_at, actors_at, limits_at, heap_in, layout_in}
 use Rattle.parser.specs.Spelling.{size_words, SpellsLimit, IsLayout}
 use Rattle.parser.proofs.Places.{words_from, word_is, found_word, Reads}
-use Rattle.parser.proofs.Pieces.{bind_ok, fixed_ok, fixed_again, one_of}
-use Rattle.parser.proofs.Pieces.{number_ok, number_again, end_ok, end_again}
+use Rattle.parser.proofs.Pieces.{bind_ok, fixed_ok, fixed_again, number_ok, number_again, end_ok, end_again, one_of}
 
 -- a number from low to high stands behind its name
 record IsFieldAt (line : List ℕ) (at : ℕ) (name : List ℕ) (low high : ℕ) (v : ℕ × ℕ) : Type 0 where
@@ -216,8 +215,8 @@ memory_ok line at v h =
     let frames = field_ok line w.0.1 (codes "frames") 1 MOST_FRAMES f.0 (lit< tt) f.1 in
     let pages = field_ok line f.0.1 (codes "pages") f.0.0 MOST_PAGES p.0 (lit< tt) p.1 in
     subst (λ (x : (ℕ × ℕ × ℕ) × ℕ). IsMemoryAt line at x) (same_result ((w.0.0, f.0.0, p.0.0), p.0.1) v p.2) (record {
-      spelled = third (words_from line at) (codes "words") (decimal w.0.0) (codes "frames") (decimal f.0.0)
-          (codes "pages") (decimal p.0.0) (words_from line w.0.1) (words_from line f.0.1)
+      spelled = third (words_from line at) (codes "words") (decimal w.0.0) (codes "frames")
+          (decimal f.0.0) (codes "pages") (decimal p.0.0) (words_from line w.0.1) (words_from line f.0.1)
           (words_from line p.0.1) words.spelled frames.spelled pages.spelled;
       words = words.is;
       frames = frames.above;
@@ -406,8 +405,8 @@ pub heap_again : (line : List ℕ) (at : ℕ) (s : Sizes) → IsHeapAt line at s
 unfolding heap_in
 heap_again line at s h =
     let last = codes "globals" ∷ decimal s.globals ∷ (h.births ++ h.history) in
-    let m = memory_again line at s (codes "threads" ∷ decimal s.threads ∷ codes "workers" ∷ decimal s.workers ∷ codes
-    "registers" ∷ decimal s.registers ∷ last) h.range h.spelled in
+    let m = memory_again line at s (codes "threads" ∷ decimal s.threads ∷ codes "workers" ∷ decimal s.workers
+    ∷ codes "registers" ∷ decimal s.registers ∷ last) h.range h.spelled in
     let a = actors_again line m.0 s last h.range m.2 in
     let l = limits_again line a.0 s h.births h.history h.range h.births_spelled h.history_spelled a.2 in
     let e = end_again line l.0 l.2 in

@@ -33,8 +33,8 @@ use Rattle.parser.specs.Orders.{bare_order, slot_order, field_order, registers_a
 use Rattle.parser.specs.Headings.{config_of}
 use Rattle.parser.specs.Spelling.{actor_word, register_word, order_words, IsActor, IsFor, IsOrder}
 use Rattle.parser.proofs.Places.{words_from, words_whole, Reads}
-use Rattle.parser.proofs.Pieces.{bind_ok, or_flaw_ok, word_ok, word_again, number_ok, number_again, one_of}
-use Rattle.parser.proofs.Pieces.{small_ok, small_again, named_ok, named_again, end_ok, end_again}
+use Rattle.parser.proofs.Pieces.{bind_ok, or_flaw_ok, word_ok, word_again, number_ok, number_again}
+use Rattle.parser.proofs.Pieces.{small_ok, small_again, named_ok, named_again, end_ok, end_again, one_of}
 
 -- a register that is there is the word at a place
 record IsRegisterAt (sizes : Sizes) (line : List ℕ) (at : ℕ) (v : ℕ × ℕ) : Type 0 where
@@ -309,13 +309,13 @@ registers_ok sizes line at of_registers.Move v fits h =
 registers_ok sizes line at of_registers.Clear v fits h =
     let a = bind_ok (register_at sizes line at) _ v h in
     let r = register_ok sizes line at a.0 fits a.1 in
-    subst (λ (x : Order × ℕ). IsOrderAt sizes line at (keywords.Registers of_registers.Clear) x)
-    (same_result (orders.Clear a.0.0, a.0.1) v a.2) (record { keyword = refl; spelled = r.spelled; fits = r.below })
+    subst (λ (x : Order × ℕ). IsOrderAt sizes line at (keywords.Registers of_registers.Clear) x) (same_result
+    (orders.Clear a.0.0, a.0.1) v a.2) (record { keyword = refl; spelled = r.spelled; fits = r.below })
 registers_ok sizes line at of_registers.Scrub v fits h =
     let a = bind_ok (register_at sizes line at) _ v h in
     let r = register_ok sizes line at a.0 fits a.1 in
-    subst (λ (x : Order × ℕ). IsOrderAt sizes line at (keywords.Registers of_registers.Scrub) x)
-    (same_result (orders.Scrub a.0.0, a.0.1) v a.2) (record { keyword = refl; spelled = r.spelled; fits = r.below })
+    subst (λ (x : Order × ℕ). IsOrderAt sizes line at (keywords.Registers of_registers.Scrub) x) (same_result
+    (orders.Scrub a.0.0, a.0.1) v a.2) (record { keyword = refl; spelled = r.spelled; fits = r.below })
 
 mixed_ok : (sizes : Sizes) (line : List ℕ) (at : ℕ) (k : Mixed) (v : Order × ℕ) → sizes.registers < 2 ^ 64
     → mixed_at sizes line at k ≡ Ok v → IsOrderAt sizes line at (keywords.Mixed k) v
@@ -324,8 +324,11 @@ mixed_ok sizes line at mixed.Take v fits h =
     let a = bind_ok (small_at line at) _ v h in
     let n = small_ok line at a.0 a.1 in
     subst (λ (x : Order × ℕ). IsOrderAt sizes line at (keywords.Mixed mixed.Take) x)
-    (same_result (orders.Take a.0.0, a.0.1)
-    v a.2) (record { keyword = refl; spelled = n.spelled; fits = omega (arith, n.below) })
+    (same_result (orders.Take a.0.0, a.0.1) v a.2) (record {
+      keyword = refl;
+      spelled = n.spelled;
+      fits = omega (arith, n.below);
+    })
 mixed_ok sizes line at mixed.Set v fits h =
     let a = bind_ok (slot_at sizes line at) _ v h in
     let s = slot_ok sizes line at a.0 fits a.1 in

@@ -140,8 +140,8 @@ heap_step line t h =
 
 add_layout : (heap : List ℕ) (ls : List Layout) (l : Layout) (said : List (List ℕ)) (line : List ℕ)
     (parts : List Part) (o : Option ℕ) (body : List Command) → parts ≡ [] → o ≡ None → line ≡ layout_line_of l
-    → said ≡ (heap ∷ map layout_line_of ls) ++ (flat_map part_lines parts ++ open_lines o body) → said
-    ++ line ∷ [] ≡ (heap ∷ map layout_line_of (ls ++ l ∷ [])) ++ (flat_map part_lines parts ++ open_lines o body)
+    → said ≡ (heap ∷ map layout_line_of ls) ++ (flat_map part_lines parts ++ open_lines o body) → said ++ line ∷ []
+    ≡ (heap ∷ map layout_line_of (ls ++ l ∷ [])) ++ (flat_map part_lines parts ++ open_lines o body)
 add_layout heap ls l said line parts o body none no_block is h =
     rw (
       h,
@@ -305,8 +305,11 @@ end_behind said r t b line first (Some turns) some h =
     let has : HasTurns (Some turns) = subst HasTurns some b.block_turns in
     let fits : length r.commands + turns * length r.body ≤ MOST_COMMANDS =
     ltb-false MOST_COMMANDS (length r.commands + turns * length r.body) g.0 in
-    subst (λ (x : ReadSoFar). IsBehind (said ++ line ∷ []) x)
-    (same_result (record r { commands = r.commands ++ repeat turns r.body; turns = None; body = [] }) t e.2) (record {
+    subst (λ (x : ReadSoFar). IsBehind (said ++ line ∷ []) x) (same_result (record r {
+      commands = r.commands ++ repeat turns r.body;
+      turns = None;
+      body = [];
+    }) t e.2) (record {
       sizes = b.sizes;
       sizes_is = b.sizes_is;
       heap = b.heap;
@@ -350,8 +353,8 @@ later_step : (said : List (List ℕ)) (r t : ReadSoFar) (b : IsBehind said r) (l
     → later_line r b.sizes line ≡ Ok t → IsBehind (said ++ line ∷ []) t
 unfolding later_line
 later_step said r t b line h =
-    elim (one_of (bytes_eq (first_word line).0 (codes "layout") && not r.begun && nat_lt
-    (length r.layouts) MOST_LAYOUTS) _ _ (Ok t) h) [
+    elim (one_of (bytes_eq (first_word line).0 (codes "layout") && not r.begun
+    && nat_lt (length r.layouts) MOST_LAYOUTS) _ _ (Ok t) h) [
       | inl p ↦
           let most = and_parts (bytes_eq (first_word line).0 (codes "layout") && not r.begun)
           (nat_lt (length r.layouts) MOST_LAYOUTS) p.0 in

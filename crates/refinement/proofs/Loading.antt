@@ -166,8 +166,8 @@ module _ (h : HeapState) (p p0 : PlainHeap) (s : IsStore h.store) (d : IsHeap h)
       let invariant : Invariant (set_barrier t (as_barrier b) (world_of h)) (births_of (loading p t r (Some found)))
       (births_of p0) =
       moved _ _ _ _ (births_of p0) (ap (λ x. set_barrier t (effects.new_barrier r (AtGlobal n) x) (world_of h))
-      (sym (global_same (slice_get h.globals n)))) (loading_is p t r found z at
-      ∙ ap (λ o. load_found r o) (sym plain)) step in
+      (sym (global_same (slice_get h.globals n))))
+      (loading_is p t r found z at ∙ ap (λ o. load_found r o) (sym plain)) step in
       let holds = barrier_holds h t g.thread b (loading p t r (Some found)) p0 g.there k.sizes k.laid k.given k.words
       (record { target = low; raw = word; now = word }) (loading_roots h p t r found k.roots) invariant in
       subst (λ (z : HeapState × Answer). StepHolds h p p0 (Thread t) (steps.LoadGlobal r n) z.0 z.1)

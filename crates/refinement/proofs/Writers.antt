@@ -50,8 +50,7 @@ use Rattle.refinement.proofs.Born as births
 use Rattle.refinement.proofs.Sizes.{frames_stay, sizes_stay}
 use Rattle.refinement.proofs.Registers.{register_world, register_laid, buffer_world, given_back_laid}
 use Rattle.refinement.proofs.Births.{naming_is, naming_roots, writing_is, writing_roots, born_is, born_roots}
-use Rattle.refinement.proofs.Verdicts.{bind_ok, found_ok}
-use Rattle.refinement.proofs.Verdicts.{accepted, Passed, first_false, used_ok, datum_there}
+use Rattle.refinement.proofs.Verdicts.{bind_ok, found_ok, accepted, Passed, first_false, used_ok, datum_there}
 use Rattle.refinement.proofs.Readers.{names_object}
 
 -- the invariant of other heaps that are these
