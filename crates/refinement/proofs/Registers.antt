@@ -134,8 +134,11 @@ module _ (h : HeapState) (l : IsLaid h) (t : ℕ) where
           now = ap (option_map (buffer_extent h.store.words)) (sym (buffers u)) ∙ e
 
           by_thread : (u ≡ t) ⊎ (u ≢ t) → extent h (OfBuffer u) ≡ Some x
-          by_thread (inl k) = absurd (no (ap (option_map (buffer_extent h.store.words)) (sym (ap (put (λ v. buffer_in
-              (slice_get h.threads v)) t None) k ∙ put_same (λ v. buffer_in (slice_get h.threads v)) t None)) ∙ now))
+          by_thread (inl k) =
+              let gone : put (λ v. buffer_in (slice_get h.threads v)) t None u ≡ None =
+              ap (put (λ v. buffer_in (slice_get h.threads v)) t None) k
+              ∙ put_same (λ v. buffer_in (slice_get h.threads v)) t None in
+              absurd (no (ap (option_map (buffer_extent h.store.words)) (sym gone) ∙ now))
             where
               no : None ≡ Some x → ⊥
               no k = cc
