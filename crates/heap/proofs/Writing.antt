@@ -36,8 +36,10 @@ rest_behind xs rest m j e h =
     let cut : drop (length xs) (take (m + j) rest) ≡ take j (drop m rest) =
     ap (λ n. drop n (take (m + j) rest)) (sym e) ∙ drop-take m j rest in
     let size : length (xs ++ take j (drop m rest)) ≡ m + j = length-append xs (take j (drop m rest)) ∙ sized in
-    rw cut (rw size (append_assoc xs (take j (drop m rest)) (drop (m + j) rest) ∙ ap (λ ys. xs ++ ys) (ap (λ ys. take j
-    (drop m rest) ++ ys) (sym (drop-drop j m rest)) ∙ take-append-drop j (drop m rest) ∙ ap (λ n. drop n rest) e)))
+    let back : take j (drop m rest) ++ drop (m + j) rest ≡ drop (length xs) rest =
+    ap (λ ys. take j (drop m rest) ++ ys) (sym (drop-drop j m rest)) ∙ take-append-drop j (drop m rest)
+    ∙ ap (λ n. drop n rest) e in
+    rw cut (rw size (append_assoc xs (take j (drop m rest)) (drop (m + j) rest) ∙ ap (λ ys. xs ++ ys) back))
   where
     sized : length xs + length (take j (drop m rest)) ≡ m + j
     sized = omega (arith, e, length-take-le j (drop m rest) (omega (arith, length-drop m rest)))
@@ -50,8 +52,9 @@ overlaid_part ws xs o end low high =
     let j = end - o - m in
     let size : m + j ≡ end - o = omega arith in
     let same = rest_behind xs (drop o ws) m j refl (omega (arith, length-drop o ws)) in
-    let behind = subst (λ k. (xs ++ drop (length xs) (take k (drop o ws))) ++ drop (length
-    (xs ++ drop (length xs) (take k (drop o ws)))) (drop o ws) ≡ xs ++ drop (length xs) (drop o ws)) size same in
+    let under : ℕ → List ℕ = λ k. xs ++ drop (length xs) (take k (drop o ws)) in
+    let behind =
+    subst (λ k. under k ++ drop (length (under k)) (drop o ws) ≡ xs ++ drop (length xs) (drop o ws)) size same in
     ap (λ ys. take (length ws) (take o ws ++ ys)) behind
 
 -- a part that was lent, with others written at its head

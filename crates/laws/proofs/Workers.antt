@@ -25,8 +25,12 @@ use Rattle.laws.proofs.Crossings.{next_phase, cross_keeps}
 pub pick_keeps : (w : AddressHeap) (p p0 : BirthHeap) → Invariant w p p0 → (k a : ℕ) → w.phase ≡ Scanning
     → w.todo a ≡ true → ((l : ℕ) (z : WorkerScan) → w.scan l ≡ Some z → z.address ≢ a)
     → Invariant (set_scan k (Some (record { address = a; next = 0 })) w) p p0
-pick_keeps w p p0 i k a e h f = set_scan_keeps w p p0 i k (record { address = a; next = 0 })
-    (record { phase = e; todo = h; passed = λ o j x l. absurd (omega arith); alone = λ l z _ g. f l z g })
+pick_keeps w p p0 i k a e h f = set_scan_keeps w p p0 i k (record { address = a; next = 0 }) (record {
+  phase = e;
+  todo = h;
+  passed = λ o j x l. absurd (omega arith);
+  alone = λ l z _ g. f l z g;
+})
 
 still_todo : (v : Word) (w : AddressHeap) (a : ℕ) → w.todo a ≡ true → todo_after v w a ≡ true
 still_todo Null w a e = e
@@ -76,9 +80,9 @@ scan_field_keeps w p p0 i k s o e f h l =
     set_scan_keeps (set_object a (with_field o j v') w1) p p0 u k (record { address = a; next = j + 1 }) (record {
       phase = e;
       todo = still_todo v w a (i.marks.scanning k s f);
-      passed = λ q n y z.
-          subst (λ q. IsClean w (field q n)) (let t = put_same w.object_at a (Some (with_field o j v')) in
-          let t' : with_field o j v' ≡ q = cc in t') (below n z (set_at o.refs j n v' Null l) r.clean);
+      passed = λ q n y z. subst (λ q. IsClean w (field q n))
+          (let t = put_same w.object_at a (Some (with_field o j v')) in let t' : with_field o j v' ≡ q = cc in t')
+          (below n z (set_at o.refs j n v' Null l) r.clean);
       alone = λ n z y q t. y (i.marks.alone n k z s q f t);
     })
   where
@@ -98,8 +102,8 @@ pub scan_end_keeps : (w : AddressHeap) (p p0 : BirthHeap) → Invariant w p p0
 scan_end_keeps w p p0 i k s o e f h l = end_scan_keeps w p p0 i k s (record {
   phase = e;
   scan = f;
-  past_end = λ q j y z. subst (λ q. field q j ≡ Null) (let t : o ≡ q = cc in
-      t) (get_or_past o.refs j Null (let a = l in let b = z in omega arith));
+  past_end = λ q j y z. subst (λ q. field q j ≡ Null) (let t : o ≡ q = cc in t)
+      (get_or_past o.refs j Null (let a = l in let b = z in omega arith));
 })
 
 -- ScanGlobal
@@ -113,8 +117,11 @@ scan_global_keeps w p p0 i g n e =
     let w2 = set_global g (marked_word w v) w1 in
     let j : Invariant w2 p p0 =
     subst (λ y. Invariant w2 (record p { global = y }) p0) (put_id p.global g (p.global g) refl)
-    (set_global_keeps w1 p p0 r.inv g (marked_word w v) (p.global g)
-    (record { good = r.good; kept = global_kept w1 p g; clean = λ _. r.clean }) n) in
+    (set_global_keeps w1 p p0 r.inv g (marked_word w v) (p.global g) (record {
+      good = r.good;
+      kept = global_kept w1 p g;
+      clean = λ _. r.clean;
+    }) n) in
     end_global_scan_keeps w2 p p0 j g e (subst (IsClean w) (sym (put_same w.global g (marked_word w v))) r.clean)
 
 -- Copy, once all have crossed

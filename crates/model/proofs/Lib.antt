@@ -1,3 +1,4 @@
 pub mod Lists
 pub mod Ranges
 pub mod Memory
+pub mod Results

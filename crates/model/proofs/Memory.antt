@@ -96,8 +96,8 @@ word_on_page s a = by_frame (frame_in (page_at s (a / s.words)))
         → option_and_then (λ ws. slice_get ws (a % s.words)) o ≡ option_and_then (λ ws. slice_get ws (a % s.words)) o
     by_words o = refl
 
-    by_frame : (o : Option ℕ) → word_in s.frames (at_offset o (a % s.words)) ≡ option_and_then
-        (λ ws. slice_get ws (a % s.words)) (option_and_then (slice_get s.frames) o)
+    by_frame : (o : Option ℕ) → word_in s.frames (at_offset o (a % s.words))
+        ≡ option_and_then (λ ws. slice_get ws (a % s.words)) (option_and_then (slice_get s.frames) o)
     by_frame None = refl
     by_frame (Some f) = refl
 

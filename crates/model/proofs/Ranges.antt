@@ -1,8 +1,7 @@
 -- A configuration without a fault is in range.
-use Rattle.std.proofs.Common.{◌≡◌, ℕ, ◌≤◌, ◌==◌, ◌||◌, Bool, true, false, cond, Option}
-use Rattle.std.proofs.Common.{Some, None, nat_lt, refl, sym, arith, rules, lit≤}
+use Rattle.std.proofs.Common.{◌≡◌, ℕ, ◌≤◌, Bool, true, false, cond, Option, Some, None, nat_lt, refl, sym, arith, rules}
 use Rattle.std.specs.Option.{IfNone}
-use Rattle.std.proofs.lemmas.Bool.{ltb-false, or_parts, not-false, eqb-true}
+use Rattle.std.proofs.lemmas.Bool.{ltb-false, or_parts, not-false}
 use Rattle.std.proofs.lemmas.Bool.Decides.{nat_tests}
 use Rattle.model.specs.declared.config.Config.{Config}
 use Rattle.model.specs.declared.config.ConfigFault.{ConfigFault}

@@ -1,15 +1,15 @@
 -- The heap line and the layout lines: what is read is written so, and what is written so is read.
-use Rattle.std.proofs.Common.{◌≡◌, ℕ, ◌+◌, ◌^◌, ◌<◌, ◌≤◌, Bool, true, false, cond, nat_lt, List, [], ◌∷◌, ◌++◌}
-use Rattle.std.proofs.Common.{Option, Some, None, refl, sym, ap, subst, ◌∙◌, arith, inl, inr, lit<, lit≤, append-nil}
-use Rattle.std.specs.Prelude.{Ok, not, codes, ◌⊎◌}
+use Rattle.std.proofs.Common.{◌≡◌, ℕ, ◌+◌, ◌^◌, ◌<◌, ◌≤◌, true, false, nat_lt, List, [], ◌∷◌, ◌++◌, Option}
+use Rattle.std.proofs.Common.{Some, None, refl, sym, ap, subst, ◌∙◌, arith, inl, inr, lit<, lit≤, append-nil}
+use Rattle.std.specs.Prelude.{Ok, not, codes}
 use Rattle.std.specs.Str.{bytes_eq}
 use Rattle.std.specs.Fmt.{decimal}
 use Rattle.std.proofs.lemmas.Slice.Eq.{bytes_eq-Decides}
 use Rattle.std.proofs.lemmas.Bool.{ltb-false, le-ltb, not-false}
-use Rattle.std.proofs.lemmas.Bool.Decides.{nat_tests}
 use Rattle.layout.specs.declared.shape.Layout.{Layout}
 use Rattle.model.specs.Configs.{is_page_size}
 use Rattle.model.proofs.Ranges.{page_size_range}
+use Rattle.model.proofs.Results.{same_result, not_refused}
 use Rattle.parser.specs.declared.fault.FaultKind.TheVariants as kinds
 use Rattle.parser.specs.declared.heading.Sizes.{Sizes}
 use Rattle.parser.specs.declared.heading.TheConstants.{MOST_FRAMES, MOST_PAGES, MOST_THREADS}
@@ -18,8 +18,7 @@ use Rattle.parser.specs.Headings.{config_of, field_at, page_size_at, limit_in, l
 use Rattle.parser.specs.Headings.{memory_at, actors_at, limits_at, heap_in, layout_in}
 use Rattle.parser.specs.Spelling.{size_words, SpellsLimit, IsLayout}
 use Rattle.parser.proofs.Places.{words_from, word_is, found_word, Reads}
-use Rattle.parser.proofs.Pieces.{bind_ok, guard_ok, ok_is, fixed_ok, fixed_again, one_of}
-use Rattle.parser.proofs.Pieces.{number_ok, number_again, end_ok, end_again}
+use Rattle.parser.proofs.Pieces.{bind_ok, fixed_ok, fixed_again, number_ok, number_again, end_ok, end_again, one_of}
 
 -- a number from low to high stands behind its name
 record IsFieldAt (line : List ℕ) (at : ℕ) (name : List ℕ) (low high : ℕ) (v : ℕ × ℕ) : Type 0 where
@@ -61,8 +60,8 @@ page_size_ok line at v h =
     let a = bind_ok (fixed_at line at (codes "words") kinds.UnknownWord) _ v h in
     let b = bind_ok (number_at line a.0 16 4096) _ v a.2 in
     let n = number_ok line a.0 16 4096 b.0 (lit< tt) b.1 in
-    let g = guard_ok (not (is_page_size b.0.0)) _ _ v b.2 in
-    subst (λ (x : ℕ × ℕ). IsPageSizeAt line at x) (ok_is b.0 v g.1)
+    let g = not_refused (not (is_page_size b.0.0)) _ _ v b.2 in
+    subst (λ (x : ℕ × ℕ). IsPageSizeAt line at x) (same_result b.0 v g.1)
     (record {
       spelled = fixed_ok line at (codes "words") kinds.UnknownWord a.0 a.1
           ∙ ap (λ (t : List (List ℕ)). codes "words" ∷ t) n.spelled;
@@ -96,7 +95,7 @@ left_out line at name most v low e = subst (λ (x : ℕ × ℕ). IsLimitAt line 
 
 limit_in_ok : (line : List ℕ) (at : ℕ) (name : List ℕ) (most : ℕ) (v : ℕ × ℕ) (o : Option (List ℕ × ℕ)) → 1 ≤ most
     → most < 2 ^ 64 → word_at line at ≡ o → limit_in line at name most o ≡ Ok v → IsLimitAt line at name most v
-limit_in_ok line at name most v None low fits e h = left_out line at name most v low (ok_is (most, at) v h)
+limit_in_ok line at name most v None low fits e h = left_out line at name most v low (same_result (most, at) v h)
 limit_in_ok line at name most v (Some w) low fits e h =
     elim (one_of (bytes_eq w.0 name) (number_at line w.1 1 most) (Ok (most, at)) (Ok v) h) [
       | inl p ↦
@@ -110,7 +109,7 @@ limit_in_ok line at name most v (Some w) low fits e h =
             above = n.above;
             below = n.below;
           }
-      | inr p ↦ left_out line at name most v low (ok_is (most, at) v p.1)
+      | inr p ↦ left_out line at name most v low (same_result (most, at) v p.1)
     ]
 
 limit_ok : (line : List ℕ) (at : ℕ) (name : List ℕ) (most : ℕ) (v : ℕ × ℕ) → 1 ≤ most → most < 2 ^ 64
@@ -215,9 +214,9 @@ memory_ok line at v h =
     let words = page_size_ok line at w.0 w.1 in
     let frames = field_ok line w.0.1 (codes "frames") 1 MOST_FRAMES f.0 (lit< tt) f.1 in
     let pages = field_ok line f.0.1 (codes "pages") f.0.0 MOST_PAGES p.0 (lit< tt) p.1 in
-    subst (λ (x : (ℕ × ℕ × ℕ) × ℕ). IsMemoryAt line at x) (ok_is ((w.0.0, f.0.0, p.0.0), p.0.1) v p.2) (record {
-      spelled = third (words_from line at) (codes "words") (decimal w.0.0) (codes "frames") (decimal f.0.0)
-          (codes "pages") (decimal p.0.0) (words_from line w.0.1) (words_from line f.0.1)
+    subst (λ (x : (ℕ × ℕ × ℕ) × ℕ). IsMemoryAt line at x) (same_result ((w.0.0, f.0.0, p.0.0), p.0.1) v p.2) (record {
+      spelled = third (words_from line at) (codes "words") (decimal w.0.0) (codes "frames")
+          (decimal f.0.0) (codes "pages") (decimal p.0.0) (words_from line w.0.1) (words_from line f.0.1)
           (words_from line p.0.1) words.spelled frames.spelled pages.spelled;
       words = words.is;
       frames = frames.above;
@@ -245,7 +244,7 @@ actors_ok line at v h =
     let threads = field_ok line at (codes "threads") 1 MOST_THREADS t.0 (lit< tt) t.1 in
     let workers = field_ok line t.0.1 (codes "workers") 1 16 k.0 (lit< tt) k.1 in
     let registers = field_ok line k.0.1 (codes "registers") 1 16 r.0 (lit< tt) r.1 in
-    subst (λ (x : (ℕ × ℕ × ℕ) × ℕ). IsActorsAt line at x) (ok_is ((t.0.0, k.0.0, r.0.0), r.0.1) v r.2) (record {
+    subst (λ (x : (ℕ × ℕ × ℕ) × ℕ). IsActorsAt line at x) (same_result ((t.0.0, k.0.0, r.0.0), r.0.1) v r.2) (record {
       spelled = third (words_from line at) (codes "threads") (decimal t.0.0) (codes "workers")
           (decimal k.0.0) (codes "registers") (decimal r.0.0) (words_from line t.0.1) (words_from line k.0.1)
           (words_from line r.0.1) threads.spelled workers.spelled registers.spelled;
@@ -279,7 +278,7 @@ limits_ok line at v h =
     let globals = field_ok line at (codes "globals") 0 64 g.0 (lit< tt) g.1 in
     let births = limit_ok line g.0.1 (codes "births") 4294967296 b.0 (lit≤ tt) (lit< tt) b.1 in
     let history = limit_ok line b.0.1 (codes "history") 1000000 y.0 (lit≤ tt) (lit< tt) y.1 in
-    subst (λ (x : (ℕ × ℕ × ℕ) × ℕ). IsLimitsAt line at x) (ok_is ((g.0.0, b.0.0, y.0.0), y.0.1) v y.2) (record {
+    subst (λ (x : (ℕ × ℕ × ℕ) × ℕ). IsLimitsAt line at x) (same_result ((g.0.0, b.0.0, y.0.0), y.0.1) v y.2) (record {
       birth_words = births.words;
       history_words = history.words;
       births_spelled = births.is;
@@ -352,7 +351,7 @@ heap_ok line at s h =
     let a = bind_ok (actors_at line m.0.1) _ s m.2 in
     let l = bind_ok (limits_at line a.0.1) _ s a.2 in
     let e = bind_ok (end_at line l.0.1) _ s l.2 in
-    subst (λ (x : Sizes). IsHeapAt line at x) (ok_is (sizes_of m.0 a.0 l.0) s e.2)
+    subst (λ (x : Sizes). IsHeapAt line at x) (same_result (sizes_of m.0 a.0 l.0) s e.2)
     (from_parts line at m.0 a.0 l.0 (memory_ok line at m.0 m.1) (actors_ok line m.0.1 a.0 a.1)
     (limits_ok line a.0.1 l.0 l.1) (end_ok line l.0.1 e.0 e.1))
 
@@ -406,8 +405,8 @@ pub heap_again : (line : List ℕ) (at : ℕ) (s : Sizes) → IsHeapAt line at s
 unfolding heap_in
 heap_again line at s h =
     let last = codes "globals" ∷ decimal s.globals ∷ (h.births ++ h.history) in
-    let m = memory_again line at s (codes "threads" ∷ decimal s.threads ∷ codes "workers" ∷ decimal s.workers ∷ codes
-    "registers" ∷ decimal s.registers ∷ last) h.range h.spelled in
+    let m = memory_again line at s (codes "threads" ∷ decimal s.threads ∷ codes "workers" ∷ decimal s.workers
+    ∷ codes "registers" ∷ decimal s.registers ∷ last) h.range h.spelled in
     let a = actors_again line m.0 s last h.range m.2 in
     let l = limits_again line a.0 s h.births h.history h.range h.births_spelled h.history_spelled a.2 in
     let e = end_again line l.0 l.2 in
@@ -427,12 +426,12 @@ unfolding layout_in
 layout_ok sizes line at l h =
     let r = bind_ok (number_at line at 0 255) _ l h in
     let n = bind_ok (number_at line r.0.1 0 255) _ l r.2 in
-    let g = guard_ok (nat_lt sizes.words (1 + r.0.0 + n.0.0)) _ _ l n.2 in
+    let g = not_refused (nat_lt sizes.words (1 + r.0.0 + n.0.0)) _ _ l n.2 in
     let e = bind_ok (end_at line n.0.1) _ l g.1 in
     let refs = number_ok line at 0 255 r.0 (lit< tt) r.1 in
     let nums = number_ok line r.0.1 0 255 n.0 (lit< tt) n.1 in
     let last = end_ok line n.0.1 e.0 e.1 in
-    subst (λ (x : Layout). IsLayoutAt sizes.words line at x) (ok_is _ l e.2) (record {
+    subst (λ (x : Layout). IsLayoutAt sizes.words line at x) (same_result _ l e.2) (record {
       spelled = refs.spelled ∙ ap (λ (t : List (List ℕ)). decimal r.0.0 ∷ t)
           (nums.spelled ∙ ap (λ (t : List (List ℕ)). decimal n.0.0 ∷ t) last);
       is = record { refs = omega (arith, refs.below); nums = omega (arith, nums.below) };

@@ -98,7 +98,7 @@ number_read n h =
     let some = decimal_nonempty n h in
     let nonempty : not (length (decimal n) == 0) ≡ true = grind (arith, nat_tests) in
     let value : value_from 0 (decimal n) ≡ n = digits_value-decimal own n h in (
-      and_all (not (length (decimal n) == 0)) (list_all is_digit (decimal n)) ((length (decimal n) == 1) || not
-          (starts_with_zero (decimal n))) nonempty (digits_decimal own n h) (canonical_decimal n h),
+      and_all (not (length (decimal n) == 0)) (list_all is_digit (decimal n)) ((length (decimal n) == 1)
+          || not (starts_with_zero (decimal n))) nonempty (digits_decimal own n h) (canonical_decimal n h),
       omega (arith, capped_whole (decimal n), value),
     )

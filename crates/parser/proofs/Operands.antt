@@ -1,7 +1,7 @@
 -- Commands: what is read is written so, and what is written so is read.
 use Rattle.std.proofs.Common.{◌≡◌, ℕ, ◌^◌, ◌<◌, Bool, true, false, cond, List, [], ◌∷◌, ◌++◌, Option}
 use Rattle.std.proofs.Common.{Some, refl, sym, ap, subst, ◌∙◌, arith, inl, inr, lit<, append-nil}
-use Rattle.std.specs.Prelude.{Result, Ok, ◌==◌, codes, ◌⊎◌}
+use Rattle.std.specs.Prelude.{Ok, ◌==◌, codes, ◌⊎◌}
 use Rattle.std.specs.Str.{bytes_eq}
 use Rattle.std.specs.Fmt.{decimal}
 use Rattle.std.specs.List.{join_with_byte}
@@ -9,8 +9,8 @@ use Rattle.std.proofs.lemmas.List.Splits.{join_with_byte-slice_split}
 use Rattle.std.proofs.lemmas.Slice.Eq.{bytes_eq-Decides}
 use Rattle.model.specs.declared.steps.Actor.{Actor}
 use Rattle.model.specs.declared.steps.Actor.TheVariants.{Thread, Worker}
+use Rattle.model.proofs.Results.{same_result}
 use Rattle.parser.specs.declared.fault.FaultKind.TheVariants as kinds
-use Rattle.parser.specs.declared.fault.Flaw.{Flaw}
 use Rattle.parser.specs.declared.heading.Sizes.{Sizes}
 use Rattle.parser.specs.declared.order.Order.{Order}
 use Rattle.parser.specs.declared.order.Order.TheVariants as orders
@@ -33,8 +33,8 @@ use Rattle.parser.specs.Orders.{bare_order, slot_order, field_order, registers_a
 use Rattle.parser.specs.Headings.{config_of}
 use Rattle.parser.specs.Spelling.{actor_word, register_word, order_words, IsActor, IsFor, IsOrder}
 use Rattle.parser.proofs.Places.{words_from, words_whole, Reads}
-use Rattle.parser.proofs.Pieces.{bind_ok, ok_is, or_flaw_ok, word_ok, word_again, number_ok, number_again, one_of}
-use Rattle.parser.proofs.Pieces.{small_ok, small_again, named_ok, named_again, end_ok, end_again}
+use Rattle.parser.proofs.Pieces.{bind_ok, or_flaw_ok, word_ok, word_again, number_ok, number_again}
+use Rattle.parser.proofs.Pieces.{small_ok, small_again, named_ok, named_again, end_ok, end_again, one_of}
 
 -- a register that is there is the word at a place
 record IsRegisterAt (sizes : Sizes) (line : List ℕ) (at : ℕ) (v : ℕ × ℕ) : Type 0 where
@@ -67,7 +67,7 @@ slot_ok sizes line at v fits h =
     let b = bind_ok (small_at line a.0.1) _ v a.2 in
     let r = register_ok sizes line at a.0 fits a.1 in
     let n = small_ok line a.0.1 b.0 b.1 in
-    subst (λ (x : (ℕ × ℕ) × ℕ). IsSlotAt sizes line at x) (ok_is ((a.0.0, b.0.0), b.0.1) v b.2)
+    subst (λ (x : (ℕ × ℕ) × ℕ). IsSlotAt sizes line at x) (same_result ((a.0.0, b.0.0), b.0.1) v b.2)
     (record {
       spelled = r.spelled ∙ ap (λ (t : List (List ℕ)). register_word a.0.0 ∷ t) n.spelled;
       below = r.below;
@@ -97,7 +97,7 @@ pair_ok sizes line at v fits h =
     let b = bind_ok (register_at sizes line a.0.1) _ v a.2 in
     let r = register_ok sizes line at a.0 fits a.1 in
     let n = register_ok sizes line a.0.1 b.0 fits b.1 in
-    subst (λ (x : (ℕ × ℕ) × ℕ). IsPairAt sizes line at x) (ok_is ((a.0.0, b.0.0), b.0.1) v b.2)
+    subst (λ (x : (ℕ × ℕ) × ℕ). IsPairAt sizes line at x) (same_result ((a.0.0, b.0.0), b.0.1) v b.2)
     (record {
       spelled = r.spelled ∙ ap (λ (t : List (List ℕ)). register_word a.0.0 ∷ t) n.spelled;
       left = r.below;
@@ -128,7 +128,7 @@ field_ok sizes line at v fits h =
     let b = bind_ok (slot_at sizes line a.0.1) _ v a.2 in
     let r = register_ok sizes line at a.0 fits a.1 in
     let s = slot_ok sizes line a.0.1 b.0 fits b.1 in
-    subst (λ (x : (ℕ × (ℕ × ℕ)) × ℕ). IsFieldAt sizes line at x) (ok_is ((a.0.0, b.0.0), b.0.1) v b.2)
+    subst (λ (x : (ℕ × (ℕ × ℕ)) × ℕ). IsFieldAt sizes line at x) (same_result ((a.0.0, b.0.0), b.0.1) v b.2)
     (record {
       spelled = r.spelled ∙ ap (λ (t : List (List ℕ)). register_word a.0.0 ∷ t) s.spelled;
       target = r.below;
@@ -287,7 +287,7 @@ registers_ok sizes line at of_registers.Same v fits h =
     let a = bind_ok (pair_at sizes line at) _ v h in
     let p = pair_ok sizes line at a.0 fits a.1 in
     subst (λ (x : Order × ℕ). IsOrderAt sizes line at (keywords.Registers of_registers.Same) x)
-    (ok_is (orders.Same a.0.0.0 a.0.0.1, a.0.1) v a.2) (record {
+    (same_result (orders.Same a.0.0.0 a.0.0.1, a.0.1) v a.2) (record {
       keyword = refl;
       spelled = p.spelled;
       fits = (p.left, p.right);
@@ -296,12 +296,12 @@ registers_ok sizes line at of_registers.Null v fits h =
     let a = bind_ok (register_at sizes line at) _ v h in
     let r = register_ok sizes line at a.0 fits a.1 in
     subst (λ (x : Order × ℕ). IsOrderAt sizes line at (keywords.Registers of_registers.Null) x)
-    (ok_is (orders.Null a.0.0, a.0.1) v a.2) (record { keyword = refl; spelled = r.spelled; fits = r.below })
+    (same_result (orders.Null a.0.0, a.0.1) v a.2) (record { keyword = refl; spelled = r.spelled; fits = r.below })
 registers_ok sizes line at of_registers.Move v fits h =
     let a = bind_ok (pair_at sizes line at) _ v h in
     let p = pair_ok sizes line at a.0 fits a.1 in
     subst (λ (x : Order × ℕ). IsOrderAt sizes line at (keywords.Registers of_registers.Move) x)
-    (ok_is (orders.Move a.0.0.0 a.0.0.1, a.0.1) v a.2) (record {
+    (same_result (orders.Move a.0.0.0 a.0.0.1, a.0.1) v a.2) (record {
       keyword = refl;
       spelled = p.spelled;
       fits = (p.left, p.right);
@@ -309,13 +309,13 @@ registers_ok sizes line at of_registers.Move v fits h =
 registers_ok sizes line at of_registers.Clear v fits h =
     let a = bind_ok (register_at sizes line at) _ v h in
     let r = register_ok sizes line at a.0 fits a.1 in
-    subst (λ (x : Order × ℕ). IsOrderAt sizes line at (keywords.Registers of_registers.Clear) x)
-    (ok_is (orders.Clear a.0.0, a.0.1) v a.2) (record { keyword = refl; spelled = r.spelled; fits = r.below })
+    subst (λ (x : Order × ℕ). IsOrderAt sizes line at (keywords.Registers of_registers.Clear) x) (same_result
+    (orders.Clear a.0.0, a.0.1) v a.2) (record { keyword = refl; spelled = r.spelled; fits = r.below })
 registers_ok sizes line at of_registers.Scrub v fits h =
     let a = bind_ok (register_at sizes line at) _ v h in
     let r = register_ok sizes line at a.0 fits a.1 in
-    subst (λ (x : Order × ℕ). IsOrderAt sizes line at (keywords.Registers of_registers.Scrub) x)
-    (ok_is (orders.Scrub a.0.0, a.0.1) v a.2) (record { keyword = refl; spelled = r.spelled; fits = r.below })
+    subst (λ (x : Order × ℕ). IsOrderAt sizes line at (keywords.Registers of_registers.Scrub) x) (same_result
+    (orders.Scrub a.0.0, a.0.1) v a.2) (record { keyword = refl; spelled = r.spelled; fits = r.below })
 
 mixed_ok : (sizes : Sizes) (line : List ℕ) (at : ℕ) (k : Mixed) (v : Order × ℕ) → sizes.registers < 2 ^ 64
     → mixed_at sizes line at k ≡ Ok v → IsOrderAt sizes line at (keywords.Mixed k) v
@@ -323,15 +323,19 @@ unfolding mixed_at
 mixed_ok sizes line at mixed.Take v fits h =
     let a = bind_ok (small_at line at) _ v h in
     let n = small_ok line at a.0 a.1 in
-    subst (λ (x : Order × ℕ). IsOrderAt sizes line at (keywords.Mixed mixed.Take) x) (ok_is (orders.Take a.0.0, a.0.1)
-    v a.2) (record { keyword = refl; spelled = n.spelled; fits = omega (arith, n.below) })
+    subst (λ (x : Order × ℕ). IsOrderAt sizes line at (keywords.Mixed mixed.Take) x)
+    (same_result (orders.Take a.0.0, a.0.1) v a.2) (record {
+      keyword = refl;
+      spelled = n.spelled;
+      fits = omega (arith, n.below);
+    })
 mixed_ok sizes line at mixed.Set v fits h =
     let a = bind_ok (slot_at sizes line at) _ v h in
     let s = slot_ok sizes line at a.0 fits a.1 in
     let b = bind_ok (number_at line a.0.1 0 18446744073709551615) _ v a.2 in
     let n = number_ok line a.0.1 0 18446744073709551615 b.0 (lit< tt) b.1 in
     subst (λ (x : Order × ℕ). IsOrderAt sizes line at (keywords.Mixed mixed.Set) x)
-    (ok_is (orders.Set a.0.0.0 a.0.0.1 b.0.0, b.0.1) v b.2)
+    (same_result (orders.Set a.0.0.0 a.0.0.1 b.0.0, b.0.1) v b.2)
     (record {
       keyword = refl;
       spelled = s.spelled ∙ ap (λ (t : List (List ℕ)). register_word a.0.0.0 ∷ decimal a.0.0.1 ∷ t) n.spelled;
@@ -343,7 +347,7 @@ mixed_ok sizes line at mixed.Store v fits h =
     let b = bind_ok (register_at sizes line a.0.1) _ v a.2 in
     let r = register_ok sizes line a.0.1 b.0 fits b.1 in
     subst (λ (x : Order × ℕ). IsOrderAt sizes line at (keywords.Mixed mixed.Store) x)
-    (ok_is (orders.Store a.0.0.0 a.0.0.1 b.0.0, b.0.1) v b.2)
+    (same_result (orders.Store a.0.0.0 a.0.0.1 b.0.0, b.0.1) v b.2)
     (record {
       keyword = refl;
       spelled = s.spelled ∙ ap (λ (t : List (List ℕ)). register_word a.0.0.0 ∷ decimal a.0.0.1 ∷ t) r.spelled;
@@ -355,7 +359,7 @@ mixed_ok sizes line at mixed.StoreGlobal v fits h =
     let b = bind_ok (register_at sizes line a.0.1) _ v a.2 in
     let r = register_ok sizes line a.0.1 b.0 fits b.1 in
     subst (λ (x : Order × ℕ). IsOrderAt sizes line at (keywords.Mixed mixed.StoreGlobal) x)
-    (ok_is (orders.StoreGlobal a.0.0 b.0.0, b.0.1) v b.2)
+    (same_result (orders.StoreGlobal a.0.0 b.0.0, b.0.1) v b.2)
     (record {
       keyword = refl;
       spelled = n.spelled ∙ ap (λ (t : List (List ℕ)). decimal a.0.0 ∷ t) r.spelled;
@@ -366,19 +370,19 @@ operands_ok : (sizes : Sizes) (line : List ℕ) (at : ℕ) (k : Keyword) (v : Or
     → operands_at sizes line at k ≡ Ok v → IsOrderAt sizes line at k v
 unfolding operands_at
 operands_ok sizes line at (keywords.Bare k) v fits h =
-    subst (λ (x : Order × ℕ). IsOrderAt sizes line at (keywords.Bare k) x) (ok_is (bare_order k, at) v h)
+    subst (λ (x : Order × ℕ). IsOrderAt sizes line at (keywords.Bare k) x) (same_result (bare_order k, at) v h)
     (bare_ok sizes line at k)
 operands_ok sizes line at (keywords.Registers k) v fits h = registers_ok sizes line at k v fits h
 operands_ok sizes line at (keywords.Slot k) v fits h =
     let a = bind_ok (slot_at sizes line at) _ v h in
     let s = slot_order_ok sizes line at k a.0 (slot_ok sizes line at a.0 fits a.1) in
     subst (λ (x : Order × ℕ). IsOrderAt sizes line at (keywords.Slot k) x)
-    (ok_is (slot_order k a.0.0.0 a.0.0.1, a.0.1) v a.2) s
+    (same_result (slot_order k a.0.0.0 a.0.0.1, a.0.1) v a.2) s
 operands_ok sizes line at (keywords.Field k) v fits h =
     let a = bind_ok (field_at sizes line at) _ v h in
     let f = field_order_ok sizes line at k a.0 (field_ok sizes line at a.0 fits a.1) in
     subst (λ (x : Order × ℕ). IsOrderAt sizes line at (keywords.Field k) x)
-    (ok_is (field_order k a.0.0.0 a.0.0.1.0 a.0.0.1.1, a.0.1) v a.2) f
+    (same_result (field_order k a.0.0.0 a.0.0.1.0 a.0.0.1.1, a.0.1) v a.2) f
 operands_ok sizes line at (keywords.Mixed k) v fits h = mixed_ok sizes line at k v fits h
 
 operands_again : (sizes : Sizes) (line : List ℕ) (at : ℕ) (o : Order) (ws : List (List ℕ))
@@ -556,7 +560,7 @@ order_ok sizes line actor at o fits h =
     let all : words_from line at ≡ keyword_text (keyword_of v.0.0) ∷ operand_words v.0.0 =
     whole_order (words_from line at) w.0.0 (keyword_text (keyword_of v.0.0)) (words_from line w.0.1) (words_from line
     v.0.1) (operand_words v.0.0) first (key.1 ∙ sym (ap keyword_text operands.keyword)) operands.spelled last in
-    subst (λ (x : Order). IsOrderFrom sizes line actor at x) (ok_is v.0.0 o e.2) (record {
+    subst (λ (x : Order). IsOrderFrom sizes line actor at x) (same_result v.0.0 o e.2) (record {
       spelled = all ∙ sym (words_are v.0.0);
       own = key.0;
       fits = operands.fits;
@@ -598,12 +602,12 @@ actor_ok sizes line a few h =
       | inl worker ↦
           let w = bind_ok (named_at line 0 119 sizes.workers kinds.NoSuchActor) _ a worker.1 in
           let n = named_ok line 0 119 sizes.workers kinds.NoSuchActor w.0 few.workers w.1 in
-          subst (λ (x : Actor × ℕ). IsActorAt sizes line x) (ok_is (Worker w.0.0, w.0.1) a w.2)
+          subst (λ (x : Actor × ℕ). IsActorAt sizes line x) (same_result (Worker w.0.0, w.0.1) a w.2)
           (record { spelled = n.spelled; there = n.below })
       | inr thread ↦
           let t = bind_ok (named_at line 0 116 sizes.threads kinds.NoSuchActor) _ a thread.1 in
           let n = named_ok line 0 116 sizes.threads kinds.NoSuchActor t.0 few.threads t.1 in
-          subst (λ (x : Actor × ℕ). IsActorAt sizes line x) (ok_is (Thread t.0.0, t.0.1) a t.2)
+          subst (λ (x : Actor × ℕ). IsActorAt sizes line x) (same_result (Thread t.0.0, t.0.1) a t.2)
           (record { spelled = n.spelled; there = n.below })
     ]
 

@@ -54,8 +54,8 @@ inside_more lines turns body c line is =
     ∙ rw (is, map-append command_line_of body (c ∷ [])) refl
 
 -- a command in a block
-pub say_inside : (front : List (List ℕ)) (parts : List Part)
-    (turns : ℕ) (c : Command) (said : List (List ℕ)) (line : List ℕ) (o : Option ℕ) (body : List Command)
+pub say_inside : (front : List (List ℕ)) (parts : List Part) (turns : ℕ) (c : Command)
+    (said : List (List ℕ)) (line : List ℕ) (o : Option ℕ) (body : List Command)
     → o ≡ Some turns → line ≡ command_line_of c → said ≡ front ++ (flat_map part_lines parts ++ open_lines o body)
     → said ++ line ∷ [] ≡ front ++ (flat_map part_lines parts ++ open_lines o (body ++ c ∷ []))
 say_inside front parts turns c said line o body some is h =
@@ -72,12 +72,12 @@ pub say_times : (front : List (List ℕ))
     → o ≡ None → line ≡ times_line_of turns → said ≡ front ++ (flat_map part_lines parts ++ open_lines o body)
     → said ++ line ∷ [] ≡ front ++ (flat_map part_lines parts ++ open_lines (Some turns) [])
 say_times front parts turns said line o body none is h =
-    behind_front front (flat_map part_lines parts ++ open_lines o body) said (flat_map part_lines parts ++ open_lines
-    (Some turns) []) line h (rw none (begin_more (flat_map part_lines parts) turns line is))
+    behind_front front (flat_map part_lines parts ++ open_lines o body) said (flat_map part_lines parts
+    ++ open_lines (Some turns) []) line h (rw none (begin_more (flat_map part_lines parts) turns line is))
 
-end_more : (parts : List Part) (turns : ℕ) (body : List Command) (line : List ℕ) → line ≡ codes "end"
-    → (flat_map part_lines parts ++ open_lines (Some turns) body) ++ line ∷ [] ≡ flat_map part_lines
-    (parts ++ Times turns body ∷ []) ++ []
+end_more : (parts : List Part) (turns : ℕ) (body : List Command) (line : List ℕ)
+    → line ≡ codes "end" → (flat_map part_lines parts ++ open_lines (Some turns) body) ++ line ∷ []
+    ≡ flat_map part_lines (parts ++ Times turns body ∷ []) ++ []
 end_more parts turns body line is =
     append_assoc (flat_map part_lines parts) (times_line_of turns ∷ map command_line_of body) (line ∷ [])
     ∙ rw (

@@ -1,6 +1,6 @@
 -- Words, numbers and names at a place: what is read there is written so, and what is written so is read.
-use Rattle.std.proofs.Common.{◌≡◌, ℕ, ◌-◌, ◌^◌, ◌<◌, ◌≤◌, Bool, true, false, cond, nat_lt, List, [], ◌⊎◌, inl, inr}
-use Rattle.std.proofs.Common.{◌∷◌, length, Option, Some, None, refl, sym, ap, subst, ◌∙◌, arith, lit<}
+use Rattle.std.proofs.Common.{◌≡◌, ℕ, ◌-◌, ◌^◌, ◌<◌, ◌≤◌, Bool, true, false, cond, nat_lt, List, [], ◌∷◌}
+use Rattle.std.proofs.Common.{length, Option, Some, None, refl, sym, ap, subst, ◌∙◌, arith, lit<, ◌⊎◌, inl, inr}
 use Rattle.std.specs.Prelude.{Result, Ok, Err, ◌==◌, ◌||◌, not, nat_le}
 use Rattle.std.specs.Str.{bytes_eq}
 use Rattle.std.specs.Fmt.{decimal}
@@ -14,18 +14,13 @@ use Rattle.parser.specs.Words.{◌>>=◌, flaw, or_flaw, word_at, word_or, fixed
 use Rattle.parser.specs.Words.{capped_from, in_range, number_at, small_at, named_in, named_at, end_at}
 use Rattle.parser.proofs.Numbers.{number_spelled, number_read}
 use Rattle.parser.proofs.Places.{words_from, word_is, found_word, past_end, end_past, Reads}
+use Rattle.model.proofs.Results.{same_result, not_refused}
 
 -- the value of a step that found no fault
 pub bind_ok : {A B : Type 0} (r : Result A Flaw) (f : A → Result B Flaw) (y : B) → (r >>= f) ≡ Ok y
     → (x : A) × (r ≡ Ok x) × (f x ≡ Ok y)
 bind_ok (Ok x) f y e = (x, refl, e)
 bind_ok (Err d) f y e = absurd cc
-
--- a test that would have been a fault didn't hold
-pub guard_ok : {A : Type 0} (b : Bool) (d : Flaw) (r : Result A Flaw) (y : A) → cond b (Err d) r ≡ Ok y
-    → (b ≡ false) × (r ≡ Ok y)
-guard_ok true d r y e = absurd cc
-guard_ok false d r y e = (refl, e)
 
 -- a test without which there would have been a fault did hold
 pub test_ok : {A : Type 0} (b : Bool) (d : Flaw) (r : Result A Flaw) (y : A) → cond b r (Err d) ≡ Ok y
@@ -38,15 +33,9 @@ pub one_of : {A : Type 0} (b : Bool) (x y z : A) → cond b x y ≡ z → ((b �
 one_of true x y z h = inl (refl, h)
 one_of false x y z h = inr (refl, h)
 
-abbrev done : {A : Type 0} → A → Result A Flaw
-done x = Ok x
-
-pub ok_is : {A : Type 0} (x y : A) → done x ≡ done y → x ≡ y
-ok_is x y e = cc
-
 pub or_flaw_ok : {A : Type 0} (o : Option A) (d : Flaw) (x : A) → or_flaw o d ≡ Ok x → o ≡ Some x
 or_flaw_ok None d x e = absurd cc
-or_flaw_ok (Some y) d x e = ap Some (ok_is y x e)
+or_flaw_ok (Some y) d x e = ap Some (same_result y x e)
 
 -- ---- words
 
@@ -68,7 +57,7 @@ fixed_ok line at text kind after h =
     let w = b.0 in
     let t = test_ok (bytes_eq w.0 text) (flaw at kind) (Ok w.1) after b.2 in
     let same : w.0 ≡ text = (bytes_eq-Decides w.0 text).0 t.0 in
-    let place : w.1 ≡ after = ok_is w.1 after t.1 in
+    let place : w.1 ≡ after = same_result w.1 after t.1 in
     word_ok line at kind w b.1 ∙ ap (λ (x : List ℕ). x ∷ words_from line w.1) same
     ∙ ap (λ (x : ℕ). text ∷ words_from line x) place
 
@@ -98,15 +87,15 @@ number_ok line at low high v fits h =
     (Err (flaw at kinds.NumberExpected)) (in_range (capped_from 0 w.0) w.1 at low high)) v h in
     let w = b.0 in
     let n = capped_from 0 w.0 in
-    let form = guard_ok (not (is_number w.0)) (flaw at kinds.NumberExpected) (in_range n w.1 at low high) v b.2 in
-    let range = guard_ok (nat_lt n low || nat_lt high n) (flaw at kinds.NumberOutOfRange) (Ok (n, w.1)) v form.1 in
+    let form = not_refused (not (is_number w.0)) (flaw at kinds.NumberExpected) (in_range n w.1 at low high) v b.2 in
+    let range = not_refused (nat_lt n low || nat_lt high n) (flaw at kinds.NumberOutOfRange) (Ok (n, w.1)) v form.1 in
     let sides = or_parts (nat_lt n low) (nat_lt high n) range.0 in
     let low_side : low ≤ n = grind (arith, nat_tests) in
     let high_side : n ≤ high = grind (arith, nat_tests) in
     let number : is_number w.0 ≡ true = grind arith in
     let spelled : words_from line at ≡ decimal n ∷ words_from line w.1 = word_ok line at kinds.NumberExpected w b.1
     ∙ ap (λ (x : List ℕ). x ∷ words_from line w.1) (sym (number_spelled w.0 number (omega arith))) in
-    let pair : (n, w.1) ≡ v = ok_is (n, w.1) v range.1 in
+    let pair : (n, w.1) ≡ v = same_result (n, w.1) v range.1 in
     subst (λ (x : ℕ × ℕ). IsNumberAt line at low high x) pair (record {
       spelled = spelled;
       above = low_side;
@@ -147,15 +136,15 @@ named_in_ok : (word : List ℕ) (after at letter count : ℕ) (missing : FaultKi
 named_in_ok [] after at letter count missing v fits h = absurd cc
 named_in_ok (b ∷ bs) after at letter count missing v fits h =
     let n = capped_from 0 bs in
-    let form = guard_ok (not (b == letter) || not (is_number bs)) (flaw at kinds.UnknownWord)
+    let form = not_refused (not (b == letter) || not (is_number bs)) (flaw at kinds.UnknownWord)
     (cond (nat_le count n) (Err (flaw at missing)) (Ok (n, after))) v h in
-    let range = guard_ok (nat_le count n) (flaw at missing) (Ok (n, after)) v form.1 in
+    let range = not_refused (nat_le count n) (flaw at missing) (Ok (n, after)) v form.1 in
     let sides = or_parts (not (b == letter)) (not (is_number bs)) form.0 in
     let first : b ≡ letter = not_not_eq b letter sides.0 in
     let number : is_number bs ≡ true = not-false (is_number bs) sides.1 in
     let below : n < count = leb-false count n range.0 in
     let spelled : decimal n ≡ bs = number_spelled bs number (omega arith) in
-    let pair : (n, after) ≡ v = ok_is (n, after) v range.1 in
+    let pair : (n, after) ≡ v = same_result (n, after) v range.1 in
     subst (λ (x : ℕ × ℕ). IsNamed (b ∷ bs) after letter count x) pair (record {
       spelled = ap (λ (x : ℕ). x ∷ bs) first ∙ ap (λ (x : List ℕ). letter ∷ x) (sym spelled);
       place = refl;
@@ -199,7 +188,7 @@ named_again line at letter count missing n ws fits below h =
 pub end_ok : (line : List ℕ) (at : ℕ) (u : Unit {0}) → end_at line at ≡ Ok u → words_from line at ≡ []
 unfolding end_at
 end_ok line at u h =
-    let past = guard_ok (nat_le at (length line)) (flaw at kinds.EndOfLineExpected) (Ok tt) u h in
+    let past = not_refused (nat_le at (length line)) (flaw at kinds.EndOfLineExpected) (Ok tt) u h in
     let fails = past.0 in
     end_past line at (grind (arith, nat_tests))
 

@@ -23,9 +23,9 @@ words_from line at = cond (nat_lt (length line) at) [] (slice_split space (drop 
 regroup : (at i : ℕ) → at + (i + 1) ≡ at + i + 1
 regroup at i = omega arith
 
-cut_words : (line : List ℕ) (at : ℕ) (o : Option ℕ) → at ≤ length line → position space (drop at line) ≡ o
-    → slice_split space (drop at line) ≡ (cut_at line at (drop at line) o).0 ∷ words_from line
-    (cut_at line at (drop at line) o).1
+cut_words : (line : List ℕ) (at : ℕ) (o : Option ℕ) → at ≤ length line
+    → position space (drop at line) ≡ o → slice_split space (drop at line)
+    ≡ (cut_at line at (drop at line) o).0 ∷ words_from line (cut_at line at (drop at line) o).1
 unfolding words_from
 cut_words line at None within h =
     let past : nat_lt (length line) (length line + 1) ≡ true = grind (arith, nat_tests) in

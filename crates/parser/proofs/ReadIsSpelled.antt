@@ -14,6 +14,7 @@ use Rattle.std.proofs.lemmas.Bool.{ltb-true, ltb-false, and_parts, not-true}
 use Rattle.std.proofs.lemmas.Bool.Decides.{nat_tests}
 use Rattle.layout.specs.declared.shape.Layout.{Layout}
 use Rattle.model.specs.Configs.{fits_page}
+use Rattle.model.proofs.Results.{same_result, not_refused}
 use Rattle.parser.specs.declared.fault.FaultKind.TheVariants as kinds
 use Rattle.parser.specs.declared.fault.Flaw.{Flaw}
 use Rattle.parser.specs.declared.fault.LineFault.{LineFault}
@@ -32,7 +33,7 @@ use Rattle.parser.specs.Spelling.{Part, One, Times, times_line_of, part_lines, p
 use Rattle.parser.specs.Spelling.{SpellsHeap, says_something, Spells, IsLayout, IsCommand, IsScript}
 use Rattle.parser.proofs.Splitting.{split_cons}
 use Rattle.parser.proofs.Places.{words_from, word_is, no_word_is, words_whole}
-use Rattle.parser.proofs.Pieces.{bind_ok, guard_ok, test_ok, ok_is, number_ok, end_ok, one_of}
+use Rattle.parser.proofs.Pieces.{bind_ok, test_ok, number_ok, end_ok, one_of}
 use Rattle.parser.proofs.Operands.{AreFew, order_ok, actor_ok, line_is}
 use Rattle.parser.proofs.HeapLines.{IsSizes, heap_ok, layout_ok}
 use Rattle.parser.proofs.Ranges.{AreLayouts, config_in_range}
@@ -110,7 +111,8 @@ heap_step line t h =
     let s = bind_ok (heap_in line (first_word line).1) _ t g.1 in
     let first : (first_word line).0 ≡ codes "heap" = (bytes_eq-Decides (first_word line).0 (codes "heap")).0 g.0 in
     let sizes = heap_ok line (first_word line).1 s.0 s.1 in
-    subst (λ (x : ReadSoFar). IsBehind (line ∷ []) x) (ok_is (record nothing { sizes = Some s.0 }) t s.2) (record {
+    subst (λ (x : ReadSoFar). IsBehind (line ∷ []) x) (same_result (record nothing { sizes = Some s.0 }) t s.2)
+    (record {
       sizes = s.0;
       sizes_is = refl;
       heap = line;
@@ -138,8 +140,8 @@ heap_step line t h =
 
 add_layout : (heap : List ℕ) (ls : List Layout) (l : Layout) (said : List (List ℕ)) (line : List ℕ)
     (parts : List Part) (o : Option ℕ) (body : List Command) → parts ≡ [] → o ≡ None → line ≡ layout_line_of l
-    → said ≡ (heap ∷ map layout_line_of ls) ++ (flat_map part_lines parts ++ open_lines o body) → said
-    ++ line ∷ [] ≡ (heap ∷ map layout_line_of (ls ++ l ∷ [])) ++ (flat_map part_lines parts ++ open_lines o body)
+    → said ≡ (heap ∷ map layout_line_of ls) ++ (flat_map part_lines parts ++ open_lines o body) → said ++ line ∷ []
+    ≡ (heap ∷ map layout_line_of (ls ++ l ∷ [])) ++ (flat_map part_lines parts ++ open_lines o body)
 add_layout heap ls l said line parts o body none no_block is h =
     rw (
       h,
@@ -167,7 +169,7 @@ layout_step said r t b line first not_begun few h =
     let layout = layout_ok b.sizes line (first_word line).1 l.0 l.1 in
     let line_is_layout : line ≡ layout_line_of l.0 = line_by_words line (codes "layout") _ first layout.spelled in
     subst (λ (x : ReadSoFar). IsBehind (said ++ line ∷ []) x)
-    (ok_is (record r { layouts = r.layouts ++ l.0 ∷ [] }) t l.2) (record {
+    (same_result (record r { layouts = r.layouts ++ l.0 ∷ [] }) t l.2) (record {
       sizes = b.sizes;
       sizes_is = b.sizes_is;
       heap = b.heap;
@@ -241,7 +243,7 @@ unfolding command_line
 command_step said r t b line h =
     let few = few_actors b.sizes b.range in
     let a = bind_ok (actor_at b.sizes line) _ t h in
-    let g = guard_ok (is_full r.turns r.commands) _ _ t a.2 in
+    let g = not_refused (is_full r.turns r.commands) _ _ t a.2 in
     let o = bind_ok (order_at b.sizes line a.0.0 a.0.1) _ t g.1 in
     let actor = actor_ok b.sizes line a.0 few a.1 in
     let order = order_ok b.sizes line a.0.0 a.0.1 o.0 few.registers o.1 in
@@ -250,7 +252,7 @@ command_step said r t b line h =
     (actor.spelled ∙ ap (λ (t : List (List ℕ)). actor_word a.0.0 ∷ t) order.spelled) in
     let own : IsCommand (config_of b.sizes []) command =
     record { actor = actor.there; own = order.own; order = order.fits } in
-    subst (λ (x : ReadSoFar). IsBehind (said ++ line ∷ []) x) (ok_is (with_command r r.turns command) t o.2)
+    subst (λ (x : ReadSoFar). IsBehind (said ++ line ∷ []) x) (same_result (with_command r r.turns command) t o.2)
     (command_behind said r b command line line_is_command own r.turns refl g.0)
 
 times_behind : (said : List (List ℕ)) (r t : ReadSoFar) (b : IsBehind said r) (line : List ℕ)
@@ -265,7 +267,7 @@ times_behind said r t b line first None none h =
     let line_is_times : line ≡ times_line_of n.0.0 = line_by_words line (codes "times") _ first
     (number.spelled ∙ ap (λ (x : List (List ℕ)). decimal n.0.0 ∷ x) last) in
     subst (λ (x : ReadSoFar). IsBehind (said ++ line ∷ []) x)
-    (ok_is (record r { begun = true; turns = Some n.0.0; body = [] }) t e.2) (record {
+    (same_result (record r { begun = true; turns = Some n.0.0; body = [] }) t e.2) (record {
       sizes = b.sizes;
       sizes_is = b.sizes_is;
       heap = b.heap;
@@ -296,15 +298,18 @@ end_behind : (said : List (List ℕ)) (r t : ReadSoFar) (b : IsBehind said r) (l
     → IsBehind (said ++ line ∷ []) t
 end_behind said r t b line first None none h = absurd cc
 end_behind said r t b line first (Some turns) some h =
-    let g = guard_ok (nat_lt MOST_COMMANDS (length r.commands + turns * length r.body)) _ _ t h in
+    let g = not_refused (nat_lt MOST_COMMANDS (length r.commands + turns * length r.body)) _ _ t h in
     let e = bind_ok (end_at line (first_word line).1) _ t g.1 in
     let last = end_ok line (first_word line).1 e.0 e.1 in
     let line_is_end : line ≡ codes "end" = line_by_words line (codes "end") _ first last in
     let has : HasTurns (Some turns) = subst HasTurns some b.block_turns in
     let fits : length r.commands + turns * length r.body ≤ MOST_COMMANDS =
     ltb-false MOST_COMMANDS (length r.commands + turns * length r.body) g.0 in
-    subst (λ (x : ReadSoFar). IsBehind (said ++ line ∷ []) x)
-    (ok_is (record r { commands = r.commands ++ repeat turns r.body; turns = None; body = [] }) t e.2) (record {
+    subst (λ (x : ReadSoFar). IsBehind (said ++ line ∷ []) x) (same_result (record r {
+      commands = r.commands ++ repeat turns r.body;
+      turns = None;
+      body = [];
+    }) t e.2) (record {
       sizes = b.sizes;
       sizes_is = b.sizes_is;
       heap = b.heap;
@@ -348,8 +353,8 @@ later_step : (said : List (List ℕ)) (r t : ReadSoFar) (b : IsBehind said r) (l
     → later_line r b.sizes line ≡ Ok t → IsBehind (said ++ line ∷ []) t
 unfolding later_line
 later_step said r t b line h =
-    elim (one_of (bytes_eq (first_word line).0 (codes "layout") && not r.begun && nat_lt
-    (length r.layouts) MOST_LAYOUTS) _ _ (Ok t) h) [
+    elim (one_of (bytes_eq (first_word line).0 (codes "layout") && not r.begun
+    && nat_lt (length r.layouts) MOST_LAYOUTS) _ _ (Ok t) h) [
       | inl p ↦
           let most = and_parts (bytes_eq (first_word line).0 (codes "layout") && not r.begun)
           (nat_lt (length r.layouts) MOST_LAYOUTS) p.0 in
@@ -357,7 +362,7 @@ later_step said r t b line h =
           let few : length r.layouts < MOST_LAYOUTS = ltb-true (length r.layouts) MOST_LAYOUTS most.1 in
           layout_step said r t b line ((bytes_eq-Decides (first_word line).0 (codes "layout")).0 first.0)
           (not-true r.begun first.1) few p.1
-      | inr p ↦ let g = guard_ok (length r.layouts == 0) _ _ t p.1 in part_step said r t b line g.1
+      | inr p ↦ let g = not_refused (length r.layouts == 0) _ _ t p.1 in part_step said r t b line g.1
     ]
 
 -- ---- a line, and the lines
@@ -378,7 +383,7 @@ line_ok : (said : List (List ℕ)) (r t : ReadSoFar) (line : List ℕ) → Said 
 unfolding line_in
 line_ok said r t line so_far h =
     elim (one_of (is_idle line) _ _ (Ok t) h) [
-      | inl p ↦ rw (p.0, append-nil said, ← ok_is r t p.1) so_far
+      | inl p ↦ rw (p.0, append-nil said, ← same_result r t p.1) so_far
       | inr p ↦ rw p.0 (line_step said r t line so_far p.0 p.1)
     ]
 

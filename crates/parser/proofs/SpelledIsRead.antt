@@ -163,8 +163,9 @@ end_taken z r n line ready some block room idle is =
     le-ltb MOST_COMMANDS (length r.commands + n * length r.body) room in
     let e = end_again line (first_word line).1 words.rest in
     let here : part_line r z line ≡ end_in r r.turns line = rw (times, end) refl in
-    let read : end_in r (Some n) line ≡ Ok
-    (record r { commands = r.commands ++ repeat n r.body; turns = None; body = [] }) = rw (fits, e) refl in
+    let read :
+    end_in r (Some n) line ≡ Ok (record r { commands = r.commands ++ repeat n r.body; turns = None; body = [] }) =
+    rw (fits, e) refl in
     part_taken z r line (codes "end") ready some idle words.first refl ∙ here
     ∙ ap (λ (x : Option ℕ). end_in r x line) block ∙ read
 
@@ -277,8 +278,9 @@ fits_block cs body ds all n e h =
     let long : length all ≡ length (cs ++ repeat n (body ++ [])) + length ds =
     ap length (sym e) ∙ length-append (cs ++ repeat n (body ++ [])) ds in
     let front : length (cs ++ repeat n (body ++ [])) ≡ length cs + n * length body =
-    length-append cs (repeat n (body ++ [])) ∙ ap (λ (x : List Command). length cs + length (repeat n x))
-    (append-nil body) ∙ ap (λ (k : ℕ). length cs + k) (repeated_length n body) in
+    length-append cs (repeat n (body ++ []))
+    ∙ ap (λ (x : List Command). length cs + length (repeat n x)) (append-nil body)
+    ∙ ap (λ (k : ℕ). length cs + k) (repeated_length n body) in
     omega (arith, long, front, h)
 
 -- all lines behind the layout lines
@@ -436,8 +438,8 @@ no_more n z lines r parts all ready fresh next are said =
     parts_read n z lines r None [] parts all left said
     ∙ ap (λ (x : List Layout). Ok (script_of (config_of z x) all)) (sym (append-nil r.layouts))
 
-layouts_read : (n : ℕ) (z : Sizes) (lines : List (List ℕ)) (r : ReadSoFar)
-    (ls : List Layout) (parts : List Part) (all : List Command) → IsReady z r → IsFresh r → AreNext z r ls
+layouts_read : (n : ℕ) (z : Sizes) (lines : List (List ℕ)) (r : ReadSoFar) (ls : List Layout) (parts : List Part)
+    (all : List Command) → IsReady z r → IsFresh r → AreNext z r ls
     → AreAll z parts all → filter says_something lines ≡ map layout_line_of ls ++ flat_map part_lines parts
     → lines_in n r (lines ++ [] ∷ []) ≡ Ok (script_of (config_of z (r.layouts ++ ls)) all)
 layouts_read n z [] r [] parts all ready fresh next are said = no_more n z [] r parts all ready fresh next are said

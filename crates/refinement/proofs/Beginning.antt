@@ -138,8 +138,10 @@ module _ (c : Config) where
   unfolding plain_start name_of
   first_births = λ z. record plain_first {
     register = fun_ext (λ t. fun_ext (registers t)) z;
-    pending = fun_ext (read_of (λ o. option_map as_pair (pending_in o)) c.threads
-        (record { registers = replicate c.registers None; pending = None }) refl) z;
+    pending = fun_ext (read_of (λ o. option_map as_pair (pending_in o)) c.threads (record {
+      registers = replicate c.registers None;
+      pending = None;
+    }) refl) z;
     global = fun_ext (read_of flat c.globals None refl) z;
   }
     where

@@ -96,11 +96,11 @@ pub born_is : (p : PlainHeap) (t r number : ℕ) (l : Layout) (y : PlainThread) 
 unfolding naming name_of
 born_is p t r number l y e k = λ z. record (births_of p) {
   births = count z;
-  layout = fun_ext (λ b. ap layout_in (more b)
-      ∙ put_read layout_in (slice_get p.objects) (length p.objects) (Some new) b) z;
+  layout = fun_ext
+      (λ b. ap layout_in (more b) ∙ put_read layout_in (slice_get p.objects) (length p.objects) (Some new) b) z;
   refs = fun_ext (λ b. ap refs_in (more b) ∙ put_read refs_in (slice_get p.objects) (length p.objects) (Some new) b) z;
-  data_words = fun_ext (λ b. ap data_in (more b)
-      ∙ put_read data_in (slice_get p.objects) (length p.objects) (Some new) b) z;
+  data_words = fun_ext
+      (λ b. ap data_in (more b) ∙ put_read data_in (slice_get p.objects) (length p.objects) (Some new) b) z;
   register = fun_ext (λ u. fun_ext (name_changed p.threads t r (Some (length p.objects))
       (set_name r (Some (length p.objects))) y e k refl u)) z;
   pending = fun_ext (kept_of (λ o. option_map as_pair (pending_in o)) p.threads t

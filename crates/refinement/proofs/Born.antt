@@ -112,8 +112,8 @@ module _ (h : HeapState) (s : IsStore h.store) (l : IsLaid h) (t target number :
       (changed rows (b.page - 1) (put_bit b.next bit)) h.store.words y ≡ put (bit_at rows h.store.words) address bit y
   put_at_address rows r bit y =
       let (z, e, k) = row rows r in
-      subst (λ o. bit_at (changed rows (b.page - 1) (put_bit o bit)) h.store.words y ≡ put
-      (bit_at rows h.store.words) address bit y) address_offset
+      subst (λ o. bit_at (changed rows (b.page - 1) (put_bit o bit)) h.store.words y
+      ≡ put (bit_at rows h.store.words) address bit y) address_offset
       (bit_put h.store.words rows (b.page - 1) address bit z page_is e (omega (arith, k, address_offset)) y)
 
   buffer_had : extent h (OfBuffer t) ≡ Some (buffer_extent h.store.words b)

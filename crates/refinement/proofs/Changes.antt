@@ -81,8 +81,8 @@ page_changed rows i f row e =
     put_all (λ m y. of_page (changed rows i f) m ≡ y) (of_page rows) (suc i) (f row) here elsewhere
   where
     here : get_or (changed rows i f) i [] ≡ f row
-    here = row_read (changed rows i f) i ∙ ap row_of (get_changed rows i f i
-        ∙ put_same (slice_get rows) i (option_map f (slice_get rows i)) ∙ ap (option_map f) e)
+    here = row_read (changed rows i f) i ∙ ap row_of
+        (get_changed rows i f i ∙ put_same (slice_get rows) i (option_map f (slice_get rows i)) ∙ ap (option_map f) e)
 
     elsewhere : (m : ℕ) → m ≢ suc i → of_page (changed rows i f) m ≡ of_page rows m
     elsewhere zero d = refl
@@ -162,5 +162,5 @@ blank_here w rows i row x e q = ap (λ r. get_or r (x % w) false) (page_changed 
 
 pub blank_other : (w : ℕ) (rows : List (List Bool)) (i : ℕ) (row : List Bool) (x : ℕ) → slice_get rows i ≡ Some row
     → x / w ≢ suc i → bit_at (changed rows i blank_row) w x ≡ bit_at rows w x
-blank_other w rows i row x e q = ap (λ r. get_or r (x % w) false) (page_changed rows i blank_row row e (x / w)
-    ∙ put_other (of_page rows) (suc i) (blank_row row) (x / w) q)
+blank_other w rows i row x e q = ap (λ r. get_or r (x % w) false)
+    (page_changed rows i blank_row row e (x / w) ∙ put_other (of_page rows) (suc i) (blank_row row) (x / w) q)

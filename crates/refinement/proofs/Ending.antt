@@ -26,6 +26,7 @@ use Rattle.model.specs.Outcome.{trap_outcome, heal_outcome, heal_place, end_load
 use Rattle.model.specs.Outcome.{gc_trap_due, nmt_trap_due, may_finish, bits_at, are_bits_of, healed}
 use Rattle.model.specs.Plain.{PlainHeap, Pending, plain_step, plain_answer, pending_in, finishing}
 use Rattle.model.proofs.Lists.{get_within, each_changed}
+use Rattle.model.proofs.Results.{same_result, not_refused}
 use Rattle.laws.specs.AddressHeap.{field}
 use Rattle.laws.specs.Invariant.{Invariant, IsPlace}
 use Rattle.laws.specs.Edits.{set_barrier, set_object}
@@ -47,7 +48,7 @@ use Rattle.refinement.proofs.Sizes.{frames_stay, sizes_stay}
 use Rattle.refinement.proofs.Threads.{loaded_world, loaded_laid, global_world, global_laid}
 use Rattle.refinement.proofs.Rooted.{load_there, loaded_holds_words, global_word, stored_again}
 use Rattle.refinement.proofs.Births.{finishing_is, finishing_roots}
-use Rattle.refinement.proofs.Verdicts.{bind_ok, found_ok, same_result, not_refused, accepted, second_false}
+use Rattle.refinement.proofs.Verdicts.{bind_ok, found_ok, accepted, second_false}
 use Rattle.refinement.proofs.Writers.{moved, moved_roots, plain_thread}
 use Rattle.refinement.proofs.Loading.{barrier_holds, global_same, field_is}
 

@@ -96,8 +96,8 @@ module _ (h : HeapState) (l : IsLaid h) (t i : ℕ) (p : Page) (n : ℕ) (x : Th
   sizes : (a : ℕ) → size_at after a ≡ size_at h a
   sizes a = ap (option_map object_size) (objects a)
 
-  buffers : (u : ℕ) → extent after (OfBuffer u) ≡ put (λ v. extent h (OfBuffer v)) t
-      (Some (buffer_extent h.store.words (buffer_of i p.top n))) u
+  buffers : (u : ℕ) → extent after (OfBuffer u)
+      ≡ put (λ v. extent h (OfBuffer v)) t (Some (buffer_extent h.store.words (buffer_of i p.top n))) u
   buffers u = ap (λ o. option_map (buffer_extent h.store.words) (buffer_in o)) (get_changed h.threads t change u)
       ∙ put_all (λ v y. option_map (buffer_extent h.store.words)
       (buffer_in (put (slice_get h.threads) t (option_map change (slice_get h.threads t)) v)) ≡ y)

@@ -23,6 +23,7 @@ use Rattle.model.specs.Outcome.{load_outcome, load_global_outcome, new_barrier}
 use Rattle.model.specs.Outcome.{no_register, no_global, usable, field_at, is_parked_in}
 use Rattle.model.specs.Plain.{PlainHeap, Object, plain_step, plain_answer, name_of, object_of, field_of, loading}
 use Rattle.model.proofs.Lists.{get_within, each_changed}
+use Rattle.model.proofs.Results.{same_result}
 use Rattle.laws.specs.AddressHeap.{HeapObject, Null, field, AtField, AtGlobal}
 use Rattle.laws.specs.BirthHeap.{BirthHeap, ref}
 use Rattle.laws.specs.Invariant.{Invariant}
@@ -44,7 +45,7 @@ use Rattle.refinement.proofs.Sizes.{sizes_stay}
 use Rattle.refinement.proofs.Threads.{barrier_world, barrier_laid}
 use Rattle.refinement.proofs.Rooted.{barrier_holds_words, stored_word, global_word}
 use Rattle.refinement.proofs.Births.{loading_is, loading_roots}
-use Rattle.refinement.proofs.Verdicts.{bind_ok, found_ok, same_result, accepted, Passed}
+use Rattle.refinement.proofs.Verdicts.{bind_ok, found_ok, accepted, Passed}
 use Rattle.refinement.proofs.Verdicts.{first_false, second_false, used_ok, field_there}
 use Rattle.refinement.proofs.Readers.{names_object}
 use Rattle.refinement.proofs.Writers.{moved, moved_roots, plain_thread}
@@ -165,8 +166,8 @@ module _ (h : HeapState) (p p0 : PlainHeap) (s : IsStore h.store) (d : IsHeap h)
       let invariant : Invariant (set_barrier t (as_barrier b) (world_of h)) (births_of (loading p t r (Some found)))
       (births_of p0) =
       moved _ _ _ _ (births_of p0) (ap (λ x. set_barrier t (effects.new_barrier r (AtGlobal n) x) (world_of h))
-      (sym (global_same (slice_get h.globals n)))) (loading_is p t r found z at
-      ∙ ap (λ o. load_found r o) (sym plain)) step in
+      (sym (global_same (slice_get h.globals n))))
+      (loading_is p t r found z at ∙ ap (λ o. load_found r o) (sym plain)) step in
       let holds = barrier_holds h t g.thread b (loading p t r (Some found)) p0 g.there k.sizes k.laid k.given k.words
       (record { target = low; raw = word; now = word }) (loading_roots h p t r found k.roots) invariant in
       subst (λ (z : HeapState × Answer). StepHolds h p p0 (Thread t) (steps.LoadGlobal r n) z.0 z.1)

@@ -86,8 +86,8 @@ rewritten h starts n a f q s r =
         ∙ none (words_at (with_words h.store n f) (x / h.store.words)) (words_at h.store (x / h.store.words))
         ∙ sym (ap (λ b. object_in h.config.layouts b (words_at h.store (x / h.store.words)) (x % h.store.words)) k)
       where
-        none : (o p : Option (List ℕ)) → object_in h.config.layouts false o
-            (x % h.store.words) ≡ object_in h.config.layouts false p (x % h.store.words)
+        none : (o p : Option (List ℕ)) → object_in h.config.layouts false o (x % h.store.words)
+            ≡ object_in h.config.layouts false p (x % h.store.words)
         none None None = refl
         none None (Some y) = refl
         none (Some y) None = refl

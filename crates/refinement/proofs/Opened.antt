@@ -107,9 +107,9 @@ module _ (h : HeapState) (s : IsStore h.store) (k : IsHeap h) (l : IsLaid h) (o 
   end_claim m x None e f = absurd (cc)
   end_claim m x (Some p) e f = by_open (is_open p.state) refl f
     where
-      by_open : (b : Bool) → is_open p.state ≡ b → cond b
-          (Some (record { from = m * h.store.words + p.top; upto = m * h.store.words + h.store.words })) None ≡ Some x
-          → LiesOnPage h x
+      by_open : (b : Bool) → is_open p.state ≡ b
+          → cond b (Some (record { from = m * h.store.words + p.top; upto = m * h.store.words + h.store.words })) None
+          ≡ Some x → LiesOnPage h x
       by_open false g z = absurd (cc)
       by_open true g z =
           let from : m * h.store.words + p.top ≡ x.from = ap (λ (y : Extent). y.from) (same_Some _ _ z) in

@@ -14,6 +14,7 @@ use Rattle.model.specs.Heaps.{HeapState, with_parked, set_parked_of}
 use Rattle.model.specs.Outcome.{park_outcome, unpark_outcome, is_parked_in, scrub_outcome, usable}
 use Rattle.model.specs.Plain.{PlainHeap, plain_step, plain_answer}
 use Rattle.model.proofs.Lists.{each_changed}
+use Rattle.model.proofs.Results.{same_result}
 use Rattle.laws.specs.Transitions.{Park}
 use Rattle.laws.proofs.Runs.{transition_keeps}
 use Rattle.refinement.specs.Worlds.{world_of}
@@ -24,7 +25,7 @@ use Rattle.refinement.proofs.Changes.{length_changed}
 use Rattle.refinement.proofs.Sizes.{sizes_stay}
 use Rattle.refinement.proofs.Threads.{parked_world, parked_laid}
 use Rattle.refinement.proofs.Rooted.{parked_holds_words}
-use Rattle.refinement.proofs.Verdicts.{bind_ok, same_result, accepted, Passed}
+use Rattle.refinement.proofs.Verdicts.{bind_ok, accepted, Passed}
 use Rattle.refinement.proofs.Writers.{moved, moved_roots, closed_barrier}
 
 module _ (h : HeapState) (p p0 : PlainHeap) (s : IsStore h.store) (d : IsHeap h) (k : Holds h p p0) (t : ℕ) where

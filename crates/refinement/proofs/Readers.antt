@@ -18,6 +18,7 @@ use Rattle.model.specs.Outcome.{datum_outcome, same_outcome, is_null_outcome}
 use Rattle.model.specs.Outcome.{usable, usable_or_null, datum_at, same_address}
 use Rattle.model.specs.Plain.{PlainHeap, Object, plain_step, plain_answer}
 use Rattle.model.specs.Plain.{name_of, object_of, datum_of, as_datum, same_name}
+use Rattle.model.proofs.Results.{same_result}
 use Rattle.laws.specs.AddressHeap.{HeapObject, Null, To}
 use Rattle.laws.specs.Transitions.{Uses}
 use Rattle.laws.specs.Promises.{ReadsPlain}
@@ -31,8 +32,7 @@ use Rattle.refinement.proofs.Runs.{get_run}
 use Rattle.refinement.proofs.Reading.{read_refs, read_data}
 use Rattle.refinement.proofs.Objects.{there}
 use Rattle.refinement.proofs.Written.{word_there}
-use Rattle.refinement.proofs.Verdicts.{bind_ok, found_ok, same_result, accepted}
-use Rattle.refinement.proofs.Verdicts.{IsUsed, used_ok, used_or_null, datum_there}
+use Rattle.refinement.proofs.Verdicts.{bind_ok, found_ok, accepted, IsUsed, used_ok, used_or_null, datum_there}
 
 -- the object that a usable register names
 pub record NamesObject (h : HeapState) (p : PlainHeap) (t r a : ℕ) : Type 0 where
@@ -125,8 +125,8 @@ module _ (h : HeapState) (p p0 : PlainHeap) (s : IsStore h.store) (k : Holds h p
       → StepHolds h p p0 (Thread t) (steps.Same l r) y.0 y.1
   unfolding same_outcome plain_step plain_answer name_of register_of
   same_holds l r y e =
-      let (a, first, rest) = bind_ok (usable_or_null h t l) (λ a. usable_or_null h t r
-      >>= λ b. Ok (h, answers.Truth (same_address a b))) y e in
+      let (a, first, rest) = bind_ok (usable_or_null h t l)
+      (λ a. usable_or_null h t r >>= λ b. Ok (h, answers.Truth (same_address a b))) y e in
       let (b, second, is) = bind_ok (usable_or_null h t r) (λ b. Ok (h, answers.Truth (same_address a b))) y rest in
       subst (λ (z : HeapState × Answer). StepHolds h p p0 (Thread t) (steps.Same l r) z.0 z.1)
       (same_result (h, answers.Truth (same_address a b)) y is)
@@ -155,8 +155,8 @@ module _ (h : HeapState) (p p0 : PlainHeap) (s : IsStore h.store) (k : Holds h p
       let nums = read_data h.config.layouts r.words (a % h.store.words) q r.read in
       let within : j < length q.data_words = omega (arith, m, nums) in
       let spot : a + 1 + r.read.shape.refs + j ≡ a + (1 + length q.refs + j) = omega (arith, refs) in
-      let word : word_at h.store
-      (a + (1 + length q.refs + j)) ≡ slice_get r.words (a % h.store.words + (1 + length q.refs + j)) =
+      let word : word_at h.store (a + (1 + length q.refs + j))
+      ≡ slice_get r.words (a % h.store.words + (1 + length q.refs + j)) =
       word_there h s k.laid a q e (1 + length q.refs + j) 0 (omega (arith, within)) in
       let number : slice_get q.data_words j ≡ slice_get r.words (a % h.store.words + 1 + r.read.shape.refs + j) =
       ap (λ (z : HeapObject). slice_get z.data_words j) r.read.is
@@ -177,8 +177,8 @@ module _ (h : HeapState) (p p0 : PlainHeap) (s : IsStore h.store) (k : Holds h p
       let q = names.object in
       let here = names.uses.here in
       let (m, spot) = datum_there h a q (there h a q here) j n (found_ok (datum_at h a j) refusals.BadIndex n second) in
-      let read = datum_read a q here j v m (ap (word_at h.store) spot
-      ∙ found_ok (word_at h.store n) refusals.BadIndex v third) in
+      let read = datum_read a q here j v m
+      (ap (word_at h.store) spot ∙ found_ok (word_at h.store n) refusals.BadIndex v third) in
       let plain : as_datum (datum_of (object_of p (name_of p t r)) j) ≡ Some (answers.Datum v) =
       ap (λ o. as_datum (datum_of (object_of p o) j)) names.reads.birth
       ∙ datum_answer (slice_get p.objects q.birth) q.data_words j v names.reads.data_words read in

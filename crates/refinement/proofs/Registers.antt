@@ -20,27 +20,28 @@ use Rattle.refinement.proofs.Changes.{get_changed, kept_of}
 use Rattle.refinement.proofs.Claims.{extents_same}
 
 -- the registers of threads, of which one has its register r changed
-pub register_changed : (ts : List ThreadState) (t r : ℕ) (w : Reference) (f : ThreadState → ThreadState)
-    (x : ThreadState) → slice_get ts t ≡ Some x → r < length x.registers → (f x).registers ≡ set x.registers r w
-    → (u s : ℕ) → as_word (register_in (slice_get (changed ts t f) u) s) ≡ put_at
-    (λ v q. as_word (register_in (slice_get ts v) q)) t r (as_word w) u s
+pub register_changed :
+    (ts : List ThreadState) (t r : ℕ) (w : Reference) (f : ThreadState → ThreadState) (x : ThreadState)
+    → slice_get ts t ≡ Some x → r < length x.registers → (f x).registers ≡ set x.registers r w
+    → (u s : ℕ) → as_word (register_in (slice_get (changed ts t f) u) s)
+    ≡ put_at (λ v q. as_word (register_in (slice_get ts v) q)) t r (as_word w) u s
 register_changed ts t r w f x e h k u s =
-    ap (λ o. as_word (register_in o s)) (get_changed ts t f u) ∙ put_all (λ v y. (q : ℕ)
-    → as_word (register_in (put (slice_get ts) t (option_map f (slice_get ts t)) v) q) ≡ y q)
+    ap (λ o. as_word (register_in o s)) (get_changed ts t f u) ∙ put_all
+    (λ v y. (q : ℕ) → as_word (register_in (put (slice_get ts) t (option_map f (slice_get ts t)) v) q) ≡ y q)
     (λ v q. as_word (register_in (slice_get ts v) q)) t
     (put (λ q. as_word (register_in (slice_get ts t) q)) r (as_word w)) here (λ v d q.
     ap (λ o. as_word (register_in o q)) (put_other (slice_get ts) t (option_map f (slice_get ts t)) v d)) u s
   where
-    in_thread : (q : ℕ) → as_word (flat (slice_get (set x.registers r w) q)) ≡ put
-        (λ q. as_word (flat (slice_get x.registers q))) r (as_word w) q
+    in_thread : (q : ℕ) → as_word (flat (slice_get (set x.registers r w) q))
+        ≡ put (λ q. as_word (flat (slice_get x.registers q))) r (as_word w) q
     in_thread = put_all (λ q y. as_word (flat (slice_get (set x.registers r w) q)) ≡ y)
         (λ q. as_word (flat (slice_get x.registers q))) r (as_word w)
         (let (y, there) = get_within x.registers r h in
         ap (λ o. as_word (flat o)) (get_set_same x.registers r y w there))
         (λ q d. ap (λ o. as_word (flat o)) (get_set_other x.registers r q w d))
 
-    here : (q : ℕ) → as_word (register_in (put (slice_get ts) t (option_map f (slice_get ts t)) t) q) ≡ put
-        (λ q. as_word (register_in (slice_get ts t) q)) r (as_word w) q
+    here : (q : ℕ) → as_word (register_in (put (slice_get ts) t (option_map f (slice_get ts t)) t) q)
+        ≡ put (λ q. as_word (register_in (slice_get ts t) q)) r (as_word w) q
     here q =
         ap (λ o. as_word (register_in o q)) (put_same (slice_get ts) t (option_map f (slice_get ts t))
         ∙ ap (option_map f) e) ∙ ap (λ l. as_word (flat (slice_get l q))) k ∙ in_thread q
@@ -110,11 +111,11 @@ module _ (h : HeapState) (l : IsLaid h) (t : ℕ) where
     unused = l.unused;
   }
     where
-      buffers : (u : ℕ) → buffer_in (slice_get (changed h.threads t (set_buffer_of None)) u) ≡ put
-          (λ v. buffer_in (slice_get h.threads v)) t None u
-      buffers u = ap buffer_in (get_changed h.threads t (set_buffer_of None) u) ∙ put_all (λ v y.
-          buffer_in (put (slice_get h.threads) t (option_map (set_buffer_of None) (slice_get h.threads t)) v) ≡ y)
-          (λ v. buffer_in (slice_get h.threads v)) t None
+      buffers : (u : ℕ) → buffer_in (slice_get (changed h.threads t (set_buffer_of None)) u)
+          ≡ put (λ v. buffer_in (slice_get h.threads v)) t None u
+      buffers u = ap buffer_in (get_changed h.threads t (set_buffer_of None) u) ∙ put_all
+          (λ v y. buffer_in (put (slice_get h.threads) t (option_map (set_buffer_of None) (slice_get h.threads t)) v)
+          ≡ y) (λ v. buffer_in (slice_get h.threads v)) t None
           (ap buffer_in (put_same (slice_get h.threads) t (option_map (set_buffer_of None) (slice_get h.threads t)))
           ∙ none (slice_get h.threads t)) (λ v d. ap buffer_in
           (put_other (slice_get h.threads) t (option_map (set_buffer_of None) (slice_get h.threads t)) v d)) u
@@ -133,8 +134,11 @@ module _ (h : HeapState) (l : IsLaid h) (t : ℕ) where
           now = ap (option_map (buffer_extent h.store.words)) (sym (buffers u)) ∙ e
 
           by_thread : (u ≡ t) ⊎ (u ≢ t) → extent h (OfBuffer u) ≡ Some x
-          by_thread (inl k) = absurd (no (ap (option_map (buffer_extent h.store.words)) (sym (ap (put (λ v. buffer_in
-              (slice_get h.threads v)) t None) k ∙ put_same (λ v. buffer_in (slice_get h.threads v)) t None)) ∙ now))
+          by_thread (inl k) =
+              let gone : put (λ v. buffer_in (slice_get h.threads v)) t None u ≡ None =
+              ap (put (λ v. buffer_in (slice_get h.threads v)) t None) k
+              ∙ put_same (λ v. buffer_in (slice_get h.threads v)) t None in
+              absurd (no (ap (option_map (buffer_extent h.store.words)) (sym gone) ∙ now))
             where
               no : None ≡ Some x → ⊥
               no k = cc

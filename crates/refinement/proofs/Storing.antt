@@ -19,6 +19,7 @@ use Rattle.model.specs.Outcome.{store_outcome, store_global_outcome, no_register
 use Rattle.model.specs.Outcome.{no_global, usable, usable_or_null, field_at}
 use Rattle.model.specs.Plain.{PlainHeap, plain_step, plain_answer, name_of, storing}
 use Rattle.model.proofs.Lists.{get_within, each_changed}
+use Rattle.model.proofs.Results.{same_result}
 use Rattle.laws.specs.AddressHeap.{HeapObject}
 use Rattle.laws.specs.Edits.{set_object}
 use Rattle.laws.specs.Effects.{with_field}
@@ -36,8 +37,7 @@ use Rattle.refinement.proofs.Sizes.{frames_stay, sizes_stay}
 use Rattle.refinement.proofs.Threads.{global_world, global_laid}
 use Rattle.refinement.proofs.Rooted.{register_word, stored_again}
 use Rattle.refinement.proofs.Births.{storing_is, storing_roots, global_is}
-use Rattle.refinement.proofs.Verdicts.{bind_ok, found_ok, same_result, accepted}
-use Rattle.refinement.proofs.Verdicts.{Passed, first_false, used_ok, field_there}
+use Rattle.refinement.proofs.Verdicts.{bind_ok, found_ok, accepted, Passed, first_false, used_ok, field_there}
 use Rattle.refinement.proofs.Readers.{names_object}
 use Rattle.refinement.proofs.Writers.{moved, moved_roots}
 
@@ -52,8 +52,8 @@ module _ (h : HeapState) (p p0 : PlainHeap) (s : IsStore h.store) (d : IsHeap h)
   store_holds r i q g y e =
       let (a, first, rest) = bind_ok (usable h t r) (λ a. or_refuse (field_at h a i) refusals.BadIndex
       >>= λ n. usable_or_null h t q >>= λ u. Ok (after n, answers.Done)) y e in
-      let (n, second, rest2) = bind_ok (or_refuse (field_at h a i) refusals.BadIndex) (λ n. usable_or_null h t q
-      >>= λ u. Ok (after n, answers.Done)) y rest in
+      let (n, second, rest2) = bind_ok (or_refuse (field_at h a i) refusals.BadIndex)
+      (λ n. usable_or_null h t q >>= λ u. Ok (after n, answers.Done)) y rest in
       let (u, third, is) = bind_ok (usable_or_null h t q) (λ u. Ok (after n, answers.Done)) y rest2 in
       let names = names_object h p p0 k t r a (used_ok h t r a g.thread g.there first) in
       by_place a names.object names.uses n (found_ok (field_at h a i) refusals.BadIndex n second)

@@ -22,6 +22,7 @@ use Rattle.model.specs.Heaps.{changed, set_buffer_of, opened_rows, blank_row}
 use Rattle.model.specs.Outcome.{take_outcome, took, lent}
 use Rattle.model.specs.Plain.{PlainHeap, plain_step, plain_answer}
 use Rattle.model.proofs.Lists.{each_set, each_changed, get_set, get_set_other, no_some}
+use Rattle.model.proofs.Results.{same_result, not_refused}
 use Rattle.page.proofs.Keeping.{given_at, opened_at}
 use Rattle.laws.specs.Transitions.{TakeFresh}
 use Rattle.laws.proofs.Runs.{transition_keeps}
@@ -36,7 +37,7 @@ use Rattle.refinement.proofs.Sizes.{sizes_stay}
 use Rattle.refinement.proofs.Taken.{InOpenPage, InFreshPage, ways}
 use Rattle.refinement.proofs.Granted.{granted, granted_world, granted_laid, with_more}
 use Rattle.refinement.proofs.Opened.{opened_heap, opened_world, opened_laid, on_page, was_unused}
-use Rattle.refinement.proofs.Verdicts.{same_result, not_refused, accepted, Passed, first_false, second_false}
+use Rattle.refinement.proofs.Verdicts.{accepted, Passed, first_false, second_false}
 use Rattle.refinement.proofs.Writers.{moved, moved_roots}
 
 -- what each element has, and the last of two that are put in one place

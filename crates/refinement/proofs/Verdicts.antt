@@ -1,6 +1,6 @@
 -- What an accepted step has passed: the tests before its row, and those of the row.
-use Rattle.std.proofs.Common.{◌≡◌, ◌⊎◌, inl, inr, ℕ, ◌+◌, ◌%◌, ◌<◌, ◌&&◌, ◌||◌, Bool, true, false, not, cond}
-use Rattle.std.proofs.Common.{length, nat_le, nat_lt, is_some, Option, Some, None, refl, sym, ◌∙◌, ap, subst}
+use Rattle.std.proofs.Common.{◌≡◌, ◌⊎◌, inl, inr, ℕ, ◌+◌, ◌%◌, ◌<◌, ◌&&◌, ◌||◌, Bool, true, false, not}
+use Rattle.std.proofs.Common.{cond, length, nat_le, nat_lt, Option, Some, None, refl, sym, ◌∙◌, ap, subst}
 use Rattle.std.specs.Prelude.{Result, Ok, Err}
 use Rattle.std.specs.List.{slice_get}
 use Rattle.std.specs.Option.{option_and_then}
@@ -10,7 +10,6 @@ use Rattle.model.specs.declared.steps.Step.{Step}
 use Rattle.model.specs.declared.steps.Answer.{Answer}
 use Rattle.model.specs.declared.steps.Refusal.{Refusal}
 use Rattle.model.specs.declared.steps.Refusal.TheVariants as refusals
-use Rattle.model.specs.declared.records.Barrier.{Barrier}
 use Rattle.model.specs.declared.records.Phase.{Phase}
 use Rattle.model.specs.declared.records.Phase.TheVariants.{Idle, MarkCrossing, Scanning, ProtectCrossing, Relocating}
 use Rattle.model.specs.Heaps.{HeapState, ThreadState, Reference, register_of, layout_at}
@@ -22,6 +21,7 @@ use Rattle.model.specs.Outcome.{use_word, usable_or_null, use_or_null, let_throu
 use Rattle.model.specs.Outcome.{has_crossed, field_at, field_place, datum_at, datum_place}
 use Rattle.model.proofs.Lists.{get_within, no_some}
 use Rattle.model.proofs.Memory.{word_on_page}
+use Rattle.model.proofs.Results.{same_result, not_refused}
 use Rattle.laws.specs.AddressHeap.{HeapObject}
 use Rattle.laws.specs.Transitions.{IsUsable}
 use Rattle.refinement.specs.Worlds.{world_of}
@@ -40,14 +40,6 @@ bind_ok (Err n) f y e = absurd (cc)
 pub found_ok : {A : Type 0} (o : Option A) (n : Refusal) (x : A) → or_refuse o n ≡ accepted x → o ≡ Some x
 found_ok None n x e = absurd (cc)
 found_ok (Some y) n x e = cc
-
-pub same_result : {A : Type 0} (x y : A) → accepted x ≡ accepted y → x ≡ y
-same_result x y e = cc
-
-pub not_refused : {A : Type 0} (b : Bool) (n : Refusal) (r : Result A Refusal) (y : A) → cond b (Err n) r ≡ accepted y
-    → (b ≡ false) × (r ≡ accepted y)
-not_refused true n r y e = absurd (cc)
-not_refused false n r y e = (refl, e)
 
 -- the tests before a row
 
@@ -88,8 +80,8 @@ passed h t s x e =
         there = at;
         indices = b;
         awake = λ f. ap is_parked_in (sym at) ∙ unless (is_parked_in (slice_get h.threads t)) (is_for_parked s) c f;
-        closed = λ f. no_some y.barrier (ap is_loading_in (sym at)
-            ∙ unless (is_loading_in (slice_get h.threads t)) (is_for_loading s) d f);
+        closed = λ f. no_some y.barrier
+            (ap is_loading_in (sym at) ∙ unless (is_loading_in (slice_get h.threads t)) (is_for_loading s) d f);
       },
       row,
     )

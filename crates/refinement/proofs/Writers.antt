@@ -28,6 +28,7 @@ use Rattle.model.specs.Outcome.{new_outcome, placed, no_register, usable, datum_
 use Rattle.model.specs.Plain.{PlainHeap, PlainThread, plain_step, plain_answer, name_of, naming, writing, born}
 use Rattle.refword.specs.Words.{IsWord}
 use Rattle.model.proofs.Lists.{get_within, each_changed}
+use Rattle.model.proofs.Results.{same_result, not_refused}
 use Rattle.page.proofs.Lying.{buffer_address}
 use Rattle.laws.specs.AddressHeap.{AddressHeap, HeapObject, Word, Null}
 use Rattle.laws.specs.BirthHeap.{BirthHeap}
@@ -49,8 +50,7 @@ use Rattle.refinement.proofs.Born as births
 use Rattle.refinement.proofs.Sizes.{frames_stay, sizes_stay}
 use Rattle.refinement.proofs.Registers.{register_world, register_laid, buffer_world, given_back_laid}
 use Rattle.refinement.proofs.Births.{naming_is, naming_roots, writing_is, writing_roots, born_is, born_roots}
-use Rattle.refinement.proofs.Verdicts.{bind_ok, found_ok, same_result, not_refused}
-use Rattle.refinement.proofs.Verdicts.{accepted, Passed, first_false, used_ok, datum_there}
+use Rattle.refinement.proofs.Verdicts.{bind_ok, found_ok, accepted, Passed, first_false, used_ok, datum_there}
 use Rattle.refinement.proofs.Readers.{names_object}
 
 -- the invariant of other heaps that are these

@@ -22,12 +22,12 @@ refused b c o reply e is h = subst (λ (x : Reply). Says b x c o) is h
 
 behind_more : (rs more : List Reply) (a : Answer) (t : Told) → more ≡ rs ++ Ok a ∷ []
     → told t.book (rs ++ (Ok a ∷ t.replies)) ≡ behind more t
-behind_more rs more a t h = ap (λ (x : List Reply). told t.book x) (sym (append_assoc rs (Ok a ∷ []) t.replies)
-    ∙ ap (λ (x : List Reply). x ++ t.replies) (sym h))
+behind_more rs more a t h = ap (λ (x : List Reply). told t.book x)
+    (sym (append_assoc rs (Ok a ∷ []) t.replies) ∙ ap (λ (x : List Reply). x ++ t.replies) (sym h))
 
 -- an accepted step leads on to what follows it
-pub step_ok : (b c : BookState) (o : BookOutcome) (reply : Reply) (a : Answer) (next : BookState
-    → Answer → Told) (rs more : List Reply) (new : Told) → reply ≡ Ok a → Says b reply c o → more ≡ rs ++ reply ∷ []
+pub step_ok : (b c : BookState) (o : BookOutcome) (reply : Reply) (a : Answer) (next : BookState → Answer → Told)
+    (rs more : List Reply) (new : Told) → reply ≡ Ok a → Says b reply c o → more ≡ rs ++ reply ∷ []
     → behind more (next c a) ≡ new → behind rs (stepped b o next) ≡ new
 unfolding stepped
 step_ok b c o reply a next rs more new is says put h =
@@ -35,8 +35,8 @@ step_ok b c o reply a next rs more new is says put h =
     rw (accepted b c o reply a is says) (behind_more rs more a (next c a) more_is ∙ h)
 
 -- a refused step is the end
-pub step_err : (b c : BookState) (o : BookOutcome) (reply : Reply) (e : Refusal) (next : BookState
-    → Answer → Told) (rs more : List Reply) → reply ≡ Err e → Says b reply c o → more ≡ rs ++ reply ∷ []
+pub step_err : (b c : BookState) (o : BookOutcome) (reply : Reply) (e : Refusal) (next : BookState → Answer → Told)
+    (rs more : List Reply) → reply ≡ Err e → Says b reply c o → more ≡ rs ++ reply ∷ []
     → behind rs (stepped b o next) ≡ told c more
 unfolding stepped
 step_err b c o reply e next rs more is says put =
@@ -70,15 +70,16 @@ trapped_next : (k n : ℕ) (due : Bool) (b : BookState) (actor : Actor) → k �
 unfolding trapped
 trapped_next k n due b actor e = rw e refl
 
-pub trap_err : (k n : ℕ) (due : Bool) (b c : BookState) (actor : Actor) (reply : Reply) (e : Refusal)
-    (rs more : List Reply) → k ≡ suc n → reply ≡ Err e → Says b reply c (acted b actor steps.Trap)
-    → more ≡ rs ++ reply ∷ [] → behind rs (trapped k due b actor) ≡ told c more
+pub trap_err :
+    (k n : ℕ) (due : Bool) (b c : BookState) (actor : Actor) (reply : Reply) (e : Refusal) (rs more : List Reply)
+    → k ≡ suc n → reply ≡ Err e → Says b reply c (acted b actor steps.Trap) → more ≡ rs ++ reply ∷ []
+    → behind rs (trapped k due b actor) ≡ told c more
 trap_err k n due b c actor reply e rs more left is says put =
     ap (behind rs) (trapped_next k n due b actor left)
     ∙ step_err b c (acted b actor steps.Trap) reply e (after_trap n due actor) rs more is says put
 
-pub trap_ok : (k n : ℕ) (due : Bool) (b c : BookState)
-    (actor : Actor) (reply : Reply) (a : Answer) (rs more : List Reply) (rest : Told) → k ≡ suc n → reply ≡ Ok a
+pub trap_ok : (k n : ℕ) (due : Bool) (b c : BookState) (actor : Actor) (reply : Reply)
+    (a : Answer) (rs more : List Reply) (rest : Told) → k ≡ suc n → reply ≡ Ok a
     → Says b reply c (acted b actor steps.Trap) → more ≡ rs ++ reply ∷ [] → after_trap n due actor c a ≡ rest
     → behind rs (trapped k due b actor) ≡ behind more rest
 trap_ok k n due b c actor reply a rs more rest left is says put h =

@@ -51,8 +51,8 @@ put_end f i xs c all h le = sym (append-nil c) ∙ ap (λ ys. c ++ ys) (sym (tex
 
 -- the marks that ended
 
-cycles_next : (k i : ℕ) (es : List Entry) (d : Entry) → i < length es → cycles_from k (drop i es) ≡ cycle_line k
-    (get_or es i d).answer ++ cycles_from (next_cycle k (get_or es i d).answer) (drop (i + 1) es)
+cycles_next : (k i : ℕ) (es : List Entry) (d : Entry) → i < length es → cycles_from k (drop i es)
+    ≡ cycle_line k (get_or es i d).answer ++ cycles_from (next_cycle k (get_or es i d).answer) (drop (i + 1) es)
 unfolding cycles_from
 cycles_next k i es d h = rw (split es i d h) refl
 
@@ -75,9 +75,9 @@ cycles_told k i es old c all h le =
 
 -- commands
 
-lines_next : (n i : ℕ) (b : BookState) (cs : List Command) (d : Command) → i < length cs
-    → lines_text n b (drop i cs) ≡ line_text n (get_or cs i d).actor (done b (get_or cs i d)).replies ++ lines_text
-    (n + 1) (done b (get_or cs i d)).book (drop (i + 1) cs)
+lines_next : (n i : ℕ) (b : BookState) (cs : List Command) (d : Command)
+    → i < length cs → lines_text n b (drop i cs) ≡ line_text n (get_or cs i d).actor (done b (get_or cs i d)).replies
+    ++ lines_text (n + 1) (done b (get_or cs i d)).book (drop (i + 1) cs)
 unfolding lines_text
 lines_next n i b cs d h = rw (split cs i d h) refl
 
@@ -111,9 +111,10 @@ unfolding book_after
 book_end i b f cs h le = let there : book_after b (drop i cs) ≡ b = rw (drop_all i cs le) refl in sym there ∙ h
 
 -- the same of an element that was read
-pub told_item : {X : Type 0} (f : ℕ → X → List ℕ) (i : ℕ) (xs : List X) (x : X) (old c new : Option (List ℕ))
-    (all : List ℕ) → Leads old c (texts_from f i (drop i xs)) all → i < length xs → x ≡ get_or xs i x
-    → Appends c new (f i x) → Leads old new (texts_from f (i + 1) (drop (i + 1) xs)) all
+pub told_item :
+    {X : Type 0} (f : ℕ → X → List ℕ) (i : ℕ) (xs : List X) (x : X) (old c new : Option (List ℕ)) (all : List ℕ)
+    → Leads old c (texts_from f i (drop i xs)) all → i < length xs → x ≡ get_or xs i x → Appends c new (f i x)
+    → Leads old new (texts_from f (i + 1) (drop (i + 1) xs)) all
 told_item f i xs x old c new all h le e a =
     told_next f i xs x old c new all h le (subst (λ y. Appends c new (f i y)) e a)
 

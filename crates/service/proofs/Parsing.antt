@@ -71,8 +71,8 @@ word_turn place h word e = ap₂ (λ (f : Kinds) (met : Held × Step). or_else f
     (plain_word_fault top word h e) (plain_word_met rules place word h e)
 
 word_fault_first : (place : ℕ) (h : Held) (word : Text) (rest : List Text) → is_plain_word word ≡ true
-    → walk_fault top [] (at_place place h) (word ∷ rest) ≡ or_else (step_fault top place h value)
-    (walk_fault top [] (after_word place h word) rest)
+    → walk_fault top [] (at_place place h) (word ∷ rest)
+    ≡ or_else (step_fault top place h value) (walk_fault top [] (after_word place h word) rest)
 unfolding walk_fault
 word_fault_first place h word rest e = ap₂ (λ (f : Kinds) (w : Walk). or_else f (walk_fault top [] w rest))
     (word_turn place h word e) (word_walked place h word e)
@@ -90,8 +90,8 @@ in_all words end = or_else words
     (or_else (defaults_fault (settled rules end.held).rows rules)
     (check_fault top (finished rules end.held) (is_some (entered (built program) end.stopped))))))
 
-fault_in_all : (name : Text) (words : List Text) → fault_of program (name ∷ words) ≡ in_all
-    (walk_fault top [] (at_place 1 nothing_held) words) (walk rules [] nothing_held words)
+fault_in_all : (name : Text) (words : List Text) → fault_of program (name ∷ words)
+    ≡ in_all (walk_fault top [] (at_place 1 nothing_held) words) (walk rules [] nothing_held words)
 fault_in_all name words = refl
 
 no_words : (name : Text) → fault_of program (name ∷ []) ≡ kind.MissingRequiredArgument ∷ []
@@ -221,8 +221,9 @@ module _ (texts words : List Text) (named : texts ≡ codes "pauseless" ∷ word
         let same_file : v.1 ≡ file = ap (λ o. unwrap_or o []) (sym v.4 ∙ at) in
         ap asked_by v.2 ∙ ap₂ (λ (m : Text) (t : Text). asked_by (m ∷ t ∷ [])) same_mode same_file
 
-    pub other_answer : (first_value f (codes "mode") ≡ Some (codes "run")
-        → is_some (first_value f (codes "file")) ≡ true → ⊥) → asked_by words ≡ None
+    pub other_answer :
+        (first_value f (codes "mode") ≡ Some (codes "run") → is_some (first_value f (codes "file")) ≡ true → ⊥)
+        → asked_by words ≡ None
     other_answer other =
         let v = values in
         ap asked_by v.2 ∙ go v.0 v.1 (λ run. other (v.3 ∙ ap (λ (m : Text). Some m) run) (ap is_some v.4))

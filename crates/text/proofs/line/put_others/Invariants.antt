@@ -6,5 +6,5 @@ use Rattle.text.proofs.line.put_others.Given as goal
 
 -- what is put and what is left are the whole
 abbrev pub invariant-loop-reply : goal.invariant-loop-reply
-invariant-loop-reply l = string_bytes l.text ++ flat_map next_text
-    (drop l.reply-index l.replies) ≡ string_bytes l.initial.text ++ flat_map next_text l.replies
+invariant-loop-reply l = string_bytes l.text ++ flat_map next_text (drop l.reply-index l.replies)
+    ≡ string_bytes l.initial.text ++ flat_map next_text l.replies

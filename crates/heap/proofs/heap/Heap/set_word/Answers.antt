@@ -8,5 +8,5 @@ use Rattle.heap.proofs.heap.Heap.set_word.Goals as goal
 pub invariant_of-self : goal.invariant_of-self
 invariant_of-self c =
     let h = heap_of c.self.inside in
-    store_keeps h c.set_word.new.self c.self.invariant (λ b lies.
-    subst (λ s. LiesIn s b) (sym c.set_word.ensures) (word_lies h.store c.args.address c.args.value b lies))
+    store_keeps h c.set_word.new.self c.self.invariant (λ b lies. subst (λ s. LiesIn s b) (sym c.set_word.ensures)
+    (word_lies h.store c.args.address c.args.value b lies))

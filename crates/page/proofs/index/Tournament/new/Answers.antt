@@ -16,8 +16,9 @@ invariant_of-result c =
     c.link.ensures.leaves ∙ ap (drop width) c.deref_mut.ensures.value in
     let copies = c.in_ok-resize-2.ensures.items ∙ ap (λ n. take (width + c.args.count) c.resize.new.self.items
     ++ replicate (width + c.args.count - n) c.args.value) c.in_ok-resize.ensures.len in
-    let zeros = c.in_ok-resize-3.ensures.items ∙ ap (λ n. take (2 * width) c.resize-2.new.self.items
-    ++ replicate {A = ℕ} (2 * width - n) 0) c.in_ok-resize-2.ensures.len in
+    let zeros = c.in_ok-resize-3.ensures.items
+    ∙ ap (λ n. take (2 * width) c.resize-2.new.self.items ++ replicate {A = ℕ} (2 * width - n) 0)
+    c.in_ok-resize-2.ensures.len in
     record {
       width = c.size_for-depth.ensures.width;
       range = c.size_for-depth.ensures.range;
