@@ -44,7 +44,8 @@ BookOutcome = Result (BookState × Answer) Refusal
 -- the book after the heap's outcome: an accepted step is entered with its answer
 abbrev pub entered : BookState → Actor → Step → Outcome → BookOutcome
 entered b actor step (Err e) = Err e
-entered b actor step (Ok x) = Ok (record { heap = x.0; history = b.history ++ record { actor = actor; step = step; answer = x.1 } ∷ [] }, x.1)
+entered b actor step (Ok x) =
+    Ok (record { heap = x.0; history = b.history ++ record { actor = actor; step = step; answer = x.1 } ∷ [] }, x.1)
 
 -- a full history refuses; else the heap's outcome, an accepted step entering the history with its answer
 unfoldable pub acted : BookState → Actor → Step → BookOutcome

@@ -35,7 +35,8 @@ replayed b = after_entries b.heap.config.layouts (before_entries b.heap.config) 
 -- each entry's answer is what the plain heap answers there, where that says anything
 abbrev pub AnswersAre : List Layout → Replayed → List Entry → Type 0
 AnswersAre ls r [] = Unit {0}
-AnswersAre ls r (e ∷ es) = AnswersPlain (plain_answer r.now e.actor e.step) e.answer × AnswersAre ls (after_entry ls r e) es
+AnswersAre ls r (e ∷ es) =
+    AnswersPlain (plain_answer r.now e.actor e.step) e.answer × AnswersAre ls (after_entry ls r e) es
 
 -- the law of a book
 pub record IsBook (b : BookState) : Type 0 where

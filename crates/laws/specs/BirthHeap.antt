@@ -16,7 +16,8 @@ abbrev pub ref : BirthHeap → ℕ → ℕ → Option ℕ
 ref p b i = get_or (p.refs b) i None
 
 -- birth b is in one of these registers, pending loads or globals
-pub data IsRootIn (register : ℕ → ℕ → Option ℕ) (pending : ℕ → Option (ℕ × Option ℕ)) (global : ℕ → Option ℕ) (b : ℕ) : Type 0 where
+pub data IsRootIn (register : ℕ → ℕ → Option ℕ) (pending : ℕ → Option (ℕ × Option ℕ)) (global : ℕ → Option ℕ) (b : ℕ)
+    : Type 0 where
   InRegister : (t r : ℕ) → register t r ≡ Some b → IsRootIn register pending global b
   InPending : (t r : ℕ) → pending t ≡ Some (r, Some b) → IsRootIn register pending global b
   InGlobal : (g : ℕ) → global g ≡ Some b → IsRootIn register pending global b

@@ -107,11 +107,15 @@ cross_checkpoint t f w = record w { crossed = put w.crossed t true; phase = f }
 
 -- the page of these addresses gives its memory up, and its side array stays (the paper's Relocate phase)
 abbrev pub release_page : (ℕ → Bool) → AddressHeap → AddressHeap
-release_page inside w = record w { page_state = λ a. cond (inside a) Gone (w.page_state a); object_at = λ a. cond (inside a) None (w.object_at a) }
+release_page inside w = record w {
+  page_state = λ a. cond (inside a) Gone (w.page_state a);
+  object_at = λ a. cond (inside a) None (w.object_at a);
+}
 
 -- pages get these states and side arrays, and all threads have to cross (the paper's Relocate phase)
 abbrev pub protect_pages : (ℕ → PageState) → (ℕ → SideEntry) → (ℕ → Bool) → AddressHeap → AddressHeap
-protect_pages states entries c w = record w { page_state = states; side_entry = entries; crossed = c; phase = ProtectCrossing }
+protect_pages states entries c w =
+    record w { page_state = states; side_entry = entries; crossed = c; phase = ProtectCrossing }
 
 -- a page is opened
 abbrev pub open_page : (ℕ → Bool) → AddressHeap → AddressHeap

@@ -122,7 +122,8 @@ SoundMarks w = record {
   object : (a : ℕ) → w.marked a ≡ true → (o : HeapObject) × (w.object_at a ≡ Some o);
   unprotected : (a : ℕ) → w.marked a ≡ true → is_protected (w.page_state a) ≡ false;
   todo : (a : ℕ) → w.todo a ≡ true → w.marked a ≡ true;
-  scanned : (a : ℕ) (o : HeapObject) (i : ℕ) → w.marked a ≡ true → w.todo a ≡ false → w.object_at a ≡ Some o → IsClean w (field o i);
+  scanned : (a : ℕ) (o : HeapObject) (i : ℕ)
+      → w.marked a ≡ true → w.todo a ≡ false → w.object_at a ≡ Some o → IsClean w (field o i);
   -- a worker's object has still to be scanned
   scanning : (k : ℕ) (s : WorkerScan) → w.scan k ≡ Some s → w.todo s.address ≡ true;
   -- and is clean before its next field

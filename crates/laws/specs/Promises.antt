@@ -82,7 +82,8 @@ LiveWasReachable w p0 =
 abbrev pub RunsKeepInvariant : Type 0
 RunsKeepInvariant =
     ((is_global : ℕ → Bool) → Invariant (first is_global) plain_first plain_first)
-    × ((w : AddressHeap) (p p0 : BirthHeap) (v : AddressHeap) (q q0 : BirthHeap) → Invariant w p p0 → Run w p p0 v q q0 → Invariant v q q0)
+    × ((w : AddressHeap) (p p0 : BirthHeap) (v : AddressHeap) (q q0 : BirthHeap)
+    → Invariant w p p0 → Run w p p0 v q q0 → Invariant v q q0)
 
 -- after every list of transitions from the first heaps, the heap stands for its plain heap, and no register that may be
 -- used names a page without memory
@@ -102,7 +103,8 @@ RunsAnswerPlain =
 -- be reached when the mark began or is born since
 abbrev pub MarksEndLive : Type 0
 MarksEndLive =
-    (is_global : ℕ → Bool) (w : AddressHeap) (p p0 : BirthHeap) → Run (first is_global) plain_first plain_first w p p0 → MayEndMark w → (lent : ℕ → Bool)
+    (is_global : ℕ → Bool) (w : AddressHeap) (p p0 : BirthHeap) → Run (first is_global) plain_first plain_first w p p0
+    → MayEndMark w → (lent : ℕ → Bool)
     → ReachableIsLive (end_mark lent w) p × LiveWasReachable (end_mark lent w) p0
 
 -- a mark can end: from the first heap without globals, transitions lead to where one may

@@ -56,7 +56,9 @@ pub record MayStartMark (w : AddressHeap) (c : ℕ → Bool) : Type 0 where
 pub record MayProtect (w : AddressHeap) (states : ℕ → PageState) (entries : ℕ → SideEntry) (c : ℕ → Bool) : Type 0 where
   pub phase : w.phase ≡ Idle
   pub changes : (a : ℕ)
-      → (states a ≡ w.page_state a) ⊎ ((w.page_state a ≡ Closed) × (states a ≡ From)) ⊎ ((w.page_state a ≡ Unused) × (states a ≡ Open))
+      → (states a ≡ w.page_state a)
+      ⊎ ((w.page_state a ≡ Closed) × (states a ≡ From))
+      ⊎ ((w.page_state a ≡ Unused) × (states a ≡ Open))
   pub uncopied : (a n : ℕ) → entries a ≢ Copied n
   pub from : (a n : ℕ) → entries a ≡ Planned n → states a ≡ From
   pub planned_live : (a n : ℕ) → entries a ≡ Planned n → w.live a ≡ true
@@ -77,7 +79,8 @@ pub record MayRelease (w : AddressHeap) (inside : ℕ → Bool) : Type 0 where
 
 -- object o may be born at a: the place is free, on an open page and in no plan, and all its references are null; xs and
 -- ds are the references and data of the new birth, l its layout
-pub record MayBeBorn (w : AddressHeap) (a : ℕ) (o : HeapObject) (t l : ℕ) (xs : List (Option ℕ)) (ds : List ℕ) : Type 0 where
+pub record MayBeBorn (w : AddressHeap) (a : ℕ) (o : HeapObject) (t l : ℕ) (xs : List (Option ℕ)) (ds : List ℕ)
+    : Type 0 where
   pub free : w.object_at a ≡ None
   pub page_open : w.page_state a ≡ Open
   pub unplanned : (x : ℕ) → w.side_entry x ≢ Planned a

@@ -9,7 +9,9 @@ use Rattle.model.specs.declared.config.ConfigFault.TheVariants as faults
 
 -- a power of two from 16 to 4096
 abbrev pub is_page_size : ℕ → Bool
-is_page_size n = (n == 16) || (n == 32) || (n == 64) || (n == 128) || (n == 256) || (n == 512) || (n == 1024) || (n == 2048) || (n == 4096)
+is_page_size n =
+    (n == 16) || (n == 32) || (n == 64) || (n == 128) || (n == 256)
+    || (n == 512) || (n == 1024) || (n == 2048) || (n == 4096)
 
 -- from low to high
 abbrev pub is_outside : ℕ → ℕ → ℕ → Bool

@@ -201,7 +201,13 @@ fresh_object birth number l = header_bits (record { birth = birth; layout = numb
 
 -- a thread as a heap begins: its registers are null, it has crossed, and it runs
 abbrev pub blank_thread : ℕ → ThreadState
-blank_thread registers = record { registers = replicate registers None; buffer = None; crossed = true; parked = false; barrier = None }
+blank_thread registers = record {
+  registers = replicate registers None;
+  buffer = None;
+  crossed = true;
+  parked = false;
+  barrier = None;
+}
 
 -- a row with all bits clear for each page record
 abbrev pub blank_rows : Config → List (List Bool)

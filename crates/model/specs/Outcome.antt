@@ -39,7 +39,10 @@ held_back _ _ = Err refusals.Stale
 
 -- an address that a thread may use
 unfoldable pub let_through : HeapState → ℕ → ℕ → Result Unit Refusal
-let_through h t address = if is_protected (state_at h.store (address / h.store.words)) then held_back h.phase (has_crossed (slice_get h.threads t)) else Ok tt
+let_through h t address =
+    if is_protected (state_at h.store (address / h.store.words))
+    then held_back h.phase (has_crossed (slice_get h.threads t))
+    else Ok tt
 
 -- the address of a word, if it names an object that thread t may use
 abbrev pub use_word : HeapState → ℕ → Reference → Result ℕ Refusal
@@ -104,7 +107,8 @@ load_outcome h t target object i = do
 
 -- the row of LoadGlobal
 unfoldable pub load_global_outcome : HeapState → ℕ → ℕ → ℕ → Outcome
-load_global_outcome h t target global = Ok (with_barrier h t (new_barrier target (places.Global global) (global_of h global)), answers.Loaded)
+load_global_outcome h t target global =
+    Ok (with_barrier h t (new_barrier target (places.Global global) (global_of h global)), answers.Loaded)
 
 -- whether something is refused
 abbrev pub is_refused : Result Unit Refusal → Bool
@@ -119,7 +123,8 @@ gc_trap_due h t (Some w) = is_refused (let_through h t w.0)
 -- an NMT trap is due: the word has still to be marked (the paper's read barrier)
 abbrev pub nmt_trap_due : HeapState → ℕ → Reference → Bool
 nmt_trap_due h t None = false
-nmt_trap_due h t (Some w) = if may_nmt_trap h.phase (has_crossed (slice_get h.threads t)) then not (same_bit w.1 h.nmt) else false
+nmt_trap_due h t (Some w) =
+    if may_nmt_trap h.phase (has_crossed (slice_get h.threads t)) then not (same_bit w.1 h.nmt) else false
 
 -- a trap is due for a word
 unfoldable pub trap_due : HeapState → ℕ → Reference → Bool
@@ -148,7 +153,8 @@ healed b = record b { healed = true }
 -- a place is healed where it still has what was loaded
 unfoldable pub heal_place : HeapState → ℕ → Barrier → HeapState × Answer
 heal_place h t b =
-    if are_bits_of (bits_at h b.place) b.raw then (with_barrier (with_place h b.place b.now) t (healed b), answers.Healed)
+    if are_bits_of (bits_at h b.place) b.raw
+    then (with_barrier (with_place h b.place b.now) t (healed b), answers.Healed)
     else (with_barrier h t (healed b), answers.Changed)
 
 -- the row of Heal
@@ -249,7 +255,8 @@ take_outcome h t n = if is_some (buffer_of_thread h t) then Err refusals.HasBuff
 
 -- the row of GiveBack
 unfoldable pub give_back_outcome : HeapState → ℕ → Outcome
-give_back_outcome h t = if is_some (buffer_of_thread h t) then Ok (with_buffer h t None, answers.Done) else Err refusals.NoRoom
+give_back_outcome h t =
+    if is_some (buffer_of_thread h t) then Ok (with_buffer h t None, answers.Done) else Err refusals.NoRoom
 
 -- new objects
 
@@ -279,7 +286,8 @@ new_outcome h t target number = do
   b ← or_refuse (buffer_of_thread h t) refusals.NoRoom
   l ← or_refuse (slice_get h.config.layouts number) refusals.BadIndex
   if nat_lt (b.end - b.next) (size_of l) then Err refusals.NoRoom else
-      (if nat_le h.config.births h.births then Err refusals.Births else Ok (placed h t target number l b, answers.Birth h.births))
+      (if nat_le h.config.births h.births then Err refusals.Births
+      else Ok (placed h t target number l b, answers.Birth h.births))
 
 -- checkpoints
 
@@ -304,7 +312,8 @@ is_parked_in (Some t) = t.parked
 
 -- the row of Unpark
 unfoldable pub unpark_outcome : HeapState → ℕ → Outcome
-unpark_outcome h t = if is_parked_in (slice_get h.threads t) then Ok (with_parked h t false, answers.Done) else Err refusals.NotParked
+unpark_outcome h t =
+    if is_parked_in (slice_get h.threads t) then Ok (with_parked h t false, answers.Done) else Err refusals.NotParked
 
 -- the tests before a row
 

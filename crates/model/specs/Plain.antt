@@ -80,7 +80,8 @@ blank_object number l = record { layout = number; refs = replicate l.refs None; 
 -- one more birth, named by a register
 abbrev pub born : PlainHeap → ℕ → ℕ → ℕ → Option Layout → PlainHeap
 born p t r number None = p
-born p t r number (Some l) = naming (record p { objects = p.objects ++ blank_object number l ∷ [] }) t r (Some (length p.objects))
+born p t r number (Some l) =
+    naming (record p { objects = p.objects ++ blank_object number l ∷ [] }) t r (Some (length p.objects))
 
 -- a thread with a load for register r, which found b
 abbrev pub start_load : ℕ → Option ℕ → PlainThread → PlainThread
@@ -121,11 +122,13 @@ writing p (Some a) j v = record p { objects = changed p.objects a (set_datum j v
 -- what a step of thread t does to the plain heap
 abbrev pub thread_plain : List Layout → PlainHeap → ℕ → Step → PlainHeap
 thread_plain ls p t (steps.New target layout) = born p t target layout (slice_get ls layout)
-thread_plain ls p t (steps.Load target object field) = loading p t target (field_of (object_of p (name_of p t object)) field)
+thread_plain ls p t (steps.Load target object field) =
+    loading p t target (field_of (object_of p (name_of p t object)) field)
 thread_plain ls p t (steps.LoadGlobal target global) = loading p t target (slice_get p.globals global)
 thread_plain ls p t steps.Finish = finishing p t (pending_in (slice_get p.threads t))
 thread_plain ls p t (steps.Store object field source) = storing p (name_of p t object) field (name_of p t source)
-thread_plain ls p t (steps.StoreGlobal global source) = record p { globals = slice_set p.globals global (name_of p t source) }
+thread_plain ls p t (steps.StoreGlobal global source) =
+    record p { globals = slice_set p.globals global (name_of p t source) }
 thread_plain ls p t (steps.SetDatum object index value) = writing p (name_of p t object) index value
 thread_plain ls p t (steps.CopyReg target source) = naming p t target (name_of p t source)
 thread_plain ls p t (steps.ClearReg target) = naming p t target None

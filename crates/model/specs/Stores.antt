@@ -134,7 +134,11 @@ fresh_page f = record { state = Open; frame = Some f; top = 0 }
 
 -- the page of an index opened on a frame of zeros
 unfoldable pub opened : StoreState → ℕ → ℕ → StoreState
-opened s i f = record s { pages = slice_set s.pages i (fresh_page f); frames = slice_set s.frames f (replicate s.words 0); owners = slice_set s.owners f (Some (i + 1)) }
+opened s i f = record s {
+  pages = slice_set s.pages i (fresh_page f);
+  frames = slice_set s.frames f (replicate s.words 0);
+  owners = slice_set s.owners f (Some (i + 1));
+}
 
 -- how many words were given out of a page that may have no record
 abbrev pub top_in : Option Page → ℕ
@@ -152,7 +156,8 @@ buffer_of i top n = record { page = i + 1; next = top; end = top + n }
 
 -- n words of the page of an index are given out
 unfoldable pub given : StoreState → ℕ → ℕ → StoreState × Buffer
-given s i n = (record s { pages = raised s.pages i (slice_get s.pages i) n }, buffer_of i (top_in (slice_get s.pages i)) n)
+given s i n =
+    (record s { pages = raised s.pages i (slice_get s.pages i) n }, buffer_of i (top_in (slice_get s.pages i)) n)
 
 -- n words of a fresh page, of this index and on this frame, where there are both
 abbrev pub taken_fresh : StoreState → ℕ → Option ℕ → Option ℕ → Result (StoreState × Buffer) Room

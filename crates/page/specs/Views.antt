@@ -30,7 +30,13 @@ mark b = if b then 1 else 0
 
 -- its records as plain data; the number of free frames and the indexes aren't in it
 abbrev pub store_of : Inside → StoreState
-store_of s = record { words = s.words; count = s.count; pages = s.pages.items; frames = s.frames.items; owners = s.owners.items }
+store_of s = record {
+  words = s.words;
+  count = s.count;
+  pages = s.pages.items;
+  frames = s.frames.items;
+  owners = s.owners.items;
+}
 
 -- the store is one, and the number of its free frames and three indexes are kept beside it
 pub record IsStoreInside (s : Inside) : Type 0 where

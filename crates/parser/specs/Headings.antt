@@ -12,7 +12,18 @@ use Rattle.parser.specs.Words.{◌>>=◌, flaw, word_at, fixed_at, number_at, en
 
 -- the configuration of sizes, with layouts
 abbrev pub config_of : Sizes → List Layout → Config
-config_of s layouts = record { words = s.words; frames = s.frames; pages = s.pages; threads = s.threads; workers = s.workers; registers = s.registers; globals = s.globals; layouts = layouts; births = s.births; history = s.history }
+config_of s layouts = record {
+  words = s.words;
+  frames = s.frames;
+  pages = s.pages;
+  threads = s.threads;
+  workers = s.workers;
+  registers = s.registers;
+  globals = s.globals;
+  layouts = layouts;
+  births = s.births;
+  history = s.history;
+}
 
 -- the number behind a name
 unfoldable pub field_at : List ℕ → ℕ → List ℕ → ℕ → ℕ → Result (ℕ × ℕ) Flaw
@@ -67,7 +78,17 @@ heap_in line at = do
   actors ← actors_at line memory.1
   limits ← limits_at line actors.1
   _ ← end_at line limits.1
-  Ok (record { words = memory.0.0; frames = memory.0.1; pages = memory.0.2; threads = actors.0.0; workers = actors.0.1; registers = actors.0.2; globals = limits.0.0; births = limits.0.1; history = limits.0.2 })
+  Ok (record {
+    words = memory.0.0;
+    frames = memory.0.1;
+    pages = memory.0.2;
+    threads = actors.0.0;
+    workers = actors.0.1;
+    registers = actors.0.2;
+    globals = limits.0.0;
+    births = limits.0.1;
+    history = limits.0.2;
+  })
 
 -- a layout, from the place behind the line's first word on
 unfoldable pub layout_in : Sizes → List ℕ → ℕ → Result Layout Flaw

@@ -105,9 +105,10 @@ times_line s line = times_in s s.turns line
 -- a line that closes a block, where one is open
 abbrev pub end_in : ReadSoFar → Option ℕ → List ℕ → Result ReadSoFar Flaw
 end_in s None line = Err (flaw 0 kinds.EndWithoutTimes)
-end_in s (Some turns) line = if nat_lt MOST_COMMANDS (length s.commands + turns * length s.body) then Err (flaw 0 kinds.TooManyCommands) else (do
-  _ ← end_at line (first_word line).1
-  Ok (record s { commands = s.commands ++ repeat turns s.body; turns = None; body = [] }))
+end_in s (Some turns) line =
+    if nat_lt MOST_COMMANDS (length s.commands + turns * length s.body) then Err (flaw 0 kinds.TooManyCommands) else (do
+      _ ← end_at line (first_word line).1
+      Ok (record s { commands = s.commands ++ repeat turns s.body; turns = None; body = [] }))
 
 -- a block ends: its commands stand as often as it says
 unfoldable pub end_line : ReadSoFar → List ℕ → Result ReadSoFar Flaw
@@ -122,7 +123,8 @@ part_line s sizes line =
 -- a line behind the heap line
 unfoldable pub later_line : ReadSoFar → Sizes → List ℕ → Result ReadSoFar Flaw
 later_line s sizes line =
-    if bytes_eq (first_word line).0 (codes "layout") && not s.begun && nat_lt (length s.layouts) MOST_LAYOUTS then layout_line s sizes line else
+    if bytes_eq (first_word line).0 (codes "layout") && not s.begun && nat_lt (length s.layouts) MOST_LAYOUTS
+    then layout_line s sizes line else
     (if length s.layouts == 0 then Err (flaw 0 kinds.LayoutLineExpected) else part_line s sizes line)
 
 -- the first line that isn't idle is the heap line
@@ -156,7 +158,8 @@ closed n s sizes None = Ok (script_of (config_of sizes s.layouts) s.commands)
 -- what was read, as a script: there has to be a layout line
 abbrev pub whole : ℕ → ReadSoFar → Option Sizes → Result ScriptValue LineFault
 whole n s None = Err (fault_at_start n kinds.HeapLineExpected)
-whole n s (Some sizes) = if length s.layouts == 0 then Err (fault_at_start n kinds.LayoutLineExpected) else closed n s sizes s.turns
+whole n s (Some sizes) =
+    if length s.layouts == 0 then Err (fault_at_start n kinds.LayoutLineExpected) else closed n s sizes s.turns
 
 -- what was read, where line n would be the next
 unfoldable pub finished : ℕ → ReadSoFar → Result ScriptValue LineFault
@@ -165,7 +168,8 @@ finished n s = whole n s s.sizes
 -- What stands behind the last newline has to be nothing.
 unfoldable pub last_line : ℕ → ReadSoFar → List ℕ → Result ScriptValue LineFault
 last_line n s rest = if length rest == 0 then finished n s else
-    goes_on (in_line n (line_in s rest)) (λ t. Err (record { line = n; column = length rest + 1; kind = kinds.NewlineExpected }))
+    goes_on (in_line n (line_in s rest)) (λ t.
+    Err (record { line = n; column = length rest + 1; kind = kinds.NewlineExpected }))
 
 -- the lines from number n on, of which the last has no newline
 unfoldable pub lines_in : ℕ → ReadSoFar → List (List ℕ) → Result ScriptValue LineFault

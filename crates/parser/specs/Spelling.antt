@@ -31,12 +31,14 @@ abbrev pub order_words : Order → List (List ℕ)
 order_words (orders.Take n) = codes "take" ∷ decimal n ∷ []
 order_words orders.Give = codes "give" ∷ []
 order_words (orders.New target layout) = codes "new" ∷ register_word target ∷ decimal layout ∷ []
-order_words (orders.Load target object index) = codes "load" ∷ register_word target ∷ register_word object ∷ decimal index ∷ []
+order_words (orders.Load target object index) =
+    codes "load" ∷ register_word target ∷ register_word object ∷ decimal index ∷ []
 order_words (orders.LoadGlobal target global) = codes "loadg" ∷ register_word target ∷ decimal global ∷ []
 order_words orders.Trap = codes "trap" ∷ []
 order_words orders.Heal = codes "heal" ∷ []
 order_words orders.Finish = codes "finish" ∷ []
-order_words (orders.Store object index source) = codes "store" ∷ register_word object ∷ decimal index ∷ register_word source ∷ []
+order_words (orders.Store object index source) =
+    codes "store" ∷ register_word object ∷ decimal index ∷ register_word source ∷ []
 order_words (orders.StoreGlobal global source) = codes "storeg" ∷ decimal global ∷ register_word source ∷ []
 order_words (orders.Datum object index) = codes "datum" ∷ register_word object ∷ decimal index ∷ []
 order_words (orders.Set object index value) = codes "set" ∷ register_word object ∷ decimal index ∷ decimal value ∷ []
@@ -48,7 +50,8 @@ order_words orders.Cross = codes "cross" ∷ []
 order_words (orders.Scrub r) = codes "scrub" ∷ register_word r ∷ []
 order_words orders.Park = codes "park" ∷ []
 order_words orders.Unpark = codes "unpark" ∷ []
-order_words (orders.Get target object index) = codes "get" ∷ register_word target ∷ register_word object ∷ decimal index ∷ []
+order_words (orders.Get target object index) =
+    codes "get" ∷ register_word target ∷ register_word object ∷ decimal index ∷ []
 order_words (orders.GetGlobal target global) = codes "getg" ∷ register_word target ∷ decimal global ∷ []
 
 -- the line of a command
@@ -62,8 +65,9 @@ layout_line_of l = line_of (codes "layout" ∷ decimal l.refs ∷ decimal l.nums
 -- the words of the sizes, each behind its name
 abbrev pub size_words : Config → List (List ℕ)
 size_words c =
-    codes "words" ∷ decimal c.words ∷ codes "frames" ∷ decimal c.frames ∷ codes "pages" ∷ decimal c.pages ∷ codes "threads" ∷ decimal c.threads
-    ∷ codes "workers" ∷ decimal c.workers ∷ codes "registers" ∷ decimal c.registers ∷ codes "globals" ∷ decimal c.globals ∷ []
+    codes "words" ∷ decimal c.words ∷ codes "frames" ∷ decimal c.frames ∷ codes "pages" ∷ decimal c.pages
+    ∷ codes "threads" ∷ decimal c.threads ∷ codes "workers" ∷ decimal c.workers
+    ∷ codes "registers" ∷ decimal c.registers ∷ codes "globals" ∷ decimal c.globals ∷ []
 
 -- a limit is spelled by its name and number, or left out where it is the greatest
 abbrev pub SpellsLimit : List ℕ → ℕ → ℕ → List (List ℕ) → Type 0

@@ -5,7 +5,14 @@ use Rattle.parser.specs.Reading.{ReadSoFar, ScriptValue}
 
 -- what was read so far, by its fields
 abbrev pub read_so_far : reading.Inside → ReadSoFar
-read_so_far r = record { sizes = r.sizes; layouts = r.layouts.items; begun = r.begun; commands = r.commands.items; turns = r.turns; body = r.body.items }
+read_so_far r = record {
+  sizes = r.sizes;
+  layouts = r.layouts.items;
+  begun = r.begun;
+  commands = r.commands.items;
+  turns = r.turns;
+  body = r.body.items;
+}
 
 -- a script by its fields
 abbrev pub script_value : script.Inside → ScriptValue

@@ -13,7 +13,9 @@ cut_at line at rest (Some i) = (take i rest, at + i + 1)
 
 -- the word at a place, and the place after it
 unfoldable pub word_at : List ℕ → ℕ → Option (List ℕ × ℕ)
-word_at line at = if nat_lt (length line) at then None else Some (cut_at line at (drop at line) (position (λ b. b == 32) (drop at line)))
+word_at line at =
+    if nat_lt (length line) at then None
+    else Some (cut_at line at (drop at line) (position (λ b. b == 32) (drop at line)))
 
 -- a step that goes on where the one before found no fault
 infixl 10 ◌>>=◌
@@ -65,7 +67,8 @@ capped_from v (b ∷ bs) = capped_from (min (v * 10 + (b - 48)) (2 ^ 64)) bs
 
 -- a number in a range, or the fault
 abbrev pub in_range : ℕ → ℕ → ℕ → ℕ → ℕ → Result (ℕ × ℕ) Flaw
-in_range value after at low high = if nat_lt value low || nat_lt high value then Err (flaw at kinds.NumberOutOfRange) else Ok (value, after)
+in_range value after at low high =
+    if nat_lt value low || nat_lt high value then Err (flaw at kinds.NumberOutOfRange) else Ok (value, after)
 
 -- a number from low to high at a place
 unfoldable pub number_at : List ℕ → ℕ → ℕ → ℕ → Result (ℕ × ℕ) Flaw

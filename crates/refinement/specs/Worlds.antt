@@ -43,7 +43,8 @@ object_of words offset header l = record {
 -- there is one where it ends within the page
 abbrev pub object_laid : List ℕ → ℕ → ℕ → Option Layout → Option HeapObject
 object_laid words offset header None = None
-object_laid words offset header (Some l) = if nat_le (offset + size_of l) (length words) then Some (object_of words offset header l) else None
+object_laid words offset header (Some l) =
+    if nat_le (offset + size_of l) (length words) then Some (object_of words offset header l) else None
 
 -- the object that begins with a header
 abbrev pub object_headed : List Layout → List ℕ → ℕ → Option ℕ → Option HeapObject
@@ -85,7 +86,13 @@ as_place (places.Global index) = AtGlobal index
 
 -- a load that isn't finished, as the laws speak of it
 abbrev pub as_barrier : Barrier → OpenBarrier
-as_barrier b = record { target = b.target; place = as_place b.place; raw = as_word b.raw; now = as_word b.now; healed = b.healed }
+as_barrier b = record {
+  target = b.target;
+  place = as_place b.place;
+  raw = as_word b.raw;
+  now = as_word b.now;
+  healed = b.healed;
+}
 
 -- what a worker scans, as the laws speak of it
 abbrev pub as_scan : Scan → WorkerScan
@@ -115,7 +122,9 @@ todo_in (Some g) = g.todo
 
 -- the object at an address
 abbrev pub object_at : HeapState → ℕ → Option HeapObject
-object_at h a = object_in h.config.layouts (bit_at h.starts h.store.words a) (words_at h.store (a / h.store.words)) (a % h.store.words)
+object_at h a =
+    object_in h.config.layouts (bit_at h.starts h.store.words a)
+    (words_at h.store (a / h.store.words)) (a % h.store.words)
 
 -- the heap by addresses of a state
 abbrev pub world_of : HeapState → AddressHeap

@@ -29,7 +29,9 @@ used_frames h = count_by is_some h.store.owners
 
 -- the first line: the phase, the clean NMT bit, the births, the used frames of all
 abbrev pub head_line : HeapState → List ℕ
-head_line h = codes "phase " ++ phase_text h.phase ++ codes " nmt " ++ bit_text h.nmt ++ codes " births " ++ decimal h.births ++ codes " frames " ++ decimal (used_frames h) ++ codes "/" ++ decimal (length h.store.frames) ++ 10 ∷ []
+head_line h =
+    codes "phase " ++ phase_text h.phase ++ codes " nmt " ++ bit_text h.nmt ++ codes " births " ++ decimal h.births
+    ++ codes " frames " ++ decimal (used_frames h) ++ codes "/" ++ decimal (length h.store.frames) ++ 10 ∷ []
 
 -- how many bits are set in a row that may be missing
 abbrev pub bits_of_row : Option (List Bool) → ℕ
@@ -43,8 +45,8 @@ bits_in rows i = bits_of_row (slice_get rows i)
 -- the line of a page in use
 abbrev pub used_page_line : ℕ → Page → ℕ → ℕ → List ℕ
 used_page_line number p objects live =
-    codes "page " ++ decimal number ++ codes " " ++ page_state_text p.state ++ codes " frame " ++ frame_text p.frame ++ codes " top " ++ decimal p.top
-    ++ codes " objects " ++ decimal objects ++ codes " live " ++ decimal live ++ 10 ∷ []
+    codes "page " ++ decimal number ++ codes " " ++ page_state_text p.state ++ codes " frame " ++ frame_text p.frame
+    ++ codes " top " ++ decimal p.top ++ codes " objects " ++ decimal objects ++ codes " live " ++ decimal live ++ 10 ∷ []
 
 -- the line of the page whose record stands at i; an unused one has none
 unfoldable pub page_line : HeapState → ℕ → Page → List ℕ
@@ -64,7 +66,9 @@ state_text t = if t.parked then codes "parked" else (if is_some t.barrier then c
 
 -- the line of thread n
 abbrev pub thread_line : ℕ → ℕ → ThreadState → List ℕ
-thread_line page_words n t = codes "thread " ++ decimal n ++ codes " " ++ state_text t ++ codes " buffer " ++ buffer_text t.buffer ++ registers_text page_words t.registers ++ 10 ∷ []
+thread_line page_words n t =
+    codes "thread " ++ decimal n ++ codes " " ++ state_text t ++ codes " buffer " ++ buffer_text t.buffer
+    ++ registers_text page_words t.registers ++ 10 ∷ []
 
 -- the line of global n
 abbrev pub global_line : ℕ → ℕ → Global → List ℕ
@@ -72,7 +76,8 @@ global_line page_words n g = codes "global " ++ decimal n ++ codes " " ++ word_t
 
 -- the line of mark number k, if the answer ended it
 abbrev pub cycle_line : ℕ → Answer → List ℕ
-cycle_line k (answers.Ended live retired) = codes "cycle " ++ decimal k ++ codes " live " ++ decimal live ++ codes " retired " ++ decimal retired ++ 10 ∷ []
+cycle_line k (answers.Ended live retired) =
+    codes "cycle " ++ decimal k ++ codes " live " ++ decimal live ++ codes " retired " ++ decimal retired ++ 10 ∷ []
 cycle_line k _ = []
 
 -- the number of the next mark to end
@@ -90,7 +95,8 @@ unfoldable pub report_text : HeapState → List Entry → List ℕ
 report_text h history =
     head_line h
     ++ (texts_from (page_line h) 0 h.store.pages
-    ++ (texts_from (thread_line h.store.words) 0 h.threads ++ (texts_from (global_line h.store.words) 0 h.globals ++ cycles_from 1 history)))
+    ++ (texts_from (thread_line h.store.words) 0 h.threads
+    ++ (texts_from (global_line h.store.words) 0 h.globals ++ cycles_from 1 history)))
 
 -- the commands
 
@@ -125,7 +131,8 @@ is_clear other = false
 -- Trap until it answers Clear, but at most so many times: then heal, where one was due, and finish.
 unfoldable pub trapped : ℕ → Bool → BookState → Actor → Told
 trapped zero due b actor = healed due b actor
-trapped (suc n) due b actor = stepped b (acted b actor steps.Trap) (λ c answer. if is_clear answer then healed due c actor else trapped n true c actor)
+trapped (suc n) due b actor = stepped b (acted b actor steps.Trap) (λ c answer.
+    if is_clear answer then healed due c actor else trapped n true c actor)
 
 -- What follows the first step: of `get` and `getg` the load goes on to its end. Three traps are
 -- enough: behind one that forwards and one that marks none is due any more.

@@ -97,7 +97,8 @@ bit_text true = codes "1"
 -- the text of an address with its bit, where a page has so many words
 abbrev pub address_text : ℕ → Option ℕ → Bool → List ℕ
 address_text page_words None mark = codes "-"
-address_text page_words (Some a) mark = decimal (a / page_words) ++ codes "." ++ decimal (a % page_words) ++ codes "/" ++ bit_text mark
+address_text page_words (Some a) mark =
+    decimal (a / page_words) ++ codes "." ++ decimal (a % page_words) ++ codes "/" ++ bit_text mark
 
 -- the text of a word, where a page has so many words
 abbrev pub word_text : ℕ → Option (ℕ × Bool) → List ℕ
