@@ -37,6 +37,7 @@ if "$INSTALL" -m 755 crates/report/out/report pauseless; then
     count 'the scripts' sh tests/scripts.sh
     count 'the faults' sh tests/faults.sh
     count 'refused memory' sh tests/memory.sh
+    count 'refused memory of calls' sh tests/calls.sh
 else
     echo 'failed: the program could not be built'
     failed=$((failed + 1))

@@ -104,6 +104,27 @@ fn a_run_replies_in_order(rt: HostRuntime) -> Result<(), Fail> {
     replied(&rt, rt.alloc(), &mut book, steps, &wanted)
 }
 
+/// Does the steps, all of which are accepted.
+fn accepted(alloc: Global, book: &mut Book, steps: Vec<(Actor, Step)>) -> Result<(), Fail> {
+    for reply in run(alloc, book, steps)? {
+        reply?;
+    }
+    Ok(())
+}
+
+#[test]
+fn a_run_is_accepted(rt: HostRuntime) -> Result<(), Fail> {
+    let mut steps = Vec::new(rt.alloc());
+    for (thread, step, reply) in page_of_objects(rt.alloc())? {
+        if reply.is_ok() {
+            steps.push((Actor::Thread(thread), step))?;
+        }
+    }
+    let config = small(rt.alloc())?;
+    let mut book = Book::new(rt.alloc(), config)?;
+    accepted(rt.alloc(), &mut book, steps)
+}
+
 /// Steps of which an actor or a number names nothing, on a heap with two registers and one layout.
 fn bad_steps(alloc: Global) -> Result<Vec<Row>, AllocError> {
     Ok(vec![in alloc;
