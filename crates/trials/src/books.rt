@@ -7,8 +7,11 @@ use std::alloc::{AllocError, Global};
 use std::process::Abort;
 use std::test::Fail;
 
+/// What a step is answered.
+type Reply = Result<Answer, Refusal>;
+
 /// A thread, its step, and the reply that it has to have.
-type Row = (u32, Step, Result<Answer, Refusal>);
+type Row = (u32, Step, Reply);
 
 /// An object of the one layout.
 fn new(target: u32) -> Step {
@@ -78,12 +81,23 @@ fn a_page_is_filled(rt: HostRuntime) -> Result<(), Fail> {
     Ok(())
 }
 
+/// The steps of the rows with their actors, and the replies.
+fn parted(alloc: Global, rows: Vec<Row>) -> Result<(Vec<(Actor, Step)>, Vec<Reply>), Fail> {
+    let mut steps = Vec::new(alloc);
+    let mut replies = Vec::new(alloc);
+    for (thread, step, reply) in rows {
+        steps.push((Actor::Thread(thread), step))?;
+        replies.push(reply)?;
+    }
+    Ok((steps, replies))
+}
+
 fn replied(
     rt: &impl Abort,
     alloc: Global,
     book: &mut Book,
     steps: Vec<(Actor, Step)>,
-    wanted: &[Result<Answer, Refusal>],
+    wanted: &[Reply],
 ) -> Result<(), Fail> {
     let replies = run(alloc, book, steps)?;
     assert_eq!(rt; replies.as_slice(), wanted);
@@ -93,12 +107,7 @@ fn replied(
 
 #[test]
 fn a_run_replies_in_order(rt: HostRuntime) -> Result<(), Fail> {
-    let mut steps = Vec::new(rt.alloc());
-    let mut wanted = Vec::new(rt.alloc());
-    for (thread, step, reply) in page_of_objects(rt.alloc())? {
-        steps.push((Actor::Thread(thread), step))?;
-        wanted.push(reply)?;
-    }
+    let (steps, wanted) = parted(rt.alloc(), page_of_objects(rt.alloc())?)?;
     let config = small(rt.alloc())?;
     let mut book = Book::new(rt.alloc(), config)?;
     replied(&rt, rt.alloc(), &mut book, steps, &wanted)
@@ -112,14 +121,20 @@ fn accepted(alloc: Global, book: &mut Book, steps: Vec<(Actor, Step)>) -> Result
     Ok(())
 }
 
-#[test]
-fn a_run_is_accepted(rt: HostRuntime) -> Result<(), Fail> {
-    let mut steps = Vec::new(rt.alloc());
-    for (thread, step, reply) in page_of_objects(rt.alloc())? {
+/// The steps of the rows that are to be accepted.
+fn accepted_steps(alloc: Global, rows: Vec<Row>) -> Result<Vec<(Actor, Step)>, Fail> {
+    let mut steps = Vec::new(alloc);
+    for (thread, step, reply) in rows {
         if reply.is_ok() {
             steps.push((Actor::Thread(thread), step))?;
         }
     }
+    Ok(steps)
+}
+
+#[test]
+fn a_run_is_accepted(rt: HostRuntime) -> Result<(), Fail> {
+    let steps = accepted_steps(rt.alloc(), page_of_objects(rt.alloc())?)?;
     let config = small(rt.alloc())?;
     let mut book = Book::new(rt.alloc(), config)?;
     accepted(rt.alloc(), &mut book, steps)

@@ -36,25 +36,38 @@ fn is_full(rt: &impl Abort, store: &mut Store, room: Room, free: u32) {
     assert_eq!(rt; store.free_frames(), free);
 }
 
+/// A new store of 8 pages in 2 frames.
+fn is_new(rt: &impl Abort, store: &Store) {
+    assert_eq!(rt; (store.page_count(), store.pages().len()), (8, 4));
+    assert_eq!(rt; (store.frame_count(), store.free_frames()), (2, 2));
+    for page in [0, 1, 8, 9] {
+        assert_eq!(rt; store.state(page), PageState::Unused, "of page {page}");
+    }
+}
+
+/// Pages 1 and 2 are open.
+fn has_two_open(rt: &impl Abort, store: &Store) {
+    for (page, state) in [
+        (0, PageState::Unused),
+        (1, PageState::Open),
+        (2, PageState::Open),
+        (3, PageState::Unused),
+    ] {
+        assert_eq!(rt; store.state(page), state, "of page {page}");
+    }
+}
+
 #[test]
 fn takes_in_the_lowest_page(rt: HostRuntime) -> Result<(), Fail> {
     let mut store = Store::new(rt.alloc(), 16, 2, 8)?;
-    assert_eq!(rt; (store.page_count(), store.pages().len()), (8, 4));
-    assert_eq!(rt; (store.frame_count(), store.free_frames()), (2, 2));
+    is_new(&rt, &store);
     takes(
         &rt,
         &mut store,
         &[(10, 1, 0), (7, 2, 0), (6, 1, 10), (9, 2, 7)],
     )?;
     is_full(&rt, &mut store, Room::NoFrames, 0);
-    for (page, state) in [
-        (0, PageState::Unused),
-        (2, PageState::Open),
-        (3, PageState::Unused),
-        (9, PageState::Unused),
-    ] {
-        assert_eq!(rt; store.state(page), state, "of page {page}");
-    }
+    has_two_open(&rt, &store);
     Ok(())
 }
 

@@ -64,7 +64,7 @@ fn told(alloc: Global, book: &Book, answers: &[Answer]) -> Result<Vec<u8>, RunFa
 }
 
 /// Two marks that ended, with an answer of another step between them.
-fn tells_cycles(rt: &impl Abort, alloc: Global, book: &Book) -> Result<(), RunFault> {
+fn tells_cycles(rt: &impl Abort, alloc: Global, book: &Book) -> Result<(), Fail> {
     let answers = [
         Answer::Ended {
             live: 4,
@@ -87,6 +87,5 @@ fn tells_cycles(rt: &impl Abort, alloc: Global, book: &Book) -> Result<(), RunFa
 fn cycles(rt: HostRuntime) -> Result<(), Fail> {
     let config = small(rt.alloc())?;
     let book = Book::new(rt.alloc(), config)?;
-    tells_cycles(&rt, rt.alloc(), &book)?;
-    Ok(())
+    tells_cycles(&rt, rt.alloc(), &book)
 }

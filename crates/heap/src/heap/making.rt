@@ -1,6 +1,6 @@
 //! Making a heap.
 
-ghost use Rattle.std.specs.Prelude.{◌≡◌, replicate, IfOk};
+ghost use Rattle.std.specs.Prelude.{◌≡◌, false, None, replicate, IfOk};
 ghost use Rattle.model.specs.Configs.{IsRanged};
 ghost use Rattle.model.specs.Heaps.{first_heap, blank_thread};
 ghost use Rattle.heap.specs.Making.{Makes};
@@ -9,7 +9,7 @@ use crate::fault::NewFault;
 use crate::heap::Heap;
 use crate::thread::Thread;
 use markbits::Rows;
-use model::{Config, Global, Phase};
+use model::{Config, Global, Phase, Scan};
 use page::{Store, many, record_count};
 use refword::Word;
 use std::alloc::{AllocError, Global as Memory};
@@ -22,6 +22,62 @@ fn blank_threads(alloc: Memory, count: u32, registers: u32) -> Result<Vec<Thread
         threads.push(Thread::new(alloc, registers)?)?;
     }
     Ok(threads)
+}
+
+/// Threads, workers and globals of a new heap.
+#[derive(Drop)]
+struct BlankActors {
+    threads: Vec<Thread>,
+    workers: Vec<Option<Scan>>,
+    globals: Vec<Global>,
+}
+
+/// As many as the configuration says; all registers and globals are null, and no worker scans.
+fn blank_actors(alloc: Memory, config: &Config) -> Result<BlankActors, AllocError>
+    ensures threads { IfOk result (λ a. a.threads.items ≡ replicate config.now.threads (blank_thread config.now.registers)) }
+    ensures workers { IfOk result (λ a. a.workers.items ≡ replicate config.now.workers None) }
+    ensures globals { IfOk result (λ a. a.globals.items ≡ replicate config.now.globals (record { word = None; todo = false })) }
+{
+    let global = Global {
+        word: Word::null(),
+        todo: false,
+    };
+    let threads = blank_threads(alloc, config.threads, config.registers)?;
+    let workers = many(alloc, config.workers, None)?;
+    let globals = many(alloc, config.globals, global)?;
+    Ok(BlankActors {
+        threads,
+        workers,
+        globals,
+    })
+}
+
+/// The rows of a new heap.
+#[derive(Drop)]
+struct BlankRows {
+    starts: Rows,
+    live: Rows,
+    mark: Rows,
+    todo: Rows,
+}
+
+/// Rows for so many page records of so many words, with all bits clear.
+fn blank_rows(alloc: Memory, records: u32, words: u32) -> Result<BlankRows, AllocError>
+    ensures starts { IfOk result (λ rows. rows.starts ≡ replicate records (replicate words false)) }
+    ensures live { IfOk result (λ rows. rows.live ≡ replicate records (replicate words false)) }
+    ensures mark { IfOk result (λ rows. rows.mark ≡ replicate records (replicate words false)) }
+    ensures todo { IfOk result (λ rows. rows.todo ≡ replicate records (replicate words false)) }
+{
+    let starts = Rows::new(alloc, records, words)?;
+    let live = Rows::new(alloc, records, words)?;
+    let mark = Rows::new(alloc, records, words)?;
+    let todo = Rows::new(alloc, records, words)?;
+    Ok(BlankRows {
+        starts,
+        live,
+        mark,
+        todo,
+    })
 }
 
 impl Heap {
@@ -49,19 +105,18 @@ impl Heap {
     {
         let words = config.words;
         let records = record_count(config.frames, config.pages);
-        let global = Global {
-            word: Word::null(),
-            todo: false,
-        };
+        let store = Store::new(alloc, words, config.frames, config.pages)?;
+        let rows = blank_rows(alloc, records, words)?;
+        let actors = blank_actors(alloc, &config)?;
         Ok(Heap {
-            store: Store::new(alloc, words, config.frames, config.pages)?,
-            starts: Rows::new(alloc, records, words)?,
-            live: Rows::new(alloc, records, words)?,
-            mark: Rows::new(alloc, records, words)?,
-            todo: Rows::new(alloc, records, words)?,
-            threads: blank_threads(alloc, config.threads, config.registers)?,
-            workers: many(alloc, config.workers, None)?,
-            globals: many(alloc, config.globals, global)?,
+            store,
+            starts: rows.starts,
+            live: rows.live,
+            mark: rows.mark,
+            todo: rows.todo,
+            threads: actors.threads,
+            workers: actors.workers,
+            globals: actors.globals,
             phase: Phase::Idle,
             nmt: false,
             births: 0,

@@ -6,6 +6,6 @@ pub invariant_of-result : goal.invariant_of-result
 invariant_of-result c = record {
   config = c.requires;
   births = omega arith;
-  buffers = first_fills c.in_ok-new.field-0 c.args.config.threads c.args.config.registers
-      _ c.in_ok-blank_threads.ensures;
+  buffers = first_fills _ c.args.config.threads c.args.config.registers
+      _ c.in_ok-actors.ensures.threads;
 }
