@@ -1,8 +1,8 @@
 #!/bin/sh
-# The whole test command: 'rt ci', then the program on all scripts, and with
-# each of its requests for memory refused. 'make test' runs it at
-# the top of the repository. The last line is 'N passed, M failed', and the
-# exit status is 0 where M is 0.
+# The whole test command: 'rt ci', then the program on all scripts and faults,
+# and the program and the library's calls with each of their requests for memory
+# refused. 'make test' runs it at the top of the repository. The last line is
+# 'N passed, M failed', and the exit status is 0 where M is 0.
 
 RT=${RT:-rt}
 INSTALL=${INSTALL:-install}

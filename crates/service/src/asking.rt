@@ -54,7 +54,8 @@ impl<T: Drop> From<AllocFailed<T>> for AskFault {
 }
 
 impl AskFault {
-    /// Writes its line to standard error, and gives the exit status.
+    /// Writes its line to `errors`, and gives the exit status: 2 for words that are no mode and
+    /// file, 3 for want of memory (ours). That the line can't be written changes nothing.
     pub fn tell<E: io::Write>(self, errors: &mut E) -> u8
         ensures usage { self ≡ Usage → result ≡ 2 }
         ensures memory { self ≡ Memory → result ≡ 3 }
@@ -127,8 +128,9 @@ fn found<'a>(alloc: Global, texts: &'a [&'a str]) -> Result<ArgMatches<'a>, AskF
     }
 }
 
-/// What the words ask for, without the program's name. They are a mode, of which there is
-/// `run`, and the name of a file; all else is the usage fault.
+/// What the words ask for, without the program's name (ours). They are a mode, of which there is
+/// `run`, and the name of a file; all else is the usage fault. It answers `Memory` where memory was
+/// refused.
 ///
 /// No clause speaks of words of which one begins with `-`: they are read by the rules of flags,
 /// of which the program has none.

@@ -22,7 +22,8 @@ enum ServeFault {
     Run(RunFault),
 }
 
-/// Writes the line of a file that can't be opened, and gives the exit status.
+/// Writes the line of a file that can't be opened to `errors`, and gives the exit status, which is
+/// 3 (ours). Where memory was refused, the line says so.
 pub fn not_opened<E: io::Write>(asked: &Asked, error: &io::Error, errors: &mut E) -> u8
     ensures { result ≡ 3 }
 {
@@ -136,7 +137,7 @@ fn run<R: io::Read, O: io::Write>(
 /// output and standard error, and gives the exit status.
 ///
 /// 0: it is done. 2: the script has a fault. 3: memory was refused, or the file can't be read,
-/// or the output can't be written. A fault is one line of `errors`.
+/// or the output can't be written. A fault is one line of `errors`. All of this is ours.
 pub fn serve<R: io::Read, O: io::Write, E: io::Write>(
     alloc: Global,
     asked: &Asked,
