@@ -37,7 +37,7 @@ use Rattle.laws.specs.Transitions.{HealGlobal, HealField, HealChanged, Finish}
 use Rattle.laws.proofs.Basics.{current_there}
 use Rattle.laws.proofs.Barriers.{OpenLoad, opened_of}
 use Rattle.laws.proofs.Runs.{transition_keeps}
-use Rattle.refinement.specs.Worlds.{world_of, as_word, as_barrier, as_place, barrier_in, word_in_memory, object_at}
+use Rattle.refinement.specs.Worlds.{world_of, as_word, as_read, as_barrier, as_place, barrier_in, word_in_memory, object_at}
 use Rattle.refinement.specs.Births.{births_of, as_pair}
 use Rattle.refinement.specs.Roots.{IsLoad, HoldsWords}
 use Rattle.refinement.specs.Standing.{Holds, StepHolds}
@@ -46,6 +46,7 @@ use Rattle.refinement.proofs.Written.{field_write}
 use Rattle.refinement.proofs.Written as written
 use Rattle.refinement.proofs.Sizes.{frames_stay, sizes_stay}
 use Rattle.refinement.proofs.Threads.{loaded_world, loaded_laid, global_world, global_laid}
+use Rattle.refword.proofs.Reading.{reads_back}
 use Rattle.refinement.proofs.Rooted.{load_there, loaded_holds_words, global_word, stored_again}
 use Rattle.refinement.proofs.Births.{finishing_is, finishing_roots}
 use Rattle.refinement.proofs.Verdicts.{bind_ok, found_ok, accepted, second_false}
@@ -122,9 +123,9 @@ module _ (h : HeapState) (p p0 : PlainHeap) (s : IsStore h.store) (d : IsHeap h)
         let spot : a + (1 + i) ≡ a + 1 + i = omega arith in
         let same : field q i ≡ as_word b.raw =
         field_is h p p0 s d k t a q here i (bits_of b.raw) there.within (ap (word_at h.store) spot ∙ bits)
-        ∙ ap as_word (stored_again b.raw load.raw) in
+        ∙ ap as_read (reads_back b.raw load.raw) in
         let v : ℕ = bits_of b.now in
-        let now : word_in_memory v ≡ as_word b.now = ap as_word (stored_again b.now load.now) in
+        let now : word_in_memory v ≡ as_word b.now = ap as_read (reads_back b.now load.now) in
         let w = field_write h a q here i v there.within in
         let g : HeapState = written.after h s k.laid a q here (1 + i) v in
         let step = transition_keeps (world_of h) (births_of p) (births_of p0) _ _ _ k.invariant

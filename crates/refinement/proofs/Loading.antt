@@ -1,9 +1,11 @@
 -- Steps that begin a load: of a field, or of a global.
 use Rattle.std.proofs.Common.{◌≡◌, ℕ, ◌+◌, ◌%◌, ◌<◌, length, get_or, Option}
-use Rattle.std.proofs.Common.{Some, None, refl, sym, ◌∙◌, ap, subst, arith}
+use Rattle.std.proofs.Common.{Some, None, false, refl, sym, ◌∙◌, ap, subst, arith}
 use Rattle.std.specs.List.{slice_get}
 use Rattle.std.specs.Prelude.{Ok}
-use Rattle.std.proofs.lemmas.Option.{get_or_from_slice_get}
+use Rattle.std.proofs.lemmas.Option.{get_or_from_slice_get, none-some}
+use Rattle.std.proofs.Math.Nat.{zero-div}
+use Rattle.refword.specs.Words.{read_word}
 use Rattle.std.proofs.lemmas.Bool.{leb-false}
 use Rattle.model.specs.declared.steps.Actor.TheVariants.{Thread}
 use Rattle.model.specs.declared.steps.Step.TheVariants as steps
@@ -17,14 +19,14 @@ use Rattle.model.specs.Stores.{word_at}
 use Rattle.model.specs.Owning.{Each, IsStore}
 use Rattle.model.specs.Holding.{IsHeap}
 use Rattle.model.specs.Heaps.{HeapState, ThreadState, with_barrier, set_barrier_of}
-use Rattle.model.specs.Heaps.{stored, flat, global_of, word_of_global}
+use Rattle.model.specs.Heaps.{Reference, stored, flat, global_of, word_of_global}
 use Rattle.model.specs.Refusing.{◌>>=◌, or_refuse}
 use Rattle.model.specs.Outcome.{load_outcome, load_global_outcome, new_barrier}
 use Rattle.model.specs.Outcome.{no_register, no_global, usable, field_at, is_parked_in}
 use Rattle.model.specs.Plain.{PlainHeap, Object, plain_step, plain_answer, name_of, object_of, field_of, loading}
 use Rattle.model.proofs.Lists.{get_within, each_changed}
 use Rattle.model.proofs.Results.{same_result}
-use Rattle.laws.specs.AddressHeap.{HeapObject, Null, field, AtField, AtGlobal}
+use Rattle.laws.specs.AddressHeap.{HeapObject, Null, To, field, names as names_of, AtField, AtGlobal}
 use Rattle.laws.specs.BirthHeap.{BirthHeap, ref}
 use Rattle.laws.specs.Invariant.{Invariant}
 use Rattle.laws.specs.Edits.{set_barrier, plain_set_pending}
@@ -32,7 +34,7 @@ use Rattle.laws.specs.Effects.{load_at}
 use Rattle.laws.specs.Effects as effects
 use Rattle.laws.specs.Transitions.{Load, LoadGlobal}
 use Rattle.laws.proofs.Runs.{transition_keeps}
-use Rattle.refinement.specs.Worlds.{world_of, as_word, as_barrier, object_at, word_in_memory, global_in}
+use Rattle.refinement.specs.Worlds.{world_of, as_word, as_barrier, as_read, object_at, word_in_memory, global_in}
 use Rattle.refinement.specs.Births.{births_of, refs_in, HasRootsOf}
 use Rattle.refinement.specs.Claims.{HasSizes, IsLaid, HasGiven}
 use Rattle.refinement.specs.Roots.{IsLoad, HoldsWords, HasWords}
@@ -72,6 +74,19 @@ barrier_holds h t x b q q0 at sizes laid given words load roots i = record {
   invariant = moved _ _ _ _ (births_of q0) (barrier_world h t x at b) refl i;
 }
 
+-- no object is at address 0
+pub none_at_zero : (h : HeapState) → names_of (world_of h) (To 0 false) ≡ None
+none_at_zero h = rw (zero-div h.store.words, zero-div h.store.words) refl
+
+-- a number in memory that names something is a word
+pub read_named : (h : HeapState) (bits : ℕ) (x : Option ℕ) → names_of (world_of h) (word_in_memory bits) ≡ Some x
+    → word_in_memory bits ≡ as_word (stored bits)
+read_named h bits x e = by_word (read_word bits) e
+  where
+    by_word : (r : Option Reference) → names_of (world_of h) (as_read r) ≡ Some x → as_read r ≡ as_word (flat r)
+    by_word None e = absurd (none-some x (sym (none_at_zero h) ∙ e))
+    by_word (Some w) e = refl
+
 -- the word of a global
 pub global_same : (o : Option Global) → global_in o ≡ as_word (word_of_global o)
 global_same None = refl
@@ -80,7 +95,7 @@ global_same (Some g) = refl
 module _ (h : HeapState) (p p0 : PlainHeap) (s : IsStore h.store) (d : IsHeap h) (k : Holds h p p0) (t : ℕ) where
   -- a field's word is in the object
   pub field_is : (a : ℕ) (q : HeapObject) (e : object_at h a ≡ Some q) (i bits : ℕ) → i < length q.refs
-      → word_at h.store (a + (1 + i)) ≡ Some bits → field q i ≡ as_word (stored bits)
+      → word_at h.store (a + (1 + i)) ≡ Some bits → field q i ≡ word_in_memory bits
   field_is a q e i bits m f =
       let c = there h a q e in
       let within : i < c.read.shape.refs =
@@ -115,8 +130,9 @@ module _ (h : HeapState) (p p0 : PlainHeap) (s : IsStore h.store) (d : IsHeap h)
       let (m, spot) = field_there h a q c i n (found_ok (field_at h a i) refusals.BadIndex n second) in
       let within : i < length q.refs =
       omega (arith, m, read_refs h.config.layouts c.words (a % h.store.words) q c.read) in
-      let same : field q i ≡ as_word (stored v) = field_is a q names.uses.here i v within
+      let read : field q i ≡ word_in_memory v = field_is a q names.uses.here i v within
       (ap (word_at h.store) (omega (arith, spot)) ∙ found_ok (word_at h.store n) refusals.BadIndex v third) in
+      let same : field q i ≡ as_word (stored v) = read ∙ read_named h v (ref (births_of p) q.birth i) (ap (names_of (world_of h)) (sym read) ∙ (names.holds.refs i).names) in
       let low : r < h.config.registers =
       leb-false h.config.registers r (first_false (no_register h r) (no_register h o) g.indices) in
       let (z, at, size) = plain_thread h p p0 s d k t g.thread g.there in

@@ -25,7 +25,7 @@ use Rattle.laws.specs.Edits.{set_object}
 use Rattle.laws.specs.Effects.{with_field}
 use Rattle.laws.specs.Transitions.{Store, StoreGlobal, Uses}
 use Rattle.laws.proofs.Runs.{transition_keeps}
-use Rattle.refinement.specs.Worlds.{world_of, as_word, word_in_memory}
+use Rattle.refinement.specs.Worlds.{world_of, as_word, as_read, word_in_memory}
 use Rattle.refinement.specs.Births.{births_of}
 use Rattle.refinement.specs.Standing.{Holds, StepHolds}
 use Rattle.refinement.proofs.Reading.{read_refs}
@@ -35,7 +35,8 @@ use Rattle.refinement.proofs.Written.{field_write}
 use Rattle.refinement.proofs.Written as written
 use Rattle.refinement.proofs.Sizes.{frames_stay, sizes_stay}
 use Rattle.refinement.proofs.Threads.{global_world, global_laid}
-use Rattle.refinement.proofs.Rooted.{register_word, stored_again}
+use Rattle.refinement.proofs.Rooted.{register_word}
+use Rattle.refword.proofs.Reading.{reads_back}
 use Rattle.refinement.proofs.Births.{storing_is, storing_roots, global_is}
 use Rattle.refinement.proofs.Verdicts.{bind_ok, found_ok, accepted, Passed, first_false, used_ok, field_there}
 use Rattle.refinement.proofs.Readers.{names_object}
@@ -66,7 +67,7 @@ module _ (h : HeapState) (p p0 : PlainHeap) (s : IsStore h.store) (d : IsHeap h)
       after n = record h { store = with_word h.store n bits }
 
       same : word_in_memory bits ≡ as_word (register_of h t q)
-      same = ap as_word (stored_again (register_of h t q) (register_word h t q k.words))
+      same = ap as_read (reads_back (register_of h t q) (register_word h t q k.words))
 
       at_place : (a : ℕ) (o : HeapObject) (u : Uses (world_of h) t r a o) (m : i < length o.refs) → StepHolds h p p0
           (Thread t) (steps.Store r i q) (written.after h s k.laid a o u.here (1 + i) bits) answers.Done

@@ -1,6 +1,7 @@
 -- The heap by addresses that a heap's state stands for: its objects, read off the words of its pages, and all else read
 -- off its records.
 use Rattle.std.specs.Prelude.{ℕ, ◌+◌, ◌/◌, ◌%◌, ◌^◌, ◌==◌, zero, suc, Bool, true, false, List, [], ◌∷◌, length, take, drop, map, get_or, Option, Some, None, option_map, nat_le, nat_lt, slice_get, if◌then◌else◌}
+use Rattle.refword.specs.Words.{read_word}
 use Rattle.layout.specs.declared.shape.Layout.{Layout}
 use Rattle.layout.specs.Objects.{size_of}
 use Rattle.model.specs.declared.records.Forwarding.{Forwarding}
@@ -10,7 +11,7 @@ use Rattle.model.specs.declared.records.Global.{Global}
 use Rattle.model.specs.declared.records.Place.{Place}
 use Rattle.model.specs.declared.records.Place.TheVariants as places
 use Rattle.model.specs.Stores.{state_at, words_at}
-use Rattle.model.specs.Heaps.{HeapState, ThreadState, Reference, register_of, stored}
+use Rattle.model.specs.Heaps.{HeapState, ThreadState, Reference, register_of}
 use Rattle.model.specs.Outcome.{has_crossed, is_parked_in}
 use Rattle.laws.specs.AddressHeap.{AddressHeap, HeapObject, Word, Null, To, SideEntry, NoEntry, Planned, Copied, LoadPlace, AtField, AtGlobal, OpenBarrier, WorkerScan}
 
@@ -21,9 +22,14 @@ abbrev pub as_word : Reference → Word
 as_word None = Null
 as_word (Some w) = To w.0 w.1
 
--- what a word in memory is
+-- what was read from memory; what is no word is like a reference to address 0, where no object is
+abbrev pub as_read : Option Reference → Word
+as_read None = To 0 false
+as_read (Some w) = as_word w
+
+-- what a number in memory is
 abbrev pub word_in_memory : ℕ → Word
-word_in_memory bits = as_word (stored bits)
+word_in_memory bits = as_read (read_word bits)
 
 -- objects
 
