@@ -19,8 +19,9 @@ use std::marker::Model;
 
 /// The heap of a program: objects on pages, the threads that use them, and the collector.
 ///
-/// A contract sees all of it as plain data. It keeps, beside what its store keeps, that each
-/// thread's buffer lies in an open page, and that births stay within their limit.
+/// A contract sees all of it as plain data. It keeps, beside what its store keeps, that it has the
+/// sizes that it was made with, that each thread's buffer lies in an open page, and that births
+/// stay within their limit.
 ///
 /// `take`, `give_back`, `new_object`, `store_reference`, `store_global`, `datum`, `set_datum`,
 /// `same`, `is_null`, `copy_register` and `clear_register` do a step's row alone: the tests before
@@ -58,8 +59,9 @@ impl Model for Heap {
 }
 
 impl Heap {
-    /// What holds of every heap: its frames have one owner each, each thread's buffer lies in an
-    /// open page, and births are within their limit.
+    /// What holds of every heap: its frames have one owner each; it has the words of a page, the
+    /// frames, pages, threads, workers and globals that it was made with; each thread's buffer lies
+    /// in an open page; and births are within their limit.
     pub fn law(&self)
         ensures store { IsStore self.now.store }
         ensures heap { IsHeap self.now }

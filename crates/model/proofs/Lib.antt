@@ -2,3 +2,4 @@ pub mod Lists
 pub mod Ranges
 pub mod Memory
 pub mod Results
+pub mod Usual

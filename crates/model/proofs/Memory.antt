@@ -3,6 +3,7 @@ use Rattle.std.proofs.Common.{◌≡◌, ◌≢◌, ℕ, ◌+◌, ◌-◌, ◌/�
 use Rattle.std.proofs.Common.{is_some, List, length, Option, Some, None, refl, sym, ◌∙◌, ap}
 use Rattle.std.proofs.Common.{arith, ◌≤◌, ◌++◌, take, drop, length-drop, length-append}
 use Rattle.std.specs.List.{slice_get}
+use Rattle.std.proofs.Math.ListN.{length-set}
 use Rattle.std.specs.Option.{option_and_then}
 use Rattle.std.proofs.lemmas.Option.{slice_get_within, same_Some}
 use Rattle.std.proofs.lemmas.List.{length-take, length-take-le}
@@ -172,3 +173,16 @@ length_overlaid ws o xs = whole (take o ws) (drop o ws) (omega (arith, length-ta
         let behind = length-append xs (drop (length xs) back) in
         let all = length-append front (xs ++ drop (length xs) back) in
         length-take-le (length ws) (front ++ (xs ++ drop (length xs) back)) (omega (arith, all, behind, rest, h))
+
+-- other words in a page change no number of frames
+pub frames_stay : (s : StoreState) (n : ℕ) (f : List ℕ → List ℕ) → length (with_words s n f).frames ≡ length s.frames
+unfolding with_words
+frames_stay s n f = by_frame (frame_in (page_at s n))
+  where
+    by_words : (x : ℕ) (o : Option (List ℕ)) → length (changed_frame s.frames x o f) ≡ length s.frames
+    by_words x None = refl
+    by_words x (Some ws) = length-set s.frames x (f ws)
+
+    by_frame : (o : Option ℕ) → length (changed_in s.frames o f) ≡ length s.frames
+    by_frame None = refl
+    by_frame (Some x) = by_words x (slice_get s.frames x)

@@ -1,5 +1,5 @@
 -- The configurations that a heap may be made with.
-use Rattle.std.specs.Prelude.{◌≡◌, ℕ, ◌≤◌, ◌^◌, ◌==◌, ◌||◌, not, Bool, true, length, Option, Some, None, nat_le, nat_lt, if◌then◌else◌}
+use Rattle.std.specs.Prelude.{◌≡◌, ◌⊎◌, ℕ, ◌*◌, ◌≤◌, ◌^◌, min, List, ◌==◌, ◌||◌, not, Bool, true, length, Option, Some, None, nat_le, nat_lt, if◌then◌else◌}
 use Rattle.std.specs.List.{list_all}
 use Rattle.layout.specs.declared.shape.Layout.{Layout}
 use Rattle.layout.specs.Objects.{size_of}
@@ -34,6 +34,25 @@ first_fault c =
     (if is_outside (length c.layouts) 1 64 || not (list_all (fits_page c.words) c.layouts) then Some faults.Layouts else
     (if is_outside c.births 1 (2 ^ 32) then Some faults.Births else
     (if is_outside c.history 1 1000000 then Some faults.History else None)))))))))
+
+-- a configuration of which the frames, their words and the layouts are given, and all else is what serves most heaps
+unfoldable pub usual_config : ℕ → ℕ → List Layout → Config
+usual_config words frames layouts = record {
+  words = words;
+  frames = frames;
+  pages = min (2 * frames) 65535;
+  threads = 1;
+  workers = 1;
+  registers = 16;
+  globals = 64;
+  layouts = layouts;
+  births = 2 ^ 32;
+  history = 1000000;
+}
+
+-- the field is one that the caller of such a configuration gives
+abbrev pub IsOfCaller : ConfigFault → Type 0
+IsOfCaller fault = (fault ≡ faults.Words) ⊎ ((fault ≡ faults.Frames) ⊎ (fault ≡ faults.Layouts))
 
 -- all fields are in their ranges
 abbrev pub IsConfig : Config → Type 0

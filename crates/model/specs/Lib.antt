@@ -7,3 +7,4 @@ pub mod Holding
 pub mod Refusing
 pub mod Outcome
 pub mod Plain
+pub mod Texts

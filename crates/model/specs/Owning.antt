@@ -48,7 +48,14 @@ pub record LiesIn (s : StoreState) (b : Buffer) : Type 0 where
   pub order : b.next ≤ b.end
   pub end : b.end ≤ s.words
 
--- a buffer that was taken lies in the new store, and so do those that lay in the old one
+-- two stores have pages of as many words, as many pages, and as many frames
+pub record AreSized (s t : StoreState) : Type 0 where
+  pub words : t.words ≡ s.words
+  pub count : t.count ≡ s.count
+  pub frames : length t.frames ≡ length s.frames
+
+-- a buffer that was taken lies in the new store, and so do those that lay in the old one; the sizes stay
 pub record TakesWell (s t : StoreState) (b : Buffer) : Type 0 where
+  pub sized : AreSized s t
   pub lies : LiesIn t b
   pub stays : (c : Buffer) → LiesIn s c → LiesIn t c

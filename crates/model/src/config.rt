@@ -1,8 +1,8 @@
 //! What a heap is made with.
 
-ghost use Rattle.std.specs.Prelude.{◌≡◌, ◌==◌, IfOk, IfNone};
+ghost use Rattle.std.specs.Prelude.{◌≡◌, ◌==◌, IfOk, IfNone, IfSome};
 ghost use Rattle.std.specs.List.{list_all};
-ghost use Rattle.model.specs.Configs.{is_page_size, fits_page, first_fault, IsRanged};
+ghost use Rattle.model.specs.Configs.{is_page_size, fits_page, first_fault, usual_config, IsOfCaller, IsRanged};
 
 use layout::{Layout, Layouts};
 use std::alloc::{AllocError, Global};
@@ -69,6 +69,37 @@ pub enum ConfigFault {
 }
 
 impl Config {
+    /// A configuration of so many frames of so many words, with these layouts. The rest has values
+    /// that serve most heaps; each is a field, to be set to another one (ours):
+    ///
+    /// | Field | Value |
+    /// |---|---|
+    /// | `pages` | twice as many as frames, since no more are ever in use at once; 65,535 at most |
+    /// | `threads`, `workers` | 1 of each |
+    /// | `registers`, `globals` | 16 of each thread, and 64: as many as there may be |
+    /// | `births`, `history` | 2^32, and 1,000,000: as many as there may be |
+    ///
+    /// Words, frames and layouts are taken as they are; `fault` tells whether they are in range,
+    /// and nothing else can be out of it.
+    #[tactic(auto, unfolding(crate::specs::Configs::usual_config))]
+    pub fn new(words: u32, frames: u32, layouts: Layouts) -> Config
+        ensures value { result ≡ usual_config words frames layouts }
+        ensures rest { IfSome (first_fault result) IsOfCaller }
+    {
+        Config {
+            words,
+            frames,
+            pages: frames.saturating_mul(2).min(65_535),
+            threads: 1,
+            workers: 1,
+            registers: 16,
+            globals: 64,
+            layouts,
+            births: 1 << 32,
+            history: 1_000_000,
+        }
+    }
+
     /// The first field that is out of its range, in the order of the fields; `None` where all
     /// are in range.
     #[tactic(auto, using(crate::proofs::Ranges::none_in_range))]

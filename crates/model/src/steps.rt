@@ -2,6 +2,8 @@
 
 ghost use Rattle.std.specs.Prelude.{◌≡◌};
 
+use std::error::Error;
+use std::fmt;
 use std::marker::Model;
 
 /// Who does a step (ours). Threads and workers count from 0.
@@ -204,7 +206,8 @@ pub enum Answer {
     Released { free: u64 },
 }
 
-/// Why a step isn't accepted (ours). A refused step changes nothing.
+/// Why a step isn't accepted (ours). A refused step changes nothing. As a text it is its name, then
+/// its numbers, each after a space: `NoFrames 1 0`.
 #[derive(Clone, Copy, Debug, PartialEq, Eq)]
 pub enum Refusal {
     /// There is no such actor, or it does no such step.
@@ -262,3 +265,44 @@ pub enum Refusal {
     /// Memory was refused.
     Memory,
 }
+
+impl fmt::Display for Refusal {
+    ghost use Rattle.std.specs.Prelude.{Some};
+    ghost use Rattle.model.specs.Texts.{refusal_text};
+
+    ghost output = { λ r. Some (refusal_text r) };
+
+    fn fmt<W: fmt::Write>(&self, f: &mut fmt::Formatter<W>) -> fmt::Result {
+        match *self {
+            Refusal::NoActor => write!(f, "NoActor"),
+            Refusal::BadIndex => write!(f, "BadIndex"),
+            Refusal::Parked => write!(f, "Parked"),
+            Refusal::NotParked => write!(f, "NotParked"),
+            Refusal::Busy => write!(f, "Busy"),
+            Refusal::NotBusy => write!(f, "NotBusy"),
+            Refusal::Null => write!(f, "Null"),
+            Refusal::Stall => write!(f, "Stall"),
+            Refusal::Stale => write!(f, "Stale"),
+            Refusal::NoRoom => write!(f, "NoRoom"),
+            Refusal::HasBuffer => write!(f, "HasBuffer"),
+            Refusal::NoFrames { need, free } => write!(f, "NoFrames {need} {free}"),
+            Refusal::NoPages => write!(f, "NoPages"),
+            Refusal::Phase => write!(f, "Phase"),
+            Refusal::AlreadyCrossed => write!(f, "AlreadyCrossed"),
+            Refusal::NotCrossed { thread } => write!(f, "NotCrossed {thread}"),
+            Refusal::NotTodo => write!(f, "NotTodo"),
+            Refusal::Taken => write!(f, "Taken"),
+            Refusal::TodoLeft => write!(f, "TodoLeft"),
+            Refusal::Pending { thread } => write!(f, "Pending {thread}"),
+            Refusal::Unripe { page } => write!(f, "Unripe {page}"),
+            Refusal::Uncopied { page } => write!(f, "Uncopied {page}"),
+            Refusal::Copied => write!(f, "Copied"),
+            Refusal::Lent { page } => write!(f, "Lent {page}"),
+            Refusal::Births => write!(f, "Births"),
+            Refusal::HistoryFull => write!(f, "HistoryFull"),
+            Refusal::Memory => write!(f, "Memory"),
+        }
+    }
+}
+
+impl Error for Refusal {}

@@ -1,7 +1,8 @@
 -- Buffers lie in open pages, whatever is done to the store.
 use Rattle.std.proofs.Common.{◌≡◌, ◌≢◌, ◌⊎◌, inl, inr, ℕ, zero, suc, ◌+◌, ◌-◌, ◌*◌, ◌/◌, ◌^◌, ◌<◌, ◌≤◌, true, List, []}
-use Rattle.std.proofs.Common.{◌∷◌, length, position, Option, Some, None, set, refl, sym, ◌∙◌, ap, subst, arith, rules}
+use Rattle.std.proofs.Common.{◌∷◌, length, position, Option, Some, None, set, replicate, refl, sym, ◌∙◌, ap, subst, arith, rules}
 use Rattle.std.specs.List.{slice_get}
+use Rattle.std.proofs.Math.ListN.{length-set}
 use Rattle.std.specs.Prelude.{Ok, Err, Result, IfOk}
 use Rattle.std.proofs.Math.Nat.{mul-le-mul_left}
 use Rattle.std.proofs.lemmas.Nat.{mul-add-lt}
@@ -16,7 +17,8 @@ use Rattle.model.specs.declared.records.Buffer.{Buffer}
 use Rattle.model.specs.Stores.{StoreState, is_open, is_unused, state_in, opened, given, buffer_of}
 use Rattle.model.specs.Stores.{Takes, with_words, with_word, fresh_page, frame_in, page_at, taken}
 use Rattle.model.specs.Stores.{page_with_room, free_frame, unused_page, record_count}
-use Rattle.model.specs.Owning.{IsStore, LiesIn, TakesWell}
+use Rattle.model.specs.Owning.{IsStore, LiesIn, AreSized, TakesWell}
+use Rattle.model.proofs.Memory.{frames_stay}
 use Rattle.model.proofs.Lists.{get_set_same, get_set_other, get_within}
 use Rattle.page.proofs.Found.{position_within, room_left, free_counts, free_within, room_within, room_passes}
 use Rattle.page.proofs.Keeping.{unused_as, page_at_record, page_at_zero, opened_words, opened_at, given_at}
@@ -83,9 +85,23 @@ opened_stays : (s : StoreState) (i f : ℕ) (p : Page) (c : Buffer) → slice_ge
 unfolding opened
 opened_stays s i f p c e h = lies_set s (opened s i f) i p (fresh_page f) c refl refl e refl h
 
+-- the sizes stay
+given_sized : (s : StoreState) (i n : ℕ) → AreSized s (given s i n).0
+unfolding given
+given_sized s i n = record { words = refl; count = refl; frames = refl }
+
+opened_sized : (s : StoreState) (i f n : ℕ) → AreSized s (given (opened s i f) i n).0
+unfolding given opened
+opened_sized s i f n =
+    record { words = refl; count = refl; frames = length-set s.frames f (replicate s.words 0) }
+
 well_given : (s : StoreState) (i n : ℕ) (p : Page) → slice_get s.pages i ≡ Some p → is_open p.state ≡ true
     → p.top + n ≤ s.words → TakesWell s (given s i n).0 (given s i n).1
-well_given s i n p e o room = record { lies = given_lies s i n p e o room; stays = λ c h. given_stays s i n p c e o h }
+well_given s i n p e o room = record {
+  sized = given_sized s i n;
+  lies = given_lies s i n p e o room;
+  stays = λ c h. given_stays s i n p c e o h;
+}
 
 well_opened : (s : StoreState) (i f n : ℕ) (p : Page) → slice_get s.pages i ≡ Some p → n ≤ s.words
     → TakesWell s (given (opened s i f) i n).0 (given (opened s i f) i n).1
@@ -93,6 +109,7 @@ well_opened s i f n p e room =
     let at = opened_at s i f p e in
     let words = opened_words s i f in
     record {
+      sized = opened_sized s i f n;
       lies = given_lies (opened s i f) i n (fresh_page f) at refl (rw words (omega arith));
       stays = λ c h. given_stays (opened s i f) i n (fresh_page f) c at refl (opened_stays s i f p c e h);
     }
@@ -160,6 +177,14 @@ takes_by s t n (Ok b) h low high e = takes_well s t n b h low high e
 takes_by s t n (Err x) h low high e = search rules
 
 -- other words in a page's frame
+pub words_sized_alike : (s : StoreState) (n : ℕ) (change : List ℕ → List ℕ) → AreSized s (with_words s n change)
+unfolding with_words
+words_sized_alike s n change = record { words = refl; count = refl; frames = frames_stay s n change }
+
+pub word_sized_alike : (s : StoreState) (address v : ℕ) → AreSized s (with_word s address v)
+unfolding with_word
+word_sized_alike s address v = words_sized_alike s (address / s.words) _
+
 pub words_lie : (s : StoreState) (n : ℕ) (change : List ℕ → List ℕ) (b : Buffer) → LiesIn s b
     → LiesIn (with_words s n change) b
 unfolding with_words

@@ -44,7 +44,8 @@ use Rattle.refinement.specs.Standing.{Holds, StepHolds}
 use Rattle.refinement.proofs.Changes.{length_changed}
 use Rattle.refinement.proofs.Written.{field_write}
 use Rattle.refinement.proofs.Written as written
-use Rattle.refinement.proofs.Sizes.{frames_stay, sizes_stay}
+use Rattle.model.proofs.Memory.{frames_stay}
+use Rattle.refinement.proofs.Sizes.{sizes_stay}
 use Rattle.refinement.proofs.Threads.{loaded_world, loaded_laid, global_world, global_laid}
 use Rattle.refword.proofs.Reading.{reads_back}
 use Rattle.refinement.proofs.Rooted.{load_there, loaded_holds_words, global_word, stored_again}

@@ -17,7 +17,7 @@ use Rattle.model.specs.declared.records.Global.{Global}
 use Rattle.model.specs.declared.records.Place.TheVariants as places
 use Rattle.model.specs.Stores.{word_at}
 use Rattle.model.specs.Owning.{Each, IsStore}
-use Rattle.model.specs.Holding.{IsHeap}
+use Rattle.model.specs.Holding.{HasSizes, IsHeap}
 use Rattle.model.specs.Heaps.{HeapState, ThreadState, with_barrier, set_barrier_of}
 use Rattle.model.specs.Heaps.{Reference, stored, flat, global_of, word_of_global}
 use Rattle.model.specs.Refusing.{◌>>=◌, or_refuse}
@@ -36,7 +36,7 @@ use Rattle.laws.specs.Transitions.{Load, LoadGlobal}
 use Rattle.laws.proofs.Runs.{transition_keeps}
 use Rattle.refinement.specs.Worlds.{world_of, as_word, as_barrier, as_read, object_at, word_in_memory, global_in}
 use Rattle.refinement.specs.Births.{births_of, refs_in, HasRootsOf}
-use Rattle.refinement.specs.Claims.{HasSizes, IsLaid, HasGiven}
+use Rattle.refinement.specs.Claims.{IsLaid, HasGiven}
 use Rattle.refinement.specs.Roots.{IsLoad, HoldsWords, HasWords}
 use Rattle.refinement.specs.Standing.{Holds, StepHolds}
 use Rattle.refinement.proofs.Reading.{read_refs, field_of_read}

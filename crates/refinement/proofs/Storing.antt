@@ -33,7 +33,8 @@ use Rattle.refinement.proofs.Objects.{there}
 use Rattle.refinement.proofs.Changes.{length_changed}
 use Rattle.refinement.proofs.Written.{field_write}
 use Rattle.refinement.proofs.Written as written
-use Rattle.refinement.proofs.Sizes.{frames_stay, sizes_stay}
+use Rattle.model.proofs.Memory.{frames_stay}
+use Rattle.refinement.proofs.Sizes.{sizes_stay}
 use Rattle.refinement.proofs.Threads.{global_world, global_laid}
 use Rattle.refinement.proofs.Rooted.{register_word}
 use Rattle.refword.proofs.Reading.{reads_back}

@@ -47,7 +47,8 @@ use Rattle.refinement.proofs.Changes.{length_changed}
 use Rattle.refinement.proofs.Written.{datum_write}
 use Rattle.refinement.proofs.Written as written
 use Rattle.refinement.proofs.Born as births
-use Rattle.refinement.proofs.Sizes.{frames_stay, sizes_stay}
+use Rattle.model.proofs.Memory.{frames_stay}
+use Rattle.refinement.proofs.Sizes.{sizes_stay}
 use Rattle.refinement.proofs.Registers.{register_world, register_laid, buffer_world, given_back_laid}
 use Rattle.refinement.proofs.Births.{naming_is, naming_roots, writing_is, writing_roots, born_is, born_roots}
 use Rattle.refinement.proofs.Verdicts.{bind_ok, found_ok, accepted, Passed, first_false, used_ok, datum_there}

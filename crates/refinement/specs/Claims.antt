@@ -80,15 +80,6 @@ pub record AreSides (s : StoreState) (sides : List (List Forwarding)) : Type 0 w
   pub pages : length sides ≡ length s.pages
   pub rising : Each sides (AreRising s.words 0)
 
--- the heap is of the sizes that it was made with
-pub record HasSizes (h : HeapState) : Type 0 where
-  pub words : h.store.words ≡ h.config.words
-  pub frames : length h.store.frames ≡ h.config.frames
-  pub pages : h.store.count ≡ h.config.pages
-  pub threads : length h.threads ≡ h.config.threads
-  pub workers : length h.workers ≡ h.config.workers
-  pub globals : length h.globals ≡ h.config.globals
-
 -- the memory of a heap is in order
 pub record IsLaid (h : HeapState) : Type 0 where
   pub starts : AreRows h.store h.starts

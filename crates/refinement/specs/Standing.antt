@@ -7,14 +7,14 @@ use Rattle.model.specs.declared.steps.Answer.{Answer}
 use Rattle.model.specs.declared.steps.Refusal.{Refusal}
 use Rattle.model.specs.declared.config.Config.{Config}
 use Rattle.model.specs.Owning.{Each, IsStore}
-use Rattle.model.specs.Holding.{IsHeap}
+use Rattle.model.specs.Holding.{HasSizes, IsHeap}
 use Rattle.model.specs.Heaps.{HeapState, first_heap}
 use Rattle.model.specs.Outcome.{outcome}
 use Rattle.model.specs.Plain.{PlainHeap, plain_step, plain_answer, plain_start}
 use Rattle.laws.specs.Invariant.{Invariant}
 use Rattle.refinement.specs.Worlds.{world_of}
 use Rattle.refinement.specs.Births.{births_of, HasRootsOf}
-use Rattle.refinement.specs.Claims.{HasSizes, IsLaid, HasGiven}
+use Rattle.refinement.specs.Claims.{IsLaid, HasGiven}
 use Rattle.refinement.specs.Roots.{HasWords}
 
 -- a heap stands for a plain heap p; p0 is the plain heap as the last mark began

@@ -13,7 +13,7 @@ use Rattle.model.specs.declared.steps.Actor.TheVariants.{Thread, Worker}
 use Rattle.model.specs.declared.steps.Answer.{Answer}
 use Rattle.model.specs.declared.steps.Answer.TheVariants as answers
 use Rattle.model.specs.declared.steps.Refusal.{Refusal}
-use Rattle.model.specs.declared.steps.Refusal.TheVariants as refusals
+use Rattle.model.specs.Texts.{refusal_text}
 
 -- the text of an actor
 abbrev pub actor_text : Actor → List ℕ
@@ -41,36 +41,6 @@ answer_text (answers.MovedTo p o) = codes "copied " ++ decimal p ++ codes "." ++
 answer_text (answers.Ended n m) = codes "ended live " ++ decimal n ++ codes " retired " ++ decimal m
 answer_text (answers.Protected n m) = codes "protected objects " ++ decimal n ++ codes " targets " ++ decimal m
 answer_text (answers.Released n) = codes "released free " ++ decimal n
-
--- the text of a refusal: its name, then its numbers
-abbrev pub refusal_text : Refusal → List ℕ
-refusal_text refusals.NoActor = codes "NoActor"
-refusal_text refusals.BadIndex = codes "BadIndex"
-refusal_text refusals.Parked = codes "Parked"
-refusal_text refusals.NotParked = codes "NotParked"
-refusal_text refusals.Busy = codes "Busy"
-refusal_text refusals.NotBusy = codes "NotBusy"
-refusal_text refusals.Null = codes "Null"
-refusal_text refusals.Stall = codes "Stall"
-refusal_text refusals.Stale = codes "Stale"
-refusal_text refusals.NoRoom = codes "NoRoom"
-refusal_text refusals.HasBuffer = codes "HasBuffer"
-refusal_text refusals.NoPages = codes "NoPages"
-refusal_text refusals.AlreadyCrossed = codes "AlreadyCrossed"
-refusal_text refusals.NotTodo = codes "NotTodo"
-refusal_text refusals.Taken = codes "Taken"
-refusal_text refusals.TodoLeft = codes "TodoLeft"
-refusal_text refusals.Copied = codes "Copied"
-refusal_text refusals.Births = codes "Births"
-refusal_text refusals.HistoryFull = codes "HistoryFull"
-refusal_text refusals.Memory = codes "Memory"
-refusal_text refusals.Phase = codes "Phase"
-refusal_text (refusals.NoFrames need free) = codes "NoFrames " ++ decimal need ++ codes " " ++ decimal free
-refusal_text (refusals.NotCrossed n) = codes "NotCrossed " ++ decimal n
-refusal_text (refusals.Pending n) = codes "Pending " ++ decimal n
-refusal_text (refusals.Unripe n) = codes "Unripe " ++ decimal n
-refusal_text (refusals.Uncopied n) = codes "Uncopied " ++ decimal n
-refusal_text (refusals.Lent n) = codes "Lent " ++ decimal n
 
 -- the text of what a step said
 abbrev pub reply_text : Result Answer Refusal → List ℕ

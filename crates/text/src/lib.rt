@@ -7,4 +7,4 @@ mod steps;
 
 pub use line::{put_line, write_line};
 pub use records::{BufferText, FrameText, PageStateText, PhaseText, WordText};
-pub use steps::{ActorText, AnswerText, RefusalText, ReplyText};
+pub use steps::{ActorText, AnswerText, ReplyText};

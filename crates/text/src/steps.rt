@@ -58,49 +58,6 @@ impl fmt::Display for AnswerText {
     }
 }
 
-/// A refusal's text: its name, then its numbers.
-#[derive(Clone, Copy, Debug, PartialEq, Eq)]
-pub struct RefusalText(pub Refusal);
-
-impl fmt::Display for RefusalText {
-    ghost use Rattle.std.specs.Prelude.{Some};
-    ghost use Rattle.text.specs.Texts.{refusal_text};
-
-    ghost output = { λ t. Some (refusal_text t.0) };
-
-    fn fmt<W: fmt::Write>(&self, f: &mut fmt::Formatter<W>) -> fmt::Result {
-        match self.0 {
-            Refusal::NoActor => write!(f, "NoActor"),
-            Refusal::BadIndex => write!(f, "BadIndex"),
-            Refusal::Parked => write!(f, "Parked"),
-            Refusal::NotParked => write!(f, "NotParked"),
-            Refusal::Busy => write!(f, "Busy"),
-            Refusal::NotBusy => write!(f, "NotBusy"),
-            Refusal::Null => write!(f, "Null"),
-            Refusal::Stall => write!(f, "Stall"),
-            Refusal::Stale => write!(f, "Stale"),
-            Refusal::NoRoom => write!(f, "NoRoom"),
-            Refusal::HasBuffer => write!(f, "HasBuffer"),
-            Refusal::NoFrames { need, free } => write!(f, "NoFrames {need} {free}"),
-            Refusal::NoPages => write!(f, "NoPages"),
-            Refusal::Phase => write!(f, "Phase"),
-            Refusal::AlreadyCrossed => write!(f, "AlreadyCrossed"),
-            Refusal::NotCrossed { thread } => write!(f, "NotCrossed {thread}"),
-            Refusal::NotTodo => write!(f, "NotTodo"),
-            Refusal::Taken => write!(f, "Taken"),
-            Refusal::TodoLeft => write!(f, "TodoLeft"),
-            Refusal::Pending { thread } => write!(f, "Pending {thread}"),
-            Refusal::Unripe { page } => write!(f, "Unripe {page}"),
-            Refusal::Uncopied { page } => write!(f, "Uncopied {page}"),
-            Refusal::Copied => write!(f, "Copied"),
-            Refusal::Lent { page } => write!(f, "Lent {page}"),
-            Refusal::Births => write!(f, "Births"),
-            Refusal::HistoryFull => write!(f, "HistoryFull"),
-            Refusal::Memory => write!(f, "Memory"),
-        }
-    }
-}
-
 /// The text of what a step said: its answer's, or `refused ` and its refusal's.
 #[derive(Clone, Copy, Debug, PartialEq, Eq)]
 pub struct ReplyText(pub Result<Answer, Refusal>);
@@ -117,10 +74,7 @@ impl fmt::Display for ReplyText {
                 let answer = AnswerText(answer);
                 write!(f, "{answer}")
             }
-            Err(refusal) => {
-                let refusal = RefusalText(refusal);
-                write!(f, "refused {refusal}")
-            }
+            Err(refusal) => write!(f, "refused {refusal}"),
         }
     }
 }

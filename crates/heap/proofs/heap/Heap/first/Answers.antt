@@ -1,10 +1,21 @@
-use Rattle.std.proofs.Common.{arith}
+use Rattle.std.proofs.Common.{◌≡◌, ◌∙◌, ap, arith, length}
+use Rattle.std.proofs.Math.ListN.{length-replicate}
+use Rattle.model.specs.Stores.{StoreState, first_store}
 use Rattle.heap.proofs.Keeping.{first_fills}
 use Rattle.heap.proofs.heap.Heap.first.Goals as goal
 
 pub invariant_of-result : goal.invariant_of-result
+unfolding first_store
 invariant_of-result c = record {
   config = c.requires;
+  sizes = record {
+    words = ap (λ (s : StoreState). s.words) c.in_ok-store.ensures;
+    frames = ap (λ (s : StoreState). length s.frames) c.in_ok-store.ensures ∙ length-replicate c.args.config.frames _;
+    pages = ap (λ (s : StoreState). s.count) c.in_ok-store.ensures;
+    threads = ap length c.in_ok-actors.ensures.threads ∙ length-replicate c.args.config.threads _;
+    workers = ap length c.in_ok-actors.ensures.workers ∙ length-replicate c.args.config.workers _;
+    globals = ap length c.in_ok-actors.ensures.globals ∙ length-replicate c.args.config.globals _;
+  };
   births = omega arith;
   buffers = first_fills _ c.args.config.threads c.args.config.registers
       _ c.in_ok-actors.ensures.threads;

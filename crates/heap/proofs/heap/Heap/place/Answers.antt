@@ -1,8 +1,8 @@
 use Rattle.std.proofs.Common.{◌+◌, ◌-◌, ◌≤◌, ◌<◌, sym, subst}
-use Rattle.model.specs.Owning.{LiesIn}
+use Rattle.model.specs.Owning.{LiesIn, AreSized}
 use Rattle.model.specs.Heaps.{HeapState}
 use Rattle.model.specs.Stores.{StoreState}
-use Rattle.page.proofs.Lying.{words_lie}
+use Rattle.page.proofs.Lying.{words_lie, words_sized_alike}
 use Rattle.heap.specs.Views.{heap_of}
 use Rattle.heap.proofs.Keeping.{birth_keeps, rest_lies}
 use Rattle.heap.proofs.heap.Heap.place.Goals as goal
@@ -23,5 +23,6 @@ pub invariant_of-self : goal.invariant_of-self
 invariant_of-self c =
     let low = subst (λ (h : HeapState). h.births < h.config.births) (sym c.self.view_is) c.requires.births in
     birth_keeps (heap_of c.self.inside) c.write_new.new.store c.note_start.new.starts c.note_start.new.mark
-    c.note_start.new.todo c.self.invariant low (λ b lies. subst (λ (s : StoreState). LiesIn s b)
+    c.note_start.new.todo c.self.invariant low (subst (AreSized c.self.inside.store) (sym c.write_new.ensures)
+    (words_sized_alike c.self.inside.store c.args.buffer.page _)) (λ b lies. subst (λ (s : StoreState). LiesIn s b)
     (sym c.write_new.ensures) (words_lie c.self.inside.store c.args.buffer.page _ b lies))

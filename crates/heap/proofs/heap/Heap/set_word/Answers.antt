@@ -1,6 +1,6 @@
 use Rattle.std.proofs.Common.{sym, subst}
-use Rattle.model.specs.Owning.{LiesIn}
-use Rattle.page.proofs.Lying.{word_lies}
+use Rattle.model.specs.Owning.{LiesIn, AreSized}
+use Rattle.page.proofs.Lying.{word_lies, word_sized_alike}
 use Rattle.heap.specs.Views.{heap_of}
 use Rattle.heap.proofs.Keeping.{store_keeps}
 use Rattle.heap.proofs.heap.Heap.set_word.Goals as goal
@@ -8,5 +8,6 @@ use Rattle.heap.proofs.heap.Heap.set_word.Goals as goal
 pub invariant_of-self : goal.invariant_of-self
 invariant_of-self c =
     let h = heap_of c.self.inside in
-    store_keeps h c.set_word.new.self c.self.invariant (λ b lies. subst (λ s. LiesIn s b) (sym c.set_word.ensures)
+    store_keeps h c.set_word.new.self c.self.invariant
+    (subst (AreSized h.store) (sym c.set_word.ensures) (word_sized_alike h.store c.args.address c.args.value)) (λ b lies. subst (λ s. LiesIn s b) (sym c.set_word.ensures)
     (word_lies h.store c.args.address c.args.value b lies))
