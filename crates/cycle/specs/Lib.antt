@@ -1,3 +1,4 @@
 pub mod Books
+pub mod Loads
 pub mod Replays
 pub mod Views

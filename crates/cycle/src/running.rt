@@ -45,7 +45,7 @@ fn act_each(
 }
 
 /// Adds a reply for which there is room.
-fn add(replies: &mut Vec<Result<Answer, Refusal>>, reply: Result<Answer, Refusal>)
+pub(crate) fn add(replies: &mut Vec<Result<Answer, Refusal>>, reply: Result<Answer, Refusal>)
     requires { vec_len replies.old < vec_capacity replies.old }
     ensures added { replies.new.items ≡ replies.old.items ++ reply ∷ [] }
     ensures room { vec_capacity replies.old ≤ vec_capacity replies.new }

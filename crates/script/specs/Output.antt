@@ -1,8 +1,6 @@
 -- What a run of a script prints.
-use Rattle.std.specs.Prelude.{◌≡◌, ℕ, zero, suc, ◌+◌, Bool, true, false, List, [], ◌∷◌, ◌++◌, length, count_by, is_some, Ok, Err, Option, Some, None, slice_get, codes, if◌then◌else◌}
+use Rattle.std.specs.Prelude.{ℕ, ◌+◌, Bool, List, [], ◌∷◌, ◌++◌, length, count_by, is_some, Option, Some, None, slice_get, codes, if◌then◌else◌}
 use Rattle.std.specs.Fmt.{decimal}
-use Rattle.model.specs.declared.steps.Actor.{Actor}
-use Rattle.model.specs.declared.steps.Step.TheVariants as steps
 use Rattle.model.specs.declared.steps.Answer.{Answer}
 use Rattle.model.specs.declared.steps.Answer.TheVariants as answers
 use Rattle.model.specs.declared.records.Global.{Global}
@@ -10,7 +8,8 @@ use Rattle.model.specs.declared.records.Page.{Page}
 use Rattle.model.specs.Heaps.{HeapState, ThreadState, Reference}
 use Rattle.model.specs.Stores.{is_unused}
 use Rattle.cycle.specs.declared.book.Entry.{Entry}
-use Rattle.cycle.specs.Books.{BookState, BookOutcome, Reply, acted, first_book}
+use Rattle.cycle.specs.Books.{BookState, first_book}
+use Rattle.cycle.specs.Loads.{Told, loaded, one_step}
 use Rattle.parser.specs.declared.order.Command.{Command}
 use Rattle.parser.specs.Orders.{step_of, is_get}
 use Rattle.parser.specs.Reading.{ScriptValue}
@@ -100,58 +99,9 @@ report_text h history =
 
 -- the commands
 
--- what steps of a command did: the book after them, and their replies in order
-pub record Told : Type 0 where
-  pub book : BookState
-  pub replies : List Reply
-
--- a book and replies
-abbrev pub told : BookState → List Reply → Told
-told b replies = record { book = b; replies = replies }
-
--- a step of this outcome, and what follows where it is accepted; a refusal is the end
-unfoldable pub stepped : BookState → BookOutcome → (BookState → Answer → Told) → Told
-stepped b (Ok x) next = told (next x.0 x.1).book (Ok x.1 ∷ (next x.0 x.1).replies)
-stepped b (Err e) next = told b (Err e ∷ [])
-
--- the load ends
-abbrev pub finished : BookState → Actor → Told
-finished b actor = stepped b (acted b actor steps.Finish) (λ c answer. told c [])
-
--- where a trap was due, the place of the load is healed before
-abbrev pub healed : Bool → BookState → Actor → Told
-healed false b actor = finished b actor
-healed true b actor = stepped b (acted b actor steps.Heal) (λ c answer. finished c actor)
-
--- no trap was due
-abbrev pub is_clear : Answer → Bool
-is_clear answers.Clear = true
-is_clear other = false
-
--- Trap until it answers Clear, but at most so many times: then heal, where one was due, and finish.
-unfoldable pub trapped : ℕ → Bool → BookState → Actor → Told
-trapped zero due b actor = healed due b actor
-trapped (suc n) due b actor = stepped b (acted b actor steps.Trap) (λ c answer.
-    if is_clear answer then healed due c actor else trapped n true c actor)
-
--- What follows the first step: of `get` and `getg` the load goes on to its end. Three traps are
--- enough: behind one that forwards and one that marks none is due any more.
-abbrev pub going_on : Bool → BookState → Actor → Told
-going_on false b actor = told b []
-going_on true b actor = trapped 3 false b actor
-
--- what a command does to a book, and what its steps say
+-- what a command does to a book, and what its steps say: those of a whole load, or of one step
 unfoldable pub done : BookState → Command → Told
-done b c = stepped b (acted b c.actor (step_of c.order)) (λ d answer. going_on (is_get c.order) d c.actor)
-
--- a step has the reply of its outcome; a refused one leaves the book
-abbrev pub Says : BookState → Reply → BookState → BookOutcome → Type 0
-Says old (Ok answer) new outcome = outcome ≡ Ok (new, answer)
-Says old (Err e) new outcome = (outcome ≡ Err e) × (new ≡ old)
-
--- replies before those of steps
-abbrev pub behind : List Reply → Told → Told
-behind replies t = told t.book (replies ++ t.replies)
+done b c = if is_get c.order then loaded b c.actor (step_of c.order) else one_step b c.actor (step_of c.order)
 
 -- the lines of commands, of which the first is number n
 unfoldable pub lines_text : ℕ → BookState → List Command → List ℕ

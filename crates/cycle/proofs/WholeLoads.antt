@@ -1,16 +1,21 @@
--- The steps of a command, one after another.
-use Rattle.std.proofs.Common.{◌≡◌, ℕ, suc, Bool, true, false, List, [], ◌∷◌, ◌++◌}
+-- The steps of a load, one after another.
+use Rattle.std.proofs.Common.{◌≡◌, ℕ, suc, ◌+◌, Bool, true, false, List, [], ◌∷◌, ◌++◌, Option, Some, None, arith, rules}
 use Rattle.std.proofs.Common.{refl, ap, sym, subst, ◌∙◌, append_assoc, append-nil}
-use Rattle.std.specs.Prelude.{Ok, Err, if◌then◌else◌}
+use Rattle.std.specs.Prelude.{Result, Ok, Err, OnOk, IfOk, if◌then◌else◌}
+use Rattle.model.specs.declared.records.Barrier.{Barrier}
 use Rattle.model.specs.declared.steps.Actor.{Actor}
-use Rattle.model.specs.declared.steps.Step.{Step}
+use Rattle.model.specs.declared.steps.Actor.TheVariants.{Thread, Worker}
 use Rattle.model.specs.declared.steps.Step.TheVariants as steps
 use Rattle.model.specs.declared.steps.Answer.{Answer}
+use Rattle.model.specs.declared.steps.Answer.TheVariants as answers
 use Rattle.model.specs.declared.steps.Refusal.{Refusal}
-use Rattle.cycle.specs.Books.{BookState, BookOutcome, Reply, acted}
-use Rattle.parser.specs.declared.order.Command.{Command}
-use Rattle.parser.specs.Orders.{step_of, is_get}
-use Rattle.script.specs.Output.{Told, told, stepped, finished, healed, is_clear, trapped, going_on, done, Says, behind}
+use Rattle.model.specs.declared.steps.Refusal.TheVariants as refusals
+use Rattle.model.specs.Heaps.{HeapState, barrier_of_thread}
+use Rattle.model.specs.Refusing.{◌>>=◌, or_refuse, Outcome}
+use Rattle.model.specs.Outcome.{outcome, thread_gate, thread_row, trap_outcome, trap_due}
+use Rattle.cycle.specs.Books.{BookState, BookOutcome, Reply, acted, entered, is_full}
+use Rattle.cycle.specs.Loads.{Told, told, stepped, finished, healed, is_clear, trapped, load_ended, loaded, Says, behind}
+use Rattle.cycle.specs.Loads.{EndsIn, IsVerdict, LoadsWhole, ThreeTrapsServe}
 
 accepted : (b c : BookState) (o : BookOutcome) (reply : Reply) (a : Answer) → reply ≡ Ok a → Says b reply c o
     → o ≡ Ok (c, a)
@@ -54,12 +59,19 @@ last_step b c o (Ok a) rs more says put =
     step_ok b c o (Ok a) a (λ d answer. told d []) rs more (told c more) refl says put (nothing_more c more)
 last_step b c o (Err e) rs more says put = step_err b c o (Err e) e (λ d answer. told d []) rs more refl says put
 
+-- a call that did the last step
+pub last_done : {E : Type 0} (b c : BookState) (o : BookOutcome) (r : Result Reply E) (rs more : List Reply)
+    → IfOk r (λ reply. Says b reply c o) → IfOk r (λ reply. more ≡ rs ++ reply ∷ [])
+    → OnOk r (behind rs (stepped b o (λ d answer. told d [])) ≡ told c more)
+last_done b c o (Ok reply) rs more says put = last_step b c o reply rs more says put
+last_done b c o (Err e) rs more says put = search rules
+
 pub healed_due : (due : Bool) (b : BookState) (actor : Actor) (rs : List Reply) (t : Told)
     → due ≡ true → behind rs (stepped b (acted b actor steps.Heal) (λ c answer. finished c actor)) ≡ t
     → behind rs (healed due b actor) ≡ t
 healed_due due b actor rs t e h = subst (λ (x : Bool). behind rs (healed x b actor) ≡ t) (sym e) h
 
--- ---- traps
+-- traps
 
 -- what follows a trap of this answer, where n are left
 abbrev pub after_trap : ℕ → Bool → Actor → BookState → Answer → Told
@@ -101,15 +113,82 @@ pub trapped_last : (k : ℕ) (due : Bool) (b : BookState) (actor : Actor) → k 
 unfolding trapped
 trapped_last k due b actor e = rw e refl
 
--- ---- a command
+-- what a call that may lack memory tells leads on
+pub on_ok : {X E : Type 0} (r : Result X E) (P Q : Type 0) → OnOk r P → (P → Q) → OnOk r Q
+on_ok (Ok x) P Q h k = k h
+on_ok (Err e) P Q h k = search rules
 
-pub done_is : (b : BookState) (c : Command) (s : Step) (g : Bool) → s ≡ step_of c.order → g ≡ is_get c.order →
-    done b c ≡ stepped b (acted b c.actor s) (λ d answer. going_on g d c.actor)
-unfolding done
-done_is b c s g e h = rw (e, h) refl
+-- the same of what it gave, where the fact is of no value of it
+pub on_ok_of : {X E : Type 0} (r : Result X E) (P : X → Type 0) (Q : Type 0) → IfOk r P → ((x : X) → P x → Q) → OnOk r Q
+on_ok_of (Ok x) P Q h k = k x h
+on_ok_of (Err e) P Q h k = search rules
 
-pub same_book : (b c : BookState) (t : Told) (more : List Reply) → behind [] t ≡ told c more → c ≡ t.book
-same_book b c t more h = sym (ap (λ (x : Told). x.book) h)
+-- a reply that was put behind others is the last
+pub ends_in : (rs more : List Reply) (reply r : Reply) → reply ≡ r → more ≡ rs ++ reply ∷ [] → EndsIn more r
+ends_in rs more reply r e put = (rs, put ∙ ap (λ (x : Reply). rs ++ x ∷ []) e)
 
-pub same_replies : (c : BookState) (t : Told) (more : List Reply) → behind [] t ≡ told c more → more ≡ t.replies
-same_replies c t more h = sym (ap (λ (x : Told). x.replies) h)
+-- three traps
+
+row_clear : (h : HeapState) (o : Option Barrier) (due : Barrier → Bool) (x : HeapState × Answer)
+    → or_refuse o refusals.NotBusy >>= (λ b. if due b then Err refusals.NoActor else Ok (h, answers.Clear)) ≡ Ok x
+    → x.1 ≡ answers.Clear
+row_clear h None due x e = absurd cc
+row_clear h (Some b) due x e = by_due (due b) e
+  where
+    by_due : (d : Bool) → (if d then Err refusals.NoActor else Ok (h, answers.Clear)) ≡ Ok x → x.1 ≡ answers.Clear
+    by_due true f = absurd cc
+    by_due false f = cc
+
+gate_passed : (r : Result Unit Refusal) (o : Outcome) (x : HeapState × Answer) → r >>= (λ u. o) ≡ Ok x → o ≡ Ok x
+gate_passed (Ok u) o x e = e
+gate_passed (Err n) o x e = absurd cc
+
+outcome_clear : (h : HeapState) (actor : Actor) (x : HeapState × Answer) → outcome h actor steps.Trap ≡ Ok x
+    → x.1 ≡ answers.Clear
+unfolding outcome trap_outcome
+outcome_clear h (Worker w) x e = absurd cc
+outcome_clear h (Thread t) x e = row_clear h (barrier_of_thread h t) (λ b. trap_due h t b.now) x
+    (gate_passed (thread_gate h t steps.Trap) (thread_row h t steps.Trap) x e)
+
+same_answer : (x y : BookState × Answer) → ◌≡◌ {A = BookOutcome} (Ok x) (Ok y) → x.1 ≡ y.1
+same_answer x y e = ap (λ (z : BookState × Answer). z.1) (same_pair e)
+  where
+    same_pair : ◌≡◌ {A = BookOutcome} (Ok x) (Ok y) → x ≡ y
+    same_pair f = cc
+
+entered_clear : (b : BookState) (actor : Actor) (o : Outcome) (c : BookState) (a : Answer)
+    → ((x : HeapState × Answer) → o ≡ Ok x → x.1 ≡ answers.Clear)
+    → entered b actor steps.Trap o ≡ Ok (c, a) → a ≡ answers.Clear
+entered_clear b actor (Ok x) c a clear e = sym (same_answer _ _ e) ∙ clear x refl
+entered_clear b actor (Err n) c a clear e = absurd cc
+
+acted_clear : (b c : BookState) (actor : Actor) (a : Answer) → acted b actor steps.Trap ≡ Ok (c, a)
+    → a ≡ answers.Clear
+unfolding acted
+acted_clear b c actor a e = by_full (is_full b) e
+  where
+    by_full : (full : Bool)
+        → (if full then Err refusals.HistoryFull else entered b actor steps.Trap (outcome b.heap actor steps.Trap))
+        ≡ Ok (c, a) → a ≡ answers.Clear
+    by_full true f = absurd cc
+    by_full false f =
+        entered_clear b actor (outcome b.heap actor steps.Trap) c a (outcome_clear b.heap actor) f
+
+stepped_same : (b : BookState) (o : BookOutcome) (f g : BookState → Answer → Told)
+    → ((c : BookState) (a : Answer) → o ≡ Ok (c, a) → f c a ≡ g c a) → stepped b o f ≡ stepped b o g
+unfolding stepped
+stepped_same b (Ok x) f g same =
+    ap (λ (t : Told). told t.book (Ok x.1 ∷ t.replies)) (same x.0 x.1 refl)
+stepped_same b (Err e) f g same = refl
+
+after_clear : (n m : ℕ) (due : Bool) (actor : Actor) (c : BookState) (a : Answer) → a ≡ answers.Clear
+    → after_trap n due actor c a ≡ after_trap m due actor c a
+after_clear n m due actor c a e = rw e refl
+
+pub three_traps_serve : ThreeTrapsServe
+three_traps_serve b k actor more =
+    let left : 3 + more ≡ suc (2 + more) = omega arith in
+    trapped_next (3 + more) (2 + more) false b actor left
+    ∙ stepped_same b (acted b actor steps.Trap) (after_trap (2 + more) false actor) (after_trap 2 false actor)
+    (λ c a e. after_clear (2 + more) 2 false actor c a (acted_clear b c actor a e))
+    ∙ sym (trapped_next 3 2 false b actor refl)

@@ -1,0 +1,86 @@
+-- Whole loads: the steps of one load, one after another, up to its end or the first refusal.
+use Rattle.std.specs.Prelude.{◌≡◌, ◌⊎◌, ℕ, zero, suc, ◌+◌, Bool, true, false, List, [], ◌∷◌, ◌++◌, Result, Ok, Err, if◌then◌else◌}
+use Rattle.model.specs.declared.steps.Actor.{Actor}
+use Rattle.model.specs.declared.steps.Step.{Step}
+use Rattle.model.specs.declared.steps.Step.TheVariants as steps
+use Rattle.model.specs.declared.steps.Answer.{Answer}
+use Rattle.model.specs.declared.steps.Answer.TheVariants as answers
+use Rattle.model.specs.declared.steps.Refusal.{Refusal}
+use Rattle.model.specs.declared.steps.Refusal.TheVariants as refusals
+use Rattle.cycle.specs.Books.{BookState, BookOutcome, Reply, acted}
+use Rattle.cycle.specs.Replays.{IsBook}
+
+-- what steps did: the book after them, and their replies in order
+pub record Told : Type 0 where
+  pub book : BookState
+  pub replies : List Reply
+
+-- a book and replies
+abbrev pub told : BookState → List Reply → Told
+told b replies = record { book = b; replies = replies }
+
+-- a step of this outcome, and what follows where it is accepted; a refusal is the end
+unfoldable pub stepped : BookState → BookOutcome → (BookState → Answer → Told) → Told
+stepped b (Ok x) next = told (next x.0 x.1).book (Ok x.1 ∷ (next x.0 x.1).replies)
+stepped b (Err e) next = told b (Err e ∷ [])
+
+-- one step
+abbrev pub one_step : BookState → Actor → Step → Told
+one_step b actor step = stepped b (acted b actor step) (λ c answer. told c [])
+
+-- the load ends
+abbrev pub finished : BookState → Actor → Told
+finished b actor = one_step b actor steps.Finish
+
+-- where a trap was due, the place of the load is healed before
+abbrev pub healed : Bool → BookState → Actor → Told
+healed false b actor = finished b actor
+healed true b actor = stepped b (acted b actor steps.Heal) (λ c answer. finished c actor)
+
+-- no trap was due
+abbrev pub is_clear : Answer → Bool
+is_clear answers.Clear = true
+is_clear other = false
+
+-- Trap until it answers Clear, but at most so many times: then heal, where one was due, and finish.
+unfoldable pub trapped : ℕ → Bool → BookState → Actor → Told
+trapped zero due b actor = healed due b actor
+trapped (suc n) due b actor = stepped b (acted b actor steps.Trap) (λ c answer.
+    if is_clear answer then healed due c actor else trapped n true c actor)
+
+-- What follows the step that begins a load. Three traps are enough: behind one that forwards and one that marks none is
+-- due any more.
+abbrev pub load_ended : BookState → Actor → Told
+load_ended b actor = trapped 3 false b actor
+
+-- a whole load, from the step that begins it
+abbrev pub loaded : BookState → Actor → Step → Told
+loaded b actor load = stepped b (acted b actor load) (λ c answer. load_ended c actor)
+
+-- of a book, no more than three traps are ever asked for: to allow more changes nothing
+abbrev pub ThreeTrapsServe : Type 0
+ThreeTrapsServe = (b : BookState) → IsBook b → (actor : Actor) (more : ℕ)
+    → trapped (3 + more) false b actor ≡ trapped 3 false b actor
+
+-- a step has the reply of its outcome; a refused one leaves the book
+abbrev pub Says : BookState → Reply → BookState → BookOutcome → Type 0
+Says old (Ok answer) new outcome = outcome ≡ Ok (new, answer)
+Says old (Err e) new outcome = (outcome ≡ Err e) × (new ≡ old)
+
+-- replies before those of steps
+abbrev pub behind : List Reply → Told → Told
+behind replies t = told t.book (replies ++ t.replies)
+
+-- a list ends in a reply
+abbrev pub EndsIn : List Reply → Reply → Type 0
+EndsIn replies reply = (before : List Reply) × (replies ≡ before ++ reply ∷ [])
+
+-- a load is whole where its last reply is accepted, and else refused as the last one is
+abbrev pub IsVerdict : Result Unit Refusal → List Reply → Type 0
+IsVerdict (Ok u) replies = (answer : Answer) × EndsIn replies (Ok answer)
+IsVerdict (Err e) replies = EndsIn replies (Err e)
+
+-- a load did the steps of a whole one, and its result is that of the last; or memory was refused
+abbrev pub LoadsWhole : Result Unit Refusal → List Reply → BookState → List Reply → Told → Type 0
+LoadsWhole (Err refusals.Memory) replies new all steps = Unit {0}
+LoadsWhole result replies new all steps = (behind replies steps ≡ told new all) × IsVerdict result all

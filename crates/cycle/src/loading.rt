@@ -1,0 +1,144 @@
+//! Whole loads: the steps of one load through the read barrier, up to its end or its first refusal.
+
+ghost use Rattle.std.specs.Prelude.{◌≡◌, ◌++◌, ◌∷◌, [], false, IfOk, OnErr, OnOk};
+ghost use Rattle.cycle.specs.Books.{acted};
+ghost use Rattle.cycle.specs.Loads.{EndsIn, LoadsWhole, Says, ThreeTrapsServe, behind, told, finished, healed, is_clear, trapped, load_ended, loaded};
+
+use crate::book::Book;
+use crate::running::add;
+use model::{Actor, Answer, Refusal, Step};
+use std::alloc::AllocError;
+
+/// The most traps of one load (ours). Behind one that forwards and one that marks none is due any
+/// more, so the third is clear.
+const MOST_TRAPS: u32 = 3;
+
+/// Of a book, no more than three traps are ever asked for. It does nothing: its contract is the law.
+pub fn three_traps()
+    ensures { ThreeTrapsServe }
+{}
+
+fn is_clear(answer: Answer) -> bool
+    ensures { result ≡ is_clear answer }
+{
+    matches!(answer, Answer::Clear)
+}
+
+impl Book {
+    /// One step, as `act` does it, whose reply is put behind others. The error is want of memory,
+    /// for the reply or in the step; then book and replies are as they were.
+    pub fn act_into(
+        &mut self,
+        actor: Actor,
+        step: Step,
+        replies: &mut Vec<Result<Answer, Refusal>>,
+    ) -> Result<Result<Answer, Refusal>, AllocError>
+        ensures says { IfOk result (λ reply. Says self.old reply self.new (acted self.old actor step)) }
+        ensures replies { IfOk result (λ reply. replies.new.items ≡ replies.old.items ++ reply ∷ []) }
+        ensures same_book { OnErr result (self.new ≡ self.old) }
+        ensures same_replies { OnErr result (replies.new.items ≡ replies.old.items) }
+    {
+        replies.reserve(1)?;
+        let reply = self.act(actor, step);
+        if let Err(Refusal::Memory) = reply {
+            return Err(AllocError);
+        }
+        add(replies, reply);
+        Ok(reply)
+    }
+
+    /// The load ends.
+    fn finish_load(
+        &mut self,
+        actor: Actor,
+        replies: &mut Vec<Result<Answer, Refusal>>,
+    ) -> Result<Result<Answer, Refusal>, AllocError>
+        ensures steps { OnOk result (behind replies.old.items (finished self.old actor) ≡ told self.new replies.new.items) }
+        ensures last { IfOk result (EndsIn replies.new.items) }
+    {
+        self.act_into(actor, Step::Finish, replies)
+    }
+
+    /// The place of the load is healed, where a trap was due, and the load ends.
+    fn heal_load(
+        &mut self,
+        actor: Actor,
+        due: bool,
+        replies: &mut Vec<Result<Answer, Refusal>>,
+    ) -> Result<Result<Answer, Refusal>, AllocError>
+        ensures steps { OnOk result (behind replies.old.items (healed due self.old actor) ≡ told self.new replies.new.items) }
+        ensures last { IfOk result (EndsIn replies.new.items) }
+    {
+        if due {
+            match self.act_into(actor, Step::Heal, replies)? {
+                Ok(_) => self.finish_load(actor, replies),
+                Err(refusal) => Ok(Err(refusal)),
+            }
+        } else {
+            self.finish_load(actor, replies)
+        }
+    }
+
+    /// Goes on with a load that has begun, to its end: traps until one is clear, heals the place
+    /// where a trap was due, and finishes. A refusal is the end. Gives the reply of its last step,
+    /// and puts all behind others.
+    ///
+    /// The error is want of memory; the steps before it are done, and this call may be asked again.
+    pub fn end_load(
+        &mut self,
+        actor: Actor,
+        replies: &mut Vec<Result<Answer, Refusal>>,
+    ) -> Result<Result<Answer, Refusal>, AllocError>
+        ensures steps { OnOk result (behind replies.old.items (load_ended self.old actor) ≡ told self.new replies.new.items) }
+        ensures last { IfOk result (EndsIn replies.new.items) }
+    {
+        let mut due = false;
+        for _ in 0..MOST_TRAPS {
+            match self.act_into(actor, Step::Trap, replies)? {
+                Err(refusal) => return Ok(Err(refusal)),
+                Ok(answer) => {
+                    if is_clear(answer) {
+                        return self.heal_load(actor, due, replies);
+                    }
+                    due = true;
+                }
+            }
+        }
+        self.heal_load(actor, due, replies)
+    }
+
+    fn begin_and_end_load(
+        &mut self,
+        actor: Actor,
+        load: Step,
+        replies: &mut Vec<Result<Answer, Refusal>>,
+    ) -> Result<Result<Answer, Refusal>, AllocError>
+        ensures steps { OnOk result (behind replies.old.items (loaded self.old actor load) ≡ told self.new replies.new.items) }
+        ensures last { IfOk result (EndsIn replies.new.items) }
+    {
+        match self.act_into(actor, load, replies)? {
+            Ok(_) => self.end_load(actor, replies),
+            Err(refusal) => Ok(Err(refusal)),
+        }
+    }
+
+    /// A whole load, as one call: the step that begins it, which is `Load` or `LoadGlobal`, then
+    /// all that `end_load` does. `Ok` where the register has the reference; else the first refusal,
+    /// and `Memory` for want of memory. What the steps said is put behind other replies.
+    ///
+    /// After `Memory` the steps before it are done; where the load had begun, `end_load` ends it.
+    pub fn whole_load(
+        &mut self,
+        actor: Actor,
+        load: Step,
+        replies: &mut Vec<Result<Answer, Refusal>>,
+    ) -> Result<(), Refusal>
+        ensures { LoadsWhole result replies.old.items self.new replies.new.items (loaded self.old actor load) }
+    {
+        match self.begin_and_end_load(actor, load, replies) {
+            Ok(Ok(_)) => Ok(()),
+            Ok(Err(refusal)) => Err(refusal),
+            Err(_) => Err(Refusal::Memory),
+        }
+    }
+}
