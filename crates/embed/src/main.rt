@@ -1,5 +1,4 @@
-//! The smallest program on the library: a linked list is made, and walked. What needs memory takes
-//! the allocator of the program's runtime, `rt.alloc()`, and tells where there is none.
+//! The smallest program on the library: a linked list is made, and walked.
 #![tactic(auto)]
 
 use anyhow::Result;

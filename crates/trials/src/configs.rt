@@ -40,6 +40,18 @@ fn the_first_fault_is_told(rt: HostRuntime) -> Result<(), Fail> {
 }
 
 #[test]
+fn the_usual_values(rt: HostRuntime) -> Result<(), Fail> {
+    let layouts = vec![in rt.alloc(); Layout { refs: 1, nums: 14 }]?;
+    let config = Config::new(16, 3, Layouts::new(layouts));
+    assert_eq!(rt; (config.words, config.frames, config.pages), (16, 3, 6));
+    assert_eq!(rt; (config.threads, config.workers), (1, 1));
+    assert_eq!(rt; (config.registers, config.globals), (16, 64));
+    assert_eq!(rt; (config.births, config.history), (1 << 32, 1_000_000));
+    assert_eq!(rt; (config.layouts.len(), config.fault()), (1, None));
+    Ok(())
+}
+
+#[test]
 fn a_copy_has_the_same_values(rt: HostRuntime) -> Result<(), Fail> {
     let config = small(rt.alloc())?;
     let copy = config.copy(rt.alloc())?;

@@ -9,6 +9,8 @@ mod configs;
 #[cfg(test)]
 mod heaps;
 #[cfg(test)]
+mod loads;
+#[cfg(test)]
 mod objects;
 #[cfg(test)]
 mod pages;

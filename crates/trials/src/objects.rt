@@ -47,6 +47,51 @@ fn writes_through_the_parts(rt: HostRuntime) -> Result<(), Fail> {
     Ok(())
 }
 
+/// Writes numbers that count up.
+fn count_up(words: &mut [u64], first: u64) {
+    let mut number = first;
+    for word in words {
+        *word = number;
+        number = number.wrapping_add(1);
+    }
+}
+
+/// Writes through each part of an object: 1, then from 11 on, then from 21 on.
+fn write_parts(part: &mut [u64], layout: &Layout) -> bool {
+    let Some(parts) = split(part, layout) else {
+        return false;
+    };
+    *parts.header = 1;
+    count_up(parts.refs, 11);
+    count_up(parts.data, 21);
+    true
+}
+
+#[test]
+fn each_part_is_at_its_place(rt: HostRuntime) -> Result<(), Fail> {
+    for (refs, nums, expected) in [
+        (0, 0, [1, 0, 0, 0]),
+        (1, 0, [1, 11, 0, 0]),
+        (0, 1, [1, 21, 0, 0]),
+        (2, 0, [1, 11, 12, 0]),
+        (1, 1, [1, 11, 21, 0]),
+        (0, 2, [1, 21, 22, 0]),
+        (3, 0, [1, 11, 12, 13]),
+        (2, 1, [1, 11, 12, 21]),
+        (1, 2, [1, 11, 21, 22]),
+        (0, 3, [1, 21, 22, 23]),
+    ] {
+        let layout = Layout { refs, nums };
+        let mut words = [0; 4];
+        let part = words
+            .get_mut(..layout.size() as usize)
+            .ok_or("no such part")?;
+        assert!(rt; write_parts(part, &layout));
+        assert_eq!(rt; words, expected);
+    }
+    Ok(())
+}
+
 #[test]
 fn writes_through_two_splits(rt: HostRuntime) -> Result<(), Fail> {
     let mut words = [1, 2, 3, 4];

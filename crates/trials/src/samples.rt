@@ -20,3 +20,9 @@ pub fn small(alloc: Global) -> Result<Config, AllocError> {
         history: 1_000_000,
     })
 }
+
+/// One page of 16 words, one thread with 16 registers, and one layout of one reference.
+pub fn linked(alloc: Global) -> Result<Config, AllocError> {
+    let layouts = vec![in alloc; Layout { refs: 1, nums: 0 }]?;
+    Ok(Config::new(16, 1, Layouts::new(layouts)))
+}

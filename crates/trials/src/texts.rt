@@ -5,9 +5,7 @@ use refword::{Addr, Word};
 use std::alloc::Global;
 use std::process::Abort;
 use std::test::Fail;
-use text::{
-    BufferText, FrameText, PageStateText, PhaseText, RefusalText, WordText, put_line, write_line,
-};
+use text::{BufferText, FrameText, PageStateText, PhaseText, WordText, put_line, write_line};
 
 /// The line of an answer, as the seventh.
 fn has_line(
@@ -129,7 +127,6 @@ fn refusals(rt: HostRuntime) -> Result<(), Fail> {
         (Refusal::HistoryFull, "HistoryFull"),
         (Refusal::Memory, "Memory"),
     ] {
-        let refusal = RefusalText(refusal);
         assert_eq!(rt; format!(in rt.alloc(); "{refusal}")?.as_str(), name);
     }
     Ok(())
