@@ -3,17 +3,23 @@
 #![tactic(auto)]
 
 #[cfg(test)]
+mod beginnings;
+#[cfg(test)]
 mod books;
 #[cfg(test)]
 mod configs;
 #[cfg(test)]
 mod heaps;
 #[cfg(test)]
+mod histories;
+#[cfg(test)]
 mod objects;
 #[cfg(test)]
 mod pages;
 #[cfg(test)]
 mod reports;
+#[cfg(test)]
+mod rows;
 #[cfg(test)]
 mod samples;
 #[cfg(test)]
@@ -24,3 +30,5 @@ mod serving;
 mod texts;
 #[cfg(test)]
 mod words;
+#[cfg(test)]
+mod writers;
