@@ -1,6 +1,6 @@
 //! Serving what was asked for.
 
-ghost use Rattle.std.specs.Prelude.{◌≡◌, [], IfErr, IfSome, OnOk, IfOk};
+ghost use Rattle.std.specs.Prelude.{◌≡◌, ◌+◌, [], IfErr, IfSome, OnOk, IfOk};
 ghost use Rattle.std.specs.Io.Buffered.{writer_buffer, writer_contents};
 ghost use Rattle.std.specs.Io.KnownBytes.{Appends, Keeps};
 ghost use Rattle.script.specs.Output.{output_text};
@@ -44,13 +44,20 @@ fn cannot_read<E: io::Write>(asked: &Asked, errors: &mut E) -> u8
     3
 }
 
+/// How many bytes are read: at most one more than a script may have.
+fn most_read() -> u64
+    ensures { result ≡ MOST_BYTES + 1 }
+{
+    MOST_BYTES as u64 + 1
+}
+
 /// The bytes of a script: at most one more than it may have.
 fn read_bytes<R: io::Read>(alloc: Global, reader: &mut R) -> Result<Vec<u8>, ServeFault>
     ensures bytes { IfOk result (λ bytes. ReadsUpTo (R.remaining reader.old) bytes.items) }
     ensures faults { IfErr result (λ fault. fault_status fault ≡ 3) }
 {
     let mut bytes = Vec::new(alloc);
-    let limit = MOST_BYTES as u64 + 1;
+    let limit = most_read();
     let lent = &mut *reader;
     match lent.take(limit).read_to_end(&mut bytes) {
         Ok(_) => Ok(bytes),
