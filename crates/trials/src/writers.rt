@@ -5,6 +5,7 @@ use service::serve;
 use std::alloc::Global;
 use std::io;
 use std::io::{BufWriter, Write};
+use std::process::Abort;
 use std::test::Fail;
 
 /// A writer that takes a number of writes and fails at the next. When it is flushed it fails too,
@@ -57,21 +58,29 @@ fn served(
     Ok((status, writer.taken, errors))
 }
 
+/// Behind a buffer of so many bytes so many writes are needed, and a fault of each is told.
+fn are_needed(rt: &impl Abort, alloc: Global, capacity: usize, writes: u32) -> Result<(), Fail> {
+    for left in 0..6u32 {
+        let (status, taken, errors) = served(alloc, capacity, left, true)?;
+        let is_whole = left >= writes;
+        let line = if is_whole {
+            ""
+        } else {
+            "pauseless: cannot write\n"
+        };
+        assert_eq!(rt; status, if is_whole { 0 } else { 3 });
+        assert_eq!(rt; taken.len() == OUTPUT.len(), is_whole);
+        assert!(rt; OUTPUT.as_bytes().starts_with(&taken));
+        assert_eq!(rt; errors.as_slice(), line.as_bytes());
+    }
+    Ok(())
+}
+
 /// The lines go out one by one behind a small buffer, and together behind a large one.
 #[test]
 fn each_write_fails(rt: HostRuntime) -> Result<(), Fail> {
-    for (capacity, writes) in [(8, 5), (8192, 1)] {
-        for left in 0..6u32 {
-            let (status, taken, errors) = served(rt.alloc(), capacity, left, true)?;
-            let is_whole = left >= writes;
-            let line = if is_whole { "" } else { "pauseless: cannot write\n" };
-            assert_eq!(rt; status, if is_whole { 0 } else { 3 });
-            assert_eq!(rt; taken.len() == OUTPUT.len(), is_whole);
-            assert!(rt; OUTPUT.as_bytes().starts_with(&taken));
-            assert_eq!(rt; errors.as_slice(), line.as_bytes());
-        }
-    }
-    Ok(())
+    are_needed(&rt, rt.alloc(), 8, 5)?;
+    are_needed(&rt, rt.alloc(), 8192, 1)
 }
 
 #[test]
