@@ -1,9 +1,10 @@
 # make            builds the program and leaves it as ./pauseless
-# make run        builds it and runs examples/first.script
+# make try        runs examples/first.script by a build that proves nothing
+# make run        builds the program and runs examples/first.script
 # make test       the whole test command; its last line is 'N passed, M failed'
 # make install    puts the program into PREFIX/bin
 # make bench      times the program on generated scripts
-# make clean      removes the program and all that earlier checks kept
+# make clean      removes the program, the log and all that earlier checks kept
 #
 # The program is proved before it is built, so a first build takes minutes.
 
@@ -13,25 +14,47 @@ INSTALL = install
 PREFIX = /usr/local
 DESTDIR =
 
+# What the prover and the compiler say.
+LOG = build.log
+
 # The files that the program is made of, with the proofs.
 SOURCES := crates.txt $(shell find crates -type d -name out -prune -o \
 	-type f \( -name '*.rt' -o -name '*.antt' \) -print)
 
-.PHONY: all run test install bench clean
+# The toolchain is there, or it is said where it is described.
+needs_toolchain = command -v '$(firstword $(RT))' > /dev/null || { \
+	echo "make: the Rattle toolchain isn't there: no command '$(firstword $(RT))'." >&2; \
+	echo "make: README.md says under 'Commands' what is needed; RT=.. names another path." >&2; \
+	exit 1; }
+
+# A step failed: shows how its log ends.
+show_log = { echo 'make: this failed; the end of $(LOG):' >&2; tail -n 20 '$(LOG)' >&2; exit 1; }
+
+.PHONY: all try run test install bench clean
 
 all: pauseless
 
 # 'rt run' proves and builds the program, keeps it as out/report, and runs it
 # on the words after '--'.
 pauseless: $(SOURCES)
-	cd crates/report && $(RT) run -- run '$(CURDIR)/examples/first.script' > /dev/null
-	$(INSTALL) -m 755 crates/report/out/report $@
+	@$(needs_toolchain)
+	@echo 'Proving the program, then building it. A first time takes some 15 minutes; $(LOG) has the rest.'
+	@cd crates/report && $(RT) run -- run '$(CURDIR)/examples/first.script' \
+		> '$(CURDIR)/$(LOG)' 2>&1 || { cd '$(CURDIR)'; $(show_log); }
+	@$(INSTALL) -m 755 crates/report/out/report $@
 
 run: pauseless
-	./pauseless run examples/first.script
+	@./pauseless run examples/first.script
+
+try:
+	@$(needs_toolchain)
+	@echo "This build proves nothing ('make run' does), and takes less than a minute; $(LOG) has the rest."
+	@cd crates/report && $(RT) try --data first.script='$(CURDIR)/examples/first.script' -- run first.script \
+		2> '$(CURDIR)/$(LOG)' || { cd '$(CURDIR)'; $(show_log); }
 
 test:
-	@RT='$(RT)' INSTALL='$(INSTALL)' sh tests/all.sh
+	@$(needs_toolchain)
+	@RT='$(RT)' INSTALL='$(INSTALL)' PYTHON='$(PYTHON)' sh tests/all.sh
 
 install: pauseless
 	$(INSTALL) -d '$(DESTDIR)$(PREFIX)/bin'
@@ -41,5 +64,5 @@ bench: pauseless
 	$(PYTHON) bench/run.py ./pauseless
 
 clean:
-	rm -f pauseless
+	rm -f pauseless '$(LOG)'
 	rm -rf crates/*/out

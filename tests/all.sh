@@ -1,11 +1,14 @@
 #!/bin/sh
 # The whole test command: 'rt ci', then the program on all scripts and faults,
-# and the program and the library's calls with each of their requests for memory
-# refused. 'make test' runs it at the top of the repository. The last line is
-# 'N passed, M failed', and the exit status is 0 where M is 0.
+# on long scripts, and with words, files and outputs that fail; then the program
+# and the library's calls with each of their requests for memory refused. 'make
+# test' runs it at the top of the repository. The last line is 'N passed, M
+# failed', and the exit status is 0 where M is 0.
 
 RT=${RT:-rt}
 INSTALL=${INSTALL:-install}
+PYTHON=${PYTHON:-python3}
+export PYTHON
 . tests/begin.sh
 
 # count NAME COMMAND..: runs the command, shows its output, and adds up the
@@ -36,6 +39,8 @@ count 'rt ci' "$RT" ci
 if "$INSTALL" -m 755 crates/report/out/report pauseless; then
     count 'the scripts' sh tests/scripts.sh
     count 'the faults' sh tests/faults.sh
+    count 'the program' sh tests/program.sh
+    count 'long scripts' sh tests/long.sh
     count 'refused memory' sh tests/memory.sh
     count 'refused memory of calls' sh tests/calls.sh
 else

@@ -19,7 +19,8 @@ told() {
         grep -q -e '^error: Memory$' -e '^error: Alloc' -e '^error: Write$' "$kept/errors"
 }
 
-for test in configs::a_copy_has_the_same_values pages::takes_in_the_lowest_page \
+for test in rows::a_row_of_clear_bits rows::rows_of_clear_bits rows::copies_of_an_item \
+    configs::a_copy_has_the_same_values pages::takes_in_the_lowest_page \
     heaps::the_first_fault_is_told books::a_run_is_accepted scripts::steps_of_orders \
     reports::runs reports::cycles; do
     refuse_each "$test" crates/trials/out/trials_tests "$test"

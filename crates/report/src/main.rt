@@ -10,28 +10,29 @@ use std::rt::Files;
 use std::{env, fs, io};
 
 /// The words of the command line, without the program's name.
-fn words(rt: &HostRuntime) -> io::Result<Vec<String>> {
+fn words(rt: &HostRuntime) -> Result<Vec<String>, AskFault> {
     let mut words = Vec::new(rt.alloc());
-    for word in env::args(rt)?.skip(1) {
+    let all = env::args(rt).map_err(|error| AskFault::of_words(&error))?;
+    for word in all.skip(1) {
         words.push(word)?;
     }
     Ok(words)
 }
 
-/// Does what the words ask for, and gives the exit status. The errors are want of memory.
-fn served<E: io::Write>(rt: &HostRuntime, errors: &mut E) -> io::Result<u8>
+/// Does what the words ask for, and gives the exit status.
+fn served<E: io::Write>(rt: &HostRuntime, errors: &mut E) -> Result<u8, AskFault>
     ensures { IfOk result IsStatus }
 {
     let words = words(rt)?;
-    let asked = match ask(rt.alloc(), &words) {
-        Ok(asked) => asked,
-        Err(fault) => return Ok(fault.tell(errors)),
-    };
+    let asked = ask(rt.alloc(), &words)?;
     let mut file = match fs::open(rt, asked.file()) {
         Ok(file) => file,
         Err(error) => return Ok(not_opened(&asked, &error, errors)),
     };
-    let mut output = io::BufWriter::new(rt.alloc(), io::writer(rt))?;
+    // That a buffer can't be made is want of memory alone.
+    let Ok(mut output) = io::BufWriter::new(rt.alloc(), io::writer(rt)) else {
+        return Err(AskFault::Memory);
+    };
     Ok(serve(rt.alloc(), &asked, &mut file, &mut output, errors))
 }
 
@@ -39,7 +40,7 @@ fn main(rt: HostRuntime) -> ExitCode {
     let mut errors = rt.stderr();
     let status = match served(&rt, &mut errors) {
         Ok(status) => status,
-        Err(_) => AskFault::Memory.tell(&mut errors),
+        Err(fault) => fault.tell(&mut errors),
     };
     ExitCode::from(status)
 }

@@ -3,6 +3,7 @@ use Rattle.std.proofs.Common.{◌≡◌, ℕ, ◌+◌, ◌≤◌, List, [], ◌+
 use Rattle.std.proofs.Common.{Some, None, IfSome, inl, inr, ◌∙◌, ap, subst, arith, rules}
 use Rattle.std.specs.Option.{option_map}
 use Rattle.std.specs.Prelude.{Result, Ok, Err, IfErr, OnOk}
+use Rattle.std.specs.declared.io.buffered.BufWriter.{BufWriter}
 use Rattle.std.proofs.lemmas.List.{length-take, take_all}
 use Rattle.std.proofs.lemmas.Bool.{cases_lt}
 use Rattle.service.specs.Serving.{HasFault, Prints, ReadsUpTo}
@@ -14,13 +15,13 @@ whole limit all bytes e h =
     e ∙ take_all (limit + 1) all (omega (arith, size, length-take (limit + 1) all))
 
 -- what was printed of the bytes that were read was printed of all
-pub prints_all : {E : Type 0} (r : Result Unit E) (limit : ℕ) (known : Option (List ℕ)) (bytes : List ℕ)
-    (old new : Option (List ℕ)) → IfSome known (λ all. bytes ≡ take (limit + 1) all) → OnOk r (length bytes ≤ limit)
-    → OnOk r (Prints bytes old new) → OnOk r (IfSome known (λ all. Prints all old new))
-prints_all (Err e) limit known bytes old new h k p = search rules
-prints_all (Ok u) limit None bytes old new h k p = search rules
-prints_all (Ok u) limit (Some all) bytes old new h k p =
-    subst (λ (b : List ℕ). Prints b old new) (whole limit all bytes h k) p
+pub prints_all : {E T A : Type 0} (r : Result Unit E) (known : Option (List ℕ)) (bytes : List ℕ)
+    (contents : T → Option (List ℕ)) (old new : BufWriter T A) → ReadsUpTo known bytes
+    → OnOk r (Prints contents old new bytes) → OnOk r (IfSome known (Prints contents old new))
+prints_all (Err e) known bytes contents old new h p = search rules
+prints_all (Ok u) None bytes contents old new h p = search rules
+prints_all (Ok u) (Some all) bytes contents old new h p =
+    subst (Prints contents old new) (whole 4194304 all bytes h p.fits) p
 
 -- what a reader with a limit gives
 pub read_up_to : (limit n : ℕ) (known inner : Option (List ℕ)) (old bytes : List ℕ)

@@ -1,6 +1,8 @@
 -- What serving a script promises.
-use Rattle.std.specs.Prelude.{◌≡◌, ◌⊎◌, ℕ, ◌+◌, List, take, Option, Ok, IfSome, IsErr}
+use Rattle.std.specs.Prelude.{◌≡◌, ◌≤◌, ◌⊎◌, ℕ, ◌+◌, List, length, take, Option, Ok, IfSome, IsErr}
+use Rattle.std.specs.Io.Buffered.{writer_contents}
 use Rattle.std.specs.Io.KnownBytes.{Appends}
+use Rattle.std.specs.declared.io.buffered.BufWriter.{BufWriter}
 use Rattle.parser.specs.Reading.{ScriptValue, script_in}
 use Rattle.parser.specs.declared.script.TheConstants.{MOST_BYTES}
 use Rattle.parser.specs.Scripts.{IsTooLong}
@@ -13,11 +15,13 @@ use Rattle.service.specs.declared.serving.ServeFault.TheVariants.{Parse}
 abbrev pub ReadsUpTo : Option (List ℕ) → List ℕ → Type 0
 ReadsUpTo known bytes = IfSome known (λ all. bytes ≡ take (MOST_BYTES + 1) all)
 
--- the bytes are a script, and its output was written behind what was there
-pub record Prints (bytes : List ℕ) (old new : Option (List ℕ)) : Type 0 where
+-- the bytes are no more than a script may have, they are a script, and its output was written behind what was there
+pub record Prints {T A : Type 0} (contents : T → Option (List ℕ)) (old new : BufWriter T A) (bytes : List ℕ)
+    : Type 0 where
+  pub fits : length bytes ≤ MOST_BYTES
   pub script : ScriptValue
   pub read : script_in bytes ≡ Ok script
-  pub written : Appends old new (output_text script)
+  pub written : Appends (writer_contents contents old) (writer_contents contents new) (output_text script)
 
 -- the bytes are too many for a script, or no script
 abbrev pub HasFault : List ℕ → Type 0

@@ -1,6 +1,8 @@
 //! What the words of the command line ask for.
 
 ghost use Rattle.std.specs.Prelude.{◌≡◌, ◌≢◌, ◌∷◌, [], true, Some, None, Err, IfOk, IfErr, map, codes, string_bytes};
+ghost use Rattle.std.specs.IoError.{error_kind};
+ghost use Rattle.std.specs.declared.io.ErrorKind.TheVariants.{OutOfMemory};
 ghost use Rattle.clap.specs.Words.{app_of, fault_of, found_of, matches_of, rows_of};
 ghost use Rattle.service.specs.Asking.{are_plain, asked_by};
 ghost use Rattle.service.specs.Program.{program, texts_in};
@@ -30,7 +32,7 @@ pub struct Asked {
 #[derive(Clone, Copy, Debug, PartialEq, Eq, Error)]
 pub enum AskFault {
     /// The words aren't a mode and a file.
-    #[error("usage: pauseless run|threads|check FILE")]
+    #[error("usage: pauseless run FILE")]
     Usage,
     /// Memory was refused.
     #[error("pauseless: out of memory")]
@@ -54,6 +56,18 @@ impl<T: Drop> From<AllocFailed<T>> for AskFault {
 }
 
 impl AskFault {
+    /// Why the words of the command line can't be had: memory was refused, or a word isn't UTF-8,
+    /// which is the usage fault (ours), as the kit opens no file of such a name.
+    pub fn of_words(error: &io::Error) -> AskFault
+        ensures memory { result ≡ Memory → error_kind error.now ≡ OutOfMemory }
+        ensures usage { result ≡ Usage → error_kind error.now ≢ OutOfMemory }
+    {
+        if matches!(error.kind(), io::ErrorKind::OutOfMemory) {
+            return AskFault::Memory;
+        }
+        AskFault::Usage
+    }
+
     /// Writes its line to `errors`, and gives the exit status: 2 for words that are no mode and
     /// file, 3 for want of memory (ours). That the line can't be written changes nothing.
     pub fn tell<E: io::Write>(self, errors: &mut E) -> u8

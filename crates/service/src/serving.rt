@@ -1,6 +1,7 @@
 //! Serving what was asked for.
 
-ghost use Rattle.std.specs.Prelude.{◌≡◌, ◌≤◌, length, IfErr, IfSome, OnOk, IfOk};
+ghost use Rattle.std.specs.Prelude.{◌≡◌, ◌+◌, [], IfErr, IfSome, OnOk, IfOk};
+ghost use Rattle.std.specs.Io.Buffered.{writer_buffer, writer_contents};
 ghost use Rattle.std.specs.Io.KnownBytes.{Appends, Keeps};
 ghost use Rattle.script.specs.Output.{output_text};
 ghost use Rattle.service.specs.Serving.{HasFault, IsStatus, Prints, ReadsUpTo, fault_status};
@@ -9,7 +10,7 @@ use crate::asking::{Asked, Mode};
 use script::{MOST_BYTES, ParseFault, RunFault, Script, by_schedule, parse};
 use std::alloc::Global;
 use std::io;
-use std::io::Read as _;
+use std::io::{BufWriter, Read as _, Write as _};
 
 /// Why a script wasn't run to its end.
 #[derive(Clone, Copy, Debug, PartialEq, Eq)]
@@ -43,13 +44,20 @@ fn cannot_read<E: io::Write>(asked: &Asked, errors: &mut E) -> u8
     3
 }
 
+/// How many bytes are read: at most one more than a script may have.
+fn most_read() -> u64
+    ensures { result ≡ MOST_BYTES + 1 }
+{
+    MOST_BYTES as u64 + 1
+}
+
 /// The bytes of a script: at most one more than it may have.
 fn read_bytes<R: io::Read>(alloc: Global, reader: &mut R) -> Result<Vec<u8>, ServeFault>
     ensures bytes { IfOk result (λ bytes. ReadsUpTo (R.remaining reader.old) bytes.items) }
     ensures faults { IfErr result (λ fault. fault_status fault ≡ 3) }
 {
     let mut bytes = Vec::new(alloc);
-    let limit = MOST_BYTES as u64 + 1;
+    let limit = most_read();
     let lent = &mut *reader;
     match lent.take(limit).read_to_end(&mut bytes) {
         Ok(_) => Ok(bytes),
@@ -61,10 +69,15 @@ fn read_bytes<R: io::Read>(alloc: Global, reader: &mut R) -> Result<Vec<u8>, Ser
 }
 
 /// Runs the script that the bytes spell.
-fn run_bytes<O: io::Write>(alloc: Global, bytes: &[u8], output: &mut O) -> Result<(), ServeFault>
-    ensures prints { OnOk result (Prints bytes.now (O.contents output.old) (O.contents output.new)) }
-    ensures fits { OnOk result (length bytes.now ≤ MOST_BYTES) }
+fn run_bytes<W: io::Write + Drop>(
+    alloc: Global,
+    bytes: &[u8],
+    output: &mut BufWriter<W>,
+) -> Result<(), ServeFault>
+    ensures prints { OnOk result (Prints W.contents output.old output.new bytes.now) }
+    ensures flushed { OnOk result (writer_buffer output.new ≡ []) }
     ensures faults { IfErr result (λ fault. fault_status fault ≡ 2 → HasFault bytes.now) }
+    ensures kept { IfErr result (λ fault. fault_status fault ≡ 2 → output.new ≡ output.old) }
 {
     if bytes.len() > MOST_BYTES {
         return Err(ServeFault::Parse(ParseFault::TooLong));
@@ -76,12 +89,15 @@ fn run_bytes<O: io::Write>(alloc: Global, bytes: &[u8], output: &mut O) -> Resul
     run_script(alloc, &script, output)
 }
 
-fn run_script<O: io::Write>(
+fn run_script<W: io::Write + Drop>(
     alloc: Global,
     script: &Script,
-    output: &mut O,
+    output: &mut BufWriter<W>,
 ) -> Result<(), ServeFault>
-    ensures prints { OnOk result (Appends (O.contents output.old) (O.contents output.new) (output_text script.now)) }
+    ensures prints { OnOk result
+        (Appends (writer_contents W.contents output.old) (writer_contents W.contents output.new)
+        (output_text script.now)) }
+    ensures flushed { OnOk result (writer_buffer output.new ≡ []) }
     ensures faults { IfErr result (λ fault. fault_status fault ≡ 3) }
 {
     match by_schedule(alloc, script, output) {
@@ -90,8 +106,11 @@ fn run_script<O: io::Write>(
     }
 }
 
-fn flushed<O: io::Write>(output: &mut O) -> Result<(), ServeFault>
-    ensures keeps { OnOk result (Keeps (O.contents output.old) (O.contents output.new)) }
+/// Writes out what the buffer still has.
+fn flushed<W: io::Write + Drop>(output: &mut BufWriter<W>) -> Result<(), ServeFault>
+    ensures keeps { OnOk result
+        (Keeps (writer_contents W.contents output.old) (writer_contents W.contents output.new)) }
+    ensures empty { OnOk result (writer_buffer output.new ≡ []) }
     ensures faults { IfErr result (λ fault. fault_status fault ≡ 3) }
 {
     match output.flush() {
@@ -121,13 +140,15 @@ impl ServeFault {
     }
 }
 
-fn run<R: io::Read, O: io::Write>(
+fn run<R: io::Read, W: io::Write + Drop>(
     alloc: Global,
     reader: &mut R,
-    output: &mut O,
+    output: &mut BufWriter<W>,
 ) -> Result<(), ServeFault>
-    ensures prints { OnOk result (IfSome (R.remaining reader.old) (λ bytes. Prints bytes (O.contents output.old) (O.contents output.new))) }
+    ensures prints { OnOk result (IfSome (R.remaining reader.old) (Prints W.contents output.old output.new)) }
+    ensures flushed { OnOk result (writer_buffer output.new ≡ []) }
     ensures faults { IfErr result (λ fault. fault_status fault ≡ 2 → IfSome (R.remaining reader.old) HasFault) }
+    ensures kept { IfErr result (λ fault. fault_status fault ≡ 2 → output.new ≡ output.old) }
 {
     let bytes = read_bytes(alloc, reader)?;
     run_bytes(alloc, &bytes, output)
@@ -136,17 +157,20 @@ fn run<R: io::Read, O: io::Write>(
 /// Reads the script and does what was asked for; writes to `output` and `errors` as to standard
 /// output and standard error, and gives the exit status.
 ///
-/// 0: it is done. 2: the script has a fault. 3: memory was refused, or the file can't be read,
-/// or the output can't be written. A fault is one line of `errors`. All of this is ours.
-pub fn serve<R: io::Read, O: io::Write, E: io::Write>(
+/// 0: it is done, and nothing of the output waits in the buffer. 2: the script has a fault, and
+/// `output` is as it was. 3: memory was refused, or the file can't be read, or the output can't be
+/// written. A fault is one line of `errors`. All of this is ours.
+pub fn serve<R: io::Read, W: io::Write + Drop, E: io::Write>(
     alloc: Global,
     asked: &Asked,
     reader: &mut R,
-    output: &mut O,
+    output: &mut BufWriter<W>,
     errors: &mut E,
 ) -> u8
-    ensures done { result ≡ 0 → IfSome (R.remaining reader.old) (λ bytes. Prints bytes (O.contents output.old) (O.contents output.new)) }
+    ensures done { result ≡ 0 → IfSome (R.remaining reader.old) (Prints W.contents output.old output.new) }
+    ensures flushed { result ≡ 0 → writer_buffer output.new ≡ [] }
     ensures faults { result ≡ 2 → IfSome (R.remaining reader.old) HasFault }
+    ensures kept { result ≡ 2 → output.new ≡ output.old }
     ensures status { IsStatus result }
 {
     match asked.mode() {

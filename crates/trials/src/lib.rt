@@ -3,11 +3,15 @@
 #![tactic(auto)]
 
 #[cfg(test)]
+mod beginnings;
+#[cfg(test)]
 mod books;
 #[cfg(test)]
 mod configs;
 #[cfg(test)]
 mod heaps;
+#[cfg(test)]
+mod histories;
 #[cfg(test)]
 mod loads;
 #[cfg(test)]
@@ -16,6 +20,8 @@ mod objects;
 mod pages;
 #[cfg(test)]
 mod reports;
+#[cfg(test)]
+mod rows;
 #[cfg(test)]
 mod samples;
 #[cfg(test)]
@@ -26,3 +32,5 @@ mod serving;
 mod texts;
 #[cfg(test)]
 mod words;
+#[cfg(test)]
+mod writers;

@@ -1,4 +1,4 @@
-use Rattle.std.proofs.Common.{◌≤◌, List, ℕ, length, subst}
+use Rattle.std.proofs.Common.{List, ℕ, subst}
 use Rattle.std.specs.Result.{OnOk}
 use Rattle.std.specs.Prelude.{◌≡◌, IfErr}
 use Rattle.service.specs.Serving.{HasFault, Prints, fault_status}
@@ -7,12 +7,10 @@ use Rattle.service.proofs.serving.run.Goals as goal
 
 pub returns-clause-prints : goal.returns-clause-prints
 returns-clause-prints g c =
-    let prints = subst (λ (b : List ℕ). OnOk c.run_bytes.result (Prints b (g.O.Write.contents c.args.output.now)
-    (g.O.Write.contents c.run_bytes.new.output))) c.deref.ensures.value c.run_bytes.ensures.prints in
-    let fits = subst (λ (b : List ℕ). OnOk c.run_bytes.result (length b ≤ 4194304)) c.deref.ensures.value
-    c.run_bytes.ensures.fits in
-    prints_all c.run_bytes.result 4194304
-    (g.R.Read.remaining c.args.reader.now) c.in_ok-bytes.bytes.items _ _ c.in_ok-bytes.ensures.bytes fits prints
+    let prints = subst (λ (b : List ℕ). OnOk c.run_bytes.result (Prints g.W.Write.contents c.args.output.now
+    c.run_bytes.new.output b)) c.deref.ensures.value c.run_bytes.ensures.prints in
+    prints_all c.run_bytes.result (g.R.Read.remaining c.args.reader.now) c.in_ok-bytes.bytes.items _ _ _
+    c.in_ok-bytes.ensures.bytes prints
 
 pub returns-clause-faults : goal.returns-clause-faults
 returns-clause-faults g c =

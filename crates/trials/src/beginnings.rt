@@ -1,0 +1,117 @@
+//! The first state of a heap, through its readers.
+
+use heap::{Config, Heap, Rows, Thread};
+use layout::{Layout, Layouts};
+use model::{PageState, Phase};
+use page::Store;
+use refword::Word;
+use std::alloc::{AllocError, Global};
+use std::process::Abort;
+use std::test::Fail;
+
+/// A configuration whose numbers all differ.
+fn mixed(alloc: Global) -> Result<Config, AllocError> {
+    let layouts = vec![in alloc; Layout { refs: 1, nums: 2 }, Layout { refs: 3, nums: 0 }]?;
+    Ok(Config {
+        words: 32,
+        frames: 3,
+        pages: 8,
+        threads: 2,
+        workers: 4,
+        registers: 5,
+        globals: 7,
+        layouts: Layouts::new(layouts),
+        births: 100,
+        history: 200,
+    })
+}
+
+/// All pages are unused and all frames free; there are twice as many records as frames.
+fn has_pages(rt: &impl Abort, store: &Store) {
+    assert_eq!(rt; (store.page_words(), store.page_count()), (32, 8));
+    assert_eq!(rt; (store.frame_count(), store.free_frames()), (3, 3));
+    assert_eq!(rt; store.pages().len(), 6);
+    for page in store.pages() {
+        assert_eq!(rt; page.state, PageState::Unused);
+        assert_eq!(rt; (page.frame, page.top), (None, 0));
+    }
+}
+
+/// A row for each record, and no bit is set.
+fn has_clear_rows(rt: &impl Abort, rows: &Rows) {
+    for index in 0..6 {
+        assert_eq!(rt;
+            rows.get(index).map(heap::Row::count),
+            Some(0),
+            "in row {index}"
+        );
+    }
+    assert!(rt; rows.get(6).is_none());
+}
+
+/// No register names anything; the thread has no buffer and no barrier, and runs.
+fn is_new(rt: &impl Abort, thread: &Thread) {
+    assert_eq!(rt; thread.registers(), [Word::null(); 5].as_slice());
+    assert!(rt; thread.buffer().is_none());
+    assert!(rt; thread.barrier().is_none());
+    assert_eq!(rt; (thread.crossed(), thread.parked()), (true, false));
+}
+
+fn has_threads(rt: &impl Abort, threads: &[Thread]) {
+    assert_eq!(rt; threads.len(), 2);
+    for thread in threads {
+        is_new(rt, thread);
+    }
+}
+
+/// No worker has an object.
+fn has_workers(rt: &impl Abort, heap: &Heap) {
+    assert_eq!(rt; heap.workers().len(), 4);
+    for worker in heap.workers() {
+        assert!(rt; worker.is_none());
+    }
+}
+
+/// The globals are null.
+fn has_globals(rt: &impl Abort, heap: &Heap) {
+    assert_eq!(rt; heap.globals().len(), 7);
+    for global in heap.globals() {
+        assert_eq!(rt; (global.word, global.todo), (Word::null(), false));
+    }
+}
+
+fn has_collector(rt: &impl Abort, heap: &Heap) {
+    assert_eq!(rt; heap.phase(), Phase::Idle);
+    assert_eq!(rt; (heap.nmt(), heap.births()), (false, 0));
+}
+
+/// The configuration is the one that the heap was made of.
+fn has_config(rt: &impl Abort, config: &Config) {
+    assert_eq!(rt; (config.words, config.frames, config.pages), (32, 3, 8));
+    assert_eq!(rt; (config.threads, config.workers), (2, 4));
+    assert_eq!(rt; (config.registers, config.globals), (5, 7));
+    assert_eq!(rt; (config.births, config.history), (100, 200));
+    assert_eq!(rt; config.layouts.len(), 2);
+}
+
+#[test]
+fn pages_of_a_new_heap(rt: HostRuntime) -> Result<(), Fail> {
+    let heap = Heap::new(rt.alloc(), mixed(rt.alloc())?)?;
+    has_pages(&rt, heap.store());
+    has_clear_rows(&rt, heap.starts());
+    has_clear_rows(&rt, heap.live());
+    has_clear_rows(&rt, heap.mark());
+    has_clear_rows(&rt, heap.todo());
+    Ok(())
+}
+
+#[test]
+fn records_of_a_new_heap(rt: HostRuntime) -> Result<(), Fail> {
+    let heap = Heap::new(rt.alloc(), mixed(rt.alloc())?)?;
+    has_config(&rt, heap.config());
+    has_threads(&rt, heap.threads());
+    has_workers(&rt, &heap);
+    has_globals(&rt, &heap);
+    has_collector(&rt, &heap);
+    Ok(())
+}

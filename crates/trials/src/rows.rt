@@ -1,0 +1,49 @@
+//! Rows of bits, and lists of copies, made where there is memory.
+
+use heap::{Row, Rows};
+use page::many;
+use std::process::Abort;
+use std::test::Fail;
+
+#[test]
+fn a_row_of_clear_bits(rt: HostRuntime) -> Result<(), Fail> {
+    let mut row = Row::new(rt.alloc(), 16)?;
+    assert_eq!(rt; row.count(), 0);
+    for offset in 0..20 {
+        row.put(offset, true);
+    }
+    assert_eq!(rt; row.count(), 16);
+    Ok(())
+}
+
+/// How many bits are set in the first rows, and that there are no more.
+fn has_counts(rt: &impl Abort, rows: &Rows, counts: &[usize]) {
+    for (index, count) in counts.iter().enumerate() {
+        assert_eq!(rt;
+            rows.get(index).map(Row::count),
+            Some(*count),
+            "in row {index}"
+        );
+    }
+    assert!(rt; rows.get(counts.len()).is_none());
+}
+
+#[test]
+fn rows_of_clear_bits(rt: HostRuntime) -> Result<(), Fail> {
+    let mut rows = Rows::new(rt.alloc(), 3, 16)?;
+    has_counts(&rt, &rows, &[0, 0, 0]);
+    for (index, offset) in [(0, 0), (1, 0), (1, 15), (1, 16), (2, 20), (3, 0)] {
+        rows.put(index, offset, true);
+    }
+    has_counts(&rt, &rows, &[1, 2, 0]);
+    rows.clear(1);
+    has_counts(&rt, &rows, &[1, 0, 0]);
+    Ok(())
+}
+
+#[test]
+fn copies_of_an_item(rt: HostRuntime) -> Result<(), Fail> {
+    assert_eq!(rt; many(rt.alloc(), 3, 7u32)?.as_slice(), [7, 7, 7].as_slice());
+    assert_eq!(rt; many(rt.alloc(), 0, 7u32)?.len(), 0);
+    Ok(())
+}

@@ -1,0 +1,29 @@
+#!/bin/sh
+# Runs the program on the long scripts that tests/long.py writes, and compares
+# what it prints with what the model there worked out. Without Python 3 this
+# test fails. The program is ./pauseless, or the one that the first argument
+# names.
+
+cd "$(dirname "$0")/.." || exit 1
+. tests/begin.sh
+
+if ! "${PYTHON:-python3}" tests/long.py "$kept"; then
+    echo 'failed: the long scripts could not be made; they need Python 3'
+    failed=$((failed + 1))
+fi
+
+for name in many_pages full_history; do
+    : > "$kept/output"
+    "$program" run "$kept/$name.script" > "$kept/output" 2> "$kept/errors"
+    status=$?
+    if [ "$status" = 0 ] && [ ! -s "$kept/errors" ] && cmp "$kept/$name.expected" "$kept/output"; then
+        echo "passed: $name"
+        passed=$((passed + 1))
+    else
+        echo "failed: $name: status $status, $(cat "$kept/errors")"
+        failed=$((failed + 1))
+    fi
+done
+
+echo "$passed passed, $failed failed"
+[ "$failed" = 0 ]

@@ -1,0 +1,150 @@
+#!/bin/sh
+# Runs the program with words, files and outputs of which no script tells: each
+# run has to end with its exit status, its one line on standard error, or none,
+# and all of the output or nothing. The program is ./pauseless, or the one that
+# the first argument names.
+
+cd "$(dirname "$0")/.." || exit 1
+. tests/begin.sh
+
+script=examples/first.script
+: > "$kept/nothing"
+
+# ends WHAT STATUS LINE OUTPUT: compares the run's end, which stands in
+# $kept/output, $kept/errors and $status.
+ends() {
+    printf '%b' "$3" > "$kept/line"
+    if [ "$status" = "$2" ] && cmp -s "$kept/line" "$kept/errors" && cmp -s "$4" "$kept/output"; then
+        passed=$((passed + 1))
+    else
+        echo "failed: $1: status $status, $(cat "$kept/errors")"
+        failed=$((failed + 1))
+    fi
+}
+
+# runs WORD..: runs the program on these words.
+runs() {
+    "$program" "$@" > "$kept/output" 2> "$kept/errors"
+    status=$?
+}
+
+# is_done WHAT WORD..: the words name the first script, and it is run.
+is_done() {
+    what=$1
+    shift
+    runs "$@"
+    ends "$what" 0 '' examples/first.expected
+}
+
+# is_told WHAT STATUS LINE WORD..: nothing is done, and the line is told.
+is_told() {
+    what=$1 wanted=$2 line=$3
+    shift 3
+    runs "$@"
+    ends "$what" "$wanted" "$line" "$kept/nothing"
+}
+
+usage='usage: pauseless run FILE\n'
+strange=$kept/$(printf 'a\377b')
+cp "$script" "$strange"
+cp "$script" "$kept/-name"
+
+# Words.
+is_told 'no words' 2 "$usage"
+is_told 'a file alone' 2 "$usage" "$script"
+is_told 'a mode alone' 2 "$usage" run
+is_told 'three words' 2 "$usage" run "$script" "$script"
+is_told 'a mode that is not there' 2 "$usage" check "$script"
+is_told 'an empty mode' 2 "$usage" '' "$script"
+is_told 'a flag' 2 "$usage" run --help
+is_told 'a flag for a file' 2 "$usage" run "-name"
+is_told 'a name that is not UTF-8' 2 "$usage" run "$strange"
+is_told 'a mode that is not UTF-8' 2 "$usage" "$(printf '\377')" "$script"
+is_told 'a third word that is not UTF-8' 2 "$usage" run "$script" "$(printf '\303')"
+is_done 'two dashes before the file' run -- "$script"
+is_done 'two dashes before the mode' -- run "$script"
+is_done 'two dashes at the end' run "$script" --
+is_told 'a mode after two dashes' 2 "$usage" -- run -- "$script"
+is_told 'two dashes alone' 2 "$usage" --
+is_told 'two dashes for a file' 3 'pauseless: cannot read --\n' run -- --
+
+# Files.
+is_told 'a missing file' 3 'pauseless: cannot read no/such.script\n' run no/such.script
+is_told 'a directory' 3 'pauseless: cannot read examples\n' run examples
+is_told 'an empty name' 3 'pauseless: cannot read \n' run ''
+is_told 'a dash is a name' 3 'pauseless: cannot read -\n' run -
+is_done 'standard input' run /dev/stdin < "$script"
+cat "$script" | {
+    "$program" run /dev/stdin > "$kept/output" 2> "$kept/errors"
+    echo $? > "$kept/status"
+}
+status=$(cat "$kept/status")
+ends 'a pipe' 0 '' examples/first.expected
+
+# Names that begin with a dash, where the program's own name has a place of its own.
+case $program in
+/*) here=$program ;;
+*) here=$(pwd)/$program ;;
+esac
+for words in './-name' '-- -name'; do
+    # The words are parted here.
+    (cd "$kept" && "$here" run $words > output 2> errors)
+    status=$?
+    ends "the name $words" 0 '' examples/first.expected
+done
+
+# A file without permission, as another user where this one may read all.
+chmod 755 "$kept"
+cp "$program" "$kept/program"
+cp "$script" "$kept/open"
+cp "$script" "$kept/closed"
+chmod 755 "$kept/program"
+chmod 644 "$kept/open"
+chmod 000 "$kept/closed"
+unprivileged=
+if [ "$(id -u)" = 0 ]; then
+    unprivileged='setpriv --reuid=65534 --regid=65534 --clear-groups'
+fi
+if $unprivileged "$kept/program" run "$kept/open" > "$kept/output" 2> "$kept/errors"; then
+    $unprivileged "$kept/program" run "$kept/closed" > "$kept/output" 2> "$kept/errors"
+    status=$?
+    ends 'a file without permission' 3 "pauseless: cannot read $kept/closed\\n" "$kept/nothing"
+else
+    echo 'skipped: a file without permission, as no other user can run the program here'
+fi
+
+# Outputs that take nothing, or not all.
+: > "$kept/output"
+"$program" run "$script" > /dev/full 2> "$kept/errors"
+status=$?
+ends 'a full device' 3 'pauseless: cannot write\n' "$kept/nothing"
+"$program" run "$script" >&- 2> "$kept/errors"
+status=$?
+ends 'a closed output' 3 'pauseless: cannot write\n' "$kept/nothing"
+"$program" run "$kept/no.script" > /dev/full 2> "$kept/errors"
+status=$?
+ends 'a missing file and a full device' 3 "pauseless: cannot read $kept/no.script\\n" "$kept/nothing"
+sizes='heap words 16 frames 1 pages 1 threads 1 workers 1 registers 1 globals 0'
+printf '%s\nlayout 0 0\ntimes 50000\nt0 give\nend\n' "$sizes" > "$kept/long"
+{
+    "$program" run "$kept/long" 2> "$kept/errors"
+    echo $? > "$kept/status"
+} | head -c 1 > /dev/null
+status=$(cat "$kept/status")
+ends 'a reader that goes away' 3 'pauseless: cannot write\n' "$kept/nothing"
+printf 'heap\n' > "$kept/fault"
+"$program" run "$kept/fault" > /dev/full 2> "$kept/errors"
+status=$?
+ends 'a fault and a full device' 2 'pauseless: line 1 column 5: unknown word\n' "$kept/nothing"
+
+# Errors that can't be told change no status.
+"$program" run "$kept/fault" > "$kept/output" 2> /dev/full
+status=$?
+: > "$kept/errors"
+ends 'a fault and full errors' 2 '' "$kept/nothing"
+"$program" run "$script" > "$kept/output" 2>&-
+status=$?
+ends 'closed errors' 0 '' examples/first.expected
+
+echo "$passed passed, $failed failed"
+[ "$failed" = 0 ]
