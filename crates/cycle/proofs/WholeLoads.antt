@@ -1,5 +1,6 @@
 -- The steps of a load, one after another.
-use Rattle.std.proofs.Common.{◌≡◌, ℕ, suc, ◌+◌, Bool, true, false, List, [], ◌∷◌, ◌++◌, Option, Some, None, arith, rules}
+use Rattle.std.proofs.Common.{◌≡◌, ℕ, suc, ◌+◌, Bool, true, false, List, [], ◌∷◌, ◌++◌, Option, Some, None, arith}
+use Rattle.std.proofs.Common.{rules}
 use Rattle.std.proofs.Common.{refl, ap, sym, subst, ◌∙◌, append_assoc, append-nil}
 use Rattle.std.specs.Prelude.{Result, Ok, Err, OnOk, IfOk, if◌then◌else◌}
 use Rattle.model.specs.declared.records.Barrier.{Barrier}
@@ -14,7 +15,8 @@ use Rattle.model.specs.Heaps.{HeapState, barrier_of_thread}
 use Rattle.model.specs.Refusing.{◌>>=◌, or_refuse, Outcome}
 use Rattle.model.specs.Outcome.{outcome, thread_gate, thread_row, trap_outcome, trap_due}
 use Rattle.cycle.specs.Books.{BookState, BookOutcome, Reply, acted, entered, is_full}
-use Rattle.cycle.specs.Loads.{Told, told, stepped, finished, healed, is_clear, trapped, load_ended, loaded, Says, behind}
+use Rattle.cycle.specs.Loads.{Told, told, stepped, finished, healed, is_clear, trapped, load_ended, loaded, Says}
+use Rattle.cycle.specs.Loads.{behind}
 use Rattle.cycle.specs.Loads.{EndsIn, IsVerdict, LoadsWhole, ThreeTrapsServe}
 
 accepted : (b c : BookState) (o : BookOutcome) (reply : Reply) (a : Answer) → reply ≡ Ok a → Says b reply c o

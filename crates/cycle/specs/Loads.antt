@@ -71,6 +71,10 @@ Says old (Err e) new outcome = (outcome ≡ Err e) × (new ≡ old)
 abbrev pub behind : List Reply → Told → Told
 behind replies t = told t.book (replies ++ t.replies)
 
+-- steps, behind other replies, leave this book and all these replies
+abbrev pub Leaves : Told → List Reply → BookState → List Reply → Type 0
+Leaves steps before book all = behind before steps ≡ told book all
+
 -- a list ends in a reply
 abbrev pub EndsIn : List Reply → Reply → Type 0
 EndsIn replies reply = (before : List Reply) × (replies ≡ before ++ reply ∷ [])
@@ -82,5 +86,5 @@ IsVerdict (Err e) replies = EndsIn replies (Err e)
 
 -- a load did the steps of a whole one, and its result is that of the last; or memory was refused
 abbrev pub LoadsWhole : Result Unit Refusal → List Reply → BookState → List Reply → Told → Type 0
-LoadsWhole (Err refusals.Memory) replies new all steps = Unit {0}
-LoadsWhole result replies new all steps = (behind replies steps ≡ told new all) × IsVerdict result all
+LoadsWhole (Err refusals.Memory) before new all steps = Unit {0}
+LoadsWhole result before new all steps = Leaves steps before new all × IsVerdict result all

@@ -2,7 +2,7 @@
 
 ghost use Rattle.std.specs.Prelude.{◌≡◌, ◌++◌, ◌∷◌, [], false, IfOk, OnErr, OnOk};
 ghost use Rattle.cycle.specs.Books.{acted};
-ghost use Rattle.cycle.specs.Loads.{EndsIn, LoadsWhole, Says, ThreeTrapsServe, behind, told, finished, healed, is_clear, trapped, load_ended, loaded};
+ghost use Rattle.cycle.specs.Loads.{EndsIn, Leaves, LoadsWhole, Says, ThreeTrapsServe, finished, healed, is_clear, trapped, load_ended, loaded};
 
 use crate::book::Book;
 use crate::running::add;
@@ -53,7 +53,7 @@ impl Book {
         actor: Actor,
         replies: &mut Vec<Result<Answer, Refusal>>,
     ) -> Result<Result<Answer, Refusal>, AllocError>
-        ensures steps { OnOk result (behind replies.old.items (finished self.old actor) ≡ told self.new replies.new.items) }
+        ensures steps { OnOk result (Leaves (finished self.old actor) replies.old.items self.new replies.new.items) }
         ensures last { IfOk result (EndsIn replies.new.items) }
     {
         self.act_into(actor, Step::Finish, replies)
@@ -66,7 +66,7 @@ impl Book {
         due: bool,
         replies: &mut Vec<Result<Answer, Refusal>>,
     ) -> Result<Result<Answer, Refusal>, AllocError>
-        ensures steps { OnOk result (behind replies.old.items (healed due self.old actor) ≡ told self.new replies.new.items) }
+        ensures steps { OnOk result (Leaves (healed due self.old actor) replies.old.items self.new replies.new.items) }
         ensures last { IfOk result (EndsIn replies.new.items) }
     {
         if due {
@@ -89,7 +89,7 @@ impl Book {
         actor: Actor,
         replies: &mut Vec<Result<Answer, Refusal>>,
     ) -> Result<Result<Answer, Refusal>, AllocError>
-        ensures steps { OnOk result (behind replies.old.items (load_ended self.old actor) ≡ told self.new replies.new.items) }
+        ensures steps { OnOk result (Leaves (load_ended self.old actor) replies.old.items self.new replies.new.items) }
         ensures last { IfOk result (EndsIn replies.new.items) }
     {
         let mut due = false;
@@ -113,7 +113,7 @@ impl Book {
         load: Step,
         replies: &mut Vec<Result<Answer, Refusal>>,
     ) -> Result<Result<Answer, Refusal>, AllocError>
-        ensures steps { OnOk result (behind replies.old.items (loaded self.old actor load) ≡ told self.new replies.new.items) }
+        ensures steps { OnOk result (Leaves (loaded self.old actor load) replies.old.items self.new replies.new.items) }
         ensures last { IfOk result (EndsIn replies.new.items) }
     {
         match self.act_into(actor, load, replies)? {

@@ -1,5 +1,6 @@
 -- What is done to a heap keeps its invariant.
-use Rattle.std.proofs.Common.{◌≡◌, ℕ, Bool, ◌-◌, ◌<◌, ◌≤◌, ◌+◌, List, Option, Some, None, replicate, arith, rules, set, length, ◌∙◌}
+use Rattle.std.proofs.Common.{◌≡◌, ℕ, Bool, ◌-◌, ◌<◌, ◌≤◌, ◌+◌, List, Option, Some, None, replicate, arith, rules}
+use Rattle.std.proofs.Common.{set, length, ◌∙◌}
 use Rattle.std.proofs.Math.ListN.{length-set}
 use Rattle.std.specs.Option.{IfSome}
 use Rattle.model.specs.declared.records.Buffer.{Buffer}

@@ -1,5 +1,6 @@
 -- The usual configuration is out of range at most where its caller's numbers are.
-use Rattle.std.proofs.Common.{◌≡◌, ◌⊎◌, inl, inr, ℕ, ◌*◌, ◌^◌, min, Bool, true, false, ◌||◌, not, List, length, Option, Some, None, refl, sym, subst, arith}
+use Rattle.std.proofs.Common.{◌≡◌, ◌⊎◌, inl, inr, ℕ, ◌*◌, ◌^◌, min, Bool, true, false, ◌||◌, not, List, length}
+use Rattle.std.proofs.Common.{Option, Some, None, refl, sym, subst, arith}
 use Rattle.std.specs.Prelude.{nat_lt, if◌then◌else◌, IfSome}
 use Rattle.std.specs.List.{list_all}
 use Rattle.std.proofs.lemmas.Bool.Decides.{nat_tests}
@@ -9,7 +10,8 @@ use Rattle.model.specs.declared.config.ConfigFault.TheVariants as faults
 use Rattle.model.specs.Configs.{first_fault, usual_config, is_page_size, is_outside, fits_page, IsOfCaller}
 
 -- pages are in range where frames are
-pages_in_range : (frames : ℕ) → is_outside frames 1 4096 ≡ false → is_outside (min (2 * frames) 65535) frames 65535 ≡ false
+pages_in_range : (frames : ℕ) → is_outside frames 1 4096 ≡ false
+    → is_outside (min (2 * frames) 65535) frames 65535 ≡ false
 pages_in_range frames h = grind (arith, nat_tests)
 
 chosen : (a b c d : Bool) → (b ≡ false → d ≡ false) → IfSome (if a then Some faults.Words else

@@ -8,6 +8,7 @@ use Rattle.heap.proofs.heap.Heap.set_word.Goals as goal
 pub invariant_of-self : goal.invariant_of-self
 invariant_of-self c =
     let h = heap_of c.self.inside in
-    store_keeps h c.set_word.new.self c.self.invariant
-    (subst (AreSized h.store) (sym c.set_word.ensures) (word_sized_alike h.store c.args.address c.args.value)) (λ b lies. subst (λ s. LiesIn s b) (sym c.set_word.ensures)
+    let sized = subst (AreSized h.store) (sym c.set_word.ensures)
+    (word_sized_alike h.store c.args.address c.args.value) in
+    store_keeps h c.set_word.new.self c.self.invariant sized (λ b lies. subst (λ s. LiesIn s b) (sym c.set_word.ensures)
     (word_lies h.store c.args.address c.args.value b lies))
