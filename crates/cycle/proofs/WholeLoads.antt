@@ -15,9 +15,9 @@ use Rattle.model.specs.Heaps.{HeapState, barrier_of_thread}
 use Rattle.model.specs.Refusing.{◌>>=◌, or_refuse, Outcome}
 use Rattle.model.specs.Outcome.{outcome, thread_gate, thread_row, trap_outcome, trap_due}
 use Rattle.cycle.specs.Books.{BookState, BookOutcome, Reply, acted, entered, is_full}
-use Rattle.cycle.specs.Loads.{Told, told, stepped, finished, healed, is_clear, trapped, load_ended, loaded, Says}
+use Rattle.cycle.specs.Loads.{Told, told, stepped, finished, healed, is_clear, trapped, Says}
 use Rattle.cycle.specs.Loads.{behind}
-use Rattle.cycle.specs.Loads.{EndsIn, IsVerdict, LoadsWhole, ThreeTrapsServe}
+use Rattle.cycle.specs.Loads.{EndsIn, ThreeTrapsServe}
 
 accepted : (b c : BookState) (o : BookOutcome) (reply : Reply) (a : Answer) → reply ≡ Ok a → Says b reply c o
     → o ≡ Ok (c, a)

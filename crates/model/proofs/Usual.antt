@@ -1,7 +1,7 @@
 -- The usual configuration is out of range at most where its caller's numbers are.
-use Rattle.std.proofs.Common.{◌≡◌, ◌⊎◌, inl, inr, ℕ, ◌*◌, ◌^◌, min, Bool, true, false, ◌||◌, not, List, length}
-use Rattle.std.proofs.Common.{Option, Some, None, refl, sym, subst, arith}
-use Rattle.std.specs.Prelude.{nat_lt, if◌then◌else◌, IfSome}
+use Rattle.std.proofs.Common.{◌≡◌, inl, inr, ℕ, ◌*◌, min, Bool, true, false, ◌||◌, not, List, length}
+use Rattle.std.proofs.Common.{Some, None, refl, sym, subst, arith}
+use Rattle.std.specs.Prelude.{if◌then◌else◌, IfSome}
 use Rattle.std.specs.List.{list_all}
 use Rattle.std.proofs.lemmas.Bool.Decides.{nat_tests}
 use Rattle.layout.specs.declared.shape.Layout.{Layout}

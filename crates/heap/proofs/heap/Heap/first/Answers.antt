@@ -1,4 +1,4 @@
-use Rattle.std.proofs.Common.{◌≡◌, ◌∙◌, ap, arith, length}
+use Rattle.std.proofs.Common.{◌∙◌, ap, arith, length}
 use Rattle.std.proofs.Math.ListN.{length-replicate}
 use Rattle.model.specs.Stores.{StoreState, first_store}
 use Rattle.heap.proofs.Keeping.{first_fills}
