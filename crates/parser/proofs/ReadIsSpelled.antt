@@ -363,7 +363,7 @@ part_step said r t b line some h =
           ]
     ]
 
-some_layouts : (ls : List Layout) → (length ls == 0) ≡ false → 1 ≤ length ls
+pub some_layouts : (ls : List Layout) → (length ls == 0) ≡ false → 1 ≤ length ls
 some_layouts ls h = grind (arith, nat_tests)
 
 later_step : (said : List (List ℕ)) (r t : ReadSoFar) (b : IsBehind said r) (line : List ℕ)
@@ -421,7 +421,7 @@ commands_with s ls [] h = tt
 commands_with s ls (c ∷ cs) h =
     (record { actor = h.0.actor; own = h.0.own; order = h.0.order }, commands_with s ls cs h.1)
 
-guard_line : {A : Type 0} (b : Bool) (d : LineFault) (x : Result A LineFault) (y : A) → cond b (Err d) x ≡ Ok y
+pub guard_line : {A : Type 0} (b : Bool) (d : LineFault) (x : Result A LineFault) (y : A) → cond b (Err d) x ≡ Ok y
     → (b ≡ false) × (x ≡ Ok y)
 guard_line true d x y e = absurd cc
 guard_line false d x y e = (refl, e)
@@ -431,7 +431,7 @@ closed_ok : (n : ℕ) (r : ReadSoFar) (z : Sizes) (o : Option ℕ) (s : ScriptVa
 closed_ok n r z None s h = (refl, cc)
 closed_ok n r z (Some turns) s h = absurd cc
 
-all_said : (front lines said : List (List ℕ)) (o : Option ℕ) (body : List Command) → o ≡ None
+pub all_said : (front lines said : List (List ℕ)) (o : Option ℕ) (body : List Command) → o ≡ None
     → said ≡ front ++ (lines ++ open_lines o body) → said ≡ front ++ lines
 all_said front lines said o body none h = h ∙ ap (λ (x : List (List ℕ)). front ++ x) (rw none (append-nil lines))
 
@@ -480,7 +480,7 @@ never : {A B : Type 0} (x : Result A LineFault) (f : A → LineFault) (y : B) �
 never (Ok x) f y e = absurd cc
 never (Err d) f y e = absurd cc
 
-pick_false : {A : Type 0} (c : Bool) (x y z : A) → c ≡ false → cond c x y ≡ z → y ≡ z
+pub pick_false : {A : Type 0} (c : Bool) (x y z : A) → c ≡ false → cond c x y ≡ z → y ≡ z
 pick_false true x y z e h = absurd cc
 pick_false false x y z e h = h
 

@@ -56,9 +56,9 @@ words_are line w ws is first rest =
     record { all = all; first = parts.0; rest = parts.1 }
 
 -- behind the heap line
-record IsReady (z : Sizes) (r : ReadSoFar) : Type 0 where
-  sizes_is : r.sizes ≡ Some z
-  range : IsSizes z
+pub record IsReady (z : Sizes) (r : ReadSoFar) : Type 0 where
+  pub sizes_is : r.sizes ≡ Some z
+  pub range : IsSizes z
 
 -- no actor's word is a line's word
 record IsNoLineWord (w : List ℕ) : Type 0 where
@@ -169,7 +169,7 @@ end_taken z r n line ready some block room idle is =
     part_taken z r line (codes "end") ready some idle words.first refl ∙ here
     ∙ ap (λ (x : Option ℕ). end_in r x line) block ∙ read
 
-layout_taken : (z : Sizes) (r : ReadSoFar) (l : Layout) (line : List ℕ) → IsReady z r → r.begun ≡ false
+pub layout_taken : (z : Sizes) (r : ReadSoFar) (l : Layout) (line : List ℕ) → IsReady z r → r.begun ≡ false
     → length r.layouts < MOST_LAYOUTS → IsLayout l → fits_page z.words l ≡ true → is_idle line ≡ false
     → line ≡ layout_line_of l → line_in r line ≡ Ok (record r { layouts = r.layouts ++ l ∷ [] })
 unfolding later_line layout_line
@@ -185,7 +185,7 @@ layout_taken z r l line ready not_begun few h room idle is =
     let read = layout_again z line (first_word line).1 l (record { spelled = words.rest; is = h; room = size }) in
     said_line r z line idle ready.sizes_is ∙ rw (layout, not_begun, below, read) refl
 
-heap_taken : (z : Sizes) (line : List ℕ) → IsSizes z → SpellsHeap line (config_of z []) → is_idle line ≡ false →
+pub heap_taken : (z : Sizes) (line : List ℕ) → IsSizes z → SpellsHeap line (config_of z []) → is_idle line ≡ false →
     line_in nothing line ≡ Ok (record nothing { sizes = Some z })
 unfolding line_in heap_line
 heap_taken z line range h idle =
