@@ -6,6 +6,7 @@ ghost use Rattle.model.specs.Configs.{IsConfig};
 ghost use Rattle.parser.specs.Reading.{ScriptValue, script_of, script_in};
 ghost use Rattle.parser.specs.Spelling.{IsCommand, IsScript, Spells};
 ghost use Rattle.parser.specs.Scripts.{IsReadOf, IsTooLong};
+ghost use Rattle.parser.specs.Faults.{TellsFirst};
 
 use crate::fault::ParseFault;
 use crate::order::Command;
@@ -80,6 +81,9 @@ pub fn parse(alloc: Global, bytes: &[u8]) -> Result<Script, ParseFault>
 
     // What the bytes spell within all limits is read, unless they are too many or memory is refused.
     ensures only { (s : ScriptValue) → IsScript s → Spells bytes.now s → IsReadOf result (Ok s) }
+
+    // A fault is the first one: the lines before it have none, and with its line they begin no script.
+    ensures first { TellsFirst bytes.now result }
 {
     if bytes.len() > MOST_BYTES {
         return Err(ParseFault::TooLong);
