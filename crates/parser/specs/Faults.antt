@@ -1,5 +1,5 @@
 -- The first fault of a text, in words of texts, lines and scripts.
-use Rattle.std.specs.Prelude.{◌≡◌, ℕ, ◌+◌, ◌<◌, ◌≤◌, ◌≢◌, List, [], ◌∷◌, ◌++◌, length, codes, Result, Ok, Err, filter, ◌⊎◌}
+use Rattle.std.specs.Prelude.{◌≡◌, ℕ, ◌+◌, ◌<◌, ◌≢◌, true, false, List, [], ◌∷◌, ◌++◌, length, codes, Result, Ok, Err, filter, ◌⊎◌}
 use Rattle.std.specs.List.{flat_map, All}
 use Rattle.model.specs.Configs.{IsConfig}
 use Rattle.parser.specs.declared.fault.FaultKind.{FaultKind}
@@ -8,6 +8,7 @@ use Rattle.parser.specs.declared.fault.LineFault.{LineFault}
 use Rattle.parser.specs.declared.fault.ParseFault.{ParseFault}
 use Rattle.parser.specs.declared.fault.ParseFault.TheVariants as faults
 use Rattle.parser.specs.declared.reading.TheConstants.{MOST_COMMANDS}
+use Rattle.parser.specs.Words.{is_number}
 use Rattle.parser.specs.Reading.{ScriptValue}
 use Rattle.parser.specs.Spelling.{ended, says_something, IsLine, IsLayout, IsCommand, IsScript, Spells}
 
@@ -44,8 +45,50 @@ HaveNoFault lines = BeginsScript (text_of lines) ⊎ EndInLargeBlock lines
 abbrev pub IsLineEnd : List ℕ → Type 0
 IsLineEnd behind = (behind ≡ []) ⊎ ((after : List ℕ) × (behind ≡ 10 ∷ after))
 
--- The fault stands in a line: the lines before it have none, and with this line, and a newline behind it, they begin
--- no script.
+-- a word begins behind these bytes of a line: they are none, or a space is the last
+abbrev pub IsWordStart : List ℕ → Type 0
+IsWordStart front = (front ≡ []) ⊎ ((before : List ℕ) × (front ≡ before ++ 32 ∷ []))
+
+-- a word ends before these bytes of a line: they are none, or a space is the first
+abbrev pub IsWordEnd : List ℕ → Type 0
+IsWordEnd back = (back ≡ []) ⊎ ((after : List ℕ) × (back ≡ 32 ∷ after))
+
+-- the byte that ends a word with these bytes of the line behind it: a space, or the newline behind the line
+abbrev pub byte_behind : List ℕ → ℕ
+byte_behind [] = 10
+byte_behind (b ∷ bs) = b
+
+-- the word is this letter and a number
+abbrev pub IsNameOf : List ℕ → List ℕ → Type 0
+IsNameOf letter word = (digits : List ℕ) × ((word ≡ letter ++ digits) × (is_number digits ≡ true))
+
+-- What is wrong at a word (an empty one where it is missing) with these bytes of the line before it. Of an unknown word
+-- this says nothing; so it does of the numbers that are in range, of the actors and registers that are there, and of how
+-- many commands are too many.
+abbrev pub IsWrongWord : FaultKind → List ℕ → List ℕ → Type 0
+IsWrongWord kinds.HeapLineExpected front word = (front ≡ []) × (word ≢ codes "heap")
+IsWrongWord kinds.LayoutLineExpected front word = (front ≡ []) × (word ≢ codes "layout")
+IsWrongWord kinds.UnknownWord front word = Unit {0}
+IsWrongWord kinds.NumberExpected front word = is_number word ≡ false
+IsWrongWord kinds.NumberOutOfRange front word = is_number word ≡ true
+IsWrongWord kinds.LayoutTooLarge front word = is_number word ≡ true
+IsWrongWord kinds.NoSuchActor front word = (front ≡ []) × (IsNameOf (codes "t") word ⊎ IsNameOf (codes "w") word)
+IsWrongWord kinds.NoSuchRegister front word = IsNameOf (codes "r") word
+IsWrongWord kinds.EndOfLineExpected front word = front ≢ []
+IsWrongWord kinds.NewlineExpected front word = ⊥
+IsWrongWord kinds.EndWithoutTimes front word = (front ≡ []) × (word ≡ codes "end")
+IsWrongWord kinds.TimesWithoutEnd front word = ⊥
+IsWrongWord kinds.TooManyCommands front word = front ≡ []
+
+-- A word of a line, with the bytes before it and behind it; or the line's end, where a word is missing.
+pub record IsWordOf (line front word back : List ℕ) : Type 0 where
+  pub line_is : line ≡ front ++ (word ++ back)
+  pub no_space : All (λ b. b ≢ 32) word
+  pub starts : IsWordStart front ⊎ ((word ≡ []) × (back ≡ []))
+  pub ends : IsWordEnd back
+
+-- The fault stands in a line, at a word of it: the lines before it have none, and the bytes up to the word's end, with
+-- the byte behind it, begin no script.
 pub record StandsInLine (bytes : List ℕ) (fault : LineFault) : Type 0 where
   pub before : List (List ℕ)
   pub line : List ℕ
@@ -54,9 +97,15 @@ pub record StandsInLine (bytes : List ℕ) (fault : LineFault) : Type 0 where
   pub is_line : IsLine line
   pub bytes_are : bytes ≡ text_of before ++ (line ++ behind)
   pub ends : IsLineEnd behind
+  pub front : List ℕ
+  pub word : List ℕ
+  pub back : List ℕ
+  pub is_word : IsWordOf line front word back
   pub number : fault.line ≡ length before + 1
+  pub column : fault.column ≡ length front + 1
+  pub wrong : IsWrongWord fault.kind front word
   pub faultless : HaveNoFault before
-  pub never : BeginsScript (text_of (before ++ line ∷ [])) → ⊥
+  pub never : BeginsScript (text_of before ++ (front ++ (word ++ byte_behind back ∷ []))) → ⊥
 
 -- what is missing behind lines: the heap line, where no line says something; a layout line, where the heap line alone
 -- does; an `end`, where a block is open
