@@ -297,7 +297,7 @@ then_late : {A B : Type 0} (line : List ℕ) (place : A → ℕ) (end : B → �
 then_late line place end n (Ok x) f g h k = (k x).late h
 then_late line place end n (Err d) f g h k = h
 
-then_placed : {A B : Type 0} (line : List ℕ) (place : A → ℕ) (end : B → ℕ) (n : ℕ) (r : Result A Flaw)
+pub then_placed : {A B : Type 0} (line : List ℕ) (place : A → ℕ) (end : B → ℕ) (n : ℕ) (r : Result A Flaw)
     (f g : A → Result B Flaw) → IsPlaced line place r → ((x : A) → IsReadAlike line end n (place x) (f x) (g x))
     → IsPlaced line end (r >>= f)
 then_placed line place end n (Ok x) f g h k = (k x).placed h
@@ -349,7 +349,7 @@ plain_word word h = all_from (λ b. b ≢ 32) word (by_bytes word h)
     by_bytes (b ∷ bs) h =
         let no = h.0 in let ne : b ≢ 32 = grind (arith, nat_tests) in (ne, by_bytes bs h.1)
 
-no_bytes : (bytes : List ℕ) → length bytes ≡ 0 → bytes ≡ []
+pub no_bytes : (bytes : List ℕ) → length bytes ≡ 0 → bytes ≡ []
 no_bytes [] h = refl
 no_bytes (b ∷ bs) h = absurd (omega arith)
 
@@ -480,7 +480,7 @@ one_word n line other k place at kind judge judged missing = record {
   placed = word_placed line place at kind judge judged missing;
 }
 
-bind_assoc : {A B C : Type 0} (r : Result A Flaw) (f : A → Result B Flaw) (g : B → Result C Flaw)
+pub bind_assoc : {A B C : Type 0} (r : Result A Flaw) (f : A → Result B Flaw) (g : B → Result C Flaw)
     → ((r >>= f) >>= g) ≡ (r >>= (λ x. f x >>= g))
 bind_assoc (Ok x) f g = refl
 bind_assoc (Err d) f g = refl

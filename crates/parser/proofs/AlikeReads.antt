@@ -50,13 +50,6 @@ fixed_alike n line other k at text =
 
 -- ---- numbers
 
--- the word at a place, as a number from low to high
-abbrev number_in : ℕ → ℕ → ℕ → List ℕ × ℕ → Result (ℕ × ℕ) Flaw
-number_in at low high w = if_number (not (is_number w.0))
-  where
-    if_number : Bool → Result (ℕ × ℕ) Flaw
-    if_number b = cond b (Err (flaw at kinds.NumberExpected)) (in_range (capped_from 0 w.0) w.1 at low high)
-
 judge_then : {B : Type 0} (place : B → ℕ) (at low high : ℕ) (w : List ℕ × ℕ) (next : ℕ × ℕ → Result B Flaw)
     → ((x : ℕ × ℕ) → x.1 ≡ w.1 → is_number w.0 ≡ true → IsJudged place at w (next x)) → (b c : Bool)
     → is_number w.0 ≡ b → IsJudged place at w (cond (not b) (Err (flaw at kinds.NumberExpected))
@@ -168,3 +161,175 @@ page_size_alike n line other k at =
     (λ after. number_then n line other k (λ (x : ℕ × ℕ). x.1) after 16 4096
     (λ (x : ℕ × ℕ). cond (not (is_page_size x.0)) (Err (flaw after kinds.NumberOutOfRange)) (Ok x))
     (λ w x e number. judge_size after w x e number (not (is_page_size x.0))))
+
+-- a limit, by what stands at its place
+limit_of : (line : List ℕ) (name : List ℕ) (most : ℕ) → List ℕ × ℕ → ℕ → Bool → Result (ℕ × ℕ) Flaw
+limit_of line name most w at b = cond b (number_at line w.1 1 most) (Ok (most, at))
+
+limit_found : (line : List ℕ) (at : ℕ) (name : List ℕ) (most : ℕ) (w : List ℕ × ℕ) → word_at line at ≡ Some w
+    → limit_at line at name most ≡ limit_of line name most w at (bytes_eq w.0 name)
+unfolding limit_at limit_of
+limit_found line at name most w h = rw h refl
+
+limit_past : (line : List ℕ) (at : ℕ) (name : List ℕ) (most : ℕ) → length line < at
+    → limit_at line at name most ≡ Ok (most, at)
+unfolding limit_at
+limit_past line at name most h = rw (none_past line at h) refl
+
+limit_same : (n : ℕ) (line other : List ℕ) (k : AreAlike n line other) (name : List ℕ) (most at : ℕ) (w : List ℕ × ℕ)
+    (b : Bool) → (limit_of line name most w at b ≡ limit_of other name most w at b)
+    ⊎ IsLate (λ (x : ℕ × ℕ). x.1) n (limit_of line name most w at b)
+unfolding limit_of
+limit_same n line other k name most at w true = (number_alike n line other k w.1 1 most).same
+limit_same n line other k name most at w false = inl refl
+
+limit_late : (n : ℕ) (line other : List ℕ) (k : AreAlike n line other) (name : List ℕ) (most at : ℕ) (w : List ℕ × ℕ)
+    (b : Bool) → at < w.1 → n ≤ at → IsLate (λ (x : ℕ × ℕ). x.1) n (limit_of line name most w at b)
+unfolding limit_of
+limit_late n line other k name most at w true behind late =
+    (number_alike n line other k w.1 1 most).late (omega arith)
+limit_late n line other k name most at w false behind late = late
+
+limit_placed : (n : ℕ) (line other : List ℕ) (k : AreAlike n line other) (name : List ℕ) (most at : ℕ) (w : List ℕ × ℕ)
+    (b : Bool) → IsBehindWord line w.1 → IsBehindWord line at
+    → IsPlaced line (λ (x : ℕ × ℕ). x.1) (limit_of line name most w at b)
+unfolding limit_of
+limit_placed n line other k name most at w true behind p = (number_alike n line other k w.1 1 most).placed behind
+limit_placed n line other k name most at w false behind p = p
+
+limit_alike : (n : ℕ) (line other : List ℕ) (k : AreAlike n line other) (at : ℕ) (name : List ℕ) (most : ℕ)
+    → IsReadAlike line (λ (x : ℕ × ℕ). x.1) n at (limit_at line at name most) (limit_at other at name most)
+limit_alike n line other k at name most = elim (cases_lt (length line) at) [
+  | inl past ↦
+      let read = limit_past line at name most past in
+      let late : n ≤ at → IsLate (λ (x : ℕ × ℕ). x.1) n (limit_at line at name most) =
+      λ h. subst (IsLate (λ (x : ℕ × ℕ). x.1) n) (sym read) h in
+      let long = k.long in
+      record {
+        same = inr (late (omega arith));
+        late = late;
+        placed = λ p. subst (IsPlaced line (λ (x : ℕ × ℕ). x.1)) (sym read) p;
+      }
+  | inr within ↦
+      let found = finds_word line at within in
+      let w = found.w in
+      let read = limit_found line at name most w found.found in
+      let after = found.is.after_is in
+      let late : n ≤ at → IsLate (λ (x : ℕ × ℕ). x.1) n (limit_at line at name most) =
+      λ h. subst (IsLate (λ (x : ℕ × ℕ). x.1) n) (sym read)
+      (limit_late n line other k name most at w (bytes_eq w.0 name) (omega arith) h) in
+      record {
+        same = elim (cases_lt at n) [
+          | inl before ↦
+              let there = limit_found other at name most w (sym (k.words at before) ∙ found.found) in
+              elim (limit_same n line other k name most at w (bytes_eq w.0 name)) [
+                | inl same ↦ inl (read ∙ same ∙ sym there)
+                | inr l ↦ inr (subst (IsLate (λ (x : ℕ × ℕ). x.1) n) (sym read) l)
+              ]
+          | inr behind ↦ inr (late behind)
+        ];
+        late = late;
+        placed = λ p. subst (IsPlaced line (λ (x : ℕ × ℕ). x.1)) (sym read)
+            (limit_placed n line other k name most at w (bytes_eq w.0 name) (behind_word line at w found.is) p);
+      }
+]
+
+memory_alike : (n : ℕ) (line other : List ℕ) (k : AreAlike n line other) (at : ℕ)
+    → IsReadAlike line (λ (x : (ℕ × ℕ × ℕ) × ℕ). x.1) n at (memory_at line at) (memory_at other at)
+unfolding memory_at
+memory_alike n line other k at =
+    then_alike line (λ (x : ℕ × ℕ). x.1) (λ (x : (ℕ × ℕ × ℕ) × ℕ). x.1) n at _ _ _ _ (page_size_alike n line other k at)
+    (λ words. then_alike line (λ (x : ℕ × ℕ). x.1) (λ (x : (ℕ × ℕ × ℕ) × ℕ). x.1) n words.1 _ _ _ _
+    (heap_field_alike n line other k words.1 (codes "frames") 1 MOST_FRAMES)
+    (λ frames. then_alike line (λ (x : ℕ × ℕ). x.1) (λ (x : (ℕ × ℕ × ℕ) × ℕ). x.1) n frames.1 _ _ _ _
+    (heap_field_alike n line other k frames.1 (codes "pages") frames.0 MOST_PAGES)
+    (λ pages. done_alike line (λ (x : (ℕ × ℕ × ℕ) × ℕ). x.1) n pages.1 ((words.0, frames.0, pages.0), pages.1) refl)))
+
+actors_alike : (n : ℕ) (line other : List ℕ) (k : AreAlike n line other) (at : ℕ)
+    → IsReadAlike line (λ (x : (ℕ × ℕ × ℕ) × ℕ). x.1) n at (actors_at line at) (actors_at other at)
+unfolding actors_at
+actors_alike n line other k at =
+    then_alike line (λ (x : ℕ × ℕ). x.1) (λ (x : (ℕ × ℕ × ℕ) × ℕ). x.1) n at _ _ _ _
+    (heap_field_alike n line other k at (codes "threads") 1 MOST_THREADS)
+    (λ threads. then_alike line (λ (x : ℕ × ℕ). x.1) (λ (x : (ℕ × ℕ × ℕ) × ℕ). x.1) n threads.1 _ _ _ _
+    (heap_field_alike n line other k threads.1 (codes "workers") 1 16)
+    (λ workers. then_alike line (λ (x : ℕ × ℕ). x.1) (λ (x : (ℕ × ℕ × ℕ) × ℕ). x.1) n workers.1 _ _ _ _
+    (heap_field_alike n line other k workers.1 (codes "registers") 1 16)
+    (λ registers. done_alike line (λ (x : (ℕ × ℕ × ℕ) × ℕ). x.1) n registers.1
+    ((threads.0, workers.0, registers.0), registers.1) refl)))
+
+limits_alike : (n : ℕ) (line other : List ℕ) (k : AreAlike n line other) (at : ℕ)
+    → IsReadAlike line (λ (x : (ℕ × ℕ × ℕ) × ℕ). x.1) n at (limits_at line at) (limits_at other at)
+unfolding limits_at
+limits_alike n line other k at =
+    then_alike line (λ (x : ℕ × ℕ). x.1) (λ (x : (ℕ × ℕ × ℕ) × ℕ). x.1) n at _ _ _ _
+    (heap_field_alike n line other k at (codes "globals") 0 64)
+    (λ globals. then_alike line (λ (x : ℕ × ℕ). x.1) (λ (x : (ℕ × ℕ × ℕ) × ℕ). x.1) n globals.1 _ _ _ _
+    (limit_alike n line other k globals.1 (codes "births") 4294967296)
+    (λ births. then_alike line (λ (x : ℕ × ℕ). x.1) (λ (x : (ℕ × ℕ × ℕ) × ℕ). x.1) n births.1 _ _ _ _
+    (limit_alike n line other k births.1 (codes "history") 1000000)
+    (λ history. done_alike line (λ (x : (ℕ × ℕ × ℕ) × ℕ). x.1) n history.1
+    ((globals.0, births.0, history.0), history.1) refl)))
+
+pub heap_alike : (n : ℕ) (line other : List ℕ) (k : AreAlike n line other) (at : ℕ)
+    → IsReadAlike line (λ (x : Sizes). length line + 1) n at (heap_in line at) (heap_in other at)
+unfolding heap_in
+heap_alike n line other k at =
+    then_alike line (λ (x : (ℕ × ℕ × ℕ) × ℕ). x.1) (λ (x : Sizes). length line + 1) n at _ _ _ _
+    (memory_alike n line other k at)
+    (λ memory. then_alike line (λ (x : (ℕ × ℕ × ℕ) × ℕ). x.1) (λ (x : Sizes). length line + 1) n memory.1 _ _ _ _
+    (actors_alike n line other k memory.1)
+    (λ actors. then_alike line (λ (x : (ℕ × ℕ × ℕ) × ℕ). x.1) (λ (x : Sizes). length line + 1) n actors.1 _ _ _ _
+    (limits_alike n line other k actors.1)
+    (λ limits. then_alike line (λ (x : Unit {0}). length line + 1) (λ (x : Sizes). length line + 1) n limits.1 _ _ _ _
+    (end_alike n line other k limits.1)
+    (λ u. done_alike line (λ (x : Sizes). length line + 1) n (length line + 1) _ refl))))
+
+-- ---- a layout line
+
+judge_room : (at : ℕ) (w : List ℕ × ℕ) (x : ℕ × ℕ) → x.1 ≡ w.1 → is_number w.0 ≡ true → (b : Bool)
+    → IsJudged (λ (x : ℕ × ℕ). x.1) at w (cond b (Err (flaw at kinds.LayoutTooLarge)) (Ok x))
+judge_room at w x e number true = (refl, λ front size. number)
+judge_room at w x e number false = e
+
+-- a test and what follows it, as two steps
+pub test_first : {A B : Type 0} (r : Result A Flaw) (test : A → Bool) (f : Flaw) (next : A → Result B Flaw)
+    → ((r >>= (λ x. cond (test x) (Err f) (Ok x))) >>= next) ≡ (r >>= (λ x. cond (test x) (Err f) (next x)))
+test_first (Err d) test f next = refl
+test_first {A} {B} (Ok x) test f next = by_test (test x)
+  where
+    by_test : (b : Bool) → (cond b (Err f) (Ok x) >>= next) ≡ cond b (Err f) (next x)
+    by_test true = refl
+    by_test false = refl
+
+-- what stands behind two numbers of a layout
+abbrev layout_end : List ℕ → ℕ → ℕ × ℕ → Result Layout Flaw
+layout_end line refs nums = end_at line nums.1 >>= (λ u. Ok (record { refs = refs; nums = nums.0 }))
+
+nums_alike : (n : ℕ) (line other : List ℕ) (k : AreAlike n line other) (words refs at : ℕ)
+    → IsReadAlike line (λ (x : Layout). length line + 1) n at (number_at line at 0 255 >>= (λ nums.
+    cond (nat_lt words (1 + refs + nums.0)) (Err (flaw at kinds.LayoutTooLarge)) (layout_end line refs nums)))
+    (number_at other at 0 255 >>= (λ nums.
+    cond (nat_lt words (1 + refs + nums.0)) (Err (flaw at kinds.LayoutTooLarge)) (layout_end other refs nums)))
+nums_alike n line other k words refs at =
+    let test = λ (x : ℕ × ℕ). nat_lt words (1 + refs + x.0) in
+    let f = flaw at kinds.LayoutTooLarge in
+    let checked = λ (l : List ℕ). number_at l at 0 255 >>= (λ (x : ℕ × ℕ). cond (test x) (Err f) (Ok x)) in
+    let both = then_alike line (λ (x : ℕ × ℕ). x.1) (λ (x : Layout). length line + 1) n at (checked line) (checked other)
+    (layout_end line refs) (layout_end other refs) (number_then n line other k (λ (x : ℕ × ℕ). x.1) at 0 255
+    (λ (x : ℕ × ℕ). cond (test x) (Err f) (Ok x)) (λ w x e number. judge_room at w x e number (test x)))
+    (λ nums. then_alike line (λ (x : Unit {0}). length line + 1) (λ (x : Layout). length line + 1) n nums.1 _ _ _ _
+    (end_alike n line other k nums.1)
+    (λ u. done_alike line (λ (x : Layout). length line + 1) n (length line + 1) _ refl)) in
+    subst (λ (r : Result Layout Flaw). IsReadAlike line (λ (x : Layout). length line + 1) n at (number_at line at 0 255
+    >>= (λ nums. cond (test nums) (Err f) (layout_end line refs nums))) r)
+    (test_first (number_at other at 0 255) test f (layout_end other refs))
+    (subst (λ (r : Result Layout Flaw). IsReadAlike line (λ (x : Layout). length line + 1) n at r
+    (checked other >>= layout_end other refs)) (test_first (number_at line at 0 255) test f (layout_end line refs)) both)
+
+pub layout_alike : (n : ℕ) (line other : List ℕ) (k : AreAlike n line other) (sizes : Sizes) (at : ℕ)
+    → IsReadAlike line (λ (x : Layout). length line + 1) n at (layout_in sizes line at) (layout_in sizes other at)
+unfolding layout_in
+layout_alike n line other k sizes at =
+    then_alike line (λ (x : ℕ × ℕ). x.1) (λ (x : Layout). length line + 1) n at _ _ _ _
+    (number_alike n line other k at 0 255) (λ refs. nums_alike n line other k sizes.words refs.0 refs.1)

@@ -18,7 +18,7 @@ use Rattle.parser.specs.Reading.{fault_at_start}
 use Rattle.parser.specs.Scripts.{IsReadOf}
 use Rattle.parser.specs.Spelling.{says_something, Spells, IsLine, IsScript}
 use Rattle.parser.specs.Faults.{text_of, HaveNoFault, IsLineEnd, StandsInLine, StandsAtEnd, LacksNewline, IsFirstFault}
-use Rattle.parser.specs.Faults.{IsMissingBehind, TellsFirst}
+use Rattle.parser.specs.Faults.{IsMissingBehind, IsWrongWord, TellsFirst}
 use Rattle.parser.proofs.Splitting.{split_cons}
 use Rattle.parser.proofs.Lists.{HasNoNewlines, all_from, all_front, all_push, split_lines, lines_from, told, filter_told}
 use Rattle.parser.proofs.Parts.{all_back}
@@ -26,6 +26,8 @@ use Rattle.parser.proofs.ReadIsSpelled.{IsBehind, Said, line_ok, some_layouts}
 use Rattle.parser.proofs.SpelledIsRead.{spelled_is_read}
 use Rattle.parser.proofs.Stops.{Leads, leads_said, IsWrong, IsMissing, IsUnended, Why, StopsAt, stops}
 use Rattle.parser.proofs.Completions.{open_ends, not_started, taken_have_none}
+use Rattle.parser.proofs.Alike.{IsFaultAt, IsPlaced, alike_self}
+use Rattle.parser.proofs.AlikeLines.{line_taken}
 use Rattle.parser.proofs.Never.{never_begins}
 
 -- ---- the bytes behind a line
@@ -77,21 +79,39 @@ has_lines bytes before line others h =
 one_more : (k : ℕ) → 1 + k ≡ k + 1
 one_more k = omega arith
 
+-- a command or a block begins behind some layout line
+has_started : (said : List (List ℕ)) (t : ReadSoFar) → Said said t → t.begun ≡ true → 1 ≤ length t.layouts
+has_started said t (inl before) h = let no : t.begun ≡ false = ap (λ (x : ReadSoFar). x.begun) before.is in absurd cc
+has_started said t (inr behind) h = behind.started h
+
 in_line : (bytes : List ℕ) (before : List (List ℕ)) (line : List ℕ) (others : List (List ℕ)) (n : ℕ) (t : ReadSoFar)
     (fault : LineFault) → HasLines bytes before line others → n ≡ 1 + length before → Leads before nothing t
-    → HaveNoFault before → IsWrong n t line fault → StandsInLine bytes fault
-in_line bytes before line others n t fault has number leads none why = record {
-  before = before;
-  line = line;
-  behind = behind_of others;
-  each = lines_from before has.each;
-  is_line = all_from (λ b. b ≢ 10) line has.own;
-  bytes_are = has.bytes_are;
-  ends = line_end others;
-  number = ap (λ (x : LineFault). x.line) (sym why.fault_is) ∙ number ∙ one_more (length before);
-  faultless = none;
-  never = never_begins before line t why.flaw (all_push HasNoNewlines before line has.each has.own) leads why.wrong;
-}
+    → Said (filter says_something before) t → IsWrong n t line fault → StandsInLine bytes fault
+in_line bytes before line others n t fault has number leads so_far why =
+    let started = has_started (filter says_something before) t so_far in
+    let taken = line_taken 0 line line (alike_self line) t started in
+    let at : IsFaultAt line why.flaw =
+    subst (IsPlaced line (λ (x : ReadSoFar). length line + 1)) why.wrong taken.placed in
+    record {
+      before = before;
+      line = line;
+      behind = behind_of others;
+      each = lines_from before has.each;
+      is_line = all_from (λ b. b ≢ 10) line has.own;
+      bytes_are = has.bytes_are;
+      ends = line_end others;
+      front = at.front;
+      word = at.word;
+      back = at.back;
+      is_word = at.is;
+      number = ap (λ (x : LineFault). x.line) (sym why.fault_is) ∙ number ∙ one_more (length before);
+      column = ap (λ (x : LineFault). x.column) (sym why.fault_is) ∙ at.column;
+      wrong = subst (λ (x : FaultKind). IsWrongWord x at.front at.word)
+          (ap (λ (x : LineFault). x.kind) why.fault_is) at.wrong;
+      faultless = taken_have_none before t has.each so_far;
+      never = never_begins before line at.front at.word at.back t why.flaw has.each has.own leads started why.wrong
+          at.is.line_is at.is.ends at.column;
+    }
 
 -- what is missing behind lines, with the fault that tells it
 record IsToldMissing (lines : List (List ℕ)) (n : ℕ) (fault : LineFault) : Type 0 where
@@ -195,12 +215,11 @@ places bytes fault lines stop cut =
     let has = has_lines bytes stop.before stop.line stop.others (cut ∙ stop.lines_are) in
     let start : Said [] nothing = inl (record { said_is = refl; is = refl }) in
     let so_far = leads_said stop.before [] nothing stop.state start stop.leads in
-    let none = taken_have_none stop.before stop.state has.each so_far in
     elim stop.why [
       | inl w ↦
           elim w [
             | inl why ↦ inl (inl (in_line bytes stop.before stop.line stop.others stop.number stop.state fault has
-                stop.number_is stop.leads none why))
+                stop.number_is stop.leads so_far why))
             | inr why ↦ inl (inr (at_end bytes stop.before stop.line stop.others stop.number stop.state fault has
                 stop.number_is so_far why))
           ]

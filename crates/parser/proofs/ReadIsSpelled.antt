@@ -476,7 +476,7 @@ record IsReadFrom (said : List (List ℕ)) (parts : List (List ℕ)) (s : Script
   parts_are : parts ≡ lines ++ [] ∷ []
   all_told : IsTold (said ++ filter says_something lines) s
 
-never : {A B : Type 0} (x : Result A LineFault) (f : A → LineFault) (y : B) → goes_on x (λ t. Err (f t)) ≡ Ok y → ⊥
+pub never : {A B : Type 0} (x : Result A LineFault) (f : A → LineFault) (y : B) → goes_on x (λ t. Err (f t)) ≡ Ok y → ⊥
 never (Ok x) f y e = absurd cc
 never (Err d) f y e = absurd cc
 
