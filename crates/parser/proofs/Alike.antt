@@ -1,17 +1,16 @@
 -- Words of two lines that are alike up to a place, and what is read of them there.
-use Rattle.std.proofs.Common.{◌≡◌, ◌≢◌, ℕ, ◌+◌, ◌<◌, ◌≤◌, zero, suc, Bool, true, false, cond, nat_lt, List, [], ◌∷◌}
-use Rattle.std.proofs.Common.{◌++◌, length, take, drop, Option, Some, None, position, refl, sym, ap, subst, ◌∙◌, arith}
+use Rattle.std.proofs.Common.{◌≡◌, ◌≢◌, ℕ, ◌+◌, ◌<◌, ◌≤◌, Bool, true, false, cond, nat_lt, List, [], ◌∷◌}
+use Rattle.std.proofs.Common.{◌++◌, length, take, drop, Some, None, position, refl, sym, ap, subst, ◌∙◌, arith}
 use Rattle.std.proofs.Common.{inl, inr, append-nil, append_assoc, length-append}
-use Rattle.std.specs.Prelude.{Result, Ok, Err, ◌==◌, ◌⊎◌, not}
+use Rattle.std.specs.Prelude.{Result, Ok, Err, ◌⊎◌, not}
 use Rattle.std.specs.List.{AllByRecursion, All, position_or_len}
-use Rattle.std.proofs.lemmas.Bool.{ltb-false, le-ltb, lt-ltb, cases_lt}
+use Rattle.std.proofs.lemmas.Bool.{le-ltb, lt-ltb, cases_lt}
 use Rattle.std.proofs.lemmas.Bool.Decides.{nat_tests}
 use Rattle.std.proofs.lemmas.List.{take-append-drop, length-take}
 use Rattle.std.proofs.Math.Seq.{take-append_seam, drop-append_seam}
 use Rattle.parser.specs.declared.fault.FaultKind.{FaultKind}
-use Rattle.parser.specs.declared.fault.FaultKind.TheVariants as kinds
 use Rattle.parser.specs.declared.fault.Flaw.{Flaw}
-use Rattle.parser.specs.Words.{◌>>=◌, cut_at, word_at, flaw, or_flaw, word_or}
+use Rattle.parser.specs.Words.{◌>>=◌, cut_at, word_at, flaw, word_or}
 use Rattle.parser.specs.Orders.{first_byte}
 use Rattle.parser.specs.Reading.{is_idle, first_word_in, first_word}
 use Rattle.parser.specs.Faults.{IsWordStart, IsWordEnd, IsWrongWord, IsWordOf}
@@ -370,9 +369,12 @@ word_start line at w is (inr (inr spot)) =
     let long = length-append spot.front (32 ∷ []) in
     let size : length is.front ≡ length spaced = is.length_is ∙ spot.at_is ∙ sym long in
     let line_is : line ≡ spaced ++ spot.back = spot.line_is ∙ sym (append_assoc spot.front (32 ∷ []) spot.back) in
-    inr (spot.front, sym (take-append_seam is.front (w.0 ++ is.back))
-    ∙ ap (λ (x : List ℕ). take (length is.front) x) (sym is.line_is ∙ line_is)
-    ∙ ap (λ (k : ℕ). take k (spaced ++ spot.back)) size ∙ take-append_seam spaced spot.back)
+    inr (
+      spot.front,
+      sym (take-append_seam is.front (w.0 ++ is.back))
+          ∙ ap (λ (x : List ℕ). take (length is.front) x) (sym is.line_is ∙ line_is)
+          ∙ ap (λ (k : ℕ). take k (spaced ++ spot.back)) size ∙ take-append_seam spaced spot.back,
+    )
 
 -- a fault at a word
 pub fault_at_word : (line : List ℕ) (at : ℕ) (w : List ℕ × ℕ) (f : Flaw) → IsPlace line at → IsWordAt line at w

@@ -1,6 +1,6 @@
 -- Lines that are alike are taken alike, and a line's fault stands at a word of it.
-use Rattle.std.proofs.Common.{◌≡◌, ◌≢◌, ℕ, ◌+◌, ◌<◌, ◌≤◌, ◌*◌, Bool, true, false, cond, nat_lt, List, [], ◌∷◌, ◌++◌}
-use Rattle.std.proofs.Common.{length, Option, Some, None, refl, sym, ap, subst, ◌∙◌, arith, inl, inr}
+use Rattle.std.proofs.Common.{◌≡◌, ◌≢◌, ℕ, ◌+◌, ◌≤◌, ◌*◌, Bool, true, false, cond, nat_lt, List, [], ◌∷◌, ◌++◌}
+use Rattle.std.proofs.Common.{length, Option, Some, None, refl, sym, ap, subst, arith, inl, inr}
 use Rattle.std.specs.Prelude.{Result, Ok, Err, ◌==◌, ◌&&◌, ◌⊎◌, not, codes}
 use Rattle.std.specs.Str.{bytes_eq}
 use Rattle.std.specs.List.{repeat}
@@ -14,7 +14,6 @@ use Rattle.parser.specs.declared.fault.FaultKind.{FaultKind}
 use Rattle.parser.specs.declared.fault.FaultKind.TheVariants as kinds
 use Rattle.parser.specs.declared.fault.Flaw.{Flaw}
 use Rattle.parser.specs.declared.heading.Sizes.{Sizes}
-use Rattle.parser.specs.declared.order.Command.{Command}
 use Rattle.parser.specs.declared.order.Order.{Order}
 use Rattle.parser.specs.declared.reading.TheConstants.{MOST_COMMANDS, MOST_LAYOUTS, MOST_TURNS}
 use Rattle.parser.specs.Words.{◌>>=◌, flaw, number_at, named_at, end_at}
@@ -24,7 +23,7 @@ use Rattle.parser.specs.Reading.{ReadSoFar, is_idle, first_word_in, first_word, 
 use Rattle.parser.specs.Reading.{with_command, command_line, times_in, times_line, end_in, end_line, part_line}
 use Rattle.parser.specs.Reading.{later_line, line_after, line_in}
 use Rattle.parser.specs.Faults.{IsWrongWord}
-use Rattle.parser.proofs.Alike.{AreAlike, IsBehindWord, IsWordAt, IsFaultAt, IsPlaced, IsLate, IsJudged, IsWordAlike}
+use Rattle.parser.proofs.Alike.{AreAlike, IsBehindWord, IsWordAt, IsPlaced, IsLate, IsJudged, IsWordAlike}
 use Rattle.parser.proofs.Alike.{IsReadAlike, word_alike, then_alike, then_placed, done_alike, bind_assoc, no_bytes}
 use Rattle.parser.proofs.Alike.{finds_word, behind_word, fault_at_word}
 use Rattle.parser.proofs.AlikeReads.{number_alike, end_alike, heap_alike, layout_alike, test_first}

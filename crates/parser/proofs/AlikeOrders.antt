@@ -1,9 +1,9 @@
 -- Orders and actors are read alike in lines that are alike.
-use Rattle.std.proofs.Common.{◌≡◌, ℕ, ◌+◌, ◌<◌, Bool, true, false, cond, List, [], ◌∷◌, length, Option, Some, None}
-use Rattle.std.proofs.Common.{refl, sym, ap, subst, ◌∙◌, arith, inl, inr}
+use Rattle.std.proofs.Common.{◌≡◌, ℕ, ◌+◌, Bool, true, false, cond, List, [], ◌∷◌, length, Option, Some, None}
+use Rattle.std.proofs.Common.{refl, ap, subst}
 use Rattle.std.specs.Prelude.{Result, Ok, Err, ◌==◌, ◌||◌, not, nat_le}
 use Rattle.std.proofs.lemmas.Bool.{or_parts, not-false}
-use Rattle.std.proofs.lemmas.Bool.Decides.{nat_tests, Decides-eqb}
+use Rattle.std.proofs.lemmas.Bool.Decides.{Decides-eqb}
 use Rattle.parser.specs.declared.fault.FaultKind.{FaultKind}
 use Rattle.parser.specs.declared.fault.FaultKind.TheVariants as kinds
 use Rattle.parser.specs.declared.fault.Flaw.{Flaw}
@@ -16,13 +16,12 @@ use Rattle.parser.specs.declared.keywords.OfRegisters.TheVariants as of_register
 use Rattle.parser.specs.declared.keywords.Mixed.{Mixed}
 use Rattle.parser.specs.declared.keywords.Mixed.TheVariants as mixed
 use Rattle.model.specs.declared.steps.Actor.{Actor}
-use Rattle.model.specs.declared.steps.Actor.TheVariants.{Thread, Worker}
 use Rattle.parser.specs.Words.{◌>>=◌, flaw, or_flaw, word_or, is_number, capped_from, named_in, named_at, end_at}
-use Rattle.parser.specs.Orders.{keyword_in, register_at, slot_at, pair_at, field_at, first_byte, actor_at}
+use Rattle.parser.specs.Orders.{keyword_in, register_at, slot_at, pair_at, field_at}
 use Rattle.parser.specs.Orders.{registers_at, mixed_at, operands_at, order_at}
 use Rattle.parser.specs.Faults.{IsWrongWord}
 use Rattle.parser.proofs.Alike.{AreAlike, IsJudged, IsWordAlike, IsReadAlike, word_alike, then_alike, done_alike}
-use Rattle.parser.proofs.Alike.{one_word, one_word_then, bind_assoc}
+use Rattle.parser.proofs.Alike.{one_word, one_word_then}
 use Rattle.parser.proofs.AlikeReads.{number_alike, small_alike, end_alike}
 
 -- ---- names

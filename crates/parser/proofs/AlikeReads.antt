@@ -1,34 +1,21 @@
 -- Numbers, names, headings and orders are read alike in lines that are alike.
-use Rattle.std.proofs.Common.{◌≡◌, ◌≢◌, ℕ, ◌+◌, ◌<◌, ◌≤◌, Bool, true, false, cond, nat_lt, List, [], ◌∷◌, ◌++◌}
-use Rattle.std.proofs.Common.{length, Option, Some, None, refl, sym, ap, subst, ◌∙◌, arith, inl, inr}
-use Rattle.std.specs.Prelude.{Result, Ok, Err, ◌==◌, ◌||◌, ◌⊎◌, not, nat_le, codes}
+use Rattle.std.proofs.Common.{◌≡◌, ◌≢◌, ℕ, ◌+◌, ◌<◌, ◌≤◌, Bool, true, false, cond, nat_lt, List, []}
+use Rattle.std.proofs.Common.{length, Some, refl, sym, ap, subst, ◌∙◌, arith, inl, inr}
+use Rattle.std.specs.Prelude.{Result, Ok, Err, ◌||◌, ◌⊎◌, not, nat_le, codes}
 use Rattle.std.specs.Str.{bytes_eq}
-use Rattle.std.proofs.lemmas.Bool.{le-ltb, cases_lt, or_parts, not-false, ltb-false}
-use Rattle.std.proofs.lemmas.Bool.Decides.{nat_tests, Decides-eqb}
+use Rattle.std.proofs.lemmas.Bool.{cases_lt}
+use Rattle.std.proofs.lemmas.Bool.Decides.{nat_tests}
 use Rattle.layout.specs.declared.shape.Layout.{Layout}
 use Rattle.model.specs.Configs.{is_page_size}
-use Rattle.parser.specs.declared.fault.FaultKind.{FaultKind}
 use Rattle.parser.specs.declared.fault.FaultKind.TheVariants as kinds
 use Rattle.parser.specs.declared.fault.Flaw.{Flaw}
 use Rattle.parser.specs.declared.heading.Sizes.{Sizes}
 use Rattle.parser.specs.declared.heading.TheConstants.{MOST_FRAMES, MOST_PAGES, MOST_THREADS}
-use Rattle.parser.specs.declared.order.Order.{Order}
-use Rattle.parser.specs.declared.keywords.Keyword.{Keyword}
-use Rattle.parser.specs.declared.keywords.Keyword.TheVariants as keywords
-use Rattle.parser.specs.declared.keywords.OfRegisters.{OfRegisters}
-use Rattle.parser.specs.declared.keywords.OfRegisters.TheVariants as of_registers
-use Rattle.parser.specs.declared.keywords.Mixed.{Mixed}
-use Rattle.parser.specs.declared.keywords.Mixed.TheVariants as mixed
-use Rattle.model.specs.declared.steps.Actor.{Actor}
-use Rattle.parser.specs.Words.{◌>>=◌, word_at, flaw, or_flaw, word_or, fixed_at, is_number, capped_from, in_range}
-use Rattle.parser.specs.Words.{number_at, small_at, named_in, named_at, end_at}
-use Rattle.parser.specs.Headings.{field_at, page_size_at, limit_in, limit_at, memory_at, actors_at, limits_at}
+use Rattle.parser.specs.Words.{◌>>=◌, word_at, flaw, fixed_at, is_number, capped_from, in_range}
+use Rattle.parser.specs.Words.{number_at, small_at, end_at}
+use Rattle.parser.specs.Headings.{field_at, page_size_at, limit_at, memory_at, actors_at, limits_at}
 use Rattle.parser.specs.Headings.{heap_in, layout_in}
-use Rattle.parser.specs.Orders.{keyword_in, register_at, slot_at, pair_at, registers_at, mixed_at, operands_at}
-use Rattle.parser.specs.Orders.{order_at}
-use Rattle.parser.specs.Orders as orders_in
-use Rattle.parser.specs.Faults.{IsNameOf, IsWrongWord}
-use Rattle.parser.proofs.Alike.{AreAlike, IsBehindWord, IsFaultAt, IsPlaced, IsLate, IsJudged, IsWordAlike, IsReadAlike}
+use Rattle.parser.proofs.Alike.{AreAlike, IsBehindWord, IsPlaced, IsLate, IsJudged, IsReadAlike}
 use Rattle.parser.proofs.Alike.{word_alike, then_alike, done_alike, one_word, one_word_then, finds_word, none_past}
 use Rattle.parser.proofs.Alike.{behind_word, fault_at_word}
 
@@ -105,6 +92,7 @@ end_placed line at p = by_test (nat_le at (length line)) refl
     some_front : (front : List ℕ) → length front ≡ at → IsBehindWord line at → front ≢ []
     some_front front size (inl past) none = let e = ap length none in absurd (omega arith)
     some_front front size (inr spot) none = let e = ap length none in let at_is = spot.at_is in absurd (omega arith)
+
     by_test : (b : Bool) → nat_le at (length line) ≡ b → IsPlaced line (λ (u : Unit {0}). length line + 1)
         (cond b (Err (flaw at kinds.EndOfLineExpected)) (Ok tt))
     by_test true e =

@@ -1,8 +1,8 @@
 -- Lines that are taken begin a script, as some lines behind them complete it.
-use Rattle.std.proofs.Common.{◌≡◌, ◌≢◌, ℕ, ◌+◌, ◌^◌, ◌<◌, ◌≤◌, Bool, true, false, List, [], ◌∷◌, ◌++◌, length}
+use Rattle.std.proofs.Common.{◌≡◌, ◌≢◌, ℕ, ◌^◌, ◌<◌, ◌≤◌, Bool, true, false, List, [], ◌∷◌, ◌++◌, length}
 use Rattle.std.proofs.Common.{Option, Some, None, refl, sym, ap, subst, ◌∙◌, arith, inl, inr, append-nil, append_assoc}
 use Rattle.std.proofs.Common.{length-append}
-use Rattle.std.specs.Prelude.{Ok, ◌==◌, ◌⊎◌, not, codes, map, filter}
+use Rattle.std.specs.Prelude.{Ok, ◌==◌, not, codes, map, filter}
 use Rattle.std.specs.Fmt.{decimal}
 use Rattle.std.specs.List.{AllByRecursion, list_all, flat_map, repeat}
 use Rattle.std.proofs.lemmas.Bool.{cases_lt, and_parts, not-true}
@@ -13,11 +13,10 @@ use Rattle.layout.specs.declared.shape.Layout.{Layout}
 use Rattle.model.specs.Configs.{fits_page}
 use Rattle.model.proofs.Ranges.{page_size_range}
 use Rattle.parser.specs.declared.heading.Sizes.{Sizes}
-use Rattle.parser.specs.declared.order.Command.{Command}
 use Rattle.parser.specs.declared.reading.TheConstants.{MOST_COMMANDS}
 use Rattle.parser.specs.Words.{is_digit}
 use Rattle.parser.specs.Headings.{config_of}
-use Rattle.parser.specs.Reading.{ScriptValue, script_of, ReadSoFar, nothing, newline, is_idle, line_in, closed, whole}
+use Rattle.parser.specs.Reading.{ScriptValue, script_of, ReadSoFar, nothing, newline, line_in, closed, whole}
 use Rattle.parser.specs.Reading.{finished}
 use Rattle.parser.specs.Spelling.{line_of, layout_line_of, size_words, SpellsHeap, Part, Times, part_lines}
 use Rattle.parser.specs.Spelling.{part_commands, ended, IsPart, says_something, Spells, IsLayout, IsCommand, IsScript}
@@ -29,7 +28,7 @@ use Rattle.parser.proofs.Lists.{HasNoNewlines, all_push, all_from, lines_from}
 use Rattle.parser.proofs.Parts.{HasTurns, say_end, more_commands, all_both, all_repeated}
 use Rattle.parser.proofs.ReadIsSpelled.{IsBehind, IsBefore, Said, line_ok, all_said, some_layouts, commands_with}
 use Rattle.parser.proofs.ReadIsSpelled.{finished_ok}
-use Rattle.parser.proofs.SpelledIsRead.{IsReady, layout_taken, heap_taken}
+use Rattle.parser.proofs.SpelledIsRead.{layout_taken, heap_taken}
 
 -- ---- lines that spell a script
 

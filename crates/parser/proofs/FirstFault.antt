@@ -2,7 +2,7 @@
 use Rattle.std.proofs.Common.{◌≡◌, ◌≢◌, ℕ, ◌≤◌, true, false, Bool, ◌+◌, List, [], ◌∷◌, ◌++◌, length, Option, Some, None}
 use Rattle.std.proofs.Common.{refl, sym, ap, subst, ◌∙◌, arith, inl, inr, append-nil, append_assoc, cond}
 use Rattle.std.specs.Prelude.{Result, Ok, Err, ◌==◌, ◌⊎◌, filter}
-use Rattle.std.specs.List.{AllByRecursion, slice_split, join_with_byte, All}
+use Rattle.std.specs.List.{AllByRecursion, slice_split, join_with_byte}
 use Rattle.std.proofs.lemmas.Bool.Decides.{nat_tests}
 use Rattle.std.proofs.lemmas.List.Elements.{filter-append}
 use Rattle.std.proofs.lemmas.List.Splits.{join_with_byte-slice_split}
@@ -16,15 +16,15 @@ use Rattle.parser.specs.declared.heading.Sizes.{Sizes}
 use Rattle.parser.specs.Reading.{ScriptValue, ReadSoFar, nothing, newline, closed, whole, finished, lines_in, script_in}
 use Rattle.parser.specs.Reading.{fault_at_start}
 use Rattle.parser.specs.Scripts.{IsReadOf}
-use Rattle.parser.specs.Spelling.{says_something, Spells, IsLine, IsScript}
-use Rattle.parser.specs.Faults.{text_of, HaveNoFault, IsLineEnd, StandsInLine, StandsAtEnd, LacksNewline, IsFirstFault}
+use Rattle.parser.specs.Spelling.{says_something}
+use Rattle.parser.specs.Faults.{text_of, IsLineEnd, StandsInLine, StandsAtEnd, LacksNewline, IsFirstFault}
 use Rattle.parser.specs.Faults.{IsMissingBehind, IsWrongWord, TellsFirst}
 use Rattle.parser.proofs.Splitting.{split_cons}
 use Rattle.parser.proofs.Lists.{HasNoNewlines, all_from, all_front, all_push, split_lines, lines_from, told, filter_told}
 use Rattle.parser.proofs.Parts.{all_back}
 use Rattle.parser.proofs.ReadIsSpelled.{IsBehind, Said, line_ok, some_layouts}
 use Rattle.parser.proofs.SpelledIsRead.{spelled_is_read}
-use Rattle.parser.proofs.Stops.{Leads, leads_said, IsWrong, IsMissing, IsUnended, Why, StopsAt, stops}
+use Rattle.parser.proofs.Stops.{Leads, leads_said, IsWrong, IsMissing, IsUnended, StopsAt, stops}
 use Rattle.parser.proofs.Completions.{open_ends, not_started, taken_have_none}
 use Rattle.parser.proofs.Alike.{IsFaultAt, IsPlaced, alike_self}
 use Rattle.parser.proofs.AlikeLines.{line_taken}
@@ -225,7 +225,7 @@ places bytes fault lines stop cut =
           ]
       | inr why ↦
           inr (no_newline bytes stop.before stop.line stop.others stop.number stop.state fault has stop.number_is so_far
-              why)
+          why)
     ]
 
 no_ok : {A : Type 0} (f : LineFault) (s : A) → ◌≡◌ {A = Result A LineFault} (Err f) (Ok s) → ⊥
