@@ -30,7 +30,7 @@ text_split (line ∷ lines) more h =
     ∙ ap (λ (x : List (List ℕ)). line ∷ x) (text_split lines more h.1)
 
 -- bytes without a newline stand before the first line of what stands behind them
-line_more : (front more first : List ℕ) (others : List (List ℕ)) → HasNoNewlines front
+pub line_more : (front more first : List ℕ) (others : List (List ℕ)) → HasNoNewlines front
     → slice_split newline more ≡ first ∷ others → slice_split newline (front ++ more) ≡ (front ++ first) ∷ others
 line_more [] more first others h e = e
 line_more (b ∷ bs) more first others h e =

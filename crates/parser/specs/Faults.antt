@@ -149,3 +149,13 @@ TellsFirst bytes (Err (faults.Line fault)) = IsFirstFault bytes fault
 TellsFirst bytes (Err faults.TooLong) = Unit {0}
 TellsFirst bytes (Err faults.Memory) = Unit {0}
 TellsFirst bytes (Ok s) = Unit {0}
+
+-- no lines of the text, of which the last one may want its newline, end inside a block that has too many commands
+abbrev pub HasNoLargeBlock : List ℕ → Type 0
+HasNoLargeBlock bytes = (lines : List (List ℕ)) (more : List ℕ) → bytes ++ 10 ∷ [] ≡ text_of lines ++ more
+    → EndInLargeBlock lines → ⊥
+
+-- a text has first faults in one line alone
+abbrev pub FaultsShareLine : List ℕ → LineFault → LineFault → Type 0
+FaultsShareLine bytes one other = HasNoLargeBlock bytes → IsFirstFault bytes one → IsFirstFault bytes other
+    → one.line ≡ other.line

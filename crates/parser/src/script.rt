@@ -3,10 +3,11 @@
 ghost use Rattle.std.specs.Prelude.{◌≡◌, ◌↔◌, ℕ, List, IfOk};
 ghost use Rattle.std.specs.List.{All};
 ghost use Rattle.model.specs.Configs.{IsConfig};
+ghost use Rattle.parser.specs.declared.fault.LineFault.{LineFault};
 ghost use Rattle.parser.specs.Reading.{ScriptValue, script_of, script_in};
 ghost use Rattle.parser.specs.Spelling.{IsCommand, IsScript, Spells};
 ghost use Rattle.parser.specs.Scripts.{IsReadOf, IsTooLong};
-ghost use Rattle.parser.specs.Faults.{TellsFirst};
+ghost use Rattle.parser.specs.Faults.{FaultsShareLine, TellsFirst};
 
 use crate::fault::ParseFault;
 use crate::order::Command;
@@ -95,4 +96,10 @@ pub fn parse(alloc: Global, bytes: &[u8]) -> Result<Script, ParseFault>
 /// No bytes spell two scripts within the limits. It does nothing: its contract is the law.
 pub fn one_reading()
     ensures { (bytes : List ℕ) (s t : ScriptValue) → IsScript s → IsScript t → Spells bytes s → Spells bytes t → s ≡ t }
+{}
+
+/// A text has first faults in one line alone, where no block has too many commands. It does nothing: its contract is
+/// the law.
+pub fn one_first_line()
+    ensures { (bytes : List ℕ) (one other : LineFault) → FaultsShareLine bytes one other }
 {}
