@@ -414,7 +414,7 @@ pub word_or_some : (line : List ℕ) (at : ℕ) (kind : FaultKind) (w : List ℕ
 unfolding word_or
 word_or_some line at kind w h = rw h refl
 
-word_or_none : (line : List ℕ) (at : ℕ) (kind : FaultKind) → length line < at
+pub word_or_none : (line : List ℕ) (at : ℕ) (kind : FaultKind) → length line < at
     → word_or line at kind ≡ Err (flaw (length line) kind)
 unfolding word_or
 word_or_none line at kind h = rw (none_past line at h) refl

@@ -45,7 +45,7 @@ judge_name_by place at letter missing b bs after next absent h false true e =
     (refl, λ front size. absent front (b ∷ bs) bs size (ap (λ (x : ℕ). x ∷ bs) first) number)
 judge_name_by place at letter missing b bs after next absent h false false e = h (capped_from 0 bs, after) refl
 
-judge_name : {B : Type 0} (place : B → ℕ) (at letter count : ℕ) (missing : FaultKind) (word : List ℕ) (after : ℕ)
+pub judge_name : {B : Type 0} (place : B → ℕ) (at letter count : ℕ) (missing : FaultKind) (word : List ℕ) (after : ℕ)
     (next : ℕ × ℕ → Result B Flaw) → IsAbsent at letter missing
     → ((x : ℕ × ℕ) → x.1 ≡ after → IsJudged place at (word, after) (next x))
     → IsJudged place at (word, after) (named_in word after at letter count missing >>= next)
@@ -66,7 +66,7 @@ name_then n line other k place at letter count missing next absent h =
     (λ (w : List ℕ × ℕ). named_in w.0 w.1 at letter count missing) next
     (λ w. judge_name place at letter count missing w.0 w.1 next absent (h w)) tt
 
-bind_ok_is : {A : Type 0} (r : Result A Flaw) → (r >>= (λ x. Ok x)) ≡ r
+pub bind_ok_is : {A : Type 0} (r : Result A Flaw) → (r >>= (λ x. Ok x)) ≡ r
 bind_ok_is (Ok x) = refl
 bind_ok_is (Err d) = refl
 

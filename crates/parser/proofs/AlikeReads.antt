@@ -45,7 +45,7 @@ judge_then place at low high w next h false c e = (refl, λ front size. e)
 judge_then place at low high w next h true true e = (refl, λ front size. e)
 judge_then place at low high w next h true false e = h (capped_from 0 w.0, w.1) refl e
 
-judge_number : (at low high : ℕ) (w : List ℕ × ℕ) (b c : Bool) → is_number w.0 ≡ b
+pub judge_number : (at low high : ℕ) (w : List ℕ × ℕ) (b c : Bool) → is_number w.0 ≡ b
     → IsJudged (λ (x : ℕ × ℕ). x.1) at w (cond (not b) (Err (flaw at kinds.NumberExpected))
     (cond c (Err (flaw at kinds.NumberOutOfRange)) (Ok (capped_from 0 w.0, w.1))))
 judge_number at low high w false c e = (refl, λ front size. e)
