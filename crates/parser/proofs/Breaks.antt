@@ -88,6 +88,16 @@ later line at after f ws full e h = record {
   };
 }
 
+-- more words may follow
+more_behind : (line : List ℕ) (at : ℕ) (f : Flaw) (full more : List (List ℕ)) → Breaks line at f full
+    → Breaks line at f (full ++ more)
+more_behind line at f full more h = record {
+  firsts = h.firsts;
+  lasts = h.lasts ++ more;
+  full_is = ap (λ (x : List (List ℕ)). x ++ more) h.full_is ∙ append_assoc h.firsts h.lasts more;
+  behind = h.behind;
+}
+
 -- a fault at a word that is there
 at_place : (line : List ℕ) (at : ℕ) (f : Flaw) → at ≤ length line → f.column ≡ at + 1 → BreaksBehind line at f []
 at_place line at f within column =
@@ -276,3 +286,285 @@ field_breaks sizes line at f some fits h = elim (bind_err (register_at sizes lin
         | inr b ↦ absurd (no_err _ f b.1.1)
       ]
 ]
+
+-- ---- orders
+
+-- an order of the keyword, of whose operands the fault stands behind the first ones
+record OperandsBreak (registers : ℕ) (line : List ℕ) (at : ℕ) (f : Flaw) (key : Keyword) : Type 0 where
+  order : Order
+  keyword : keyword_of order ≡ key
+  fits : IsOrder registers order
+  breaks : Breaks line at f (operand_words order)
+
+one_register : (sizes : Sizes) (line : List ℕ) (at : ℕ) (f : Flaw) (order : Order) (key : Keyword)
+    → keyword_of order ≡ key → IsOrder sizes.registers order → register_at sizes line at ≡ Err f
+    → OperandsBreak sizes.registers line at f key
+one_register sizes line at f order key is fits h = record {
+  order = order;
+  keyword = is;
+  fits = fits;
+  breaks = here line at f (operand_words order) (register_break sizes line at f h);
+}
+
+registers_break : (sizes : Sizes) (line : List ℕ) (at : ℕ) (f : Flaw) (k : OfRegisters) → 1 ≤ sizes.registers
+    → sizes.registers < 2 ^ 64 → registers_at sizes line at k ≡ Err f
+    → OperandsBreak sizes.registers line at f (keywords.Registers k)
+unfolding registers_at
+registers_break sizes line at f of_registers.Same some fits h = elim (bind_err (pair_at sizes line at) _ f h) [
+  | inl e ↦
+      let p = pair_breaks sizes line at f some fits e in
+      record {
+        order = orders.Same p.left p.right;
+        keyword = refl;
+        fits = (p.left_there, p.right_there);
+        breaks = p.breaks;
+      }
+  | inr a ↦ absurd (no_err _ f a.1.1)
+]
+registers_break sizes line at f of_registers.Null some fits h = elim (bind_err (register_at sizes line at) _ f h) [
+  | inl e ↦ one_register sizes line at f (orders.Null 0) (keywords.Registers of_registers.Null) refl some e
+  | inr a ↦ absurd (no_err _ f a.1.1)
+]
+registers_break sizes line at f of_registers.Move some fits h = elim (bind_err (pair_at sizes line at) _ f h) [
+  | inl e ↦
+      let p = pair_breaks sizes line at f some fits e in
+      record {
+        order = orders.Move p.left p.right;
+        keyword = refl;
+        fits = (p.left_there, p.right_there);
+        breaks = p.breaks;
+      }
+  | inr a ↦ absurd (no_err _ f a.1.1)
+]
+registers_break sizes line at f of_registers.Clear some fits h = elim (bind_err (register_at sizes line at) _ f h) [
+  | inl e ↦ one_register sizes line at f (orders.Clear 0) (keywords.Registers of_registers.Clear) refl some e
+  | inr a ↦ absurd (no_err _ f a.1.1)
+]
+registers_break sizes line at f of_registers.Scrub some fits h = elim (bind_err (register_at sizes line at) _ f h) [
+  | inl e ↦ one_register sizes line at f (orders.Scrub 0) (keywords.Registers of_registers.Scrub) refl some e
+  | inr a ↦ absurd (no_err _ f a.1.1)
+]
+
+mixed_break : (sizes : Sizes) (line : List ℕ) (at : ℕ) (f : Flaw) (k : Mixed) → 1 ≤ sizes.registers
+    → sizes.registers < 2 ^ 64 → mixed_at sizes line at k ≡ Err f
+    → OperandsBreak sizes.registers line at f (keywords.Mixed k)
+unfolding mixed_at
+mixed_break sizes line at f mixed.Take some fits h = elim (bind_err (small_at line at) _ f h) [
+  | inl e ↦
+      record {
+        order = orders.Take 0;
+        keyword = refl;
+        fits = omega arith;
+        breaks = here line at f (decimal 0 ∷ []) (small_break line at f e);
+      }
+  | inr a ↦ absurd (no_err _ f a.1.1)
+]
+mixed_break sizes line at f mixed.Set some fits h = elim (bind_err (slot_at sizes line at) _ f h) [
+  | inl e ↦
+      let s = slot_breaks sizes line at f some fits e in
+      record {
+        order = orders.Set s.register s.number 0;
+        keyword = refl;
+        fits = ((s.there, s.small), omega arith);
+        breaks = more_behind line at f (register_word s.register ∷ decimal s.number ∷ []) (decimal 0 ∷ []) s.breaks;
+      }
+  | inr a ↦
+      let s = slot_ok sizes line at a.0 fits a.1.0 in
+      elim (bind_err (number_at line a.0.1 0 18446744073709551615) _ f a.1.1) [
+        | inl e ↦
+            record {
+              order = orders.Set a.0.0.0 a.0.0.1 0;
+              keyword = refl;
+              fits = ((s.below, s.small), omega arith);
+              breaks = later line at a.0.1 f (register_word a.0.0.0 ∷ decimal a.0.0.1 ∷ []) (decimal 0 ∷ []) s.spelled
+                  (here line a.0.1 f (decimal 0 ∷ []) (number_break line a.0.1 0 18446744073709551615 f e));
+            }
+        | inr b ↦ absurd (no_err _ f b.1.1)
+      ]
+]
+mixed_break sizes line at f mixed.Store some fits h = elim (bind_err (slot_at sizes line at) _ f h) [
+  | inl e ↦
+      let s = slot_breaks sizes line at f some fits e in
+      record {
+        order = orders.Store s.register s.number 0;
+        keyword = refl;
+        fits = ((s.there, s.small), some);
+        breaks = more_behind line at f (register_word s.register ∷ decimal s.number ∷ []) (register_word 0 ∷ [])
+            s.breaks;
+      }
+  | inr a ↦
+      let s = slot_ok sizes line at a.0 fits a.1.0 in
+      elim (bind_err (register_at sizes line a.0.1) _ f a.1.1) [
+        | inl e ↦
+            record {
+              order = orders.Store a.0.0.0 a.0.0.1 0;
+              keyword = refl;
+              fits = ((s.below, s.small), some);
+              breaks = later line at a.0.1 f (register_word a.0.0.0 ∷ decimal a.0.0.1 ∷ []) (register_word 0 ∷ [])
+                  s.spelled (here line a.0.1 f (register_word 0 ∷ []) (register_break sizes line a.0.1 f e));
+            }
+        | inr b ↦ absurd (no_err _ f b.1.1)
+      ]
+]
+mixed_break sizes line at f mixed.StoreGlobal some fits h = elim (bind_err (small_at line at) _ f h) [
+  | inl e ↦
+      record {
+        order = orders.StoreGlobal 0 0;
+        keyword = refl;
+        fits = (omega arith, some);
+        breaks = here line at f (decimal 0 ∷ register_word 0 ∷ []) (small_break line at f e);
+      }
+  | inr a ↦
+      let n = small_ok line at a.0 a.1.0 in
+      elim (bind_err (register_at sizes line a.0.1) _ f a.1.1) [
+        | inl e ↦
+            record {
+              order = orders.StoreGlobal a.0.0 0;
+              keyword = refl;
+              fits = (omega (arith, n.below), some);
+              breaks = later line at a.0.1 f (decimal a.0.0 ∷ []) (register_word 0 ∷ []) n.spelled
+                  (here line a.0.1 f (register_word 0 ∷ []) (register_break sizes line a.0.1 f e));
+            }
+        | inr b ↦ absurd (no_err _ f b.1.1)
+      ]
+]
+
+slot_of : (registers : ℕ) (line : List ℕ) (at : ℕ) (f : Flaw) (k : OfSlot) → SlotBreaks registers line at f
+    → OperandsBreak registers line at f (keywords.Slot k)
+slot_of registers line at f of_slot.New s = record {
+  order = orders.New s.register s.number;
+  keyword = refl;
+  fits = (s.there, s.small);
+  breaks = s.breaks;
+}
+slot_of registers line at f of_slot.Datum s = record {
+  order = orders.Datum s.register s.number;
+  keyword = refl;
+  fits = (s.there, s.small);
+  breaks = s.breaks;
+}
+slot_of registers line at f of_slot.LoadGlobal s = record {
+  order = orders.LoadGlobal s.register s.number;
+  keyword = refl;
+  fits = (s.there, s.small);
+  breaks = s.breaks;
+}
+slot_of registers line at f of_slot.GetGlobal s = record {
+  order = orders.GetGlobal s.register s.number;
+  keyword = refl;
+  fits = (s.there, s.small);
+  breaks = s.breaks;
+}
+
+field_of : (registers : ℕ) (line : List ℕ) (at : ℕ) (f : Flaw) (k : OfField) → FieldBreaks registers line at f
+    → OperandsBreak registers line at f (keywords.Field k)
+field_of registers line at f of_field.Load s = record {
+  order = orders.Load s.target s.object s.number;
+  keyword = refl;
+  fits = ((s.target_there, s.object_there), s.small);
+  breaks = s.breaks;
+}
+field_of registers line at f of_field.Get s = record {
+  order = orders.Get s.target s.object s.number;
+  keyword = refl;
+  fits = ((s.target_there, s.object_there), s.small);
+  breaks = s.breaks;
+}
+
+operands_break : (sizes : Sizes) (line : List ℕ) (at : ℕ) (f : Flaw) (k : Keyword) → 1 ≤ sizes.registers
+    → sizes.registers < 2 ^ 64 → operands_at sizes line at k ≡ Err f → OperandsBreak sizes.registers line at f k
+unfolding operands_at
+operands_break sizes line at f (keywords.Bare k) some fits h = absurd (no_err _ f h)
+operands_break sizes line at f (keywords.Registers k) some fits h = registers_break sizes line at f k some fits h
+operands_break sizes line at f (keywords.Slot k) some fits h = elim (bind_err (slot_at sizes line at) _ f h) [
+  | inl e ↦ slot_of sizes.registers line at f k (slot_breaks sizes line at f some fits e)
+  | inr a ↦ absurd (no_err _ f a.1.1)
+]
+operands_break sizes line at f (keywords.Field k) some fits h = elim (bind_err (field_at sizes line at) _ f h) [
+  | inl e ↦ field_of sizes.registers line at f k (field_breaks sizes line at f some fits e)
+  | inr a ↦ absurd (no_err _ f a.1.1)
+]
+operands_break sizes line at f (keywords.Mixed k) some fits h = mixed_break sizes line at f k some fits h
+
+-- an order, of whose words the fault stands behind the first ones
+pub record OrderBreaks (registers : ℕ) (line : List ℕ) (at : ℕ) (f : Flaw) : Type 0 where
+  pub order : Order
+  pub fits : IsOrder registers order
+  pub breaks : Breaks line at f (order_words order)
+
+-- where no word of an order is known
+unknown_order : (registers : ℕ) (line : List ℕ) (at : ℕ) (f : Flaw) → BreaksBehind line at f []
+    → OrderBreaks registers line at f
+unknown_order registers line at f h =
+    record { order = orders.Give; fits = tt; breaks = here line at f (order_words orders.Give) h }
+
+operands_told : (sizes : Sizes) (line : List ℕ) (at after : ℕ) (f : Flaw) (k : Keyword)
+    → words_from line at ≡ keyword_text k ∷ words_from line after → OperandsBreak sizes.registers line after f k
+    → OrderBreaks sizes.registers line at f
+operands_told sizes line at after f k first h =
+    let all : keyword_text k ∷ operand_words h.order ≡ order_words h.order =
+    ap (λ (x : Keyword). keyword_text x ∷ operand_words h.order) (sym h.keyword) ∙ sym (words_are h.order) in
+    record {
+      order = h.order;
+      fits = h.fits;
+      breaks = subst (λ (x : List (List ℕ)). Breaks line at f x) all
+          (later line at after f (keyword_text k ∷ []) (operand_words h.order) first h.breaks);
+    }
+
+end_told : (sizes : Sizes) (line : List ℕ) (at after end : ℕ) (f : Flaw) (k : Keyword) (order : Order)
+    → words_from line at ≡ keyword_text k ∷ words_from line after → keyword_of order ≡ k
+    → words_from line after ≡ operand_words order ++ words_from line end → IsOrder sizes.registers order
+    → BreaksBehind line end f [] → OrderBreaks sizes.registers line at f
+end_told sizes line at after end f k order first key operands fits h =
+    let text : keyword_text k ∷ operand_words order ≡ order_words order =
+    ap (λ (x : Keyword). keyword_text x ∷ operand_words order) (sym key) ∙ sym (words_are order) in
+    let all : words_from line at ≡ order_words order ++ words_from line end =
+    first ∙ ap (λ (x : List (List ℕ)). keyword_text k ∷ x) operands
+    ∙ ap (λ (x : List (List ℕ)). x ++ words_from line end) text in
+    record {
+      order = order;
+      fits = fits;
+      breaks = subst (λ (x : List (List ℕ)). Breaks line at f x) (append-nil (order_words order))
+          (later line at end f (order_words order) [] all (here line end f [] h));
+    }
+
+word_within : (line : List ℕ) (at : ℕ) (kind : FaultKind) (w : List ℕ × ℕ) → word_or line at kind ≡ Ok w
+    → at ≤ length line
+word_within line at kind w h = elim (cases_lt (length line) at) [
+  | inl past ↦ absurd (no_err w (flaw (length line) kind) (sym h ∙ word_or_none line at kind past))
+  | inr within ↦ within
+]
+
+pub order_break : (sizes : Sizes) (line : List ℕ) (t at : ℕ) (f : Flaw) → 1 ≤ sizes.registers
+    → sizes.registers < 2 ^ 64 → order_at sizes line (Thread t) at ≡ Err f → OrderBreaks sizes.registers line at f
+unfolding order_at
+order_break sizes line t at f some fits h = elim (bind_err (word_or line at kinds.UnknownWord) _ f h) [
+  | inl e ↦
+      unknown_order sizes.registers line at f (word_break line at kinds.UnknownWord (λ (w : List ℕ × ℕ). w.1)
+          (λ (w : List ℕ × ℕ). Ok w) f (λ w. refl) (bind_ok_is (word_or line at kinds.UnknownWord) ∙ e))
+  | inr w ↦ elim (bind_err (or_flaw (thread_keyword w.0.0) (flaw at kinds.UnknownWord)) _ f w.1.1) [
+    | inl e ↦
+        unknown_order sizes.registers line at f (at_place line at f (word_within line at kinds.UnknownWord w.0 w.1.0)
+            (no_key (thread_keyword w.0.0) e))
+    | inr k ↦
+        let key = thread_key_ok w.0.0 k.0
+        (or_flaw_ok (thread_keyword w.0.0) (flaw at kinds.UnknownWord) k.0 k.1.0) in
+        let first = word_ok line at kinds.UnknownWord w.0 w.1.0
+        ∙ ap (λ (x : List ℕ). x ∷ words_from line w.0.1) key in
+        elim (bind_err (operands_at sizes line w.0.1 k.0) _ f k.1.1) [
+          | inl e ↦ operands_told sizes line at w.0.1 f k.0 first (operands_break sizes line w.0.1 f k.0 some fits e)
+          | inr v ↦
+              let operands = operands_ok sizes line w.0.1 k.0 v.0 fits v.1.0 in
+              elim (bind_err (end_at line v.0.1) _ f v.1.1) [
+                | inl e ↦
+                    end_told sizes line at w.0.1 v.0.1 f k.0 v.0.0 first operands.keyword operands.spelled operands.fits
+                        (end_break line v.0.1 f e)
+                | inr u ↦ absurd (no_err _ f u.1.1)
+              ]
+        ]
+  ]
+]
+  where
+    no_key : (o : Option Keyword) → or_flaw o (flaw at kinds.UnknownWord) ≡ Err f → f.column ≡ at + 1
+    no_key None e = ap (λ (x : Flaw). x.column) (sym (same_flaw {A = Keyword} (flaw at kinds.UnknownWord) f e))
+    no_key (Some k) e = absurd (no_err k f e)
