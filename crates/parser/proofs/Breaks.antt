@@ -46,7 +46,7 @@ bind_err (Err d) f e h = inl (cc)
 pub same_flaw : {A : Type 0} (x y : Flaw) → ◌≡◌ {A = Result A Flaw} (Err x) (Err y) → x ≡ y
 same_flaw x y h = cc
 
-no_err : {A : Type 0} (x : A) (f : Flaw) → ◌≡◌ {A = Result A Flaw} (Ok x) (Err f) → ⊥
+pub no_err : {A : Type 0} (x : A) (f : Flaw) → ◌≡◌ {A = Result A Flaw} (Ok x) (Err f) → ⊥
 no_err x f h = absurd cc
 
 -- ---- where words break off
@@ -103,7 +103,7 @@ at_place : (line : List ℕ) (at : ℕ) (f : Flaw) → at ≤ length line → f.
 at_place line at f within column =
     record { tail = words_from line at; words = refl; place = inl (at, (refl, (within, column))) }
 
-judged_err : {A : Type 0} (place : A → ℕ) (at : ℕ) (w : List ℕ × ℕ) (r : Result A Flaw) (f : Flaw)
+pub judged_err : {A : Type 0} (place : A → ℕ) (at : ℕ) (w : List ℕ × ℕ) (r : Result A Flaw) (f : Flaw)
     → IsJudged place at w r → r ≡ Err f → f.column ≡ at + 1
 judged_err place at w (Ok x) f judged h = absurd (no_err x f h)
 judged_err {A} place at w (Err d) f judged h =

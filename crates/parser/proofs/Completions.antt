@@ -55,7 +55,7 @@ lines_spell lines s each h = record {
   said = h.said_is;
 }
 
-no_newlines : (line : List ℕ) → list_all (λ b. not (newline b)) line ≡ true → HasNoNewlines line
+pub no_newlines : (line : List ℕ) → list_all (λ b. not (newline b)) line ≡ true → HasNoNewlines line
 no_newlines [] h = tt
 no_newlines (b ∷ bs) h =
     let p = and_parts (not (newline b)) (list_all (λ c. not (newline c)) bs) h in
@@ -71,10 +71,10 @@ digits_no_newlines (b ∷ bs) h =
     let ne : b ≢ 10 = grind (arith, nat_tests) in
     (ne, digits_no_newlines bs p.1)
 
-number_no_newlines : (n : ℕ) → n < 2 ^ 64 → HasNoNewlines (decimal n)
+pub number_no_newlines : (n : ℕ) → n < 2 ^ 64 → HasNoNewlines (decimal n)
 number_no_newlines n h = digits_no_newlines (decimal n) (decimal_digits n h)
 
-words_no_newlines : (words : List (List ℕ)) → AllByRecursion HasNoNewlines words → HasNoNewlines (line_of words)
+pub words_no_newlines : (words : List (List ℕ)) → AllByRecursion HasNoNewlines words → HasNoNewlines (line_of words)
 words_no_newlines [] h = tt
 words_no_newlines (w ∷ []) h = h.0
 words_no_newlines (w ∷ v ∷ words) h =

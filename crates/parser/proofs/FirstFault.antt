@@ -28,6 +28,7 @@ use Rattle.parser.proofs.Stops.{Leads, leads_said, IsWrong, IsMissing, IsUnended
 use Rattle.parser.proofs.Completions.{open_ends, not_started, taken_have_none}
 use Rattle.parser.proofs.Alike.{IsFaultAt, IsPlaced, alike_self}
 use Rattle.parser.proofs.AlikeLines.{line_taken}
+use Rattle.parser.proofs.RightUpTo.{right_up_to}
 use Rattle.parser.proofs.Never.{never_begins}
 
 -- ---- the bytes behind a line
@@ -109,6 +110,7 @@ in_line bytes before line others n t fault has number leads so_far why =
       wrong = subst (λ (x : FaultKind). IsWrongWord x at.front at.word)
           (ap (λ (x : LineFault). x.kind) why.fault_is) at.wrong;
       faultless = taken_have_none before t has.each so_far;
+      right = right_up_to before line t why.flaw has.each so_far why.wrong at;
       never = never_begins before line at.front at.word at.back t why.flaw has.each has.own leads started why.wrong
           at.is.line_is at.is.ends at.column;
     }

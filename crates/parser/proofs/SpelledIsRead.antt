@@ -115,7 +115,7 @@ command_line_taken z r line w first other =
     ∙ other.end in
     rw (times, end) refl
 
-command_taken : (z : Sizes) (r : ReadSoFar) (c : Command) (line : List ℕ) (o : Option ℕ)
+pub command_taken : (z : Sizes) (r : ReadSoFar) (c : Command) (line : List ℕ) (o : Option ℕ)
     → IsReady z r → 1 ≤ length r.layouts → r.turns ≡ o → is_full o r.commands ≡ false → IsCommand (config_of z []) c
     → is_idle line ≡ false → line ≡ command_line_of c → line_in r line ≡ Ok (with_command r o c)
 unfolding command_line
@@ -133,7 +133,7 @@ command_taken z r c line o ready some turns room h idle is =
     ∙ added
     ∙ ap (λ (x : Option ℕ). Ok (with_command r x c)) turns
 
-times_taken : (z : Sizes) (r : ReadSoFar) (n : ℕ) (line : List ℕ) → IsReady z r
+pub times_taken : (z : Sizes) (r : ReadSoFar) (n : ℕ) (line : List ℕ) → IsReady z r
     → 1 ≤ length r.layouts → r.turns ≡ None → 1 ≤ n → n ≤ MOST_TURNS → is_idle line ≡ false → line ≡ times_line_of n
     → line_in r line ≡ Ok (record r { begun = true; turns = Some n; body = [] })
 unfolding part_line times_line
@@ -149,7 +149,7 @@ times_taken z r n line ready some none low high idle is =
     part_taken z r line (codes "times") ready some idle words.first refl ∙ here
     ∙ ap (λ (x : Option ℕ). times_in r x line) none ∙ read
 
-end_taken : (z : Sizes) (r : ReadSoFar) (n : ℕ) (line : List ℕ) → IsReady z r → 1 ≤ length r.layouts → r.turns ≡ Some n
+pub end_taken : (z : Sizes) (r : ReadSoFar) (n : ℕ) (line : List ℕ) → IsReady z r → 1 ≤ length r.layouts → r.turns ≡ Some n
     → length r.commands + n * length r.body ≤ MOST_COMMANDS → is_idle line ≡ false → line ≡ codes "end"
     → line_in r line ≡ Ok (record r { commands = r.commands ++ repeat n r.body; turns = None; body = [] })
 unfolding part_line end_line

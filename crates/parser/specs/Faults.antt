@@ -9,8 +9,9 @@ use Rattle.parser.specs.declared.fault.ParseFault.{ParseFault}
 use Rattle.parser.specs.declared.fault.ParseFault.TheVariants as faults
 use Rattle.parser.specs.declared.reading.TheConstants.{MOST_COMMANDS}
 use Rattle.parser.specs.Words.{is_number}
+use Rattle.parser.specs.Orders.{first_byte}
 use Rattle.parser.specs.Reading.{ScriptValue}
-use Rattle.parser.specs.Spelling.{ended, says_something, IsLine, IsLayout, IsCommand, IsScript, Spells}
+use Rattle.parser.specs.Spelling.{line_of, ended, says_something, IsLine, IsLayout, IsCommand, IsScript, Spells}
 
 -- the text of lines: each ends in a newline
 abbrev pub text_of : List (List ℕ) → List ℕ
@@ -87,6 +88,18 @@ pub record IsWordOf (line front word back : List ℕ) : Type 0 where
   pub starts : IsWordStart front ⊎ ((word ≡ []) × (back ≡ []))
   pub ends : IsWordEnd back
 
+-- a line that begins with another letter than `h`, `l` and `w`: no heap line, no layout line and no worker's
+abbrev pub HasOtherStart : List ℕ → Type 0
+HasOtherStart line = (first_byte line ≢ 104) × ((first_byte line ≢ 108) × (first_byte line ≢ 119))
+
+-- A line is right up to a word, with these bytes before it: another line with the same words up to there, and some
+-- words more or none, has no fault behind the lines before.
+pub record IsRightUpTo (before : List (List ℕ)) (front : List ℕ) : Type 0 where
+  pub words : List (List ℕ)
+  pub more : List (List ℕ)
+  pub front_is : (front ≡ line_of words ++ 32 ∷ []) ⊎ (front ≡ line_of words)
+  pub faultless : HaveNoFault (before ++ line_of (words ++ more) ∷ [])
+
 -- The fault stands in a line, at a word of it: the lines before it have none, and the bytes up to the word's end, with
 -- the byte behind it, begin no script.
 pub record StandsInLine (bytes : List ℕ) (fault : LineFault) : Type 0 where
@@ -105,6 +118,7 @@ pub record StandsInLine (bytes : List ℕ) (fault : LineFault) : Type 0 where
   pub column : fault.column ≡ length front + 1
   pub wrong : IsWrongWord fault.kind front word
   pub faultless : HaveNoFault before
+  pub right : front ≢ [] → HasOtherStart line → IsRightUpTo before front
   pub never : BeginsScript (text_of before ++ (front ++ (word ++ byte_behind back ∷ []))) → ⊥
 
 -- what is missing behind lines: the heap line, where no line says something; a layout line, where the heap line alone
