@@ -1,12 +1,11 @@
 -- Where an order breaks off, the words before are the first ones of some order.
 use Rattle.std.proofs.Common.{◌≡◌, ℕ, ◌+◌, ◌^◌, ◌<◌, ◌≤◌, Bool, true, false, cond, nat_lt, List, [], ◌∷◌, ◌++◌, length}
 use Rattle.std.proofs.Common.{Option, Some, None, refl, sym, ap, subst, ◌∙◌, arith, inl, inr, append-nil, append_assoc}
-use Rattle.std.specs.Prelude.{Result, Ok, Err, ◌⊎◌, ◌||◌, not, nat_le, codes}
+use Rattle.std.specs.Prelude.{Result, Ok, Err, ◌⊎◌, ◌||◌, not, nat_le}
 use Rattle.std.specs.Fmt.{decimal}
 use Rattle.std.proofs.lemmas.Bool.{cases_lt}
 use Rattle.std.proofs.lemmas.Bool.Decides.{nat_tests}
 use Rattle.model.specs.declared.steps.Actor.TheVariants.{Thread}
-use Rattle.model.proofs.Results.{same_result}
 use Rattle.parser.specs.declared.fault.FaultKind.{FaultKind}
 use Rattle.parser.specs.declared.fault.FaultKind.TheVariants as kinds
 use Rattle.parser.specs.declared.fault.Flaw.{Flaw}
@@ -25,12 +24,12 @@ use Rattle.parser.specs.declared.keywords.Mixed.{Mixed}
 use Rattle.parser.specs.declared.keywords.Mixed.TheVariants as mixed
 use Rattle.parser.specs.Words.{◌>>=◌, flaw, or_flaw, word_or, is_number, capped_from, in_range, number_at, small_at}
 use Rattle.parser.specs.Words.{named_in, named_at, end_at}
-use Rattle.parser.specs.Orders.{thread_keyword, keyword_in, register_at, slot_at, pair_at, field_at, registers_at}
+use Rattle.parser.specs.Orders.{thread_keyword, register_at, slot_at, pair_at, field_at, registers_at}
 use Rattle.parser.specs.Orders.{mixed_at, operands_at, order_at}
 use Rattle.parser.specs.Spelling.{register_word, order_words, IsOrder}
 use Rattle.parser.proofs.Places.{words_from, end_past}
-use Rattle.parser.proofs.Pieces.{or_flaw_ok, word_ok, number_ok, small_ok}
-use Rattle.parser.proofs.Operands.{register_ok, slot_ok, pair_ok, field_ok, keyword_text, keyword_of, operand_words}
+use Rattle.parser.proofs.Pieces.{or_flaw_ok, word_ok, small_ok}
+use Rattle.parser.proofs.Operands.{register_ok, slot_ok, keyword_text, keyword_of, operand_words}
 use Rattle.parser.proofs.Operands.{words_are, operands_ok, thread_key_ok}
 use Rattle.parser.proofs.Alike.{IsJudged, finds_word, word_or_some, word_or_none, bind_assoc}
 use Rattle.parser.proofs.AlikeReads.{judge_number}
@@ -541,11 +540,11 @@ unfolding order_at
 order_break sizes line t at f some fits h = elim (bind_err (word_or line at kinds.UnknownWord) _ f h) [
   | inl e ↦
       unknown_order sizes.registers line at f (word_break line at kinds.UnknownWord (λ (w : List ℕ × ℕ). w.1)
-          (λ (w : List ℕ × ℕ). Ok w) f (λ w. refl) (bind_ok_is (word_or line at kinds.UnknownWord) ∙ e))
+      (λ (w : List ℕ × ℕ). Ok w) f (λ w. refl) (bind_ok_is (word_or line at kinds.UnknownWord) ∙ e))
   | inr w ↦ elim (bind_err (or_flaw (thread_keyword w.0.0) (flaw at kinds.UnknownWord)) _ f w.1.1) [
     | inl e ↦
         unknown_order sizes.registers line at f (at_place line at f (word_within line at kinds.UnknownWord w.0 w.1.0)
-            (no_key (thread_keyword w.0.0) e))
+        (no_key (thread_keyword w.0.0) e))
     | inr k ↦
         let key = thread_key_ok w.0.0 k.0
         (or_flaw_ok (thread_keyword w.0.0) (flaw at kinds.UnknownWord) k.0 k.1.0) in
@@ -558,7 +557,7 @@ order_break sizes line t at f some fits h = elim (bind_err (word_or line at kind
               elim (bind_err (end_at line v.0.1) _ f v.1.1) [
                 | inl e ↦
                     end_told sizes line at w.0.1 v.0.1 f k.0 v.0.0 first operands.keyword operands.spelled operands.fits
-                        (end_break line v.0.1 f e)
+                    (end_break line v.0.1 f e)
                 | inr u ↦ absurd (no_err _ f u.1.1)
               ]
         ]

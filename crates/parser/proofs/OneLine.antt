@@ -1,8 +1,7 @@
 -- A text has first faults in one line alone.
 use Rattle.std.proofs.Common.{◌≡◌, ℕ, ◌+◌, ◌<◌, List, [], ◌∷◌, ◌++◌, length, refl, sym, ap, subst, ◌∙◌, arith}
 use Rattle.std.proofs.Common.{inl, inr, append-nil, append_assoc}
-use Rattle.std.specs.Prelude.{◌⊎◌}
-use Rattle.std.specs.List.{AllByRecursion, slice_split}
+use Rattle.std.specs.List.{slice_split}
 use Rattle.std.proofs.lemmas.Bool.{cases_lt}
 use Rattle.std.proofs.lemmas.Grind.{flat_map-append}
 use Rattle.std.proofs.lemmas.List.Splits.{slice_split-cons_yes}
@@ -39,29 +38,37 @@ text_more lines line = flat_map-append ended lines (line ∷ [])
 -- the parts of a line and what stands behind it
 behind_cut : (line behind : List ℕ) → HasNoNewlines line → IsLineEnd behind
     → (others : List (List ℕ)) × (slice_split newline (line ++ behind) ≡ line ∷ others)
-behind_cut line behind own (inl none) =
-    ([], ap (λ (x : List ℕ). slice_split newline (line ++ x)) none ∙ line_more line [] [] [] own refl
-    ∙ ap (λ (x : List ℕ). x ∷ []) (append-nil line))
-behind_cut line behind own (inr more) =
-    (slice_split newline more.0, ap (λ (x : List ℕ). slice_split newline (line ++ x)) more.1
-    ∙ line_more line (10 ∷ more.0) [] (slice_split newline more.0) own (slice_split-cons_yes newline 10 more.0 refl)
-    ∙ ap (λ (x : List ℕ). x ∷ slice_split newline more.0) (append-nil line))
+behind_cut line behind own (inl none) = (
+  [],
+  ap (λ (x : List ℕ). slice_split newline (line ++ x)) none ∙ line_more line [] [] [] own refl
+      ∙ ap (λ (x : List ℕ). x ∷ []) (append-nil line),
+)
+behind_cut line behind own (inr more) = (
+  slice_split newline more.0,
+  ap (λ (x : List ℕ). slice_split newline (line ++ x)) more.1
+      ∙ line_more line (10 ∷ more.0) [] (slice_split newline more.0) own (slice_split-cons_yes newline 10 more.0 refl)
+      ∙ ap (λ (x : List ℕ). x ∷ slice_split newline more.0) (append-nil line),
+)
 
 -- the end of a word stands in its line and the newline behind it
 word_in_line : (front word back : List ℕ) → IsWordEnd back → (rest : List ℕ) ×
     ((front ++ (word ++ back)) ++ 10 ∷ [] ≡ (front ++ (word ++ byte_behind back ∷ [])) ++ rest)
 word_in_line front word back (inl none) =
     let parts = λ (x : List ℕ). append_assoc front (word ++ x) (10 ∷ [])
-    ∙ ap (λ (y : List ℕ). front ++ y) (append_assoc word x (10 ∷ [])) in
-    ([], subst (λ (x : List ℕ). (front ++ (word ++ x)) ++ 10 ∷ [] ≡ (front ++ (word ++ byte_behind x ∷ [])) ++ [])
-    (sym none) (parts [] ∙ sym (append-nil (front ++ (word ++ 10 ∷ [])))))
+    ∙ ap (λ (y : List ℕ). front ++ y) (append_assoc word x (10 ∷ [])) in (
+      [],
+      subst (λ (x : List ℕ). (front ++ (word ++ x)) ++ 10 ∷ [] ≡ (front ++ (word ++ byte_behind x ∷ [])) ++ [])
+          (sym none) (parts [] ∙ sym (append-nil (front ++ (word ++ 10 ∷ [])))),
+    )
 word_in_line front word back (inr more) =
     let left = append_assoc front (word ++ 32 ∷ more.0) (10 ∷ [])
     ∙ ap (λ (y : List ℕ). front ++ y) (append_assoc word (32 ∷ more.0) (10 ∷ [])) in
     let right = append_assoc front (word ++ 32 ∷ []) (more.0 ++ 10 ∷ [])
-    ∙ ap (λ (y : List ℕ). front ++ y) (append_assoc word (32 ∷ []) (more.0 ++ 10 ∷ [])) in
-    (more.0 ++ 10 ∷ [], subst (λ (x : List ℕ). (front ++ (word ++ x)) ++ 10 ∷ []
-    ≡ (front ++ (word ++ byte_behind x ∷ [])) ++ (more.0 ++ 10 ∷ [])) (sym more.1) (left ∙ sym right))
+    ∙ ap (λ (y : List ℕ). front ++ y) (append_assoc word (32 ∷ []) (more.0 ++ 10 ∷ [])) in (
+      more.0 ++ 10 ∷ [],
+      subst (λ (x : List ℕ). (front ++ (word ++ x)) ++ 10 ∷ []
+          ≡ (front ++ (word ++ byte_behind x ∷ [])) ++ (more.0 ++ 10 ∷ [])) (sym more.1) (left ∙ sym right),
+    )
 
 in_line : (bytes : List ℕ) (fault : LineFault) → HasNoLargeBlock bytes → StandsInLine bytes fault
     → HasPlace bytes fault

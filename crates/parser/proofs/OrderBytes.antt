@@ -1,5 +1,5 @@
 -- No newline stands in a command's line.
-use Rattle.std.proofs.Common.{◌≡◌, ℕ, ◌^◌, ◌<◌, List, [], ◌∷◌, refl, arith}
+use Rattle.std.proofs.Common.{ℕ, ◌^◌, ◌<◌, ◌∷◌, refl, arith}
 use Rattle.std.specs.Prelude.{codes}
 use Rattle.std.specs.Fmt.{decimal}
 use Rattle.std.specs.List.{AllByRecursion}
@@ -8,7 +8,6 @@ use Rattle.parser.specs.declared.order.Order.{Order}
 use Rattle.parser.specs.declared.order.Order.TheVariants as orders
 use Rattle.parser.specs.Spelling.{line_of, actor_word, register_word, order_words, IsOrder}
 use Rattle.parser.proofs.Lists.{HasNoNewlines}
-use Rattle.parser.proofs.Parts.{all_both}
 use Rattle.parser.proofs.Completions.{no_newlines, number_no_newlines, words_no_newlines}
 
 small_no_newlines : (n : ℕ) → n < 2 ^ 32 → HasNoNewlines (decimal n)

@@ -1,13 +1,12 @@
 -- A command's line, or a block's, is right up to the word of its fault.
-use Rattle.std.proofs.Common.{◌≡◌, ◌≢◌, ℕ, ◌+◌, ◌*◌, ◌^◌, ◌<◌, ◌≤◌, Bool, true, false, cond, nat_lt, List, [], ◌∷◌}
+use Rattle.std.proofs.Common.{◌≡◌, ◌≢◌, ℕ, ◌+◌, ◌*◌, ◌^◌, ◌<◌, ◌≤◌, true, false, nat_lt, List, [], ◌∷◌}
 use Rattle.std.proofs.Common.{◌++◌, length, take, drop, Option, Some, None, refl, sym, ap, subst, ◌∙◌, arith, inl, inr}
 use Rattle.std.proofs.Common.{append-nil, append_assoc, length-append, length-drop}
 use Rattle.std.specs.Prelude.{Result, Ok, Err, ◌==◌, ◌&&◌, ◌⊎◌, not, codes, filter}
 use Rattle.std.specs.Str.{bytes_eq}
 use Rattle.std.specs.Fmt.{decimal}
-use Rattle.std.specs.List.{AllByRecursion, slice_split, join_with_byte, repeat}
+use Rattle.std.specs.List.{AllByRecursion, slice_split, join_with_byte}
 use Rattle.std.proofs.lemmas.Bool.{le-ltb, ltb-false, and_parts}
-use Rattle.std.proofs.lemmas.Bool.Decides.{nat_tests}
 use Rattle.std.proofs.lemmas.List.Elements.{filter-append}
 use Rattle.std.proofs.lemmas.List.Splits.{join_with_byte-slice_split}
 use Rattle.std.proofs.lemmas.Slice.Eq.{bytes_eq-Decides}
@@ -32,11 +31,11 @@ use Rattle.parser.proofs.Places.{space, words_from, words_inside}
 use Rattle.parser.proofs.Pieces.{one_of, number_ok}
 use Rattle.parser.proofs.Operands.{actor_ok, line_is, first_is}
 use Rattle.parser.proofs.Lists.{HasNoNewlines, all_push, told, filter_told}
-use Rattle.parser.proofs.ReadIsSpelled.{IsBehind, Said, line_ok, first_words, few_actors, some_layouts}
+use Rattle.parser.proofs.ReadIsSpelled.{Said, line_ok, first_words, few_actors, some_layouts}
 use Rattle.parser.proofs.SpelledIsRead.{IsReady, times_taken, end_taken, command_taken}
 use Rattle.parser.proofs.Alike.{IsFaultAt, IsJudged, no_bytes, bind_assoc, finds_word, word_or_some}
 use Rattle.parser.proofs.AlikeOrders.{judge_name}
-use Rattle.parser.proofs.Breaks.{bind_err, same_flaw, no_err, IsTail, BreaksBehind, Breaks, here, later, judged_err}
+use Rattle.parser.proofs.Breaks.{bind_err, same_flaw, no_err, IsTail, Breaks, here, later, judged_err}
 use Rattle.parser.proofs.Breaks.{number_break, end_break, order_break}
 use Rattle.parser.proofs.Completions.{no_newlines, number_no_newlines, words_no_newlines, taken_have_none}
 use Rattle.parser.proofs.OrderBytes.{thread_no_newlines}
