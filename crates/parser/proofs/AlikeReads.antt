@@ -21,7 +21,7 @@ use Rattle.parser.proofs.Alike.{behind_word, fault_at_word}
 
 -- ---- words
 
-judge_fixed : (at : ℕ) (text : List ℕ) (w : List ℕ × ℕ) (b : Bool)
+pub judge_fixed : (at : ℕ) (text : List ℕ) (w : List ℕ × ℕ) (b : Bool)
     → IsJudged (λ (x : ℕ). x) at w (cond b (Ok w.1) (Err (flaw at kinds.UnknownWord)))
 judge_fixed at text w true = refl
 judge_fixed at text w false = (refl, λ front e. tt)

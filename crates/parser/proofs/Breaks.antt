@@ -28,7 +28,7 @@ use Rattle.parser.specs.Orders.{thread_keyword, register_at, slot_at, pair_at, f
 use Rattle.parser.specs.Orders.{mixed_at, operands_at, order_at}
 use Rattle.parser.specs.Spelling.{register_word, order_words, IsOrder}
 use Rattle.parser.proofs.Places.{words_from, end_past}
-use Rattle.parser.proofs.Pieces.{or_flaw_ok, word_ok, small_ok}
+use Rattle.parser.proofs.Pieces.{bind_ok, or_flaw_ok, word_ok, small_ok}
 use Rattle.parser.proofs.Operands.{register_ok, slot_ok, keyword_text, keyword_of, operand_words}
 use Rattle.parser.proofs.Operands.{words_are, operands_ok, thread_key_ok}
 use Rattle.parser.proofs.Alike.{IsJudged, finds_word, word_or_some, word_or_none, bind_assoc}
@@ -88,7 +88,7 @@ later line at after f ws full e h = record {
 }
 
 -- more words may follow
-more_behind : (line : List ℕ) (at : ℕ) (f : Flaw) (full more : List (List ℕ)) → Breaks line at f full
+pub more_behind : (line : List ℕ) (at : ℕ) (f : Flaw) (full more : List (List ℕ)) → Breaks line at f full
     → Breaks line at f (full ++ more)
 more_behind line at f full more h = record {
   firsts = h.firsts;
@@ -98,7 +98,7 @@ more_behind line at f full more h = record {
 }
 
 -- a fault at a word that is there
-at_place : (line : List ℕ) (at : ℕ) (f : Flaw) → at ≤ length line → f.column ≡ at + 1 → BreaksBehind line at f []
+pub at_place : (line : List ℕ) (at : ℕ) (f : Flaw) → at ≤ length line → f.column ≡ at + 1 → BreaksBehind line at f []
 at_place line at f within column =
     record { tail = words_from line at; words = refl; place = inl (at, (refl, (within, column))) }
 
@@ -137,6 +137,21 @@ number_break line at low high f h =
     (Err (flaw at kinds.NumberExpected)) (in_range (capped_from 0 w.0) w.1 at low high)) f
     (λ w. judge_number at low high w (is_number w.0)
     (nat_lt (capped_from 0 w.0) low || nat_lt high (capped_from 0 w.0)) refl) h
+
+word_within : (line : List ℕ) (at : ℕ) (kind : FaultKind) (w : List ℕ × ℕ) → word_or line at kind ≡ Ok w
+    → at ≤ length line
+word_within line at kind w h = elim (cases_lt (length line) at) [
+  | inl past ↦ absurd (no_err w (flaw (length line) kind) (sym h ∙ word_or_none line at kind past))
+  | inr within ↦ within
+]
+
+-- a number that is read stands within the line
+pub number_within : (line : List ℕ) (at low high : ℕ) (v : ℕ × ℕ) → number_at line at low high ≡ Ok v
+    → at ≤ length line
+unfolding number_at
+number_within line at low high v h =
+    let w = bind_ok (word_or line at kinds.NumberExpected) _ v h in
+    word_within line at kinds.NumberExpected w.0 w.1
 
 small_break : (line : List ℕ) (at : ℕ) (f : Flaw) → small_at line at ≡ Err f → BreaksBehind line at f []
 unfolding small_at
@@ -526,13 +541,6 @@ end_told sizes line at after end f k order first key operands fits h =
       breaks = subst (λ (x : List (List ℕ)). Breaks line at f x) (append-nil (order_words order))
           (later line at end f (order_words order) [] all (here line end f [] h));
     }
-
-word_within : (line : List ℕ) (at : ℕ) (kind : FaultKind) (w : List ℕ × ℕ) → word_or line at kind ≡ Ok w
-    → at ≤ length line
-word_within line at kind w h = elim (cases_lt (length line) at) [
-  | inl past ↦ absurd (no_err w (flaw (length line) kind) (sym h ∙ word_or_none line at kind past))
-  | inr within ↦ within
-]
 
 pub order_break : (sizes : Sizes) (line : List ℕ) (t at : ℕ) (f : Flaw) → 1 ≤ sizes.registers
     → sizes.registers < 2 ^ 64 → order_at sizes line (Thread t) at ≡ Err f → OrderBreaks sizes.registers line at f
