@@ -5,7 +5,7 @@ use Rattle.std.proofs.Common.{append-nil, append_assoc, length-append, length-dr
 use Rattle.std.specs.Prelude.{Result, Ok, Err, ◌==◌, ◌&&◌, ◌⊎◌, not, codes, filter}
 use Rattle.std.specs.Str.{bytes_eq}
 use Rattle.std.specs.Fmt.{decimal}
-use Rattle.std.specs.List.{AllByRecursion, slice_split, join_with_byte}
+use Rattle.std.specs.List.{list_all, AllByRecursion, slice_split, join_with_byte}
 use Rattle.std.proofs.lemmas.Bool.{le-ltb, ltb-false, and_parts}
 use Rattle.std.proofs.lemmas.List.Elements.{filter-append}
 use Rattle.std.proofs.lemmas.List.Splits.{join_with_byte-slice_split}
@@ -20,11 +20,12 @@ use Rattle.parser.specs.declared.heading.Sizes.{Sizes}
 use Rattle.parser.specs.declared.order.Command.{Command}
 use Rattle.parser.specs.declared.reading.TheConstants.{MOST_COMMANDS, MOST_LAYOUTS, MOST_TURNS}
 use Rattle.parser.specs.Words.{◌>>=◌, flaw, word_or, is_number, number_at, named_in, named_at, end_at}
-use Rattle.parser.specs.Headings.{config_of}
+use Rattle.parser.specs.Headings.{config_of, heap_in}
 use Rattle.parser.specs.Orders.{first_byte, actor_at, order_at}
-use Rattle.parser.specs.Reading.{ReadSoFar, nothing, is_idle, first_word, heap_line, is_full, command_line, times_in}
+use Rattle.parser.specs.Reading.{newline, ReadSoFar, nothing, is_idle, first_word, heap_line, is_full, command_line, times_in}
 use Rattle.parser.specs.Reading.{times_line, end_in, end_line, part_line, later_line, line_after, line_in}
 use Rattle.parser.specs.Spelling.{line_of, actor_word, order_words, says_something, times_line_of, IsActor, IsCommand}
+use Rattle.parser.specs.Spelling.{size_words, SpellsLimit}
 use Rattle.parser.specs.Faults.{IsNameOf, HaveNoFault, HasOtherStart, IsRightUpTo}
 use Rattle.parser.proofs.Splitting.{split_cons}
 use Rattle.parser.proofs.Places.{space, words_from, words_inside}
@@ -32,11 +33,15 @@ use Rattle.parser.proofs.Pieces.{one_of, number_ok}
 use Rattle.parser.proofs.Operands.{actor_ok, line_is, first_is}
 use Rattle.parser.proofs.Lists.{HasNoNewlines, all_push, told, filter_told}
 use Rattle.parser.proofs.ReadIsSpelled.{Said, line_ok, first_words, few_actors, some_layouts}
-use Rattle.parser.proofs.SpelledIsRead.{IsReady, times_taken, end_taken, command_taken}
+use Rattle.parser.proofs.SpelledIsRead.{IsReady, heap_taken, times_taken, end_taken, command_taken}
 use Rattle.parser.proofs.Alike.{IsFaultAt, IsJudged, no_bytes, bind_assoc, finds_word, word_or_some}
 use Rattle.parser.proofs.AlikeOrders.{judge_name}
 use Rattle.parser.proofs.Breaks.{bind_err, same_flaw, no_err, IsTail, Breaks, here, later, judged_err}
 use Rattle.parser.proofs.Breaks.{number_break, end_break, order_break}
+use Rattle.parser.proofs.HeapBreaks.{heap_breaks}
+use Rattle.parser.proofs.HeapLines.{IsSizes}
+use Rattle.parser.proofs.Parts.{all_both}
+use Rattle.model.proofs.Ranges.{page_size_range}
 use Rattle.parser.proofs.Completions.{no_newlines, number_no_newlines, words_no_newlines, taken_have_none}
 use Rattle.parser.proofs.OrderBytes.{thread_no_newlines}
 
@@ -245,7 +250,7 @@ thread_right : (before : List (List ℕ)) (line : List ℕ) (r : ReadSoFar) (f :
     → words_from line 0 ≡ actor_word actor ∷ words_from line at → IsActor (config_of z []) actor
     → order_at z line actor at ≡ Err f → IsRightUpTo before b.at.front
 thread_right before line r f b z ready some room (Worker w) at words there h =
-    absurd (b.start.1.1 (first_is line 119 (decimal w) (words_from line at) words))
+    absurd (b.start.1 (first_is line 119 (decimal w) (words_from line at) words))
 thread_right before line r f b z ready some room (Thread t) at words there h =
     let few = few_actors z ready.range in
     let threads = few.threads in
@@ -304,7 +309,7 @@ later_right before line r f b z ready h =
           let most = and_parts (bytes_eq (first_word line).0 (codes "layout") && not r.begun)
           (nat_lt (length r.layouts) MOST_LAYOUTS) layout.0 in
           let first = and_parts (bytes_eq (first_word line).0 (codes "layout")) (not r.begun) most.0 in
-          absurd (b.start.1.0 (first_letter line 108 (codes "ayout")
+          absurd (b.start.0 (first_letter line 108 (codes "ayout")
           ((bytes_eq-Decides (first_word line).0 (codes "layout")).0 first.0)))
       | inr other ↦
           elim (one_of (length r.layouts == 0) _ _ (Err f) other.1) [
@@ -314,20 +319,63 @@ later_right before line r f b z ready h =
           ]
     ]
 
+limit_no_newlines : (name : List ℕ) (most n : ℕ) (words : List (List ℕ)) → HasNoNewlines name → n < 2 ^ 64
+    → SpellsLimit name most n words → AllByRecursion HasNoNewlines words
+limit_no_newlines name most n words own small (inl e) =
+    subst (λ (x : List (List ℕ)). AllByRecursion HasNoNewlines x) (sym e) (own, (number_no_newlines n small, tt))
+limit_no_newlines name most n words own small (inr e) =
+    subst (λ (x : List (List ℕ)). AllByRecursion HasNoNewlines x) (sym e.0) tt
+
+heap_no_newlines : (s : Sizes) (births history : List (List ℕ)) → IsSizes s
+    → SpellsLimit (codes "births") (2 ^ 32) s.births births → SpellsLimit (codes "history") 1000000 s.history history
+    → HasNoNewlines (line_of (codes "heap" ∷ size_words (config_of s []) ++ births ++ history))
+heap_no_newlines s births history r b y =
+    let words = page_size_range s.words r.words in
+    let most = words.1 in
+    let last : AllByRecursion HasNoNewlines (births ++ history) =
+    all_both HasNoNewlines births history
+    (limit_no_newlines (codes "births") (2 ^ 32) s.births births (no_newlines (codes "births") refl)
+    (omega (arith, r.births_most)) b) (limit_no_newlines (codes "history") 1000000 s.history history
+    (no_newlines (codes "history") refl) (omega (arith, r.history_most)) y) in
+    words_no_newlines (codes "heap" ∷ size_words (config_of s []) ++ births ++ history)
+    (no_newlines (codes "heap") refl, (no_newlines (codes "words") refl, (number_no_newlines s.words (omega arith), (no_newlines (codes "frames") refl, (number_no_newlines s.frames (omega (arith, r.frames_most)), (no_newlines (codes "pages") refl, (number_no_newlines s.pages (omega (arith, r.pages_most)), (no_newlines (codes "threads") refl, (number_no_newlines s.threads (omega (arith, r.threads_most)), (no_newlines (codes "workers") refl, (number_no_newlines s.workers (omega (arith, r.workers_most)), (no_newlines (codes "registers") refl, (number_no_newlines s.registers (omega (arith, r.registers_most)), (no_newlines (codes "globals") refl, (number_no_newlines s.globals (omega (arith, r.globals_most)), last)))))))))))))))
+
 heap_right : (before : List (List ℕ)) (line : List ℕ) (r : ReadSoFar) (f : Flaw) (b : IsBroken before line r f)
-    → heap_line nothing line ≡ Err f → IsRightUpTo before b.at.front
+    → r ≡ nothing → heap_line nothing line ≡ Err f → IsRightUpTo before b.at.front
 unfolding heap_line
-heap_right before line r f b h =
+heap_right before line r f b is h =
     elim (one_of (bytes_eq (first_word line).0 (codes "heap")) _ _ (Err f) h) [
-      | inl heap ↦ absurd (b.start.0 (first_letter line 104 (codes "eap")
-          ((bytes_eq-Decides (first_word line).0 (codes "heap")).0 heap.0)))
+      | inl heap ↦
+          let at = (first_word line).1 in
+          let first = (bytes_eq-Decides (first_word line).0 (codes "heap")).0 heap.0 in
+          let words : words_from line 0 ≡ codes "heap" ∷ words_from line at =
+          first_words line ∙ ap (λ (x : List ℕ). x ∷ words_from line at) first in
+          elim (bind_err (heap_in line at) _ f heap.1) [
+            | inl e ↦
+                let broken = heap_breaks line at f e in
+                let full = size_words (config_of broken.sizes []) ++ broken.births ++ broken.history in
+                let other = line_of (codes "heap" ∷ full) in
+                let u : ReadSoFar = record nothing { sizes = Some broken.sizes } in
+                let taken : line_in r other ≡ Ok u =
+                subst (λ (x : ReadSoFar). line_in x other ≡ Ok u) (sym is) (heap_taken broken.sizes other broken.range
+                (record {
+                  births = broken.births;
+                  history = broken.history;
+                  births_spelled = broken.births_spelled;
+                  history_spelled = broken.history_spelled;
+                  line_is = refl;
+                }) refl) in
+                mended before line r u f b (codes "heap") at full words broken.breaks (heap_no_newlines broken.sizes
+                broken.births broken.history broken.range broken.births_spelled broken.history_spelled) taken
+            | inr z ↦ absurd (no_err _ f z.1.1)
+          ]
       | inr other ↦ absurd (not_first before line r f b (first_made {A = ReadSoFar} kinds.HeapLineExpected f other.1))
     ]
 
 after_right : (before : List (List ℕ)) (line : List ℕ) (r : ReadSoFar) (f : Flaw) (b : IsBroken before line r f)
     → Said (filter says_something before) r → line_after r r.sizes line ≡ Err f → IsRightUpTo before b.at.front
 after_right before line r f b (inl empty) h =
-    heap_right before line r f b (subst (λ (x : ReadSoFar). line_after x x.sizes line ≡ Err f) empty.is h)
+    heap_right before line r f b empty.is (subst (λ (x : ReadSoFar). line_after x x.sizes line ≡ Err f) empty.is h)
 after_right before line r f b (inr behind) h =
     later_right before line r f b behind.sizes (record { sizes_is = behind.sizes_is; range = behind.range })
     (subst (λ (o : Option Sizes). line_after r o line ≡ Err f) behind.sizes_is h)

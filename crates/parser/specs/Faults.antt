@@ -88,9 +88,9 @@ pub record IsWordOf (line front word back : List ℕ) : Type 0 where
   pub starts : IsWordStart front ⊎ ((word ≡ []) × (back ≡ []))
   pub ends : IsWordEnd back
 
--- a line that begins with another letter than `h`, `l` and `w`: no heap line, no layout line and no worker's
+-- a line that begins with another letter than `l` and `w`: no layout line and no worker's
 abbrev pub HasOtherStart : List ℕ → Type 0
-HasOtherStart line = (first_byte line ≢ 104) × ((first_byte line ≢ 108) × (first_byte line ≢ 119))
+HasOtherStart line = (first_byte line ≢ 108) × (first_byte line ≢ 119)
 
 -- A line is right up to a word, with these bytes before it: another line with the same words up to there, and some
 -- words more or none, has no fault behind the lines before.
