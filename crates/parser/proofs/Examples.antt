@@ -1,9 +1,9 @@
 -- Small texts with a fault, worked out by the reading function.
-use Rattle.std.proofs.Common.{◌≡◌, ℕ, List, [], ◌∷◌, ◌++◌, refl}
+use Rattle.std.proofs.Common.{◌≡◌, [], ◌∷◌, ◌++◌, refl}
 use Rattle.std.specs.Prelude.{Err, codes}
 use Rattle.parser.specs.declared.fault.FaultKind.TheVariants as kinds
 use Rattle.parser.specs.Words.{word_at, word_or, fixed_at, is_number, capped_from, number_at}
-use Rattle.parser.specs.Headings.{field_at, page_size_at, memory_at, heap_in}
+use Rattle.parser.specs.Headings.{page_size_at, memory_at, heap_in}
 use Rattle.parser.specs.Reading.{first_word, heap_line, line_in, finished, last_line, lines_in, script_in}
 
 -- no bytes

@@ -1,5 +1,5 @@
 -- Where a heap line breaks off, the words before are the first ones of some heap line.
-use Rattle.std.proofs.Common.{◌≡◌, ℕ, ◌+◌, ◌^◌, ◌<◌, ◌≤◌, true, false, cond, List, [], ◌∷◌, ◌++◌, length, Option}
+use Rattle.std.proofs.Common.{◌≡◌, ℕ, ◌^◌, ◌≤◌, true, cond, List, [], ◌∷◌, ◌++◌, Option}
 use Rattle.std.proofs.Common.{Some, None, refl, sym, ap, subst, ◌∙◌, arith, inl, inr, lit<, lit≤, append-nil}
 use Rattle.std.proofs.Common.{append_assoc}
 use Rattle.std.specs.Prelude.{Ok, Err, not, codes}
@@ -11,7 +11,7 @@ use Rattle.parser.specs.declared.fault.FaultKind.TheVariants as kinds
 use Rattle.parser.specs.declared.fault.Flaw.{Flaw}
 use Rattle.parser.specs.declared.heading.Sizes.{Sizes}
 use Rattle.parser.specs.declared.heading.TheConstants.{MOST_FRAMES, MOST_PAGES, MOST_THREADS}
-use Rattle.parser.specs.Words.{flaw, word_at, word_or, fixed_at, number_at, end_at}
+use Rattle.parser.specs.Words.{flaw, word_at, fixed_at, number_at, end_at}
 use Rattle.parser.specs.Headings.{config_of, field_at, page_size_at, limit_in, limit_at, memory_at, actors_at}
 use Rattle.parser.specs.Headings.{limits_at, heap_in}
 use Rattle.parser.specs.Spelling.{size_words, SpellsLimit}

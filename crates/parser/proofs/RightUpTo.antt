@@ -5,7 +5,7 @@ use Rattle.std.proofs.Common.{append-nil, append_assoc, length-append, length-dr
 use Rattle.std.specs.Prelude.{Result, Ok, Err, ◌==◌, ◌&&◌, ◌⊎◌, not, codes, filter}
 use Rattle.std.specs.Str.{bytes_eq}
 use Rattle.std.specs.Fmt.{decimal}
-use Rattle.std.specs.List.{list_all, AllByRecursion, slice_split, join_with_byte}
+use Rattle.std.specs.List.{AllByRecursion, slice_split, join_with_byte}
 use Rattle.std.proofs.lemmas.Bool.{le-ltb, ltb-false, and_parts}
 use Rattle.std.proofs.lemmas.List.Elements.{filter-append}
 use Rattle.std.proofs.lemmas.List.Splits.{join_with_byte-slice_split}
@@ -22,7 +22,7 @@ use Rattle.parser.specs.declared.reading.TheConstants.{MOST_COMMANDS, MOST_LAYOU
 use Rattle.parser.specs.Words.{◌>>=◌, flaw, word_or, is_number, number_at, named_in, named_at, end_at}
 use Rattle.parser.specs.Headings.{config_of, heap_in}
 use Rattle.parser.specs.Orders.{first_byte, actor_at, order_at}
-use Rattle.parser.specs.Reading.{newline, ReadSoFar, nothing, is_idle, first_word, heap_line, is_full, command_line, times_in}
+use Rattle.parser.specs.Reading.{ReadSoFar, nothing, is_idle, first_word, heap_line, is_full, command_line, times_in}
 use Rattle.parser.specs.Reading.{times_line, end_in, end_line, part_line, later_line, line_after, line_in}
 use Rattle.parser.specs.Spelling.{line_of, actor_word, order_words, says_something, times_line_of, IsActor, IsCommand}
 use Rattle.parser.specs.Spelling.{size_words, SpellsLimit}
