@@ -23,9 +23,11 @@ use Rattle.parser.specs.Reading.{ReadSoFar, is_idle, first_word_in, first_word, 
 use Rattle.parser.specs.Reading.{with_command, command_line, times_in, times_line, end_in, end_line, part_line}
 use Rattle.parser.specs.Reading.{later_line, line_after, line_in}
 use Rattle.parser.specs.Faults.{IsWrongWord}
-use Rattle.parser.proofs.Alike.{AreAlike, IsBehindWord, IsWordAt, IsPlaced, IsLate, IsJudged, IsWordAlike}
+use Rattle.parser.proofs.Alike.{AreAlike, IsPlaced, IsLate, IsJudged, IsWordAlike}
+use Rattle.parser.proofs.WordPlaces.{IsBehindWord, IsWordAt}
 use Rattle.parser.proofs.Alike.{IsReadAlike, word_alike, then_alike, then_placed, done_alike, bind_assoc, no_bytes}
-use Rattle.parser.proofs.Alike.{finds_word, behind_word, fault_at_word}
+use Rattle.parser.proofs.Alike.{fault_at_word}
+use Rattle.parser.proofs.WordPlaces.{finds_word, behind_word}
 use Rattle.parser.proofs.AlikeReads.{number_alike, end_alike, heap_alike, layout_alike, test_first}
 use Rattle.parser.proofs.AlikeOrders.{name_then, order_alike}
 

@@ -15,9 +15,12 @@ use Rattle.parser.specs.Words.{◌>>=◌, word_at, flaw, fixed_at, is_number, ca
 use Rattle.parser.specs.Words.{number_at, small_at, end_at}
 use Rattle.parser.specs.Headings.{field_at, page_size_at, limit_at, memory_at, actors_at, limits_at}
 use Rattle.parser.specs.Headings.{heap_in, layout_in}
-use Rattle.parser.proofs.Alike.{AreAlike, IsBehindWord, IsPlaced, IsLate, IsJudged, IsReadAlike}
-use Rattle.parser.proofs.Alike.{word_alike, then_alike, done_alike, one_word, one_word_then, finds_word, none_past}
-use Rattle.parser.proofs.Alike.{behind_word, fault_at_word}
+use Rattle.parser.proofs.Alike.{AreAlike, IsPlaced, IsLate, IsJudged, IsReadAlike}
+use Rattle.parser.proofs.WordPlaces.{IsBehindWord}
+use Rattle.parser.proofs.Alike.{word_alike, then_alike, done_alike, one_word, one_word_then}
+use Rattle.parser.proofs.WordPlaces.{finds_word, none_past}
+use Rattle.parser.proofs.Alike.{fault_at_word}
+use Rattle.parser.proofs.WordPlaces.{behind_word}
 
 -- ---- words
 

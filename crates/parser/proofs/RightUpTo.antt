@@ -34,10 +34,12 @@ use Rattle.parser.proofs.Operands.{actor_ok, line_is, first_is}
 use Rattle.parser.proofs.Lists.{HasNoNewlines, all_push, told, filter_told}
 use Rattle.parser.proofs.ReadIsSpelled.{Said, line_ok, first_words, few_actors, some_layouts}
 use Rattle.parser.proofs.SpelledIsRead.{IsReady, heap_taken, times_taken, end_taken, command_taken}
-use Rattle.parser.proofs.Alike.{IsFaultAt, IsJudged, no_bytes, bind_assoc, finds_word, word_or_some}
+use Rattle.parser.proofs.Alike.{IsFaultAt, IsJudged, no_bytes, bind_assoc, word_or_some}
+use Rattle.parser.proofs.WordPlaces.{finds_word}
 use Rattle.parser.proofs.AlikeOrders.{judge_name}
 use Rattle.parser.proofs.Breaks.{bind_err, same_flaw, no_err, IsTail, Breaks, here, later, judged_err}
-use Rattle.parser.proofs.Breaks.{number_break, end_break, order_break}
+use Rattle.parser.proofs.Breaks.{number_break, end_break}
+use Rattle.parser.proofs.OrderBreaks.{order_break}
 use Rattle.parser.proofs.HeapBreaks.{heap_breaks}
 use Rattle.parser.proofs.HeapLines.{IsSizes}
 use Rattle.parser.proofs.Parts.{all_both}
