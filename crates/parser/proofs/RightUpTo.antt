@@ -24,14 +24,14 @@ use Rattle.parser.specs.Headings.{config_of, heap_in}
 use Rattle.parser.specs.Orders.{first_byte, actor_at, order_at}
 use Rattle.parser.specs.Reading.{ReadSoFar, nothing, is_idle, first_word, heap_line, is_full, command_line, times_in}
 use Rattle.parser.specs.Reading.{times_line, end_in, end_line, part_line, later_line, line_after, line_in}
-use Rattle.parser.specs.Spelling.{line_of, actor_word, order_words, says_something, times_line_of, IsActor, IsCommand}
+use Rattle.parser.specs.Spelling.{IsLine, line_of, actor_word, order_words, says_something, times_line_of, IsActor, IsCommand}
 use Rattle.parser.specs.Spelling.{size_words, SpellsLimit}
 use Rattle.parser.specs.Faults.{IsNameOf, HaveNoFault, HasOtherStart, IsRightUpTo}
 use Rattle.parser.proofs.Splitting.{split_cons}
 use Rattle.parser.proofs.Places.{space, words_from, words_inside}
 use Rattle.parser.proofs.Pieces.{one_of, number_ok}
 use Rattle.parser.proofs.Operands.{actor_ok, line_is, first_is}
-use Rattle.parser.proofs.Lists.{HasNoNewlines, all_push, told, filter_told}
+use Rattle.parser.proofs.Lists.{all_from, HasNoNewlines, all_push, told, filter_told}
 use Rattle.parser.proofs.ReadIsSpelled.{Said, line_ok, first_words, few_actors, some_layouts}
 use Rattle.parser.proofs.SpelledIsRead.{IsReady, heap_taken, times_taken, end_taken, command_taken}
 use Rattle.parser.proofs.Alike.{IsFaultAt, IsJudged, no_bytes, bind_assoc, word_or_some}
@@ -133,6 +133,8 @@ mended before line t u f b w after full first breaks own taken =
       more = breaks.lasts;
       front_is = front_of line f b.at w breaks.firsts breaks.behind.tail
           (first ∙ ap (λ (x : List (List ℕ)). w ∷ x) breaks.behind.words) breaks.behind.place;
+      is_line = subst (λ (x : List (List ℕ)). IsLine (line_of (w ∷ x))) breaks.full_is
+          (all_from (λ b. b ≢ 10) other own);
       faultless = subst (λ (x : List (List ℕ)). HaveNoFault (before ++ line_of (w ∷ x) ∷ [])) breaks.full_is none;
     }
 

@@ -63,9 +63,9 @@ byte_behind (b ∷ bs) = b
 abbrev pub IsNameOf : List ℕ → List ℕ → Type 0
 IsNameOf letter word = (digits : List ℕ) × ((word ≡ letter ++ digits) × (is_number digits ≡ true))
 
--- What is wrong at a word (an empty one where it is missing) with these bytes of the line before it. Of an unknown word
--- this says nothing; so it does of the numbers that are in range, of the actors and registers that are there, and of how
--- many commands are too many.
+-- What is wrong at a word (an empty one where it is missing) with these bytes of the line before it. This says nothing of
+-- an unknown word, nor which numbers are in range, which actors and registers there are, and how many commands are too
+-- many.
 abbrev pub IsWrongWord : FaultKind → List ℕ → List ℕ → Type 0
 IsWrongWord kinds.HeapLineExpected front word = (front ≡ []) × (word ≢ codes "heap")
 IsWrongWord kinds.LayoutLineExpected front word = (front ≡ []) × (word ≢ codes "layout")
@@ -98,6 +98,7 @@ pub record IsRightUpTo (before : List (List ℕ)) (front : List ℕ) : Type 0 wh
   pub words : List (List ℕ)
   pub more : List (List ℕ)
   pub front_is : (front ≡ line_of words ++ 32 ∷ []) ⊎ (front ≡ line_of words)
+  pub is_line : IsLine (line_of (words ++ more))
   pub faultless : HaveNoFault (before ++ line_of (words ++ more) ∷ [])
 
 -- The fault stands in a line, at a word of it: the lines before it have none, and the bytes up to the word's end, with

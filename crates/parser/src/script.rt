@@ -83,7 +83,7 @@ pub fn parse(alloc: Global, bytes: &[u8]) -> Result<Script, ParseFault>
     // What the bytes spell within all limits is read, unless they are too many or memory is refused.
     ensures only { (s : ScriptValue) → IsScript s → Spells bytes.now s → IsReadOf result (Ok s) }
 
-    // A fault is the first one: the lines before it have none, and with its line they begin no script.
+    // A fault is the first one: the lines before it have none, and up to the end of its word the bytes begin no script.
     ensures first { TellsFirst bytes.now result }
 {
     if bytes.len() > MOST_BYTES {
