@@ -15,7 +15,8 @@ use Rattle.parser.specs.Orders.{first_byte}
 use Rattle.parser.specs.Reading.{is_idle, first_word_in, first_word}
 use Rattle.parser.specs.Faults.{IsWordStart, IsWordEnd, IsWrongWord, IsWordOf}
 use Rattle.parser.proofs.Lists.{all_from}
-use Rattle.parser.proofs.WordPlaces.{HasNoSpace, cut_by_space, word_place, IsBehindWord, IsPlace, IsWordAt, finds_word, none_past, behind_word}
+use Rattle.parser.proofs.WordPlaces.{HasNoSpace, cut_by_space, word_place, IsBehindWord, IsPlace, IsWordAt}
+use Rattle.parser.proofs.WordPlaces.{finds_word, none_past, behind_word}
 
 -- ---- two lines that are alike
 
@@ -325,7 +326,8 @@ bind_assoc (Err d) f g = refl
 pub one_word_then : {A B : Type 0} (n : ℕ) (line other : List ℕ) (k : AreAlike n line other) (place : B → ℕ) (at : ℕ)
     (kind : FaultKind) (judge : List ℕ × ℕ → Result A Flaw) (next : A → Result B Flaw)
     → ((w : List ℕ × ℕ) → IsJudged place at w (judge w >>= next)) → IsWrongWord kind line []
-    → IsWordAlike line place n at ((word_or line at kind >>= judge) >>= next) ((word_or other at kind >>= judge) >>= next)
+    → IsWordAlike line place n at ((word_or line at kind >>= judge) >>= next) ((word_or other at kind
+    >>= judge) >>= next)
 one_word_then {A} {B} n line other k place at kind judge next judged missing =
     let both = one_word n line other k place at kind (λ (w : List ℕ × ℕ). judge w >>= next) judged missing in
     subst (λ (r : Result B Flaw). IsWordAlike line place n at ((word_or line at kind >>= judge) >>= next) r)

@@ -40,7 +40,8 @@ pub record IsTakenAlike (line : List ℕ) (n : ℕ) (r other : Result ReadSoFar 
   pub same : (r ≡ other) ⊎ IsLate (λ (t : ReadSoFar). length line + 1) n r
   pub placed : IsPlaced line (λ (t : ReadSoFar). length line + 1) r
 
-taken_from : (line : List ℕ) (n at : ℕ) (r other : Result ReadSoFar Flaw) → IsReadAlike line (line_end line) n at r other
+taken_from : (line : List ℕ) (n at : ℕ) (r other : Result ReadSoFar Flaw) → IsReadAlike line
+    (line_end line) n at r other
     → IsBehindWord line at → IsTakenAlike line n r other
 taken_from line n at r other h p = record { same = h.same; placed = h.placed p }
 

@@ -91,7 +91,8 @@ slot_alike : (n : ℕ) (line other : List ℕ) (k : AreAlike n line other) (size
     → IsReadAlike line (λ (x : (ℕ × ℕ) × ℕ). x.1) n at (slot_at sizes line at) (slot_at sizes other at)
 unfolding slot_at
 slot_alike n line other k sizes at =
-    then_alike line (λ (x : ℕ × ℕ). x.1) (λ (x : (ℕ × ℕ) × ℕ). x.1) n at _ _ _ _ (register_alike n line other k sizes at)
+    then_alike line (λ (x : ℕ × ℕ). x.1) (λ (x : (ℕ × ℕ) × ℕ). x.1) n at _ _ _ _
+    (register_alike n line other k sizes at)
     (λ r. then_alike line (λ (x : ℕ × ℕ). x.1) (λ (x : (ℕ × ℕ) × ℕ). x.1) n r.1 _ _ _ _
     (small_alike n line other k r.1) (λ v. done_alike line (λ (x : (ℕ × ℕ) × ℕ). x.1) n v.1 ((r.0, v.0), v.1) refl))
 
@@ -99,7 +100,8 @@ pair_alike : (n : ℕ) (line other : List ℕ) (k : AreAlike n line other) (size
     → IsReadAlike line (λ (x : (ℕ × ℕ) × ℕ). x.1) n at (pair_at sizes line at) (pair_at sizes other at)
 unfolding pair_at
 pair_alike n line other k sizes at =
-    then_alike line (λ (x : ℕ × ℕ). x.1) (λ (x : (ℕ × ℕ) × ℕ). x.1) n at _ _ _ _ (register_alike n line other k sizes at)
+    then_alike line (λ (x : ℕ × ℕ). x.1) (λ (x : (ℕ × ℕ) × ℕ). x.1) n at _ _ _ _
+    (register_alike n line other k sizes at)
     (λ r. then_alike line (λ (x : ℕ × ℕ). x.1) (λ (x : (ℕ × ℕ) × ℕ). x.1) n r.1 _ _ _ _
     (register_alike n line other k sizes r.1)
     (λ v. done_alike line (λ (x : (ℕ × ℕ) × ℕ). x.1) n v.1 ((r.0, v.0), v.1) refl))

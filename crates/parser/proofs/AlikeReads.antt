@@ -306,7 +306,8 @@ nums_alike n line other k words refs at =
     let test = λ (x : ℕ × ℕ). nat_lt words (1 + refs + x.0) in
     let f = flaw at kinds.LayoutTooLarge in
     let checked = λ (l : List ℕ). number_at l at 0 255 >>= (λ (x : ℕ × ℕ). cond (test x) (Err f) (Ok x)) in
-    let both = then_alike line (λ (x : ℕ × ℕ). x.1) (λ (x : Layout). length line + 1) n at (checked line) (checked other)
+    let both = then_alike line (λ (x : ℕ × ℕ). x.1) (λ (x : Layout). length line + 1) n at (checked line)
+    (checked other)
     (layout_end line refs) (layout_end other refs) (number_then n line other k (λ (x : ℕ × ℕ). x.1) at 0 255
     (λ (x : ℕ × ℕ). cond (test x) (Err f) (Ok x)) (λ w x e number. judge_room at w x e number (test x)))
     (λ nums. then_alike line (λ (x : Unit {0}). length line + 1) (λ (x : Layout). length line + 1) n nums.1 _ _ _ _
@@ -316,7 +317,8 @@ nums_alike n line other k words refs at =
     >>= (λ nums. cond (test nums) (Err f) (layout_end line refs nums))) r)
     (test_first (number_at other at 0 255) test f (layout_end other refs))
     (subst (λ (r : Result Layout Flaw). IsReadAlike line (λ (x : Layout). length line + 1) n at r
-    (checked other >>= layout_end other refs)) (test_first (number_at line at 0 255) test f (layout_end line refs)) both)
+    (checked other >>= layout_end other refs)) (test_first (number_at line at 0 255) test f
+    (layout_end line refs)) both)
 
 pub layout_alike : (n : ℕ) (line other : List ℕ) (k : AreAlike n line other) (sizes : Sizes) (at : ℕ)
     → IsReadAlike line (λ (x : Layout). length line + 1) n at (layout_in sizes line at) (layout_in sizes other at)

@@ -148,7 +148,8 @@ pub register_break : (sizes : Sizes) (line : List ℕ) (at : ℕ) (f : Flaw) →
 unfolding register_at named_at
 register_break sizes line at f h =
     let judge = λ (w : List ℕ × ℕ). named_in w.0 w.1 at 114 sizes.registers kinds.NoSuchRegister in
-    let twice : (word_or line at kinds.UnknownWord >>= (λ (w : List ℕ × ℕ). judge w >>= (λ (x : ℕ × ℕ). Ok x))) ≡ Err f =
+    let twice : (word_or line at kinds.UnknownWord >>= (λ (w : List ℕ × ℕ). judge w >>= (λ
+    (x : ℕ × ℕ). Ok x))) ≡ Err f =
     sym (bind_assoc (word_or line at kinds.UnknownWord) judge (λ (x : ℕ × ℕ). Ok x))
     ∙ bind_ok_is (word_or line at kinds.UnknownWord >>= judge) ∙ h in
     word_break line at kinds.UnknownWord (λ (x : ℕ × ℕ). x.1) (λ (w : List ℕ × ℕ). judge w >>= (λ (x : ℕ × ℕ). Ok x)) f

@@ -78,7 +78,11 @@ pub words_no_newlines : (words : List (List ℕ)) → AllByRecursion HasNoNewlin
 words_no_newlines [] h = tt
 words_no_newlines (w ∷ []) h = h.0
 words_no_newlines (w ∷ v ∷ words) h =
-    all_both (λ b. b ≢ 10) w (32 ∷ line_of (v ∷ words)) h.0 (λ e. absurd (omega arith), words_no_newlines (v ∷ words) h.1)
+    all_both (λ b. b ≢ 10) w (32 ∷ line_of (v ∷ words)) h.0 (
+      λ e. absurd (omega arith),
+      words_no_newlines
+          (v ∷ words) h.1,
+    )
 
 -- the text of lines begins what it spells with more lines behind it
 begins_by : (lines more : List (List ℕ)) (s : ScriptValue) → IsScript s → Spells (text_of (lines ++ more)) s
@@ -279,7 +283,51 @@ small_spelled = record {
 heap_no_newlines : HasNoNewlines small_heap
 heap_no_newlines = words_no_newlines (codes "heap" ∷ size_words (config_of small_sizes [])) (
   no_newlines (codes "heap") refl,
-  (no_newlines (codes "words") refl, (number_no_newlines 16 (omega arith), (no_newlines (codes "frames") refl, (number_no_newlines 1 (omega arith), (no_newlines (codes "pages") refl, (number_no_newlines 1 (omega arith), (no_newlines (codes "threads") refl, (number_no_newlines 1 (omega arith), (no_newlines (codes "workers") refl, (number_no_newlines 1 (omega arith), (no_newlines (codes "registers") refl, (number_no_newlines 1 (omega arith), (no_newlines (codes "globals") refl, (number_no_newlines 0 (omega arith), tt)))))))))))))),
+  (
+    no_newlines (codes "words") refl,
+    (
+      number_no_newlines 16 (omega arith),
+      (
+        no_newlines (codes "frames") refl,
+        (
+          number_no_newlines 1 (omega arith),
+          (
+            no_newlines (codes "pages") refl,
+            (
+              number_no_newlines 1 (omega arith),
+              (
+                no_newlines (codes "threads") refl,
+                (
+                  number_no_newlines 1 (omega arith),
+                  (
+                    no_newlines
+                        (codes "workers") refl,
+                    (
+                      number_no_newlines 1 (omega arith),
+                      (
+                        no_newlines (codes "registers") refl,
+                        (
+                          number_no_newlines 1 (omega arith),
+                          (
+                            no_newlines (codes "globals") refl,
+                            (
+                              number_no_newlines 0
+                                  (omega arith),
+                              tt,
+                            ),
+                          ),
+                        ),
+                      ),
+                    ),
+                  ),
+                ),
+              ),
+            ),
+          ),
+        ),
+      ),
+    ),
+  ),
 )
 
 behind_heap : (said : List (List ℕ)) (t : ReadSoFar) → t.sizes ≡ Some small_sizes → Said said t → IsBehind said t

@@ -1,8 +1,8 @@
--- Small texts with a fault, worked out by the reading function.
+-- Small texts with a fault, and parts of lines, worked out by the reading functions.
 use Rattle.std.proofs.Common.{◌≡◌, [], ◌∷◌, ◌++◌, refl}
 use Rattle.std.specs.Prelude.{Err, codes}
 use Rattle.parser.specs.declared.fault.FaultKind.TheVariants as kinds
-use Rattle.parser.specs.Words.{word_at, word_or, fixed_at, is_number, capped_from, number_at}
+use Rattle.parser.specs.Words.{flaw, word_at, word_or, fixed_at, is_number, capped_from, number_at}
 use Rattle.parser.specs.Headings.{page_size_at, memory_at, heap_in}
 use Rattle.parser.specs.Reading.{first_word, heap_line, line_in, finished, last_line, lines_in, script_in}
 
@@ -24,15 +24,13 @@ unfolding script_in lines_in line_in heap_line first_word word_at heap_in memory
 no_words = refl
 
 -- a number with a leading zero
-no_number : script_in (codes "heap words 016" ++ 10 ∷ [])
-    ≡ Err (record { line = 1; column = 12; kind = kinds.NumberExpected })
-unfolding script_in lines_in line_in heap_line first_word word_at heap_in memory_at page_size_at fixed_at word_or number_at is_number
+no_number : number_at (codes "words 016") 6 16 4096 ≡ Err (flaw 6 kinds.NumberExpected)
+unfolding number_at word_or word_at is_number
 no_number = refl
 
 -- a number that is no page size
-no_page_size : script_in (codes "heap words 24" ++ 10 ∷ [])
-    ≡ Err (record { line = 1; column = 12; kind = kinds.NumberOutOfRange })
-unfolding script_in lines_in line_in heap_line first_word word_at heap_in memory_at page_size_at fixed_at word_or number_at is_number capped_from
+no_page_size : page_size_at (codes "words 24") 0 ≡ Err (flaw 6 kinds.NumberOutOfRange)
+unfolding page_size_at fixed_at number_at word_or word_at is_number capped_from
 no_page_size = refl
 
 -- a comment without its newline

@@ -20,7 +20,8 @@ use Rattle.parser.specs.Spelling.{says_something}
 use Rattle.parser.specs.Faults.{text_of, IsLineEnd, StandsInLine, StandsAtEnd, LacksNewline, IsFirstFault}
 use Rattle.parser.specs.Faults.{IsMissingBehind, IsWrongWord, TellsFirst}
 use Rattle.parser.proofs.Splitting.{split_cons}
-use Rattle.parser.proofs.Lists.{HasNoNewlines, all_from, all_front, all_push, split_lines, lines_from, told, filter_told}
+use Rattle.parser.proofs.Lists.{HasNoNewlines, all_from, all_front, all_push, split_lines, lines_from, told}
+use Rattle.parser.proofs.Lists.{filter_told}
 use Rattle.parser.proofs.Parts.{all_back}
 use Rattle.parser.proofs.ReadIsSpelled.{IsBehind, Said, line_ok, some_layouts}
 use Rattle.parser.proofs.SpelledIsRead.{spelled_is_read}

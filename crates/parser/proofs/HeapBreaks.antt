@@ -14,7 +14,8 @@ use Rattle.parser.proofs.Places.{words_from}
 use Rattle.parser.proofs.HeapLines.{IsSizes, field_ok, limit_ok, memory_ok, actors_ok, limits_ok}
 use Rattle.parser.proofs.Breaks.{bind_err, no_err, BreaksBehind, Breaks, here, later, more_behind}
 use Rattle.parser.proofs.Breaks.{end_break}
-use Rattle.parser.proofs.HeapParts.{field_breaks, limit_breaks, memory_words, MemoryBreaks, memory_breaks, actors_words, ActorsBreaks, actors_breaks}
+use Rattle.parser.proofs.HeapParts.{field_breaks, limit_breaks, memory_words, MemoryBreaks, memory_breaks}
+use Rattle.parser.proofs.HeapParts.{actors_words, ActorsBreaks, actors_breaks}
 
 -- ---- the globals and the limits
 

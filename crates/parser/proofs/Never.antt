@@ -6,7 +6,8 @@ use Rattle.std.specs.List.{AllByRecursion, slice_split, onto_first}
 use Rattle.std.proofs.lemmas.Bool.Decides.{nat_tests}
 use Rattle.std.proofs.lemmas.List.Splits.{slice_split_at, slice_split-cons_yes, slice_split-cons_no}
 use Rattle.parser.specs.declared.fault.Flaw.{Flaw}
-use Rattle.parser.specs.Reading.{ScriptValue, ReadSoFar, nothing, newline, line_in, in_line, goes_on, lines_in, script_in}
+use Rattle.parser.specs.Reading.{ScriptValue, ReadSoFar, nothing, newline, line_in, in_line, goes_on, lines_in}
+use Rattle.parser.specs.Reading.{script_in}
 use Rattle.parser.specs.Reading.{last_line}
 use Rattle.parser.specs.Spelling.{Spells, IsScript}
 use Rattle.parser.specs.Faults.{text_of, BeginsScript, IsWordEnd, byte_behind}

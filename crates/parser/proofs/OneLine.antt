@@ -117,7 +117,8 @@ lacks_newline bytes fault small h =
     let own = all_to _ h.line h.is_line in
     let cut = ap (slice_split newline) (sym (append-nil h.line)) ∙ line_more h.line [] [] [] own refl
     ∙ ap (λ (x : List ℕ). x ∷ []) (append-nil h.line) in
-    let whole : bytes ++ 10 ∷ [] ≡ text_of (h.before ++ h.line ∷ []) ++ [] = ap (λ (x : List ℕ). x ++ 10 ∷ []) h.bytes_are
+    let whole : bytes ++ 10 ∷ [] ≡ text_of (h.before ++ h.line ∷ []) ++ [] = ap (λ
+    (x : List ℕ). x ++ 10 ∷ []) h.bytes_are
     ∙ append_assoc (text_of h.before) h.line (10 ∷ []) ∙ sym (text_more h.before h.line)
     ∙ sym (append-nil (text_of (h.before ++ h.line ∷ []))) in
     let begins = no_large bytes (h.before ++ h.line ∷ []) [] small whole h.faultless in

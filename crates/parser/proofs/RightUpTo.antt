@@ -24,7 +24,8 @@ use Rattle.parser.specs.Headings.{config_of, heap_in}
 use Rattle.parser.specs.Orders.{first_byte, actor_at, order_at}
 use Rattle.parser.specs.Reading.{ReadSoFar, nothing, is_idle, first_word, heap_line, is_full, command_line, times_in}
 use Rattle.parser.specs.Reading.{times_line, end_in, end_line, part_line, later_line, line_after, line_in}
-use Rattle.parser.specs.Spelling.{IsLine, line_of, actor_word, order_words, says_something, times_line_of, IsActor, IsCommand}
+use Rattle.parser.specs.Spelling.{IsLine, line_of, actor_word, order_words, says_something, times_line_of, IsActor}
+use Rattle.parser.specs.Spelling.{IsCommand}
 use Rattle.parser.specs.Spelling.{size_words, SpellsLimit}
 use Rattle.parser.specs.Faults.{IsNameOf, HaveNoFault, HasOtherStart, IsRightUpTo}
 use Rattle.parser.proofs.Splitting.{split_cons}
@@ -240,9 +241,15 @@ actor_first : (sizes : Sizes) (line : List ℕ) (f : Flaw) → actor_at sizes li
 unfolding actor_at
 actor_first sizes line f h = elim (one_of (first_byte line == 119) _ _ (Err f) h) [
   | inl worker ↦
-      named_first line 119 sizes.workers (λ w. Worker w) f worker.1 (λ digits word is number. inr (digits, (is, number)))
+      named_first line 119 sizes.workers (λ w. Worker w) f worker.1 (λ digits word is number. inr (
+        digits,
+        (is, number),
+      ))
   | inr thread ↦
-      named_first line 116 sizes.threads (λ t. Thread t) f thread.1 (λ digits word is number. inl (digits, (is, number)))
+      named_first line 116 sizes.threads (λ t. Thread t) f thread.1 (λ digits word is number. inl (
+        digits,
+        (is, number),
+      ))
 ]
 
 joined_idle : (b : ℕ) (w : List ℕ) (ws : List (List ℕ)) → (b == 35) ≡ false → is_idle (line_of ((b ∷ w) ∷ ws)) ≡ false
@@ -261,7 +268,8 @@ thread_right before line r f b z ready some room (Thread t) at words there h =
     let breaks = order_break z line t at f ready.range.registers few.registers h in
     let command : Command = record { actor = Thread t; order = breaks.order } in
     let own : IsCommand (config_of z []) command = record { actor = there; own = tt; order = breaks.fits } in
-    let taken = command_taken z r command (line_of (actor_word (Thread t) ∷ order_words breaks.order)) r.turns ready some
+    let taken = command_taken z r command (line_of (actor_word
+    (Thread t) ∷ order_words breaks.order)) r.turns ready some
     refl room own (joined_idle 116 (decimal t) (order_words breaks.order) refl) refl in
     mended before line r _ f b (actor_word (Thread t)) at (order_words breaks.order) words breaks.breaks
     (thread_no_newlines t z.registers breaks.order (omega (arith, there)) few.registers breaks.fits) taken
@@ -341,8 +349,59 @@ heap_no_newlines s births history r b y =
     (limit_no_newlines (codes "births") (2 ^ 32) s.births births (no_newlines (codes "births") refl)
     (omega (arith, r.births_most)) b) (limit_no_newlines (codes "history") 1000000 s.history history
     (no_newlines (codes "history") refl) (omega (arith, r.history_most)) y) in
-    words_no_newlines (codes "heap" ∷ size_words (config_of s []) ++ births ++ history)
-    (no_newlines (codes "heap") refl, (no_newlines (codes "words") refl, (number_no_newlines s.words (omega arith), (no_newlines (codes "frames") refl, (number_no_newlines s.frames (omega (arith, r.frames_most)), (no_newlines (codes "pages") refl, (number_no_newlines s.pages (omega (arith, r.pages_most)), (no_newlines (codes "threads") refl, (number_no_newlines s.threads (omega (arith, r.threads_most)), (no_newlines (codes "workers") refl, (number_no_newlines s.workers (omega (arith, r.workers_most)), (no_newlines (codes "registers") refl, (number_no_newlines s.registers (omega (arith, r.registers_most)), (no_newlines (codes "globals") refl, (number_no_newlines s.globals (omega (arith, r.globals_most)), last)))))))))))))))
+    words_no_newlines (codes "heap" ∷ size_words (config_of s []) ++ births ++ history) (
+      no_newlines (codes "heap") refl,
+      (
+        no_newlines (codes "words") refl,
+        (
+          number_no_newlines s.words
+              (omega arith),
+          (
+            no_newlines (codes "frames") refl,
+            (
+              number_no_newlines s.frames (omega
+                  (arith, r.frames_most)),
+              (
+                no_newlines (codes "pages") refl,
+                (
+                  number_no_newlines s.pages (omega
+                      (arith, r.pages_most)),
+                  (
+                    no_newlines (codes "threads") refl,
+                    (
+                      number_no_newlines s.threads (omega
+                          (arith, r.threads_most)),
+                      (
+                        no_newlines (codes "workers") refl,
+                        (
+                          number_no_newlines s.workers
+                              (omega (arith, r.workers_most)),
+                          (
+                            no_newlines (codes "registers") refl,
+                            (
+                              number_no_newlines s.registers (omega (arith, r.registers_most)),
+                              (
+                                no_newlines
+                                    (codes "globals") refl,
+                                (
+                                  number_no_newlines s.globals (omega
+                                      (arith, r.globals_most)),
+                                  last,
+                                ),
+                              ),
+                            ),
+                          ),
+                        ),
+                      ),
+                    ),
+                  ),
+                ),
+              ),
+            ),
+          ),
+        ),
+      ),
+    )
 
 heap_right : (before : List (List ℕ)) (line : List ℕ) (r : ReadSoFar) (f : Flaw) (b : IsBroken before line r f)
     → r ≡ nothing → heap_line nothing line ≡ Err f → IsRightUpTo before b.at.front

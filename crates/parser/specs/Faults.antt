@@ -1,5 +1,6 @@
 -- The first fault of a text, in words of texts, lines and scripts.
-use Rattle.std.specs.Prelude.{◌≡◌, ℕ, ◌+◌, ◌<◌, ◌≢◌, true, false, List, [], ◌∷◌, ◌++◌, length, codes, Result, Ok, Err, filter, ◌⊎◌}
+use Rattle.std.specs.Prelude.{◌≡◌, ℕ, ◌+◌, ◌<◌, ◌≢◌, true, false, List, [], ◌∷◌, ◌++◌, length, codes, Result, Ok, Err}
+use Rattle.std.specs.Prelude.{filter, ◌⊎◌}
 use Rattle.std.specs.List.{flat_map, All}
 use Rattle.model.specs.Configs.{IsConfig}
 use Rattle.parser.specs.declared.fault.FaultKind.{FaultKind}
@@ -37,8 +38,8 @@ pub record EndInBlock (lines : List (List ℕ)) : Type 0 where
 abbrev pub EndInLargeBlock : List (List ℕ) → Type 0
 EndInLargeBlock lines = (block : EndInBlock lines) × (MOST_COMMANDS < length block.script.commands)
 
--- Lines without a fault begin a script; but a block's commands are counted at its `end` alone, so inside a block that is
--- too large there is no fault yet.
+-- Lines without a fault begin a script; but a block's commands are counted at its `end` alone, so inside a block that
+-- is too large there is no fault yet.
 abbrev pub HaveNoFault : List (List ℕ) → Type 0
 HaveNoFault lines = BeginsScript (text_of lines) ⊎ EndInLargeBlock lines
 
@@ -63,9 +64,9 @@ byte_behind (b ∷ bs) = b
 abbrev pub IsNameOf : List ℕ → List ℕ → Type 0
 IsNameOf letter word = (digits : List ℕ) × ((word ≡ letter ++ digits) × (is_number digits ≡ true))
 
--- What is wrong at a word (an empty one where it is missing) with these bytes of the line before it. This says nothing of
--- an unknown word, nor which numbers are in range, which actors and registers there are, and how many commands are too
--- many.
+-- What is wrong at a word (an empty one where it is missing) with these bytes of the line before it. This says nothing
+-- of an unknown word, nor which numbers are in range, which actors and registers there are, and how many commands are
+-- too many.
 abbrev pub IsWrongWord : FaultKind → List ℕ → List ℕ → Type 0
 IsWrongWord kinds.HeapLineExpected front word = (front ≡ []) × (word ≢ codes "heap")
 IsWrongWord kinds.LayoutLineExpected front word = (front ≡ []) × (word ≢ codes "layout")
