@@ -21,12 +21,12 @@ use Rattle.parser.proofs.Places.{words_from, word_is, found_word, Reads}
 use Rattle.parser.proofs.Pieces.{bind_ok, fixed_ok, fixed_again, number_ok, number_again, end_ok, end_again, one_of}
 
 -- a number from low to high stands behind its name
-record IsFieldAt (line : List ℕ) (at : ℕ) (name : List ℕ) (low high : ℕ) (v : ℕ × ℕ) : Type 0 where
-  spelled : words_from line at ≡ name ∷ decimal v.0 ∷ words_from line v.1
-  above : low ≤ v.0
-  below : v.0 ≤ high
+pub record IsFieldAt (line : List ℕ) (at : ℕ) (name : List ℕ) (low high : ℕ) (v : ℕ × ℕ) : Type 0 where
+  pub spelled : words_from line at ≡ name ∷ decimal v.0 ∷ words_from line v.1
+  pub above : low ≤ v.0
+  pub below : v.0 ≤ high
 
-field_ok : (line : List ℕ) (at : ℕ) (name : List ℕ) (low high : ℕ) (v : ℕ × ℕ) → high < 2 ^ 64
+pub field_ok : (line : List ℕ) (at : ℕ) (name : List ℕ) (low high : ℕ) (v : ℕ × ℕ) → high < 2 ^ 64
     → field_at line at name low high ≡ Ok v → IsFieldAt line at name low high v
 unfolding field_at
 field_ok line at name low high v fits h =
@@ -49,12 +49,12 @@ field_again line at name low high n ws fits above below h =
 -- ---- the words of a page
 
 -- a page size stands behind its name
-record IsPageSizeAt (line : List ℕ) (at : ℕ) (v : ℕ × ℕ) : Type 0 where
-  spelled : words_from line at ≡ codes "words" ∷ decimal v.0 ∷ words_from line v.1
-  is : is_page_size v.0 ≡ true
-  below : v.0 ≤ 4096
+pub record IsPageSizeAt (line : List ℕ) (at : ℕ) (v : ℕ × ℕ) : Type 0 where
+  pub spelled : words_from line at ≡ codes "words" ∷ decimal v.0 ∷ words_from line v.1
+  pub is : is_page_size v.0 ≡ true
+  pub below : v.0 ≤ 4096
 
-page_size_ok : (line : List ℕ) (at : ℕ) (v : ℕ × ℕ) → page_size_at line at ≡ Ok v → IsPageSizeAt line at v
+pub page_size_ok : (line : List ℕ) (at : ℕ) (v : ℕ × ℕ) → page_size_at line at ≡ Ok v → IsPageSizeAt line at v
 unfolding page_size_at
 page_size_ok line at v h =
     let a = bind_ok (fixed_at line at (codes "words") kinds.UnknownWord) _ v h in
@@ -81,12 +81,12 @@ page_size_again line at n ws is h =
 -- ---- limits
 
 -- a limit stands behind its name, or is left out
-record IsLimitAt (line : List ℕ) (at : ℕ) (name : List ℕ) (most : ℕ) (v : ℕ × ℕ) : Type 0 where
-  words : List (List ℕ)
-  is : SpellsLimit name most v.0 words
-  spelled : words_from line at ≡ words ++ words_from line v.1
-  above : 1 ≤ v.0
-  below : v.0 ≤ most
+pub record IsLimitAt (line : List ℕ) (at : ℕ) (name : List ℕ) (most : ℕ) (v : ℕ × ℕ) : Type 0 where
+  pub words : List (List ℕ)
+  pub is : SpellsLimit name most v.0 words
+  pub spelled : words_from line at ≡ words ++ words_from line v.1
+  pub above : 1 ≤ v.0
+  pub below : v.0 ≤ most
 
 left_out : (line : List ℕ) (at : ℕ) (name : List ℕ) (most : ℕ) (v : ℕ × ℕ) → 1 ≤ most → (most, at) ≡ v
     → IsLimitAt line at name most v
@@ -112,7 +112,7 @@ limit_in_ok line at name most v (Some w) low fits e h =
       | inr p ↦ left_out line at name most v low (same_result (most, at) v p.1)
     ]
 
-limit_ok : (line : List ℕ) (at : ℕ) (name : List ℕ) (most : ℕ) (v : ℕ × ℕ) → 1 ≤ most → most < 2 ^ 64
+pub limit_ok : (line : List ℕ) (at : ℕ) (name : List ℕ) (most : ℕ) (v : ℕ × ℕ) → 1 ≤ most → most < 2 ^ 64
     → limit_at line at name most ≡ Ok v → IsLimitAt line at name most v
 unfolding limit_at
 limit_ok line at name most v low fits h = limit_in_ok line at name most v (word_at line at) low fits refl h
@@ -196,16 +196,16 @@ third : (x : List (List ℕ)) (name1 word1 name2 word2 name3 word3 : List ℕ) (
 third x name1 word1 name2 word2 name3 word3 y z t p q r =
     p ∙ two name1 word1 y (name2 ∷ word2 ∷ name3 ∷ word3 ∷ t) (second y name2 word2 name3 word3 z t q r)
 
-record IsMemoryAt (line : List ℕ) (at : ℕ) (v : (ℕ × ℕ × ℕ) × ℕ) : Type 0 where
-  spelled : words_from line at ≡ codes "words" ∷ decimal v.0.0 ∷ codes "frames" ∷ decimal v.0.1 ∷ codes "pages"
+pub record IsMemoryAt (line : List ℕ) (at : ℕ) (v : (ℕ × ℕ × ℕ) × ℕ) : Type 0 where
+  pub spelled : words_from line at ≡ codes "words" ∷ decimal v.0.0 ∷ codes "frames" ∷ decimal v.0.1 ∷ codes "pages"
       ∷ decimal v.0.2 ∷ words_from line v.1
-  words : is_page_size v.0.0 ≡ true
-  frames : 1 ≤ v.0.1
-  frames_most : v.0.1 ≤ MOST_FRAMES
-  pages : v.0.1 ≤ v.0.2
-  pages_most : v.0.2 ≤ MOST_PAGES
+  pub words : is_page_size v.0.0 ≡ true
+  pub frames : 1 ≤ v.0.1
+  pub frames_most : v.0.1 ≤ MOST_FRAMES
+  pub pages : v.0.1 ≤ v.0.2
+  pub pages_most : v.0.2 ≤ MOST_PAGES
 
-memory_ok : (line : List ℕ) (at : ℕ) (v : (ℕ × ℕ × ℕ) × ℕ) → memory_at line at ≡ Ok v → IsMemoryAt line at v
+pub memory_ok : (line : List ℕ) (at : ℕ) (v : (ℕ × ℕ × ℕ) × ℕ) → memory_at line at ≡ Ok v → IsMemoryAt line at v
 unfolding memory_at
 memory_ok line at v h =
     let w = bind_ok (page_size_at line at) _ v h in
@@ -225,17 +225,17 @@ memory_ok line at v h =
       pages_most = pages.below;
     })
 
-record IsActorsAt (line : List ℕ) (at : ℕ) (v : (ℕ × ℕ × ℕ) × ℕ) : Type 0 where
-  spelled : words_from line at ≡ codes "threads" ∷ decimal v.0.0 ∷ codes "workers" ∷ decimal v.0.1 ∷ codes "registers"
+pub record IsActorsAt (line : List ℕ) (at : ℕ) (v : (ℕ × ℕ × ℕ) × ℕ) : Type 0 where
+  pub spelled : words_from line at ≡ codes "threads" ∷ decimal v.0.0 ∷ codes "workers" ∷ decimal v.0.1 ∷ codes "registers"
       ∷ decimal v.0.2 ∷ words_from line v.1
-  threads : 1 ≤ v.0.0
-  threads_most : v.0.0 ≤ MOST_THREADS
-  workers : 1 ≤ v.0.1
-  workers_most : v.0.1 ≤ 16
-  registers : 1 ≤ v.0.2
-  registers_most : v.0.2 ≤ 16
+  pub threads : 1 ≤ v.0.0
+  pub threads_most : v.0.0 ≤ MOST_THREADS
+  pub workers : 1 ≤ v.0.1
+  pub workers_most : v.0.1 ≤ 16
+  pub registers : 1 ≤ v.0.2
+  pub registers_most : v.0.2 ≤ 16
 
-actors_ok : (line : List ℕ) (at : ℕ) (v : (ℕ × ℕ × ℕ) × ℕ) → actors_at line at ≡ Ok v → IsActorsAt line at v
+pub actors_ok : (line : List ℕ) (at : ℕ) (v : (ℕ × ℕ × ℕ) × ℕ) → actors_at line at ≡ Ok v → IsActorsAt line at v
 unfolding actors_at
 actors_ok line at v h =
     let t = bind_ok (field_at line at (codes "threads") 1 MOST_THREADS) _ v h in
@@ -256,20 +256,20 @@ actors_ok line at v h =
       registers_most = registers.below;
     })
 
-record IsLimitsAt (line : List ℕ) (at : ℕ) (v : (ℕ × ℕ × ℕ) × ℕ) : Type 0 where
-  birth_words : List (List ℕ)
-  history_words : List (List ℕ)
-  births_spelled : SpellsLimit (codes "births") (2 ^ 32) v.0.1 birth_words
-  history_spelled : SpellsLimit (codes "history") 1000000 v.0.2 history_words
-  spelled :
+pub record IsLimitsAt (line : List ℕ) (at : ℕ) (v : (ℕ × ℕ × ℕ) × ℕ) : Type 0 where
+  pub birth_words : List (List ℕ)
+  pub history_words : List (List ℕ)
+  pub births_spelled : SpellsLimit (codes "births") (2 ^ 32) v.0.1 birth_words
+  pub history_spelled : SpellsLimit (codes "history") 1000000 v.0.2 history_words
+  pub spelled :
       words_from line at ≡ codes "globals" ∷ decimal v.0.0 ∷ (birth_words ++ (history_words ++ words_from line v.1))
-  globals_most : v.0.0 ≤ 64
-  births : 1 ≤ v.0.1
-  births_most : v.0.1 ≤ 2 ^ 32
-  history : 1 ≤ v.0.2
-  history_most : v.0.2 ≤ 1000000
+  pub globals_most : v.0.0 ≤ 64
+  pub births : 1 ≤ v.0.1
+  pub births_most : v.0.1 ≤ 2 ^ 32
+  pub history : 1 ≤ v.0.2
+  pub history_most : v.0.2 ≤ 1000000
 
-limits_ok : (line : List ℕ) (at : ℕ) (v : (ℕ × ℕ × ℕ) × ℕ) → limits_at line at ≡ Ok v → IsLimitsAt line at v
+pub limits_ok : (line : List ℕ) (at : ℕ) (v : (ℕ × ℕ × ℕ) × ℕ) → limits_at line at ≡ Ok v → IsLimitsAt line at v
 unfolding limits_at
 limits_ok line at v h =
     let g = bind_ok (field_at line at (codes "globals") 0 64) _ v h in

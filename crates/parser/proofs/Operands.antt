@@ -37,11 +37,11 @@ use Rattle.parser.proofs.Pieces.{bind_ok, or_flaw_ok, word_ok, word_again, numbe
 use Rattle.parser.proofs.Pieces.{small_ok, small_again, named_ok, named_again, end_ok, end_again, one_of}
 
 -- a register that is there is the word at a place
-record IsRegisterAt (sizes : Sizes) (line : List ℕ) (at : ℕ) (v : ℕ × ℕ) : Type 0 where
-  spelled : words_from line at ≡ register_word v.0 ∷ words_from line v.1
-  below : v.0 < sizes.registers
+pub record IsRegisterAt (sizes : Sizes) (line : List ℕ) (at : ℕ) (v : ℕ × ℕ) : Type 0 where
+  pub spelled : words_from line at ≡ register_word v.0 ∷ words_from line v.1
+  pub below : v.0 < sizes.registers
 
-register_ok : (sizes : Sizes) (line : List ℕ) (at : ℕ) (v : ℕ × ℕ) → sizes.registers < 2 ^ 64
+pub register_ok : (sizes : Sizes) (line : List ℕ) (at : ℕ) (v : ℕ × ℕ) → sizes.registers < 2 ^ 64
     → register_at sizes line at ≡ Ok v → IsRegisterAt sizes line at v
 unfolding register_at
 register_ok sizes line at v fits h = let n = named_ok line at 114 sizes.registers kinds.NoSuchRegister v fits h in
@@ -54,12 +54,12 @@ register_again sizes line at n ws fits below h =
     named_again line at 114 sizes.registers kinds.NoSuchRegister n ws (omega arith) below h
 
 -- a register and a number are the words at a place
-record IsSlotAt (sizes : Sizes) (line : List ℕ) (at : ℕ) (v : (ℕ × ℕ) × ℕ) : Type 0 where
-  spelled : words_from line at ≡ register_word v.0.0 ∷ decimal v.0.1 ∷ words_from line v.1
-  below : v.0.0 < sizes.registers
-  small : v.0.1 < 2 ^ 32
+pub record IsSlotAt (sizes : Sizes) (line : List ℕ) (at : ℕ) (v : (ℕ × ℕ) × ℕ) : Type 0 where
+  pub spelled : words_from line at ≡ register_word v.0.0 ∷ decimal v.0.1 ∷ words_from line v.1
+  pub below : v.0.0 < sizes.registers
+  pub small : v.0.1 < 2 ^ 32
 
-slot_ok : (sizes : Sizes) (line : List ℕ) (at : ℕ) (v : (ℕ × ℕ) × ℕ) → sizes.registers < 2 ^ 64
+pub slot_ok : (sizes : Sizes) (line : List ℕ) (at : ℕ) (v : (ℕ × ℕ) × ℕ) → sizes.registers < 2 ^ 64
     → slot_at sizes line at ≡ Ok v → IsSlotAt sizes line at v
 unfolding slot_at
 slot_ok sizes line at v fits h =
@@ -84,12 +84,12 @@ slot_again sizes line at r n ws fits below small h =
     (b.0, rw (a.1, b.1) refl, b.2)
 
 -- two registers are the words at a place
-record IsPairAt (sizes : Sizes) (line : List ℕ) (at : ℕ) (v : (ℕ × ℕ) × ℕ) : Type 0 where
-  spelled : words_from line at ≡ register_word v.0.0 ∷ register_word v.0.1 ∷ words_from line v.1
-  left : v.0.0 < sizes.registers
-  right : v.0.1 < sizes.registers
+pub record IsPairAt (sizes : Sizes) (line : List ℕ) (at : ℕ) (v : (ℕ × ℕ) × ℕ) : Type 0 where
+  pub spelled : words_from line at ≡ register_word v.0.0 ∷ register_word v.0.1 ∷ words_from line v.1
+  pub left : v.0.0 < sizes.registers
+  pub right : v.0.1 < sizes.registers
 
-pair_ok : (sizes : Sizes) (line : List ℕ) (at : ℕ) (v : (ℕ × ℕ) × ℕ) → sizes.registers < 2 ^ 64
+pub pair_ok : (sizes : Sizes) (line : List ℕ) (at : ℕ) (v : (ℕ × ℕ) × ℕ) → sizes.registers < 2 ^ 64
     → pair_at sizes line at ≡ Ok v → IsPairAt sizes line at v
 unfolding pair_at
 pair_ok sizes line at v fits h =
@@ -114,13 +114,13 @@ pair_again sizes line at r n ws fits left right h =
     (b.0, rw (a.1, b.1) refl, b.2)
 
 -- two registers and a number are the words at a place
-record IsFieldAt (sizes : Sizes) (line : List ℕ) (at : ℕ) (v : (ℕ × (ℕ × ℕ)) × ℕ) : Type 0 where
-  spelled : words_from line at ≡ register_word v.0.0 ∷ register_word v.0.1.0 ∷ decimal v.0.1.1 ∷ words_from line v.1
-  target : v.0.0 < sizes.registers
-  object : v.0.1.0 < sizes.registers
-  small : v.0.1.1 < 2 ^ 32
+pub record IsFieldAt (sizes : Sizes) (line : List ℕ) (at : ℕ) (v : (ℕ × (ℕ × ℕ)) × ℕ) : Type 0 where
+  pub spelled : words_from line at ≡ register_word v.0.0 ∷ register_word v.0.1.0 ∷ decimal v.0.1.1 ∷ words_from line v.1
+  pub target : v.0.0 < sizes.registers
+  pub object : v.0.1.0 < sizes.registers
+  pub small : v.0.1.1 < 2 ^ 32
 
-field_ok : (sizes : Sizes) (line : List ℕ) (at : ℕ) (v : (ℕ × (ℕ × ℕ)) × ℕ) → sizes.registers < 2 ^ 64
+pub field_ok : (sizes : Sizes) (line : List ℕ) (at : ℕ) (v : (ℕ × (ℕ × ℕ)) × ℕ) → sizes.registers < 2 ^ 64
     → field_at sizes line at ≡ Ok v → IsFieldAt sizes line at v
 unfolding field_at
 field_ok sizes line at v fits h =
@@ -149,7 +149,7 @@ field_again sizes line at target object n ws fits below there small h =
 -- ---- orders
 
 -- the word of a keyword
-abbrev keyword_text : Keyword → List ℕ
+abbrev pub keyword_text : Keyword → List ℕ
 keyword_text (keywords.Mixed mixed.Take) = codes "take"
 keyword_text (keywords.Bare bare.Give) = codes "give"
 keyword_text (keywords.Slot of_slot.New) = codes "new"
@@ -174,7 +174,7 @@ keyword_text (keywords.Field of_field.Get) = codes "get"
 keyword_text (keywords.Slot of_slot.GetGlobal) = codes "getg"
 
 -- the keyword of an order
-abbrev keyword_of : Order → Keyword
+abbrev pub keyword_of : Order → Keyword
 keyword_of (orders.Take n) = keywords.Mixed mixed.Take
 keyword_of orders.Give = keywords.Bare bare.Give
 keyword_of (orders.New target layout) = keywords.Slot of_slot.New
@@ -199,7 +199,7 @@ keyword_of (orders.Get target object index) = keywords.Field of_field.Get
 keyword_of (orders.GetGlobal target global) = keywords.Slot of_slot.GetGlobal
 
 -- the words behind an order's name
-abbrev operand_words : Order → List (List ℕ)
+abbrev pub operand_words : Order → List (List ℕ)
 operand_words (orders.Take n) = decimal n ∷ []
 operand_words orders.Give = []
 operand_words (orders.New target layout) = register_word target ∷ decimal layout ∷ []
@@ -223,7 +223,7 @@ operand_words orders.Unpark = []
 operand_words (orders.Get target object index) = register_word target ∷ register_word object ∷ decimal index ∷ []
 operand_words (orders.GetGlobal target global) = register_word target ∷ decimal global ∷ []
 
-words_are : (o : Order) → order_words o ≡ keyword_text (keyword_of o) ∷ operand_words o
+pub words_are : (o : Order) → order_words o ≡ keyword_text (keyword_of o) ∷ operand_words o
 words_are (orders.Take n) = refl
 words_are orders.Give = refl
 words_are (orders.New target layout) = refl
@@ -248,10 +248,10 @@ words_are (orders.Get target object index) = refl
 words_are (orders.GetGlobal target global) = refl
 
 -- an order of the keyword is spelled from a place on, behind its name
-record IsOrderAt (sizes : Sizes) (line : List ℕ) (at : ℕ) (k : Keyword) (v : Order × ℕ) : Type 0 where
-  keyword : keyword_of v.0 ≡ k
-  spelled : words_from line at ≡ operand_words v.0 ++ words_from line v.1
-  fits : IsOrder sizes.registers v.0
+pub record IsOrderAt (sizes : Sizes) (line : List ℕ) (at : ℕ) (k : Keyword) (v : Order × ℕ) : Type 0 where
+  pub keyword : keyword_of v.0 ≡ k
+  pub spelled : words_from line at ≡ operand_words v.0 ++ words_from line v.1
+  pub fits : IsOrder sizes.registers v.0
 
 bare_ok : (sizes : Sizes) (line : List ℕ) (at : ℕ) (k : Bare)
     → IsOrderAt sizes line at (keywords.Bare k) (bare_order k, at)
@@ -366,7 +366,7 @@ mixed_ok sizes line at mixed.StoreGlobal v fits h =
       fits = (omega (arith, n.below), r.below);
     })
 
-operands_ok : (sizes : Sizes) (line : List ℕ) (at : ℕ) (k : Keyword) (v : Order × ℕ) → sizes.registers < 2 ^ 64
+pub operands_ok : (sizes : Sizes) (line : List ℕ) (at : ℕ) (k : Keyword) (v : Order × ℕ) → sizes.registers < 2 ^ 64
     → operands_at sizes line at k ≡ Ok v → IsOrderAt sizes line at k v
 unfolding operands_at
 operands_ok sizes line at (keywords.Bare k) v fits h =
@@ -488,7 +488,7 @@ register_key_ok w k =
     (key_or w (codes "scrub") (keywords.Registers of_registers.Scrub) k _ refl
     (slot_key_ok w k)))))
 
-thread_key_ok : (w : List ℕ) (k : Keyword) → thread_keyword w ≡ Some k → w ≡ keyword_text k
+pub thread_key_ok : (w : List ℕ) (k : Keyword) → thread_keyword w ≡ Some k → w ≡ keyword_text k
 unfolding thread_keyword
 thread_key_ok w k =
     key_or w (codes "give") (keywords.Bare bare.Give) k _ refl
@@ -619,7 +619,7 @@ first_joined b w (v ∷ ws) = refl
 pub line_is : (line : List ℕ) (ws : List (List ℕ)) → words_from line 0 ≡ ws → line ≡ join_with_byte 32 ws
 line_is line ws h = sym (join_with_byte-slice_split 32 line) ∙ ap (join_with_byte 32) (sym (words_whole line) ∙ h)
 
-first_is : (line : List ℕ) (b : ℕ) (w : List ℕ) (ws : List (List ℕ)) → words_from line 0 ≡ (b ∷ w) ∷ ws
+pub first_is : (line : List ℕ) (b : ℕ) (w : List ℕ) (ws : List (List ℕ)) → words_from line 0 ≡ (b ∷ w) ∷ ws
     → first_byte line ≡ b
 first_is line b w ws h = ap first_byte (line_is line ((b ∷ w) ∷ ws) h) ∙ first_joined b w ws
 

@@ -38,7 +38,7 @@ cut_words line at (Some i) within h =
     drop-drop (i + 1) at line ∙ ap (λ k. drop k line) (regroup at i) in
     rw (split_some space (drop at line) i h, inside, same) refl
 
-words_inside : (line : List ℕ) (at : ℕ) → nat_lt (length line) at ≡ false
+pub words_inside : (line : List ℕ) (at : ℕ) → nat_lt (length line) at ≡ false
     → words_from line at ≡ slice_split space (drop at line)
 unfolding words_from
 words_inside line at h = rw h refl

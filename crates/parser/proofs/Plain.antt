@@ -50,6 +50,10 @@ no_newlines [] h = tt
 no_newlines (b ∷ bs) h =
     let ne = h.0 in let first : newline b ≡ false = grind (arith, nat_tests) in (first, no_newlines bs h.1)
 
+-- no byte of a line ends it
+pub none_ends : (line : List ℕ) → HasNoNewlines line → All (λ b. newline b ≡ false) line
+none_ends line h = by_index (λ b. newline b ≡ false) line (no_newlines line h)
+
 -- lines that each end in a newline are the parts of their bytes, with an empty one behind them
 pub lines_split : (lines : List (List ℕ)) → AllByRecursion HasNoNewlines lines
     → slice_split newline (flat_map ended lines) ≡ lines ++ [] ∷ []

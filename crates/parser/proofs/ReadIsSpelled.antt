@@ -65,36 +65,38 @@ line_by_words line w ws first rest =
 -- ---- what was read so far
 
 -- before a command or a block has begun there is none
-record IsFresh (r : ReadSoFar) (parts : List Part) : Type 0 where
-  no_parts : parts ≡ []
-  no_block : r.turns ≡ None
+pub record IsFresh (r : ReadSoFar) (parts : List Part) : Type 0 where
+  pub no_parts : parts ≡ []
+  pub no_block : r.turns ≡ None
 
 -- behind the heap line: the lines that said something spell what was read, and it is in range
-record IsBehind (said : List (List ℕ)) (r : ReadSoFar) : Type 0 where
-  sizes : Sizes
-  sizes_is : r.sizes ≡ Some sizes
-  heap : List ℕ
-  heap_spelled : SpellsHeap heap (config_of sizes [])
-  parts : List Part
-  said_is : said ≡ (heap ∷ map layout_line_of r.layouts) ++ (flat_map part_lines parts ++ open_lines r.turns r.body)
-  commands_are : r.commands ≡ flat_map part_commands parts
-  turns : AllByRecursion IsPart parts
-  block_turns : HasTurns r.turns
-  fresh : r.begun ≡ false → IsFresh r parts
-  range : IsSizes sizes
-  layouts : AllByRecursion IsLayout r.layouts
-  room : list_all (fits_page sizes.words) r.layouts ≡ true
-  few : length r.layouts ≤ 64
-  commands : AllByRecursion (IsCommand (config_of sizes [])) r.commands
-  body : AllByRecursion (IsCommand (config_of sizes [])) r.body
-  count : length r.commands ≤ MOST_COMMANDS
+pub record IsBehind (said : List (List ℕ)) (r : ReadSoFar) : Type 0 where
+  pub sizes : Sizes
+  pub sizes_is : r.sizes ≡ Some sizes
+  pub heap : List ℕ
+  pub heap_spelled : SpellsHeap heap (config_of sizes [])
+  pub parts : List Part
+  pub said_is : said ≡ (heap ∷ map layout_line_of r.layouts) ++ (flat_map part_lines parts ++ open_lines r.turns r.body)
+  pub commands_are : r.commands ≡ flat_map part_commands parts
+  pub turns : AllByRecursion IsPart parts
+  pub block_turns : HasTurns r.turns
+  pub fresh : r.begun ≡ false → IsFresh r parts
+  pub started : r.begun ≡ true → 1 ≤ length r.layouts
+  pub range : IsSizes sizes
+  pub layouts : AllByRecursion IsLayout r.layouts
+  pub room : list_all (fits_page sizes.words) r.layouts ≡ true
+  pub few : length r.layouts ≤ 64
+  pub commands : AllByRecursion (IsCommand (config_of sizes [])) r.commands
+  pub body : AllByRecursion (IsCommand (config_of sizes [])) r.body
+  pub count : length r.commands ≤ MOST_COMMANDS
 
 -- before the heap line nothing was said
-record IsBefore (said : List (List ℕ)) (r : ReadSoFar) : Type 0 where
-  said_is : said ≡ []
-  is : r ≡ nothing
+pub record IsBefore (said : List (List ℕ)) (r : ReadSoFar) : Type 0 where
+  pub said_is : said ≡ []
+  pub is : r ≡ nothing
 
-abbrev Said : List (List ℕ) → ReadSoFar → Type 0
+-- what was read, behind the lines that said something
+abbrev pub Said : List (List ℕ) → ReadSoFar → Type 0
 Said said r = IsBefore said r ⊎ IsBehind said r
 
 pub few_actors : (s : Sizes) → IsSizes s → AreFew s
@@ -129,6 +131,7 @@ heap_step line t h =
       turns = tt;
       block_turns = tt;
       fresh = λ _. record { no_parts = refl; no_block = refl };
+      started = λ e. absurd cc;
       range = sizes.range;
       layouts = tt;
       room = refl;
@@ -181,6 +184,7 @@ layout_step said r t b line first not_begun few h =
       turns = b.turns;
       block_turns = b.block_turns;
       fresh = λ _. record { no_parts = fresh.no_parts; no_block = fresh.no_block };
+      started = λ _. omega (arith, length-append r.layouts (l.0 ∷ []));
       range = b.range;
       layouts = all_push IsLayout r.layouts l.0 b.layouts layout.is;
       room = room_more b.sizes.words r.layouts l.0 b.room layout.room;
@@ -193,9 +197,9 @@ layout_step said r t b line first not_begun few h =
 -- ---- commands and blocks
 
 command_behind : (said : List (List ℕ)) (r : ReadSoFar) (b : IsBehind said r) (c : Command) (line : List ℕ)
-    → line ≡ command_line_of c → IsCommand (config_of b.sizes []) c → (o : Option ℕ) → r.turns ≡ o
+    → 1 ≤ length r.layouts → line ≡ command_line_of c → IsCommand (config_of b.sizes []) c → (o : Option ℕ) → r.turns ≡ o
     → is_full o r.commands ≡ false → IsBehind (said ++ line ∷ []) (with_command r o c)
-command_behind said r b c line is own None none room =
+command_behind said r b c line some_layout is own None none room =
     let fits : length r.commands < MOST_COMMANDS = grind (arith, nat_tests) in
     record {
       sizes = b.sizes;
@@ -208,6 +212,7 @@ command_behind said r b c line is own None none room =
       turns = all_push IsPart b.parts (One c) b.turns tt;
       block_turns = b.block_turns;
       fresh = λ e. absurd cc;
+      started = λ _. some_layout;
       range = b.range;
       layouts = b.layouts;
       room = b.room;
@@ -216,7 +221,7 @@ command_behind said r b c line is own None none room =
       body = b.body;
       count = omega (arith, length-append r.commands (c ∷ []));
     }
-command_behind said r b c line is own (Some turns) some room = record {
+command_behind said r b c line some_layout is own (Some turns) some room = record {
   sizes = b.sizes;
   sizes_is = b.sizes_is;
   heap = b.heap;
@@ -228,6 +233,7 @@ command_behind said r b c line is own (Some turns) some room = record {
   turns = b.turns;
   block_turns = b.block_turns;
   fresh = λ e. let none = (b.fresh e).no_block in absurd cc;
+  started = λ _. some_layout;
   range = b.range;
   layouts = b.layouts;
   room = b.room;
@@ -238,9 +244,10 @@ command_behind said r b c line is own (Some turns) some room = record {
 }
 
 command_step : (said : List (List ℕ)) (r t : ReadSoFar) (b : IsBehind said r) (line : List ℕ)
+    → 1 ≤ length r.layouts
     → command_line r b.sizes line ≡ Ok t → IsBehind (said ++ line ∷ []) t
 unfolding command_line
-command_step said r t b line h =
+command_step said r t b line some h =
     let few = few_actors b.sizes b.range in
     let a = bind_ok (actor_at b.sizes line) _ t h in
     let g = not_refused (is_full r.turns r.commands) _ _ t a.2 in
@@ -253,13 +260,14 @@ command_step said r t b line h =
     let own : IsCommand (config_of b.sizes []) command =
     record { actor = actor.there; own = order.own; order = order.fits } in
     subst (λ (x : ReadSoFar). IsBehind (said ++ line ∷ []) x) (same_result (with_command r r.turns command) t o.2)
-    (command_behind said r b command line line_is_command own r.turns refl g.0)
+    (command_behind said r b command line some line_is_command own r.turns refl g.0)
 
 times_behind : (said : List (List ℕ)) (r t : ReadSoFar) (b : IsBehind said r) (line : List ℕ)
+    → 1 ≤ length r.layouts
     → (first_word line).0 ≡ codes "times" → (o : Option ℕ) → r.turns ≡ o → times_in r o line ≡ Ok t
     → IsBehind (said ++ line ∷ []) t
-times_behind said r t b line first (Some turns) some h = absurd cc
-times_behind said r t b line first None none h =
+times_behind said r t b line some_layout first (Some turns) some h = absurd cc
+times_behind said r t b line some_layout first None none h =
     let n = bind_ok (number_at line (first_word line).1 1 MOST_TURNS) _ t h in
     let e = bind_ok (end_at line n.0.1) _ t n.2 in
     let number = number_ok line (first_word line).1 1 MOST_TURNS n.0 (lit< tt) n.1 in
@@ -279,6 +287,7 @@ times_behind said r t b line first None none h =
       turns = b.turns;
       block_turns = (number.above, number.below);
       fresh = λ f. absurd cc;
+      started = λ _. some_layout;
       range = b.range;
       layouts = b.layouts;
       room = b.room;
@@ -289,15 +298,17 @@ times_behind said r t b line first None none h =
     })
 
 times_step : (said : List (List ℕ)) (r t : ReadSoFar) (b : IsBehind said r) (line : List ℕ)
+    → 1 ≤ length r.layouts
     → (first_word line).0 ≡ codes "times" → times_line r line ≡ Ok t → IsBehind (said ++ line ∷ []) t
 unfolding times_line
-times_step said r t b line first h = times_behind said r t b line first r.turns refl h
+times_step said r t b line some first h = times_behind said r t b line some first r.turns refl h
 
 end_behind : (said : List (List ℕ)) (r t : ReadSoFar) (b : IsBehind said r) (line : List ℕ)
+    → 1 ≤ length r.layouts
     → (first_word line).0 ≡ codes "end" → (o : Option ℕ) → r.turns ≡ o → end_in r o line ≡ Ok t
     → IsBehind (said ++ line ∷ []) t
-end_behind said r t b line first None none h = absurd cc
-end_behind said r t b line first (Some turns) some h =
+end_behind said r t b line some_layout first None none h = absurd cc
+end_behind said r t b line some_layout first (Some turns) some h =
     let g = not_refused (nat_lt MOST_COMMANDS (length r.commands + turns * length r.body)) _ _ t h in
     let e = bind_ok (end_at line (first_word line).1) _ t g.1 in
     let last = end_ok line (first_word line).1 e.0 e.1 in
@@ -321,6 +332,7 @@ end_behind said r t b line first (Some turns) some h =
       turns = all_push IsPart b.parts (Times turns r.body) b.turns has;
       block_turns = tt;
       fresh = λ f. let none = (b.fresh f).no_block in absurd cc;
+      started = λ _. some_layout;
       range = b.range;
       layouts = b.layouts;
       room = b.room;
@@ -332,22 +344,27 @@ end_behind said r t b line first (Some turns) some h =
     })
 
 end_step : (said : List (List ℕ)) (r t : ReadSoFar) (b : IsBehind said r) (line : List ℕ)
+    → 1 ≤ length r.layouts
     → (first_word line).0 ≡ codes "end" → end_line r line ≡ Ok t → IsBehind (said ++ line ∷ []) t
 unfolding end_line
-end_step said r t b line first h = end_behind said r t b line first r.turns refl h
+end_step said r t b line some first h = end_behind said r t b line some first r.turns refl h
 
 part_step : (said : List (List ℕ)) (r t : ReadSoFar) (b : IsBehind said r) (line : List ℕ)
+    → 1 ≤ length r.layouts
     → part_line r b.sizes line ≡ Ok t → IsBehind (said ++ line ∷ []) t
 unfolding part_line
-part_step said r t b line h =
+part_step said r t b line some h =
     elim (one_of (bytes_eq (first_word line).0 (codes "times")) _ _ (Ok t) h) [
-      | inl p ↦ times_step said r t b line ((bytes_eq-Decides (first_word line).0 (codes "times")).0 p.0) p.1
+      | inl p ↦ times_step said r t b line some ((bytes_eq-Decides (first_word line).0 (codes "times")).0 p.0) p.1
       | inr p ↦
           elim (one_of (bytes_eq (first_word line).0 (codes "end")) _ _ (Ok t) p.1) [
-            | inl q ↦ end_step said r t b line ((bytes_eq-Decides (first_word line).0 (codes "end")).0 q.0) q.1
-            | inr q ↦ command_step said r t b line q.1
+            | inl q ↦ end_step said r t b line some ((bytes_eq-Decides (first_word line).0 (codes "end")).0 q.0) q.1
+            | inr q ↦ command_step said r t b line some q.1
           ]
     ]
+
+pub some_layouts : (ls : List Layout) → (length ls == 0) ≡ false → 1 ≤ length ls
+some_layouts ls h = grind (arith, nat_tests)
 
 later_step : (said : List (List ℕ)) (r t : ReadSoFar) (b : IsBehind said r) (line : List ℕ)
     → later_line r b.sizes line ≡ Ok t → IsBehind (said ++ line ∷ []) t
@@ -362,7 +379,8 @@ later_step said r t b line h =
           let few : length r.layouts < MOST_LAYOUTS = ltb-true (length r.layouts) MOST_LAYOUTS most.1 in
           layout_step said r t b line ((bytes_eq-Decides (first_word line).0 (codes "layout")).0 first.0)
           (not-true r.begun first.1) few p.1
-      | inr p ↦ let g = not_refused (length r.layouts == 0) _ _ t p.1 in part_step said r t b line g.1
+      | inr p ↦ let g = not_refused (length r.layouts == 0) _ _ t p.1 in
+          part_step said r t b line (some_layouts r.layouts g.0) g.1
     ]
 
 -- ---- a line, and the lines
@@ -378,7 +396,7 @@ line_step said r t line (inr behind) idle h =
     subst (λ (o : Option Sizes). line_after r o line ≡ Ok t) behind.sizes_is h in
     inr (later_step said r t behind line later)
 
-line_ok : (said : List (List ℕ)) (r t : ReadSoFar) (line : List ℕ) → Said said r → line_in r line ≡ Ok t
+pub line_ok : (said : List (List ℕ)) (r t : ReadSoFar) (line : List ℕ) → Said said r → line_in r line ≡ Ok t
     → Said (said ++ told says_something line) t
 unfolding line_in
 line_ok said r t line so_far h =
@@ -388,39 +406,36 @@ line_ok said r t line so_far h =
     ]
 
 -- a script and the lines that spell it
-record IsTold (said : List (List ℕ)) (s : ScriptValue) : Type 0 where
-  script : IsScript s
-  heap : List ℕ
-  heap_spelled : SpellsHeap heap s.config
-  parts : List Part
-  turns : AllByRecursion IsPart parts
-  commands_are : s.commands ≡ flat_map part_commands parts
-  said_is : said ≡ heap ∷ map layout_line_of s.config.layouts ++ flat_map part_lines parts
+pub record IsTold (said : List (List ℕ)) (s : ScriptValue) : Type 0 where
+  pub script : IsScript s
+  pub heap : List ℕ
+  pub heap_spelled : SpellsHeap heap s.config
+  pub parts : List Part
+  pub turns : AllByRecursion IsPart parts
+  pub commands_are : s.commands ≡ flat_map part_commands parts
+  pub said_is : said ≡ heap ∷ map layout_line_of s.config.layouts ++ flat_map part_lines parts
 
-commands_with : (s : Sizes) (ls : List Layout) (cs : List Command) → AllByRecursion (IsCommand (config_of s [])) cs →
+pub commands_with : (s : Sizes) (ls : List Layout) (cs : List Command) → AllByRecursion (IsCommand (config_of s [])) cs →
     AllByRecursion (IsCommand (config_of s ls)) cs
 commands_with s ls [] h = tt
 commands_with s ls (c ∷ cs) h =
     (record { actor = h.0.actor; own = h.0.own; order = h.0.order }, commands_with s ls cs h.1)
 
-guard_line : {A : Type 0} (b : Bool) (d : LineFault) (x : Result A LineFault) (y : A) → cond b (Err d) x ≡ Ok y
+pub guard_line : {A : Type 0} (b : Bool) (d : LineFault) (x : Result A LineFault) (y : A) → cond b (Err d) x ≡ Ok y
     → (b ≡ false) × (x ≡ Ok y)
 guard_line true d x y e = absurd cc
 guard_line false d x y e = (refl, e)
-
-some_layouts : (ls : List Layout) → (length ls == 0) ≡ false → 1 ≤ length ls
-some_layouts ls h = grind (arith, nat_tests)
 
 closed_ok : (n : ℕ) (r : ReadSoFar) (z : Sizes) (o : Option ℕ) (s : ScriptValue) → closed n r z o ≡ Ok s →
     (o ≡ None) × (script_of (config_of z r.layouts) r.commands ≡ s)
 closed_ok n r z None s h = (refl, cc)
 closed_ok n r z (Some turns) s h = absurd cc
 
-all_said : (front lines said : List (List ℕ)) (o : Option ℕ) (body : List Command) → o ≡ None
+pub all_said : (front lines said : List (List ℕ)) (o : Option ℕ) (body : List Command) → o ≡ None
     → said ≡ front ++ (lines ++ open_lines o body) → said ≡ front ++ lines
 all_said front lines said o body none h = h ∙ ap (λ (x : List (List ℕ)). front ++ x) (rw none (append-nil lines))
 
-finished_ok : (n : ℕ) (said : List (List ℕ)) (r : ReadSoFar) (s : ScriptValue) → Said said r → finished n r ≡ Ok s
+pub finished_ok : (n : ℕ) (said : List (List ℕ)) (r : ReadSoFar) (s : ScriptValue) → Said said r → finished n r ≡ Ok s
     → IsTold said s
 unfolding finished
 finished_ok n said r s (inl before) h =
@@ -461,11 +476,11 @@ record IsReadFrom (said : List (List ℕ)) (parts : List (List ℕ)) (s : Script
   parts_are : parts ≡ lines ++ [] ∷ []
   all_told : IsTold (said ++ filter says_something lines) s
 
-never : {A B : Type 0} (x : Result A LineFault) (f : A → LineFault) (y : B) → goes_on x (λ t. Err (f t)) ≡ Ok y → ⊥
+pub never : {A B : Type 0} (x : Result A LineFault) (f : A → LineFault) (y : B) → goes_on x (λ t. Err (f t)) ≡ Ok y → ⊥
 never (Ok x) f y e = absurd cc
 never (Err d) f y e = absurd cc
 
-pick_false : {A : Type 0} (c : Bool) (x y z : A) → c ≡ false → cond c x y ≡ z → y ≡ z
+pub pick_false : {A : Type 0} (c : Bool) (x y z : A) → c ≡ false → cond c x y ≡ z → y ≡ z
 pick_false true x y z e h = absurd cc
 pick_false false x y z e h = h
 
@@ -478,7 +493,7 @@ last_ok n said r (b ∷ bs) s so_far h =
     let some : (length (b ∷ bs) == 0) ≡ false = grind (arith, nat_tests) in
     absurd (never (in_line n (line_in r (b ∷ bs))) _ s (pick_false (length (b ∷ bs) == 0) _ _ (Ok s) some h))
 
-on_ok : {A B : Type 0} (n : ℕ) (x : Result A Flaw) (f : A → Result B LineFault) (y : B)
+pub on_ok : {A B : Type 0} (n : ℕ) (x : Result A Flaw) (f : A → Result B LineFault) (y : B)
     → goes_on (in_line n x) f ≡ Ok y → (t : A) × (x ≡ Ok t) × (f t ≡ Ok y)
 on_ok n (Ok t) f y e = (t, refl, e)
 on_ok n (Err d) f y e = absurd cc

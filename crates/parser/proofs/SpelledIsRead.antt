@@ -56,9 +56,9 @@ words_are line w ws is first rest =
     record { all = all; first = parts.0; rest = parts.1 }
 
 -- behind the heap line
-record IsReady (z : Sizes) (r : ReadSoFar) : Type 0 where
-  sizes_is : r.sizes ≡ Some z
-  range : IsSizes z
+pub record IsReady (z : Sizes) (r : ReadSoFar) : Type 0 where
+  pub sizes_is : r.sizes ≡ Some z
+  pub range : IsSizes z
 
 -- no actor's word is a line's word
 record IsNoLineWord (w : List ℕ) : Type 0 where
@@ -115,7 +115,7 @@ command_line_taken z r line w first other =
     ∙ other.end in
     rw (times, end) refl
 
-command_taken : (z : Sizes) (r : ReadSoFar) (c : Command) (line : List ℕ) (o : Option ℕ)
+pub command_taken : (z : Sizes) (r : ReadSoFar) (c : Command) (line : List ℕ) (o : Option ℕ)
     → IsReady z r → 1 ≤ length r.layouts → r.turns ≡ o → is_full o r.commands ≡ false → IsCommand (config_of z []) c
     → is_idle line ≡ false → line ≡ command_line_of c → line_in r line ≡ Ok (with_command r o c)
 unfolding command_line
@@ -133,7 +133,7 @@ command_taken z r c line o ready some turns room h idle is =
     ∙ added
     ∙ ap (λ (x : Option ℕ). Ok (with_command r x c)) turns
 
-times_taken : (z : Sizes) (r : ReadSoFar) (n : ℕ) (line : List ℕ) → IsReady z r
+pub times_taken : (z : Sizes) (r : ReadSoFar) (n : ℕ) (line : List ℕ) → IsReady z r
     → 1 ≤ length r.layouts → r.turns ≡ None → 1 ≤ n → n ≤ MOST_TURNS → is_idle line ≡ false → line ≡ times_line_of n
     → line_in r line ≡ Ok (record r { begun = true; turns = Some n; body = [] })
 unfolding part_line times_line
@@ -149,7 +149,7 @@ times_taken z r n line ready some none low high idle is =
     part_taken z r line (codes "times") ready some idle words.first refl ∙ here
     ∙ ap (λ (x : Option ℕ). times_in r x line) none ∙ read
 
-end_taken : (z : Sizes) (r : ReadSoFar) (n : ℕ) (line : List ℕ) → IsReady z r → 1 ≤ length r.layouts → r.turns ≡ Some n
+pub end_taken : (z : Sizes) (r : ReadSoFar) (n : ℕ) (line : List ℕ) → IsReady z r → 1 ≤ length r.layouts → r.turns ≡ Some n
     → length r.commands + n * length r.body ≤ MOST_COMMANDS → is_idle line ≡ false → line ≡ codes "end"
     → line_in r line ≡ Ok (record r { commands = r.commands ++ repeat n r.body; turns = None; body = [] })
 unfolding part_line end_line
@@ -169,7 +169,7 @@ end_taken z r n line ready some block room idle is =
     part_taken z r line (codes "end") ready some idle words.first refl ∙ here
     ∙ ap (λ (x : Option ℕ). end_in r x line) block ∙ read
 
-layout_taken : (z : Sizes) (r : ReadSoFar) (l : Layout) (line : List ℕ) → IsReady z r → r.begun ≡ false
+pub layout_taken : (z : Sizes) (r : ReadSoFar) (l : Layout) (line : List ℕ) → IsReady z r → r.begun ≡ false
     → length r.layouts < MOST_LAYOUTS → IsLayout l → fits_page z.words l ≡ true → is_idle line ≡ false
     → line ≡ layout_line_of l → line_in r line ≡ Ok (record r { layouts = r.layouts ++ l ∷ [] })
 unfolding later_line layout_line
@@ -185,7 +185,7 @@ layout_taken z r l line ready not_begun few h room idle is =
     let read = layout_again z line (first_word line).1 l (record { spelled = words.rest; is = h; room = size }) in
     said_line r z line idle ready.sizes_is ∙ rw (layout, not_begun, below, read) refl
 
-heap_taken : (z : Sizes) (line : List ℕ) → IsSizes z → SpellsHeap line (config_of z []) → is_idle line ≡ false →
+pub heap_taken : (z : Sizes) (line : List ℕ) → IsSizes z → SpellsHeap line (config_of z []) → is_idle line ≡ false →
     line_in nothing line ≡ Ok (record nothing { sizes = Some z })
 unfolding line_in heap_line
 heap_taken z line range h idle =

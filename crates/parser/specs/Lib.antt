@@ -5,3 +5,4 @@ pub mod Reading
 pub mod Scripts
 pub mod Views
 pub mod Spelling
+pub mod Faults

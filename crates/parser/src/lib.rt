@@ -12,4 +12,4 @@ mod words;
 
 pub use fault::{FaultKind, LineFault, ParseFault};
 pub use order::{Command, Order};
-pub use script::{MOST_BYTES, Script, one_reading, parse};
+pub use script::{MOST_BYTES, Script, one_first_line, one_reading, parse};

@@ -3,9 +3,11 @@
 ghost use Rattle.std.specs.Prelude.{◌≡◌, ◌↔◌, ℕ, List, IfOk};
 ghost use Rattle.std.specs.List.{All};
 ghost use Rattle.model.specs.Configs.{IsConfig};
+ghost use Rattle.parser.specs.declared.fault.LineFault.{LineFault};
 ghost use Rattle.parser.specs.Reading.{ScriptValue, script_of, script_in};
 ghost use Rattle.parser.specs.Spelling.{IsCommand, IsScript, Spells};
 ghost use Rattle.parser.specs.Scripts.{IsReadOf, IsTooLong};
+ghost use Rattle.parser.specs.Faults.{FaultsShareLine, TellsFirst};
 
 use crate::fault::ParseFault;
 use crate::order::Command;
@@ -80,6 +82,9 @@ pub fn parse(alloc: Global, bytes: &[u8]) -> Result<Script, ParseFault>
 
     // What the bytes spell within all limits is read, unless they are too many or memory is refused.
     ensures only { (s : ScriptValue) → IsScript s → Spells bytes.now s → IsReadOf result (Ok s) }
+
+    // A fault is the first one: the lines before it have none, and up to the end of its word the bytes begin no script.
+    ensures first { TellsFirst bytes.now result }
 {
     if bytes.len() > MOST_BYTES {
         return Err(ParseFault::TooLong);
@@ -91,4 +96,10 @@ pub fn parse(alloc: Global, bytes: &[u8]) -> Result<Script, ParseFault>
 /// No bytes spell two scripts within the limits. It does nothing: its contract is the law.
 pub fn one_reading()
     ensures { (bytes : List ℕ) (s t : ScriptValue) → IsScript s → IsScript t → Spells bytes s → Spells bytes t → s ≡ t }
+{}
+
+/// A text has first faults in one line alone, where no block has too many commands. It does nothing: its contract is
+/// the law.
+pub fn one_first_line()
+    ensures { (bytes : List ℕ) (one other : LineFault) → FaultsShareLine bytes one other }
 {}

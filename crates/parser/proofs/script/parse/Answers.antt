@@ -2,6 +2,7 @@ use Rattle.std.proofs.Common.{rules, sym, ◌∙◌}
 use Rattle.parser.specs.Reading.{script_in}
 use Rattle.parser.specs.Scripts.{IsReadOf}
 use Rattle.parser.proofs.SpelledIsRead.{spelled_is_read}
+use Rattle.parser.proofs.FirstFault.{first_told}
 use Rattle.parser.proofs.Promises.{read_valid, spelled_read}
 use Rattle.parser.proofs.script.parse.Goals as goal
 
@@ -9,6 +10,10 @@ pub returns-in_err-config-clause-only : goal.returns-in_err-config-clause-only
 returns-in_err-config-clause-only c =
     λ s valid spells. let h : IsReadOf c.from_residual.result (script_in c.args.bytes.now) = search rules in
     spelled_read c.args.bytes.now c.from_residual.result s h valid spells
+
+pub returns-in_err-config-clause-first : goal.returns-in_err-config-clause-first
+returns-in_err-config-clause-first c = let h : IsReadOf c.from_residual.result (script_in c.args.bytes.now) = search rules in
+    first_told c.args.bytes.now c.from_residual.result h
 
 pub invariant_of-result : goal.invariant_of-result
 invariant_of-result c = read_valid c.args.bytes.now _ c.in_ok-config.ensures

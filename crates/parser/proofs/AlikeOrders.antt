@@ -1,0 +1,227 @@
+-- Orders and actors are read alike in lines that are alike.
+use Rattle.std.proofs.Common.{◌≡◌, ℕ, ◌+◌, Bool, true, false, cond, List, [], ◌∷◌, length, Option, Some, None}
+use Rattle.std.proofs.Common.{refl, ap, subst}
+use Rattle.std.specs.Prelude.{Result, Ok, Err, ◌==◌, ◌||◌, not, nat_le}
+use Rattle.std.proofs.lemmas.Bool.{or_parts, not-false}
+use Rattle.std.proofs.lemmas.Bool.Decides.{Decides-eqb}
+use Rattle.parser.specs.declared.fault.FaultKind.{FaultKind}
+use Rattle.parser.specs.declared.fault.FaultKind.TheVariants as kinds
+use Rattle.parser.specs.declared.fault.Flaw.{Flaw}
+use Rattle.parser.specs.declared.heading.Sizes.{Sizes}
+use Rattle.parser.specs.declared.order.Order.{Order}
+use Rattle.parser.specs.declared.keywords.Keyword.{Keyword}
+use Rattle.parser.specs.declared.keywords.Keyword.TheVariants as keywords
+use Rattle.parser.specs.declared.keywords.OfRegisters.{OfRegisters}
+use Rattle.parser.specs.declared.keywords.OfRegisters.TheVariants as of_registers
+use Rattle.parser.specs.declared.keywords.Mixed.{Mixed}
+use Rattle.parser.specs.declared.keywords.Mixed.TheVariants as mixed
+use Rattle.model.specs.declared.steps.Actor.{Actor}
+use Rattle.parser.specs.Words.{◌>>=◌, flaw, or_flaw, word_or, is_number, capped_from, named_in, named_at, end_at}
+use Rattle.parser.specs.Orders.{keyword_in, register_at, slot_at, pair_at, field_at}
+use Rattle.parser.specs.Orders.{registers_at, mixed_at, operands_at, order_at}
+use Rattle.parser.specs.Faults.{IsWrongWord}
+use Rattle.parser.proofs.Alike.{AreAlike, IsJudged, IsWordAlike, IsReadAlike, word_alike, then_alike, done_alike}
+use Rattle.parser.proofs.Alike.{one_word, one_word_then}
+use Rattle.parser.proofs.AlikeReads.{number_alike, small_alike, end_alike}
+
+-- ---- names
+
+-- what is wrong where a name's number isn't there
+abbrev IsAbsent : ℕ → ℕ → FaultKind → Type 0
+IsAbsent at letter missing = (front word digits : List ℕ) → length front ≡ at → word ≡ letter ∷ digits
+    → is_number digits ≡ true → IsWrongWord missing front word
+
+judge_name_by : {B : Type 0} (place : B → ℕ) (at letter : ℕ) (missing : FaultKind) (b : ℕ) (bs : List ℕ) (after : ℕ)
+    (next : ℕ × ℕ → Result B Flaw) → IsAbsent at letter missing
+    → ((x : ℕ × ℕ) → x.1 ≡ after → IsJudged place at (b ∷ bs, after) (next x)) → (c d : Bool)
+    → (not (b == letter) || not (is_number bs)) ≡ c
+    → IsJudged place at (b ∷ bs, after) (cond c (Err (flaw at kinds.UnknownWord))
+    (cond d (Err (flaw at missing)) (Ok (capped_from 0 bs, after))) >>= next)
+judge_name_by place at letter missing b bs after next absent h true d e = (refl, λ front size. tt)
+judge_name_by place at letter missing b bs after next absent h false true e =
+    let sides = or_parts (not (b == letter)) (not (is_number bs)) e in
+    let first : b ≡ letter = (Decides-eqb b letter).0 (not-false (b == letter) sides.0) in
+    let number : is_number bs ≡ true = not-false (is_number bs) sides.1 in
+    (refl, λ front size. absent front (b ∷ bs) bs size (ap (λ (x : ℕ). x ∷ bs) first) number)
+judge_name_by place at letter missing b bs after next absent h false false e = h (capped_from 0 bs, after) refl
+
+pub judge_name : {B : Type 0} (place : B → ℕ) (at letter count : ℕ) (missing : FaultKind) (word : List ℕ) (after : ℕ)
+    (next : ℕ × ℕ → Result B Flaw) → IsAbsent at letter missing
+    → ((x : ℕ × ℕ) → x.1 ≡ after → IsJudged place at (word, after) (next x))
+    → IsJudged place at (word, after) (named_in word after at letter count missing >>= next)
+judge_name place at letter count missing [] after next absent h = (refl, λ front size. tt)
+judge_name place at letter count missing (b ∷ bs) after next absent h =
+    judge_name_by place at letter missing b bs after next absent h (not (b == letter) || not (is_number bs))
+    (nat_le count (capped_from 0 bs)) refl
+
+-- a name of which more is asked
+pub name_then : {B : Type 0} (n : ℕ) (line other : List ℕ) (k : AreAlike n line other) (place : B → ℕ)
+    (at letter count : ℕ) (missing : FaultKind) (next : ℕ × ℕ → Result B Flaw) → IsAbsent at letter missing
+    → ((w : List ℕ × ℕ) (x : ℕ × ℕ) → x.1 ≡ w.1 → IsJudged place at w (next x))
+    → IsWordAlike line place n at (named_at line at letter count missing >>= next)
+    (named_at other at letter count missing >>= next)
+unfolding named_at
+name_then n line other k place at letter count missing next absent h =
+    one_word_then n line other k place at kinds.UnknownWord
+    (λ (w : List ℕ × ℕ). named_in w.0 w.1 at letter count missing) next
+    (λ w. judge_name place at letter count missing w.0 w.1 next absent (h w)) tt
+
+pub bind_ok_is : {A : Type 0} (r : Result A Flaw) → (r >>= (λ x. Ok x)) ≡ r
+bind_ok_is (Ok x) = refl
+bind_ok_is (Err d) = refl
+
+register_alike : (n : ℕ) (line other : List ℕ) (k : AreAlike n line other) (sizes : Sizes) (at : ℕ)
+    → IsReadAlike line (λ (x : ℕ × ℕ). x.1) n at (register_at sizes line at) (register_at sizes other at)
+unfolding register_at
+register_alike n line other k sizes at =
+    let place = λ (x : ℕ × ℕ). x.1 in
+    let both = word_alike line place n at _ _ (name_then n line other k place at 114 sizes.registers
+    kinds.NoSuchRegister (λ (x : ℕ × ℕ). Ok x) (λ front word digits size is number. (digits, (is, number)))
+    (λ w x e. e)) in
+    subst (λ (r : Result (ℕ × ℕ) Flaw). IsReadAlike line place n at
+    (named_at line at 114 sizes.registers kinds.NoSuchRegister) r)
+    (bind_ok_is (named_at other at 114 sizes.registers kinds.NoSuchRegister))
+    (subst (λ (r : Result (ℕ × ℕ) Flaw). IsReadAlike line place n at r
+    (named_at other at 114 sizes.registers kinds.NoSuchRegister >>= (λ (x : ℕ × ℕ). Ok x)))
+    (bind_ok_is (named_at line at 114 sizes.registers kinds.NoSuchRegister)) both)
+
+-- ---- operands
+
+slot_alike : (n : ℕ) (line other : List ℕ) (k : AreAlike n line other) (sizes : Sizes) (at : ℕ)
+    → IsReadAlike line (λ (x : (ℕ × ℕ) × ℕ). x.1) n at (slot_at sizes line at) (slot_at sizes other at)
+unfolding slot_at
+slot_alike n line other k sizes at =
+    then_alike line (λ (x : ℕ × ℕ). x.1) (λ (x : (ℕ × ℕ) × ℕ). x.1) n at _ _ _ _
+    (register_alike n line other k sizes at)
+    (λ r. then_alike line (λ (x : ℕ × ℕ). x.1) (λ (x : (ℕ × ℕ) × ℕ). x.1) n r.1 _ _ _ _
+    (small_alike n line other k r.1) (λ v. done_alike line (λ (x : (ℕ × ℕ) × ℕ). x.1) n v.1 ((r.0, v.0), v.1) refl))
+
+pair_alike : (n : ℕ) (line other : List ℕ) (k : AreAlike n line other) (sizes : Sizes) (at : ℕ)
+    → IsReadAlike line (λ (x : (ℕ × ℕ) × ℕ). x.1) n at (pair_at sizes line at) (pair_at sizes other at)
+unfolding pair_at
+pair_alike n line other k sizes at =
+    then_alike line (λ (x : ℕ × ℕ). x.1) (λ (x : (ℕ × ℕ) × ℕ). x.1) n at _ _ _ _
+    (register_alike n line other k sizes at)
+    (λ r. then_alike line (λ (x : ℕ × ℕ). x.1) (λ (x : (ℕ × ℕ) × ℕ). x.1) n r.1 _ _ _ _
+    (register_alike n line other k sizes r.1)
+    (λ v. done_alike line (λ (x : (ℕ × ℕ) × ℕ). x.1) n v.1 ((r.0, v.0), v.1) refl))
+
+field_alike : (n : ℕ) (line other : List ℕ) (k : AreAlike n line other) (sizes : Sizes) (at : ℕ)
+    → IsReadAlike line (λ (x : (ℕ × (ℕ × ℕ)) × ℕ). x.1) n at (field_at sizes line at) (field_at sizes other at)
+unfolding field_at
+field_alike n line other k sizes at =
+    then_alike line (λ (x : ℕ × ℕ). x.1) (λ (x : (ℕ × (ℕ × ℕ)) × ℕ). x.1) n at _ _ _ _
+    (register_alike n line other k sizes at)
+    (λ r. then_alike line (λ (x : (ℕ × ℕ) × ℕ). x.1) (λ (x : (ℕ × (ℕ × ℕ)) × ℕ). x.1) n r.1 _ _ _ _
+    (slot_alike n line other k sizes r.1)
+    (λ s. done_alike line (λ (x : (ℕ × (ℕ × ℕ)) × ℕ). x.1) n s.1 ((r.0, s.0), s.1) refl))
+
+-- an order and the place behind it
+abbrev order_end : Order × ℕ → ℕ
+order_end x = x.1
+
+registers_alike : (n : ℕ) (line other : List ℕ) (k : AreAlike n line other) (sizes : Sizes) (at : ℕ) (of : OfRegisters)
+    → IsReadAlike line order_end n at (registers_at sizes line at of) (registers_at sizes other at of)
+unfolding registers_at
+registers_alike n line other k sizes at of_registers.Same =
+    then_alike line (λ (x : (ℕ × ℕ) × ℕ). x.1) order_end n at _ _ _ _ (pair_alike n line other k sizes at)
+    (λ p. done_alike line order_end n p.1 _ refl)
+registers_alike n line other k sizes at of_registers.Null =
+    then_alike line (λ (x : ℕ × ℕ). x.1) order_end n at _ _ _ _ (register_alike n line other k sizes at)
+    (λ p. done_alike line order_end n p.1 _ refl)
+registers_alike n line other k sizes at of_registers.Move =
+    then_alike line (λ (x : (ℕ × ℕ) × ℕ). x.1) order_end n at _ _ _ _ (pair_alike n line other k sizes at)
+    (λ p. done_alike line order_end n p.1 _ refl)
+registers_alike n line other k sizes at of_registers.Clear =
+    then_alike line (λ (x : ℕ × ℕ). x.1) order_end n at _ _ _ _ (register_alike n line other k sizes at)
+    (λ p. done_alike line order_end n p.1 _ refl)
+registers_alike n line other k sizes at of_registers.Scrub =
+    then_alike line (λ (x : ℕ × ℕ). x.1) order_end n at _ _ _ _ (register_alike n line other k sizes at)
+    (λ p. done_alike line order_end n p.1 _ refl)
+
+mixed_alike : (n : ℕ) (line other : List ℕ) (k : AreAlike n line other) (sizes : Sizes) (at : ℕ) (of : Mixed)
+    → IsReadAlike line order_end n at (mixed_at sizes line at of) (mixed_at sizes other at of)
+unfolding mixed_at
+mixed_alike n line other k sizes at mixed.Take =
+    then_alike line (λ (x : ℕ × ℕ). x.1) order_end n at _ _ _ _ (small_alike n line other k at)
+    (λ p. done_alike line order_end n p.1 _ refl)
+mixed_alike n line other k sizes at mixed.Set =
+    then_alike line (λ (x : (ℕ × ℕ) × ℕ). x.1) order_end n at _ _ _ _ (slot_alike n line other k sizes at)
+    (λ s. then_alike line (λ (x : ℕ × ℕ). x.1) order_end n s.1 _ _ _ _
+    (number_alike n line other k s.1 0 18446744073709551615) (λ p. done_alike line order_end n p.1 _ refl))
+mixed_alike n line other k sizes at mixed.Store =
+    then_alike line (λ (x : (ℕ × ℕ) × ℕ). x.1) order_end n at _ _ _ _ (slot_alike n line other k sizes at)
+    (λ s. then_alike line (λ (x : ℕ × ℕ). x.1) order_end n s.1 _ _ _ _
+    (register_alike n line other k sizes s.1) (λ p. done_alike line order_end n p.1 _ refl))
+mixed_alike n line other k sizes at mixed.StoreGlobal =
+    then_alike line (λ (x : ℕ × ℕ). x.1) order_end n at _ _ _ _ (small_alike n line other k at)
+    (λ s. then_alike line (λ (x : ℕ × ℕ). x.1) order_end n s.1 _ _ _ _
+    (register_alike n line other k sizes s.1) (λ p. done_alike line order_end n p.1 _ refl))
+
+operands_alike : (n : ℕ) (line other : List ℕ) (k : AreAlike n line other) (sizes : Sizes) (at : ℕ) (of : Keyword)
+    → IsReadAlike line order_end n at (operands_at sizes line at of) (operands_at sizes other at of)
+unfolding operands_at
+operands_alike n line other k sizes at (keywords.Bare of) = done_alike line order_end n at _ refl
+operands_alike n line other k sizes at (keywords.Registers of) = registers_alike n line other k sizes at of
+operands_alike n line other k sizes at (keywords.Slot of) =
+    then_alike line (λ (x : (ℕ × ℕ) × ℕ). x.1) order_end n at _ _ _ _ (slot_alike n line other k sizes at)
+    (λ p. done_alike line order_end n p.1 _ refl)
+operands_alike n line other k sizes at (keywords.Field of) =
+    then_alike line (λ (x : (ℕ × (ℕ × ℕ)) × ℕ). x.1) order_end n at _ _ _ _ (field_alike n line other k sizes at)
+    (λ p. done_alike line order_end n p.1 _ refl)
+operands_alike n line other k sizes at (keywords.Mixed of) = mixed_alike n line other k sizes at of
+
+-- ---- an order
+
+-- what stands behind an order's keyword
+abbrev order_behind : Sizes → List ℕ → Keyword × ℕ → Result Order Flaw
+order_behind sizes line key =
+    operands_at sizes line key.1 key.0 >>= (λ order. end_at line order.1 >>= (λ u. Ok order.0))
+
+behind_alike : (n : ℕ) (line other : List ℕ) (k : AreAlike n line other) (sizes : Sizes) (key : Keyword × ℕ)
+    → IsReadAlike line (λ (x : Order). length line + 1) n key.1 (order_behind sizes line key)
+    (order_behind sizes other key)
+behind_alike n line other k sizes key =
+    then_alike line order_end (λ (x : Order). length line + 1) n key.1 _ _ _ _
+    (operands_alike n line other k sizes key.1 key.0)
+    (λ order. then_alike line (λ (u : Unit {0}). length line + 1) (λ (x : Order). length line + 1) n order.1 _ _ _ _
+    (end_alike n line other k order.1)
+    (λ u. done_alike line (λ (x : Order). length line + 1) n (length line + 1) _ refl))
+
+-- a keyword and what follows it, as two steps
+key_first : {B : Type 0} (r : Result (List ℕ × ℕ) Flaw) (test : List ℕ → Option Keyword) (f : Flaw)
+    (next : Keyword × ℕ → Result B Flaw)
+    → ((r >>= (λ w. or_flaw (test w.0) f >>= (λ key. Ok (key, w.1)))) >>= next)
+    ≡ (r >>= (λ w. or_flaw (test w.0) f >>= (λ key. next (key, w.1))))
+key_first (Err d) test f next = refl
+key_first {B} (Ok w) test f next = by_test (test w.0)
+  where
+    by_test : (o : Option Keyword) → ((or_flaw o f >>= (λ key. Ok (key, w.1))) >>= next)
+        ≡ (or_flaw o f >>= (λ key. next (key, w.1)))
+    by_test None = refl
+    by_test (Some key) = refl
+
+judge_key : (at : ℕ) (w : List ℕ × ℕ) (o : Option Keyword)
+    → IsJudged (λ (x : Keyword × ℕ). x.1) at w (or_flaw o (flaw at kinds.UnknownWord) >>= (λ key. Ok (key, w.1)))
+judge_key at w None = (refl, λ front size. tt)
+judge_key at w (Some key) = refl
+
+pub order_alike : (n : ℕ) (line other : List ℕ) (k : AreAlike n line other) (sizes : Sizes) (actor : Actor) (at : ℕ)
+    → IsReadAlike line (λ (x : Order). length line + 1) n at (order_at sizes line actor at)
+    (order_at sizes other actor at)
+unfolding order_at
+order_alike n line other k sizes actor at =
+    let end = λ (x : Order). length line + 1 in
+    let f = flaw at kinds.UnknownWord in
+    let judge = λ (w : List ℕ × ℕ). or_flaw (keyword_in actor w.0) f >>= (λ key. Ok (key, w.1)) in
+    let both = then_alike line (λ (x : Keyword × ℕ). x.1) end n at (word_or line at kinds.UnknownWord >>= judge)
+    (word_or other at kinds.UnknownWord >>= judge) (order_behind sizes line) (order_behind sizes other)
+    (word_alike line (λ (x : Keyword × ℕ). x.1) n at _ _ (one_word n line other k (λ (x : Keyword × ℕ). x.1) at
+    kinds.UnknownWord judge (λ w. judge_key at w (keyword_in actor w.0)) tt))
+    (λ key. behind_alike n line other k sizes key) in
+    subst (λ (r : Result Order Flaw). IsReadAlike line end n at (word_or line at kinds.UnknownWord
+    >>= (λ w. or_flaw (keyword_in actor w.0) f >>= (λ key. order_behind sizes line (key, w.1)))) r)
+    (key_first (word_or other at kinds.UnknownWord) (keyword_in actor) f (order_behind sizes other))
+    (subst (λ (r : Result Order Flaw). IsReadAlike line end n at r ((word_or other at kinds.UnknownWord >>= judge)
+    >>= order_behind sizes other))
+    (key_first (word_or line at kinds.UnknownWord) (keyword_in actor) f (order_behind sizes line)) both)

@@ -1,0 +1,328 @@
+-- Numbers, names, headings and orders are read alike in lines that are alike.
+use Rattle.std.proofs.Common.{◌≡◌, ◌≢◌, ℕ, ◌+◌, ◌<◌, ◌≤◌, Bool, true, false, cond, nat_lt, List, []}
+use Rattle.std.proofs.Common.{length, Some, refl, sym, ap, subst, ◌∙◌, arith, inl, inr}
+use Rattle.std.specs.Prelude.{Result, Ok, Err, ◌||◌, ◌⊎◌, not, nat_le, codes}
+use Rattle.std.specs.Str.{bytes_eq}
+use Rattle.std.proofs.lemmas.Bool.{cases_lt}
+use Rattle.std.proofs.lemmas.Bool.Decides.{nat_tests}
+use Rattle.layout.specs.declared.shape.Layout.{Layout}
+use Rattle.model.specs.Configs.{is_page_size}
+use Rattle.parser.specs.declared.fault.FaultKind.TheVariants as kinds
+use Rattle.parser.specs.declared.fault.Flaw.{Flaw}
+use Rattle.parser.specs.declared.heading.Sizes.{Sizes}
+use Rattle.parser.specs.declared.heading.TheConstants.{MOST_FRAMES, MOST_PAGES, MOST_THREADS}
+use Rattle.parser.specs.Words.{◌>>=◌, word_at, flaw, fixed_at, is_number, capped_from, in_range}
+use Rattle.parser.specs.Words.{number_at, small_at, end_at}
+use Rattle.parser.specs.Headings.{field_at, page_size_at, limit_at, memory_at, actors_at, limits_at}
+use Rattle.parser.specs.Headings.{heap_in, layout_in}
+use Rattle.parser.proofs.Alike.{AreAlike, IsPlaced, IsLate, IsJudged, IsReadAlike}
+use Rattle.parser.proofs.WordPlaces.{IsBehindWord}
+use Rattle.parser.proofs.Alike.{word_alike, then_alike, done_alike, one_word, one_word_then}
+use Rattle.parser.proofs.WordPlaces.{finds_word, none_past}
+use Rattle.parser.proofs.Alike.{fault_at_word}
+use Rattle.parser.proofs.WordPlaces.{behind_word}
+
+-- ---- words
+
+pub judge_fixed : (at : ℕ) (text : List ℕ) (w : List ℕ × ℕ) (b : Bool)
+    → IsJudged (λ (x : ℕ). x) at w (cond b (Ok w.1) (Err (flaw at kinds.UnknownWord)))
+judge_fixed at text w true = refl
+judge_fixed at text w false = (refl, λ front e. tt)
+
+pub fixed_alike : (n : ℕ) (line other : List ℕ) (k : AreAlike n line other) (at : ℕ) (text : List ℕ)
+    → IsReadAlike line (λ (x : ℕ). x) n at (fixed_at line at text kinds.UnknownWord)
+    (fixed_at other at text kinds.UnknownWord)
+unfolding fixed_at
+fixed_alike n line other k at text =
+    word_alike line (λ (x : ℕ). x) n at _ _ (one_word n line other k (λ (x : ℕ). x) at kinds.UnknownWord
+    (λ (w : List ℕ × ℕ). cond (bytes_eq w.0 text) (Ok w.1) (Err (flaw at kinds.UnknownWord)))
+    (λ w. judge_fixed at text w (bytes_eq w.0 text)) tt)
+
+-- ---- numbers
+
+judge_then : {B : Type 0} (place : B → ℕ) (at low high : ℕ) (w : List ℕ × ℕ) (next : ℕ × ℕ → Result B Flaw)
+    → ((x : ℕ × ℕ) → x.1 ≡ w.1 → is_number w.0 ≡ true → IsJudged place at w (next x)) → (b c : Bool)
+    → is_number w.0 ≡ b → IsJudged place at w (cond (not b) (Err (flaw at kinds.NumberExpected))
+    (cond c (Err (flaw at kinds.NumberOutOfRange)) (Ok (capped_from 0 w.0, w.1))) >>= next)
+judge_then place at low high w next h false c e = (refl, λ front size. e)
+judge_then place at low high w next h true true e = (refl, λ front size. e)
+judge_then place at low high w next h true false e = h (capped_from 0 w.0, w.1) refl e
+
+pub judge_number : (at low high : ℕ) (w : List ℕ × ℕ) (b c : Bool) → is_number w.0 ≡ b
+    → IsJudged (λ (x : ℕ × ℕ). x.1) at w (cond (not b) (Err (flaw at kinds.NumberExpected))
+    (cond c (Err (flaw at kinds.NumberOutOfRange)) (Ok (capped_from 0 w.0, w.1))))
+judge_number at low high w false c e = (refl, λ front size. e)
+judge_number at low high w true true e = (refl, λ front size. e)
+judge_number at low high w true false e = refl
+
+no_number : is_number [] ≡ false
+unfolding is_number
+no_number = refl
+
+pub number_alike : (n : ℕ) (line other : List ℕ) (k : AreAlike n line other) (at low high : ℕ)
+    → IsReadAlike line (λ (x : ℕ × ℕ). x.1) n at (number_at line at low high) (number_at other at low high)
+unfolding number_at
+number_alike n line other k at low high =
+    word_alike line (λ (x : ℕ × ℕ). x.1) n at _ _ (one_word n line other k (λ (x : ℕ × ℕ). x.1) at
+    kinds.NumberExpected (λ (w : List ℕ × ℕ). cond (not (is_number w.0)) (Err (flaw at kinds.NumberExpected))
+    (in_range (capped_from 0 w.0) w.1 at low high)) (λ w. judge_number at low high w (is_number w.0)
+    (nat_lt (capped_from 0 w.0) low || nat_lt high (capped_from 0 w.0)) refl) no_number)
+
+-- a number of which more is asked
+pub number_then : {B : Type 0} (n : ℕ) (line other : List ℕ) (k : AreAlike n line other) (place : B → ℕ)
+    (at low high : ℕ) (next : ℕ × ℕ → Result B Flaw) → ((w : List ℕ × ℕ) (x : ℕ × ℕ) → x.1 ≡ w.1
+    → is_number w.0 ≡ true → IsJudged place at w (next x))
+    → IsReadAlike line place n at (number_at line at low high >>= next) (number_at other at low high >>= next)
+unfolding number_at
+number_then n line other k place at low high next h =
+    word_alike line place n at _ _ (one_word_then n line other k place at
+    kinds.NumberExpected (λ (w : List ℕ × ℕ). cond (not (is_number w.0)) (Err (flaw at kinds.NumberExpected))
+    (in_range (capped_from 0 w.0) w.1 at low high)) next (λ w. judge_then place at low high w next (h w) (is_number w.0)
+    (nat_lt (capped_from 0 w.0) low || nat_lt high (capped_from 0 w.0)) refl) no_number)
+
+pub small_alike : (n : ℕ) (line other : List ℕ) (k : AreAlike n line other) (at : ℕ)
+    → IsReadAlike line (λ (x : ℕ × ℕ). x.1) n at (small_at line at) (small_at other at)
+unfolding small_at
+small_alike n line other k at = number_alike n line other k at 0 4294967295
+
+-- ---- the end of a line
+
+end_placed : (line : List ℕ) (at : ℕ) → IsBehindWord line at
+    → IsPlaced line (λ (u : Unit {0}). length line + 1) (end_at line at)
+unfolding end_at
+end_placed line at p = by_test (nat_le at (length line)) refl
+  where
+    some_front : (front : List ℕ) → length front ≡ at → IsBehindWord line at → front ≢ []
+    some_front front size (inl past) none = let e = ap length none in absurd (omega arith)
+    some_front front size (inr spot) none = let e = ap length none in let at_is = spot.at_is in absurd (omega arith)
+
+    by_test : (b : Bool) → nat_le at (length line) ≡ b → IsPlaced line (λ (u : Unit {0}). length line + 1)
+        (cond b (Err (flaw at kinds.EndOfLineExpected)) (Ok tt))
+    by_test true e =
+        let within : at ≤ length line = grind (arith, nat_tests) in
+        let found = finds_word line at within in
+        fault_at_word line at found.w (flaw at kinds.EndOfLineExpected) (inr p) found.is refl
+        (λ front size. some_front front size p)
+    by_test false e = inl refl
+
+end_late : (n : ℕ) (line : List ℕ) (at : ℕ) → n ≤ length line → n ≤ at
+    → IsLate (λ (u : Unit {0}). length line + 1) n (end_at line at)
+unfolding end_at
+end_late n line at long behind = by_test (nat_le at (length line))
+  where
+    by_test : (b : Bool) → IsLate (λ (u : Unit {0}). length line + 1) n
+        (cond b (Err (flaw at kinds.EndOfLineExpected)) (Ok tt))
+    by_test true = omega arith
+    by_test false = omega arith
+
+end_early : (line : List ℕ) (at : ℕ) → at ≤ length line → end_at line at ≡ Err (flaw at kinds.EndOfLineExpected)
+unfolding end_at
+end_early line at within = let test : nat_le at (length line) ≡ true = grind (arith, nat_tests) in rw test refl
+
+pub end_alike : (n : ℕ) (line other : List ℕ) (k : AreAlike n line other) (at : ℕ)
+    → IsReadAlike line (λ (u : Unit {0}). length line + 1) n at (end_at line at) (end_at other at)
+end_alike n line other k at = record {
+  same = elim (cases_lt at n) [
+    | inl before ↦ inl (end_early line at (k.within at before) ∙ sym (end_early other at (k.within_other at before)))
+    | inr behind ↦ inr (end_late n line at k.long behind)
+  ];
+  late = end_late n line at k.long;
+  placed = end_placed line at;
+}
+
+-- ---- the heap line
+
+pub heap_field_alike : (n : ℕ) (line other : List ℕ) (k : AreAlike n line other) (at : ℕ) (name : List ℕ) (low high : ℕ)
+    → IsReadAlike line (λ (x : ℕ × ℕ). x.1) n at (field_at line at name low high) (field_at other at name low high)
+unfolding field_at
+heap_field_alike n line other k at name low high =
+    then_alike line (λ (x : ℕ). x) (λ (x : ℕ × ℕ). x.1) n at _ _ _ _ (fixed_alike n line other k at name)
+    (λ after. number_alike n line other k after low high)
+
+judge_size : (at : ℕ) (w : List ℕ × ℕ) (x : ℕ × ℕ) → x.1 ≡ w.1 → is_number w.0 ≡ true → (b : Bool)
+    → IsJudged (λ (x : ℕ × ℕ). x.1) at w (cond b (Err (flaw at kinds.NumberOutOfRange)) (Ok x))
+judge_size at w x e number true = (refl, λ front size. number)
+judge_size at w x e number false = e
+
+page_size_alike : (n : ℕ) (line other : List ℕ) (k : AreAlike n line other) (at : ℕ)
+    → IsReadAlike line (λ (x : ℕ × ℕ). x.1) n at (page_size_at line at) (page_size_at other at)
+unfolding page_size_at
+page_size_alike n line other k at =
+    then_alike line (λ (x : ℕ). x) (λ (x : ℕ × ℕ). x.1) n at _ _ _ _ (fixed_alike n line other k at (codes "words"))
+    (λ after. number_then n line other k (λ (x : ℕ × ℕ). x.1) after 16 4096
+    (λ (x : ℕ × ℕ). cond (not (is_page_size x.0)) (Err (flaw after kinds.NumberOutOfRange)) (Ok x))
+    (λ w x e number. judge_size after w x e number (not (is_page_size x.0))))
+
+-- a limit, by what stands at its place
+limit_of : (line : List ℕ) (name : List ℕ) (most : ℕ) → List ℕ × ℕ → ℕ → Bool → Result (ℕ × ℕ) Flaw
+limit_of line name most w at b = cond b (number_at line w.1 1 most) (Ok (most, at))
+
+limit_found : (line : List ℕ) (at : ℕ) (name : List ℕ) (most : ℕ) (w : List ℕ × ℕ) → word_at line at ≡ Some w
+    → limit_at line at name most ≡ limit_of line name most w at (bytes_eq w.0 name)
+unfolding limit_at limit_of
+limit_found line at name most w h = rw h refl
+
+limit_past : (line : List ℕ) (at : ℕ) (name : List ℕ) (most : ℕ) → length line < at
+    → limit_at line at name most ≡ Ok (most, at)
+unfolding limit_at
+limit_past line at name most h = rw (none_past line at h) refl
+
+limit_same : (n : ℕ) (line other : List ℕ) (k : AreAlike n line other) (name : List ℕ) (most at : ℕ) (w : List ℕ × ℕ)
+    (b : Bool) → (limit_of line name most w at b ≡ limit_of other name most w at b)
+    ⊎ IsLate (λ (x : ℕ × ℕ). x.1) n (limit_of line name most w at b)
+unfolding limit_of
+limit_same n line other k name most at w true = (number_alike n line other k w.1 1 most).same
+limit_same n line other k name most at w false = inl refl
+
+limit_late : (n : ℕ) (line other : List ℕ) (k : AreAlike n line other) (name : List ℕ) (most at : ℕ) (w : List ℕ × ℕ)
+    (b : Bool) → at < w.1 → n ≤ at → IsLate (λ (x : ℕ × ℕ). x.1) n (limit_of line name most w at b)
+unfolding limit_of
+limit_late n line other k name most at w true behind late =
+    (number_alike n line other k w.1 1 most).late (omega arith)
+limit_late n line other k name most at w false behind late = late
+
+limit_placed : (n : ℕ) (line other : List ℕ) (k : AreAlike n line other) (name : List ℕ) (most at : ℕ) (w : List ℕ × ℕ)
+    (b : Bool) → IsBehindWord line w.1 → IsBehindWord line at
+    → IsPlaced line (λ (x : ℕ × ℕ). x.1) (limit_of line name most w at b)
+unfolding limit_of
+limit_placed n line other k name most at w true behind p = (number_alike n line other k w.1 1 most).placed behind
+limit_placed n line other k name most at w false behind p = p
+
+limit_alike : (n : ℕ) (line other : List ℕ) (k : AreAlike n line other) (at : ℕ) (name : List ℕ) (most : ℕ)
+    → IsReadAlike line (λ (x : ℕ × ℕ). x.1) n at (limit_at line at name most) (limit_at other at name most)
+limit_alike n line other k at name most = elim (cases_lt (length line) at) [
+  | inl past ↦
+      let read = limit_past line at name most past in
+      let late : n ≤ at → IsLate (λ (x : ℕ × ℕ). x.1) n (limit_at line at name most) =
+      λ h. subst (IsLate (λ (x : ℕ × ℕ). x.1) n) (sym read) h in
+      let long = k.long in
+      record {
+        same = inr (late (omega arith));
+        late = late;
+        placed = λ p. subst (IsPlaced line (λ (x : ℕ × ℕ). x.1)) (sym read) p;
+      }
+  | inr within ↦
+      let found = finds_word line at within in
+      let w = found.w in
+      let read = limit_found line at name most w found.found in
+      let after = found.is.after_is in
+      let late : n ≤ at → IsLate (λ (x : ℕ × ℕ). x.1) n (limit_at line at name most) =
+      λ h. subst (IsLate (λ (x : ℕ × ℕ). x.1) n) (sym read)
+      (limit_late n line other k name most at w (bytes_eq w.0 name) (omega arith) h) in
+      record {
+        same = elim (cases_lt at n) [
+          | inl before ↦
+              let there = limit_found other at name most w (sym (k.words at before) ∙ found.found) in
+              elim (limit_same n line other k name most at w (bytes_eq w.0 name)) [
+                | inl same ↦ inl (read ∙ same ∙ sym there)
+                | inr l ↦ inr (subst (IsLate (λ (x : ℕ × ℕ). x.1) n) (sym read) l)
+              ]
+          | inr behind ↦ inr (late behind)
+        ];
+        late = late;
+        placed = λ p. subst (IsPlaced line (λ (x : ℕ × ℕ). x.1)) (sym read)
+            (limit_placed n line other k name most at w (bytes_eq w.0 name) (behind_word line at w found.is) p);
+      }
+]
+
+memory_alike : (n : ℕ) (line other : List ℕ) (k : AreAlike n line other) (at : ℕ)
+    → IsReadAlike line (λ (x : (ℕ × ℕ × ℕ) × ℕ). x.1) n at (memory_at line at) (memory_at other at)
+unfolding memory_at
+memory_alike n line other k at =
+    then_alike line (λ (x : ℕ × ℕ). x.1) (λ (x : (ℕ × ℕ × ℕ) × ℕ). x.1) n at _ _ _ _ (page_size_alike n line other k at)
+    (λ words. then_alike line (λ (x : ℕ × ℕ). x.1) (λ (x : (ℕ × ℕ × ℕ) × ℕ). x.1) n words.1 _ _ _ _
+    (heap_field_alike n line other k words.1 (codes "frames") 1 MOST_FRAMES)
+    (λ frames. then_alike line (λ (x : ℕ × ℕ). x.1) (λ (x : (ℕ × ℕ × ℕ) × ℕ). x.1) n frames.1 _ _ _ _
+    (heap_field_alike n line other k frames.1 (codes "pages") frames.0 MOST_PAGES)
+    (λ pages. done_alike line (λ (x : (ℕ × ℕ × ℕ) × ℕ). x.1) n pages.1 ((words.0, frames.0, pages.0), pages.1) refl)))
+
+actors_alike : (n : ℕ) (line other : List ℕ) (k : AreAlike n line other) (at : ℕ)
+    → IsReadAlike line (λ (x : (ℕ × ℕ × ℕ) × ℕ). x.1) n at (actors_at line at) (actors_at other at)
+unfolding actors_at
+actors_alike n line other k at =
+    then_alike line (λ (x : ℕ × ℕ). x.1) (λ (x : (ℕ × ℕ × ℕ) × ℕ). x.1) n at _ _ _ _
+    (heap_field_alike n line other k at (codes "threads") 1 MOST_THREADS)
+    (λ threads. then_alike line (λ (x : ℕ × ℕ). x.1) (λ (x : (ℕ × ℕ × ℕ) × ℕ). x.1) n threads.1 _ _ _ _
+    (heap_field_alike n line other k threads.1 (codes "workers") 1 16)
+    (λ workers. then_alike line (λ (x : ℕ × ℕ). x.1) (λ (x : (ℕ × ℕ × ℕ) × ℕ). x.1) n workers.1 _ _ _ _
+    (heap_field_alike n line other k workers.1 (codes "registers") 1 16)
+    (λ registers. done_alike line (λ (x : (ℕ × ℕ × ℕ) × ℕ). x.1) n registers.1
+    ((threads.0, workers.0, registers.0), registers.1) refl)))
+
+limits_alike : (n : ℕ) (line other : List ℕ) (k : AreAlike n line other) (at : ℕ)
+    → IsReadAlike line (λ (x : (ℕ × ℕ × ℕ) × ℕ). x.1) n at (limits_at line at) (limits_at other at)
+unfolding limits_at
+limits_alike n line other k at =
+    then_alike line (λ (x : ℕ × ℕ). x.1) (λ (x : (ℕ × ℕ × ℕ) × ℕ). x.1) n at _ _ _ _
+    (heap_field_alike n line other k at (codes "globals") 0 64)
+    (λ globals. then_alike line (λ (x : ℕ × ℕ). x.1) (λ (x : (ℕ × ℕ × ℕ) × ℕ). x.1) n globals.1 _ _ _ _
+    (limit_alike n line other k globals.1 (codes "births") 4294967296)
+    (λ births. then_alike line (λ (x : ℕ × ℕ). x.1) (λ (x : (ℕ × ℕ × ℕ) × ℕ). x.1) n births.1 _ _ _ _
+    (limit_alike n line other k births.1 (codes "history") 1000000)
+    (λ history. done_alike line (λ (x : (ℕ × ℕ × ℕ) × ℕ). x.1) n history.1
+    ((globals.0, births.0, history.0), history.1) refl)))
+
+pub heap_alike : (n : ℕ) (line other : List ℕ) (k : AreAlike n line other) (at : ℕ)
+    → IsReadAlike line (λ (x : Sizes). length line + 1) n at (heap_in line at) (heap_in other at)
+unfolding heap_in
+heap_alike n line other k at =
+    then_alike line (λ (x : (ℕ × ℕ × ℕ) × ℕ). x.1) (λ (x : Sizes). length line + 1) n at _ _ _ _
+    (memory_alike n line other k at)
+    (λ memory. then_alike line (λ (x : (ℕ × ℕ × ℕ) × ℕ). x.1) (λ (x : Sizes). length line + 1) n memory.1 _ _ _ _
+    (actors_alike n line other k memory.1)
+    (λ actors. then_alike line (λ (x : (ℕ × ℕ × ℕ) × ℕ). x.1) (λ (x : Sizes). length line + 1) n actors.1 _ _ _ _
+    (limits_alike n line other k actors.1)
+    (λ limits. then_alike line (λ (x : Unit {0}). length line + 1) (λ (x : Sizes). length line + 1) n limits.1 _ _ _ _
+    (end_alike n line other k limits.1)
+    (λ u. done_alike line (λ (x : Sizes). length line + 1) n (length line + 1) _ refl))))
+
+-- ---- a layout line
+
+judge_room : (at : ℕ) (w : List ℕ × ℕ) (x : ℕ × ℕ) → x.1 ≡ w.1 → is_number w.0 ≡ true → (b : Bool)
+    → IsJudged (λ (x : ℕ × ℕ). x.1) at w (cond b (Err (flaw at kinds.LayoutTooLarge)) (Ok x))
+judge_room at w x e number true = (refl, λ front size. number)
+judge_room at w x e number false = e
+
+-- a test and what follows it, as two steps
+pub test_first : {A B : Type 0} (r : Result A Flaw) (test : A → Bool) (f : Flaw) (next : A → Result B Flaw)
+    → ((r >>= (λ x. cond (test x) (Err f) (Ok x))) >>= next) ≡ (r >>= (λ x. cond (test x) (Err f) (next x)))
+test_first (Err d) test f next = refl
+test_first {A} {B} (Ok x) test f next = by_test (test x)
+  where
+    by_test : (b : Bool) → (cond b (Err f) (Ok x) >>= next) ≡ cond b (Err f) (next x)
+    by_test true = refl
+    by_test false = refl
+
+-- what stands behind two numbers of a layout
+abbrev layout_end : List ℕ → ℕ → ℕ × ℕ → Result Layout Flaw
+layout_end line refs nums = end_at line nums.1 >>= (λ u. Ok (record { refs = refs; nums = nums.0 }))
+
+nums_alike : (n : ℕ) (line other : List ℕ) (k : AreAlike n line other) (words refs at : ℕ)
+    → IsReadAlike line (λ (x : Layout). length line + 1) n at (number_at line at 0 255 >>= (λ nums.
+    cond (nat_lt words (1 + refs + nums.0)) (Err (flaw at kinds.LayoutTooLarge)) (layout_end line refs nums)))
+    (number_at other at 0 255 >>= (λ nums.
+    cond (nat_lt words (1 + refs + nums.0)) (Err (flaw at kinds.LayoutTooLarge)) (layout_end other refs nums)))
+nums_alike n line other k words refs at =
+    let test = λ (x : ℕ × ℕ). nat_lt words (1 + refs + x.0) in
+    let f = flaw at kinds.LayoutTooLarge in
+    let checked = λ (l : List ℕ). number_at l at 0 255 >>= (λ (x : ℕ × ℕ). cond (test x) (Err f) (Ok x)) in
+    let both = then_alike line (λ (x : ℕ × ℕ). x.1) (λ (x : Layout). length line + 1) n at (checked line)
+    (checked other)
+    (layout_end line refs) (layout_end other refs) (number_then n line other k (λ (x : ℕ × ℕ). x.1) at 0 255
+    (λ (x : ℕ × ℕ). cond (test x) (Err f) (Ok x)) (λ w x e number. judge_room at w x e number (test x)))
+    (λ nums. then_alike line (λ (x : Unit {0}). length line + 1) (λ (x : Layout). length line + 1) n nums.1 _ _ _ _
+    (end_alike n line other k nums.1)
+    (λ u. done_alike line (λ (x : Layout). length line + 1) n (length line + 1) _ refl)) in
+    subst (λ (r : Result Layout Flaw). IsReadAlike line (λ (x : Layout). length line + 1) n at (number_at line at 0 255
+    >>= (λ nums. cond (test nums) (Err f) (layout_end line refs nums))) r)
+    (test_first (number_at other at 0 255) test f (layout_end other refs))
+    (subst (λ (r : Result Layout Flaw). IsReadAlike line (λ (x : Layout). length line + 1) n at r
+    (checked other >>= layout_end other refs)) (test_first (number_at line at 0 255) test f
+    (layout_end line refs)) both)
+
+pub layout_alike : (n : ℕ) (line other : List ℕ) (k : AreAlike n line other) (sizes : Sizes) (at : ℕ)
+    → IsReadAlike line (λ (x : Layout). length line + 1) n at (layout_in sizes line at) (layout_in sizes other at)
+unfolding layout_in
+layout_alike n line other k sizes at =
+    then_alike line (λ (x : ℕ × ℕ). x.1) (λ (x : Layout). length line + 1) n at _ _ _ _
+    (number_alike n line other k at 0 255) (λ refs. nums_alike n line other k sizes.words refs.0 refs.1)
