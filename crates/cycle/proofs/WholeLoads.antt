@@ -15,7 +15,7 @@ use Rattle.model.specs.Heaps.{HeapState, barrier_of_thread}
 use Rattle.model.specs.Refusing.{◌>>=◌, or_refuse, Outcome}
 use Rattle.model.specs.Outcome.{outcome, thread_gate, thread_row, trap_outcome, trap_due}
 use Rattle.cycle.specs.Books.{BookState, BookOutcome, Reply, acted, entered, is_full}
-use Rattle.cycle.specs.Loads.{Told, told, stepped, finished, healed, is_clear, trapped, Says}
+use Rattle.cycle.specs.Loads.{Told, told, step_then, finish_load, heal_load, is_clear, trap_load, Says}
 use Rattle.cycle.specs.Loads.{behind}
 use Rattle.cycle.specs.Loads.{EndsIn, ThreeTrapsServe}
 
@@ -35,8 +35,8 @@ behind_more rs more a t h = ap (λ (x : List Reply). told t.book x)
 -- an accepted step leads on to what follows it
 pub step_ok : (b c : BookState) (o : BookOutcome) (reply : Reply) (a : Answer) (next : BookState → Answer → Told)
     (rs more : List Reply) (new : Told) → reply ≡ Ok a → Says b reply c o → more ≡ rs ++ reply ∷ []
-    → behind more (next c a) ≡ new → behind rs (stepped b o next) ≡ new
-unfolding stepped
+    → behind more (next c a) ≡ new → behind rs (step_then b o next) ≡ new
+unfolding step_then
 step_ok b c o reply a next rs more new is says put h =
     let more_is : more ≡ rs ++ Ok a ∷ [] = put ∙ ap (λ (x : Reply). rs ++ x ∷ []) is in
     rw (accepted b c o reply a is says) (behind_more rs more a (next c a) more_is ∙ h)
@@ -44,8 +44,8 @@ step_ok b c o reply a next rs more new is says put h =
 -- a refused step is the end
 pub step_err : (b c : BookState) (o : BookOutcome) (reply : Reply) (e : Refusal) (next : BookState → Answer → Told)
     (rs more : List Reply) → reply ≡ Err e → Says b reply c o → more ≡ rs ++ reply ∷ []
-    → behind rs (stepped b o next) ≡ told c more
-unfolding stepped
+    → behind rs (step_then b o next) ≡ told c more
+unfolding step_then
 step_err b c o reply e next rs more is says put =
     let h = refused b c o reply e is says in
     let more_is : more ≡ rs ++ Err e ∷ [] = put ∙ ap (λ (x : Reply). rs ++ x ∷ []) is in
@@ -56,7 +56,7 @@ nothing_more c rs = ap (told c) (append-nil rs)
 
 -- a step that nothing follows
 pub last_step : (b c : BookState) (o : BookOutcome) (reply : Reply) (rs more : List Reply) → Says b reply c o
-    → more ≡ rs ++ reply ∷ [] → behind rs (stepped b o (λ d answer. told d [])) ≡ told c more
+    → more ≡ rs ++ reply ∷ [] → behind rs (step_then b o (λ d answer. told d [])) ≡ told c more
 last_step b c o (Ok a) rs more says put =
     step_ok b c o (Ok a) a (λ d answer. told d []) rs more (told c more) refl says put (nothing_more c more)
 last_step b c o (Err e) rs more says put = step_err b c o (Err e) e (λ d answer. told d []) rs more refl says put
@@ -64,30 +64,30 @@ last_step b c o (Err e) rs more says put = step_err b c o (Err e) e (λ d answer
 -- a call that did the last step
 pub last_done : {E : Type 0} (b c : BookState) (o : BookOutcome) (r : Result Reply E) (rs more : List Reply)
     → IfOk r (λ reply. Says b reply c o) → IfOk r (λ reply. more ≡ rs ++ reply ∷ [])
-    → OnOk r (behind rs (stepped b o (λ d answer. told d [])) ≡ told c more)
+    → OnOk r (behind rs (step_then b o (λ d answer. told d [])) ≡ told c more)
 last_done b c o (Ok reply) rs more says put = last_step b c o reply rs more says put
 last_done b c o (Err e) rs more says put = search rules
 
 pub healed_due : (due : Bool) (b : BookState) (actor : Actor) (rs : List Reply) (t : Told)
-    → due ≡ true → behind rs (stepped b (acted b actor steps.Heal) (λ c answer. finished c actor)) ≡ t
-    → behind rs (healed due b actor) ≡ t
-healed_due due b actor rs t e h = subst (λ (x : Bool). behind rs (healed x b actor) ≡ t) (sym e) h
+    → due ≡ true → behind rs (step_then b (acted b actor steps.Heal) (λ c answer. finish_load c actor)) ≡ t
+    → behind rs (heal_load due b actor) ≡ t
+healed_due due b actor rs t e h = subst (λ (x : Bool). behind rs (heal_load x b actor) ≡ t) (sym e) h
 
 -- traps
 
 -- what follows a trap of this answer, where n are left
 abbrev pub after_trap : ℕ → Bool → Actor → BookState → Answer → Told
-after_trap n due actor c answer = if is_clear answer then healed due c actor else trapped n true c actor
+after_trap n due actor c answer = if is_clear answer then heal_load due c actor else trap_load n true c actor
 
 trapped_next : (k n : ℕ) (due : Bool) (b : BookState) (actor : Actor) → k ≡ suc n →
-    trapped k due b actor ≡ stepped b (acted b actor steps.Trap) (after_trap n due actor)
-unfolding trapped
+    trap_load k due b actor ≡ step_then b (acted b actor steps.Trap) (after_trap n due actor)
+unfolding trap_load
 trapped_next k n due b actor e = rw e refl
 
 pub trap_err :
     (k n : ℕ) (due : Bool) (b c : BookState) (actor : Actor) (reply : Reply) (e : Refusal) (rs more : List Reply)
     → k ≡ suc n → reply ≡ Err e → Says b reply c (acted b actor steps.Trap) → more ≡ rs ++ reply ∷ []
-    → behind rs (trapped k due b actor) ≡ told c more
+    → behind rs (trap_load k due b actor) ≡ told c more
 trap_err k n due b c actor reply e rs more left is says put =
     ap (behind rs) (trapped_next k n due b actor left)
     ∙ step_err b c (acted b actor steps.Trap) reply e (after_trap n due actor) rs more is says put
@@ -95,7 +95,7 @@ trap_err k n due b c actor reply e rs more left is says put =
 pub trap_ok : (k n : ℕ) (due : Bool) (b c : BookState) (actor : Actor) (reply : Reply)
     (a : Answer) (rs more : List Reply) (rest : Told) → k ≡ suc n → reply ≡ Ok a
     → Says b reply c (acted b actor steps.Trap) → more ≡ rs ++ reply ∷ [] → after_trap n due actor c a ≡ rest
-    → behind rs (trapped k due b actor) ≡ behind more rest
+    → behind rs (trap_load k due b actor) ≡ behind more rest
 trap_ok k n due b c actor reply a rs more rest left is says put h =
     ap (behind rs) (trapped_next k n due b actor left)
     ∙ step_ok b c (acted b actor steps.Trap) reply a (after_trap n due actor) rs more
@@ -103,16 +103,16 @@ trap_ok k n due b c actor reply a rs more rest left is says put h =
     ∙ ap (behind more) h
 
 pub when_clear : (n : ℕ) (due : Bool) (actor : Actor) (c : BookState) (a : Answer) (b : Bool) → b ≡ is_clear a
-    → b ≡ true → after_trap n due actor c a ≡ healed due c actor
+    → b ≡ true → after_trap n due actor c a ≡ heal_load due c actor
 when_clear n due actor c a b e h = let clear : is_clear a ≡ true = sym e ∙ h in rw clear refl
 
 pub when_due : (n : ℕ) (due : Bool) (actor : Actor) (c : BookState) (a : Answer) (b : Bool) → b ≡ is_clear a
-    → b ≡ false → after_trap n due actor c a ≡ trapped n true c actor
+    → b ≡ false → after_trap n due actor c a ≡ trap_load n true c actor
 when_due n due actor c a b e h = let other : is_clear a ≡ false = sym e ∙ h in rw other refl
 
 pub trapped_last : (k : ℕ) (due : Bool) (b : BookState) (actor : Actor) → k ≡ 0
-    → trapped k due b actor ≡ healed due b actor
-unfolding trapped
+    → trap_load k due b actor ≡ heal_load due b actor
+unfolding trap_load
 trapped_last k due b actor e = rw e refl
 
 -- what a call that may lack memory tells leads on
@@ -177,8 +177,8 @@ acted_clear b c actor a e = by_full (is_full b) e
         entered_clear b actor (outcome b.heap actor steps.Trap) c a (outcome_clear b.heap actor) f
 
 stepped_same : (b : BookState) (o : BookOutcome) (f g : BookState → Answer → Told)
-    → ((c : BookState) (a : Answer) → o ≡ Ok (c, a) → f c a ≡ g c a) → stepped b o f ≡ stepped b o g
-unfolding stepped
+    → ((c : BookState) (a : Answer) → o ≡ Ok (c, a) → f c a ≡ g c a) → step_then b o f ≡ step_then b o g
+unfolding step_then
 stepped_same b (Ok x) f g same =
     ap (λ (t : Told). told t.book (Ok x.1 ∷ t.replies)) (same x.0 x.1 refl)
 stepped_same b (Err e) f g same = refl

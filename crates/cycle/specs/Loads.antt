@@ -20,22 +20,22 @@ abbrev pub told : BookState → List Reply → Told
 told b replies = record { book = b; replies = replies }
 
 -- a step of this outcome, and what follows where it is accepted; a refusal is the end
-unfoldable pub stepped : BookState → BookOutcome → (BookState → Answer → Told) → Told
-stepped b (Ok x) next = told (next x.0 x.1).book (Ok x.1 ∷ (next x.0 x.1).replies)
-stepped b (Err e) next = told b (Err e ∷ [])
+unfoldable pub step_then : BookState → BookOutcome → (BookState → Answer → Told) → Told
+step_then b (Ok x) next = told (next x.0 x.1).book (Ok x.1 ∷ (next x.0 x.1).replies)
+step_then b (Err e) next = told b (Err e ∷ [])
 
 -- one step
 abbrev pub one_step : BookState → Actor → Step → Told
-one_step b actor step = stepped b (acted b actor step) (λ c answer. told c [])
+one_step b actor step = step_then b (acted b actor step) (λ c answer. told c [])
 
 -- the load ends
-abbrev pub finished : BookState → Actor → Told
-finished b actor = one_step b actor steps.Finish
+abbrev pub finish_load : BookState → Actor → Told
+finish_load b actor = one_step b actor steps.Finish
 
 -- where a trap was due, the place of the load is healed before
-abbrev pub healed : Bool → BookState → Actor → Told
-healed false b actor = finished b actor
-healed true b actor = stepped b (acted b actor steps.Heal) (λ c answer. finished c actor)
+abbrev pub heal_load : Bool → BookState → Actor → Told
+heal_load false b actor = finish_load b actor
+heal_load true b actor = step_then b (acted b actor steps.Heal) (λ c answer. finish_load c actor)
 
 -- no trap was due
 abbrev pub is_clear : Answer → Bool
@@ -43,24 +43,24 @@ is_clear answers.Clear = true
 is_clear other = false
 
 -- Trap until it answers Clear, but at most so many times: then heal, where one was due, and finish.
-unfoldable pub trapped : ℕ → Bool → BookState → Actor → Told
-trapped zero due b actor = healed due b actor
-trapped (suc n) due b actor = stepped b (acted b actor steps.Trap) (λ c answer.
-    if is_clear answer then healed due c actor else trapped n true c actor)
+unfoldable pub trap_load : ℕ → Bool → BookState → Actor → Told
+trap_load zero due b actor = heal_load due b actor
+trap_load (suc n) due b actor = step_then b (acted b actor steps.Trap) (λ c answer.
+    if is_clear answer then heal_load due c actor else trap_load n true c actor)
 
 -- What follows the step that begins a load. Three traps are enough: behind one that forwards and one that marks none is
 -- due any more.
-abbrev pub load_ended : BookState → Actor → Told
-load_ended b actor = trapped 3 false b actor
+abbrev pub end_load : BookState → Actor → Told
+end_load b actor = trap_load 3 false b actor
 
 -- a whole load, from the step that begins it
-abbrev pub loaded : BookState → Actor → Step → Told
-loaded b actor load = stepped b (acted b actor load) (λ c answer. load_ended c actor)
+abbrev pub whole_load : BookState → Actor → Step → Told
+whole_load b actor load = step_then b (acted b actor load) (λ c answer. end_load c actor)
 
 -- of a book, no more than three traps are ever asked for: to allow more changes nothing
 abbrev pub ThreeTrapsServe : Type 0
 ThreeTrapsServe = (b : BookState) → IsBook b → (actor : Actor) (more : ℕ)
-    → trapped (3 + more) false b actor ≡ trapped 3 false b actor
+    → trap_load (3 + more) false b actor ≡ trap_load 3 false b actor
 
 -- a step has the reply of its outcome; a refused one leaves the book
 abbrev pub Says : BookState → Reply → BookState → BookOutcome → Type 0

@@ -2,7 +2,8 @@
 
 ghost use Rattle.std.specs.Prelude.{◌≡◌, ◌++◌, ◌∷◌, [], false, IfOk, OnErr, OnOk};
 ghost use Rattle.cycle.specs.Books.{acted};
-ghost use Rattle.cycle.specs.Loads.{EndsIn, Leaves, LoadsWhole, Says, ThreeTrapsServe, finished, healed, is_clear, trapped, load_ended, loaded};
+ghost use Rattle.cycle.specs.Loads.{EndsIn, Leaves, LoadsWhole, Says, ThreeTrapsServe};
+ghost use Rattle.cycle.specs.Loads.{finish_load, heal_load, is_clear, trap_load, end_load, whole_load};
 
 use crate::book::Book;
 use crate::running::add;
@@ -53,7 +54,7 @@ impl Book {
         actor: Actor,
         replies: &mut Vec<Result<Answer, Refusal>>,
     ) -> Result<Result<Answer, Refusal>, AllocError>
-        ensures steps { OnOk result (Leaves (finished self.old actor) replies.old.items self.new replies.new.items) }
+        ensures steps { OnOk result (Leaves (finish_load self.old actor) replies.old.items self.new replies.new.items) }
         ensures last { IfOk result (EndsIn replies.new.items) }
     {
         self.act_into(actor, Step::Finish, replies)
@@ -66,7 +67,7 @@ impl Book {
         due: bool,
         replies: &mut Vec<Result<Answer, Refusal>>,
     ) -> Result<Result<Answer, Refusal>, AllocError>
-        ensures steps { OnOk result (Leaves (healed due self.old actor) replies.old.items self.new replies.new.items) }
+        ensures steps { OnOk result (Leaves (heal_load due self.old actor) replies.old.items self.new replies.new.items) }
         ensures last { IfOk result (EndsIn replies.new.items) }
     {
         if due {
@@ -89,7 +90,7 @@ impl Book {
         actor: Actor,
         replies: &mut Vec<Result<Answer, Refusal>>,
     ) -> Result<Result<Answer, Refusal>, AllocError>
-        ensures steps { OnOk result (Leaves (load_ended self.old actor) replies.old.items self.new replies.new.items) }
+        ensures steps { OnOk result (Leaves (end_load self.old actor) replies.old.items self.new replies.new.items) }
         ensures last { IfOk result (EndsIn replies.new.items) }
     {
         let mut due = false;
@@ -113,7 +114,7 @@ impl Book {
         load: Step,
         replies: &mut Vec<Result<Answer, Refusal>>,
     ) -> Result<Result<Answer, Refusal>, AllocError>
-        ensures steps { OnOk result (Leaves (loaded self.old actor load) replies.old.items self.new replies.new.items) }
+        ensures steps { OnOk result (Leaves (whole_load self.old actor load) replies.old.items self.new replies.new.items) }
         ensures last { IfOk result (EndsIn replies.new.items) }
     {
         match self.act_into(actor, load, replies)? {
@@ -133,7 +134,7 @@ impl Book {
         load: Step,
         replies: &mut Vec<Result<Answer, Refusal>>,
     ) -> Result<(), Refusal>
-        ensures { LoadsWhole result replies.old.items self.new replies.new.items (loaded self.old actor load) }
+        ensures { LoadsWhole result replies.old.items self.new replies.new.items (whole_load self.old actor load) }
     {
         match self.begin_and_end_load(actor, load, replies) {
             Ok(Ok(_)) => Ok(()),

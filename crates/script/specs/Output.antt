@@ -9,7 +9,7 @@ use Rattle.model.specs.Heaps.{HeapState, ThreadState, Reference}
 use Rattle.model.specs.Stores.{is_unused}
 use Rattle.cycle.specs.declared.book.Entry.{Entry}
 use Rattle.cycle.specs.Books.{BookState, first_book}
-use Rattle.cycle.specs.Loads.{Told, loaded, one_step}
+use Rattle.cycle.specs.Loads.{Told, whole_load, one_step}
 use Rattle.parser.specs.declared.order.Command.{Command}
 use Rattle.parser.specs.Orders.{step_of, is_get}
 use Rattle.parser.specs.Reading.{ScriptValue}
@@ -101,7 +101,7 @@ report_text h history =
 
 -- what a command does to a book, and what its steps say: those of a whole load, or of one step
 unfoldable pub done : BookState → Command → Told
-done b c = if is_get c.order then loaded b c.actor (step_of c.order) else one_step b c.actor (step_of c.order)
+done b c = if is_get c.order then whole_load b c.actor (step_of c.order) else one_step b c.actor (step_of c.order)
 
 -- the lines of commands, of which the first is number n
 unfoldable pub lines_text : ℕ → BookState → List Command → List ℕ

@@ -1,7 +1,7 @@
 //! The steps of one command.
 
 ghost use Rattle.std.specs.Prelude.{◌≡◌, OnOk};
-ghost use Rattle.cycle.specs.Loads.{Leaves, loaded, one_step};
+ghost use Rattle.cycle.specs.Loads.{Leaves, whole_load, one_step};
 ghost use Rattle.parser.specs.Orders.{step_of};
 ghost use Rattle.script.specs.Output.{done};
 
@@ -16,7 +16,9 @@ fn do_step(
     command: &Command,
     replies: &mut Vec<Result<Answer, Refusal>>,
 ) -> Result<(), RunFault>
-    ensures { OnOk result (Leaves (one_step book.old command.now.actor (step_of command.now.order)) replies.old.items book.new replies.new.items) }
+    ensures { OnOk result
+        (Leaves (one_step book.old command.now.actor (step_of command.now.order)) replies.old.items
+        book.new replies.new.items) }
 {
     let _reply = book.act_into(command.actor, command.order.step(), replies)?;
     Ok(())
@@ -28,7 +30,9 @@ fn do_load(
     command: &Command,
     replies: &mut Vec<Result<Answer, Refusal>>,
 ) -> Result<(), RunFault>
-    ensures { OnOk result (Leaves (loaded book.old command.now.actor (step_of command.now.order)) replies.old.items book.new replies.new.items) }
+    ensures { OnOk result
+        (Leaves (whole_load book.old command.now.actor (step_of command.now.order)) replies.old.items
+        book.new replies.new.items) }
 {
     match book.whole_load(command.actor, command.order.step(), replies) {
         Err(Refusal::Memory) => Err(RunFault::Memory),

@@ -1,4 +1,4 @@
-use Rattle.cycle.specs.Loads.{load_ended}
+use Rattle.cycle.specs.Loads.{end_load}
 use Rattle.cycle.proofs.WholeLoads.{on_ok, step_ok, step_err}
 use Rattle.cycle.proofs.book.Book.begin_and_end_load.Goals as goal
 
@@ -6,11 +6,11 @@ pub returns-in-Ok-clause-steps : goal.returns-in-Ok-clause-steps
 returns-in-Ok-clause-steps c =
     on_ok c.end_load.result _ _ c.end_load.ensures.steps
     (step_ok c.args.self.now c.act_into.new.self _ c.in_ok-act_into.field-0 c.in-Ok.field-0
-    (λ b answer. load_ended b c.args.actor) c.args.replies.now.items c.act_into.new.replies.items _ c.in-Ok.is
+    (λ b answer. end_load b c.args.actor) c.args.replies.now.items c.act_into.new.replies.items _ c.in-Ok.is
     c.in_ok-act_into.ensures.says c.in_ok-act_into.ensures.replies)
 
 pub returns-in-Err-clause-steps : goal.returns-in-Err-clause-steps
 returns-in-Err-clause-steps c =
     step_err c.args.self.now c.act_into.new.self _ c.in_ok-act_into.field-0 c.in-Err.refusal
-    (λ b answer. load_ended b c.args.actor) c.args.replies.now.items c.act_into.new.replies.items c.in-Err.is
+    (λ b answer. end_load b c.args.actor) c.args.replies.now.items c.act_into.new.replies.items c.in-Err.is
     c.in_ok-act_into.ensures.says c.in_ok-act_into.ensures.replies

@@ -1,8 +1,8 @@
 use Rattle.std.proofs.Common.{◌≡◌, ◌-◌, false}
-use Rattle.cycle.specs.Loads.{behind, trapped}
+use Rattle.cycle.specs.Loads.{behind, trap_load}
 use Rattle.cycle.proofs.book.Book.end_load.Given as goal
 
 -- the traps that are left lead to the same
 abbrev pub invariant-loop : goal.invariant-loop
-invariant-loop l = behind l.replies.items (trapped (3 - l.counter) l.due l.self l.actor)
-    ≡ behind l.fn.replies.items (trapped 3 false l.fn.self l.actor)
+invariant-loop l = behind l.replies.items (trap_load (3 - l.counter) l.due l.self l.actor)
+    ≡ behind l.fn.replies.items (trap_load 3 false l.fn.self l.actor)
