@@ -17,7 +17,7 @@ use Rattle.model.specs.Outcome.{outcome, thread_gate, thread_row, trap_outcome, 
 use Rattle.cycle.specs.Books.{BookState, BookOutcome, Reply, acted, entered, is_full}
 use Rattle.cycle.specs.Loads.{Told, told, step_then, finish_load, heal_load, is_clear, trap_load, Says}
 use Rattle.cycle.specs.Loads.{behind}
-use Rattle.cycle.specs.Loads.{EndsIn, ThreeTrapsServe}
+use Rattle.cycle.specs.Loads.{ThreeTrapsServe}
 
 accepted : (b c : BookState) (o : BookOutcome) (reply : Reply) (a : Answer) → reply ≡ Ok a → Says b reply c o
     → o ≡ Ok (c, a)
@@ -119,15 +119,6 @@ trapped_last k due b actor e = rw e refl
 pub on_ok : {X E : Type 0} (r : Result X E) (P Q : Type 0) → OnOk r P → (P → Q) → OnOk r Q
 on_ok (Ok x) P Q h k = k h
 on_ok (Err e) P Q h k = search rules
-
--- the same of what it gave, where the fact is of no value of it
-pub on_ok_of : {X E : Type 0} (r : Result X E) (P : X → Type 0) (Q : Type 0) → IfOk r P → ((x : X) → P x → Q) → OnOk r Q
-on_ok_of (Ok x) P Q h k = k x h
-on_ok_of (Err e) P Q h k = search rules
-
--- a reply that was put behind others is the last
-pub ends_in : (rs more : List Reply) (reply r : Reply) → reply ≡ r → more ≡ rs ++ reply ∷ [] → EndsIn more r
-ends_in rs more reply r e put = (rs, put ∙ ap (λ (x : Reply). rs ++ x ∷ []) e)
 
 -- three traps
 

@@ -1,9 +1,8 @@
 -- Texts that are written one after another.
 use Rattle.std.proofs.Common.{◌≡◌, ℕ, ◌+◌, ◌<◌, ◌≤◌, List, [], ◌∷◌, ◌++◌, length, drop, get_or, Option, Some, None}
-use Rattle.std.proofs.Common.{refl, ap, sym, subst, ◌∙◌, add-one, drop-cons, append_assoc, append-nil, rules}
+use Rattle.std.proofs.Common.{refl, ap, sym, subst, ◌∙◌, add-one, drop-cons, append_assoc, append-nil}
 use Rattle.std.proofs.lemmas.List.{drop_all}
 use Rattle.std.specs.Io.KnownBytes.{Appends}
-use Rattle.std.specs.Prelude.{Result, Ok, Err, OnOk}
 use Rattle.cycle.specs.declared.book.Entry.{Entry}
 use Rattle.cycle.specs.Books.{BookState, Reply}
 use Rattle.parser.specs.declared.order.Command.{Command}
@@ -137,7 +136,3 @@ appends_more None b c xs ys h k = tt
 appends_more (Some x) None c xs ys h k = absurd h
 appends_more (Some x) (Some y) None xs ys h k = k
 appends_more (Some x) (Some y) (Some z) xs ys h k = k ∙ ap (λ zs. zs ++ ys) h ∙ append_assoc x xs ys
-
-pub on_ok : {X E : Type 0} (r : Result X E) (P Q : Type 0) → OnOk r P → (P → Q) → OnOk r Q
-on_ok (Ok x) P Q h k = k h
-on_ok (Err e) P Q h k = search rules

@@ -1,5 +1,6 @@
 use Rattle.script.specs.Output.{report_text}
-use Rattle.script.proofs.Telling.{appends_more, on_ok}
+use Rattle.cycle.proofs.WholeLoads.{on_ok}
+use Rattle.script.proofs.Telling.{appends_more}
 use Rattle.script.proofs.reporting.report.Goals as goal
 
 pub returns : goal.returns
