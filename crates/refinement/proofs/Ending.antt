@@ -45,13 +45,14 @@ use Rattle.refinement.proofs.Changes.{length_changed}
 use Rattle.refinement.proofs.Written.{field_write}
 use Rattle.refinement.proofs.Written as written
 use Rattle.model.proofs.Memory.{frames_stay}
-use Rattle.refinement.proofs.Sizes.{sizes_stay}
+use Rattle.refinement.proofs.Carrying.{sizes_stay, moved_roots}
 use Rattle.refinement.proofs.Threads.{loaded_world, loaded_laid, global_world, global_laid}
 use Rattle.refword.proofs.Reading.{reads_back}
 use Rattle.refinement.proofs.Rooted.{load_there, loaded_holds_words, global_word, stored_again}
 use Rattle.refinement.proofs.Births.{finishing_is, finishing_roots}
-use Rattle.refinement.proofs.Verdicts.{bind_ok, found_ok, accepted, second_false}
-use Rattle.refinement.proofs.Writers.{moved, moved_roots, plain_thread}
+use Rattle.refinement.proofs.Accepted.{accepted}
+use Rattle.refinement.proofs.Verdicts.{bind_ok, found_ok, second_false}
+use Rattle.refinement.proofs.Writers.{moved, plain_thread}
 use Rattle.refinement.proofs.Loading.{barrier_holds, global_same, field_is}
 
 -- a thread's barrier, as the laws speak of it

@@ -43,14 +43,15 @@ use Rattle.refinement.proofs.Reading.{read_refs, field_of_read}
 use Rattle.refinement.proofs.Objects.{there}
 use Rattle.refinement.proofs.Changes.{length_changed}
 use Rattle.refinement.proofs.Written.{word_there}
-use Rattle.refinement.proofs.Sizes.{sizes_stay}
+use Rattle.refinement.proofs.Carrying.{sizes_stay, moved_roots}
 use Rattle.refinement.proofs.Threads.{barrier_world, barrier_laid}
 use Rattle.refinement.proofs.Rooted.{barrier_holds_words, stored_word, global_word}
 use Rattle.refinement.proofs.Births.{loading_is, loading_roots}
-use Rattle.refinement.proofs.Verdicts.{bind_ok, found_ok, accepted, Passed}
+use Rattle.refinement.proofs.Accepted.{accepted}
+use Rattle.refinement.proofs.Verdicts.{bind_ok, found_ok, Passed}
 use Rattle.refinement.proofs.Verdicts.{first_false, second_false, used_ok, field_there}
 use Rattle.refinement.proofs.Readers.{names_object}
-use Rattle.refinement.proofs.Writers.{moved, moved_roots, plain_thread}
+use Rattle.refinement.proofs.Writers.{moved, plain_thread}
 use Rattle.refinement.proofs.Storing.{less_is}
 
 -- a thread gets another barrier

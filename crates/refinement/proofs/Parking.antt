@@ -22,11 +22,12 @@ use Rattle.refinement.specs.Births.{births_of}
 use Rattle.refinement.specs.Roots.{HoldsWords}
 use Rattle.refinement.specs.Standing.{Holds, StepHolds}
 use Rattle.refinement.proofs.Changes.{length_changed}
-use Rattle.refinement.proofs.Sizes.{sizes_stay}
+use Rattle.refinement.proofs.Carrying.{sizes_stay, moved_roots}
 use Rattle.refinement.proofs.Threads.{parked_world, parked_laid}
 use Rattle.refinement.proofs.Rooted.{parked_holds_words}
-use Rattle.refinement.proofs.Verdicts.{bind_ok, accepted, Passed}
-use Rattle.refinement.proofs.Writers.{moved, moved_roots, closed_barrier}
+use Rattle.refinement.proofs.Accepted.{accepted}
+use Rattle.refinement.proofs.Verdicts.{bind_ok, Passed}
+use Rattle.refinement.proofs.Writers.{moved, closed_barrier}
 
 module _ (h : HeapState) (p p0 : PlainHeap) (s : IsStore h.store) (d : IsHeap h) (k : Holds h p p0) (t : ℕ) where
   parked_holds : (b : Bool) (step : Step) (g : Passed h t step) → g.thread.barrier ≡ None

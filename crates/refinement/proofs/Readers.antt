@@ -32,7 +32,8 @@ use Rattle.refinement.proofs.Runs.{get_run}
 use Rattle.refinement.proofs.Reading.{read_refs, read_data}
 use Rattle.refinement.proofs.Objects.{there}
 use Rattle.refinement.proofs.Written.{word_there}
-use Rattle.refinement.proofs.Verdicts.{bind_ok, found_ok, accepted, IsUsed, used_ok, used_or_null, datum_there}
+use Rattle.refinement.proofs.Accepted.{accepted}
+use Rattle.refinement.proofs.Verdicts.{bind_ok, found_ok, IsUsed, used_ok, used_or_null, datum_there}
 
 -- the object that a usable register names
 pub record NamesObject (h : HeapState) (p : PlainHeap) (t r a : ℕ) : Type 0 where

@@ -11,7 +11,8 @@ use Rattle.model.specs.Heaps.{HeapState}
 use Rattle.model.specs.Outcome.{outcome, thread_row, cross_outcome}
 use Rattle.model.specs.Plain.{PlainHeap}
 use Rattle.refinement.specs.Standing.{Holds, StepHolds}
-use Rattle.refinement.proofs.Verdicts.{accepted, Passed, passed}
+use Rattle.refinement.proofs.Accepted.{accepted}
+use Rattle.refinement.proofs.Verdicts.{Passed, passed}
 use Rattle.refinement.proofs.Readers.{is_null_holds, same_holds, datum_holds}
 use Rattle.refinement.proofs.Writers.{give_back_holds, copy_holds, clear_holds, set_datum_holds, new_holds}
 use Rattle.refinement.proofs.Takes.{take_holds}

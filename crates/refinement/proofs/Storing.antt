@@ -34,14 +34,15 @@ use Rattle.refinement.proofs.Changes.{length_changed}
 use Rattle.refinement.proofs.Written.{field_write}
 use Rattle.refinement.proofs.Written as written
 use Rattle.model.proofs.Memory.{frames_stay}
-use Rattle.refinement.proofs.Sizes.{sizes_stay}
+use Rattle.refinement.proofs.Carrying.{sizes_stay, moved_roots}
 use Rattle.refinement.proofs.Threads.{global_world, global_laid}
 use Rattle.refinement.proofs.Rooted.{register_word}
 use Rattle.refword.proofs.Reading.{reads_back}
 use Rattle.refinement.proofs.Births.{storing_is, storing_roots, global_is}
-use Rattle.refinement.proofs.Verdicts.{bind_ok, found_ok, accepted, Passed, first_false, used_ok, field_there}
+use Rattle.refinement.proofs.Accepted.{accepted}
+use Rattle.refinement.proofs.Verdicts.{bind_ok, found_ok, Passed, first_false, used_ok, field_there}
 use Rattle.refinement.proofs.Readers.{names_object}
-use Rattle.refinement.proofs.Writers.{moved, moved_roots}
+use Rattle.refinement.proofs.Writers.{moved}
 
 pub less_is : (m n : ℕ) → m < n → nat_lt m n ≡ true
 less_is m n h = grind (arith, nat_tests)

@@ -33,12 +33,13 @@ use Rattle.refinement.specs.Roots.{HoldsWords, HasWords}
 use Rattle.refinement.specs.Standing.{Holds, StepHolds}
 use Rattle.refinement.proofs.Rooted.{buffer_holds_words}
 use Rattle.refinement.proofs.Changes.{length_changed}
-use Rattle.refinement.proofs.Sizes.{sizes_stay}
+use Rattle.refinement.proofs.Carrying.{sizes_stay, moved_roots}
 use Rattle.refinement.proofs.Taken.{InOpenPage, InFreshPage, ways}
 use Rattle.refinement.proofs.Granted.{granted, granted_world, granted_laid, with_more}
 use Rattle.refinement.proofs.Opened.{opened_heap, opened_world, opened_laid, on_page, was_unused}
-use Rattle.refinement.proofs.Verdicts.{accepted, Passed, first_false, second_false}
-use Rattle.refinement.proofs.Writers.{moved, moved_roots}
+use Rattle.refinement.proofs.Accepted.{accepted}
+use Rattle.refinement.proofs.Verdicts.{Passed, first_false, second_false}
+use Rattle.refinement.proofs.Writers.{moved}
 
 -- what each element has, and the last of two that are put in one place
 each_set_again : {X : Type 0} (P : X → Type 0) (xs : List X) (i : ℕ) (v w : X) → Each xs P → P w

@@ -17,6 +17,10 @@ use Rattle.refinement.specs.Claims.{IsLaid, Claim, OfObject, OfBuffer, OfPlan, O
 use Rattle.refinement.proofs.Changes.{kept_of, read_changed, length_changed}
 use Rattle.refinement.proofs.Claims.{extents_same}
 use Rattle.refinement.proofs.Registers.{register_changed}
+use Rattle.laws.specs.AddressHeap.{AddressHeap}
+use Rattle.refinement.specs.Roots.{HoldsWords}
+use Rattle.refinement.proofs.Rooted.{parked_holds_words}
+use Rattle.refinement.proofs.Carrying.{Carries, sizes_stay, moved_roots}
 
 -- a change that leaves a thread's buffer, and how many registers it has
 pub record KeepsShape (f : ThreadState → ThreadState) : Type 0 where
@@ -125,3 +129,29 @@ global_laid h g w l = record {
     extents (OfBuffer u) = refl
     extents (OfPlan a) = refl
     extents (OfEnd n) = refl
+
+-- a changed thread that holds words, in a memory that is in order
+pub thread_carries : (h : HeapState) (t : ℕ) (f : ThreadState → ThreadState) (e : AddressHeap → AddressHeap)
+    → (IsLaid h → IsLaid (record h { threads = changed h.threads t f }))
+    → ((y : ThreadState) → HoldsWords h.config.registers y → HoldsWords h.config.registers (f y))
+    → world_of (record h { threads = changed h.threads t f }) ≡ e (world_of h)
+    → Carries h (record h { threads = changed h.threads t f }) e
+thread_carries h t f e laid words world = record {
+  config = refl;
+  sizes = λ z. sizes_stay h (record h { threads = changed h.threads t f }) z refl refl refl refl
+      (length_changed h.threads t f) refl refl;
+  laid = laid;
+  given = λ z. z;
+  words = λ w. record {
+    threads = each_changed (HoldsWords h.config.registers) h.threads t f w.threads words;
+    globals = w.globals;
+  };
+  roots = λ p. moved_roots h (record h { threads = changed h.threads t f }) p (length_changed h.threads t f) refl refl;
+  world = world;
+}
+
+pub parked_carries : (h : HeapState) (t : ℕ) (x : ThreadState) → slice_get h.threads t ≡ Some x → (b : Bool)
+    → Carries h (with_parked h t b) (set_parked t b)
+unfolding with_parked
+parked_carries h t x at b = thread_carries h t (set_parked_of b) (set_parked t b) (parked_laid h t b)
+    (parked_holds_words h.config.registers b) (parked_world h t x at b)

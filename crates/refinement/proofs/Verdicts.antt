@@ -26,11 +26,9 @@ use Rattle.laws.specs.AddressHeap.{HeapObject}
 use Rattle.laws.specs.Transitions.{IsUsable}
 use Rattle.refinement.specs.Worlds.{world_of}
 use Rattle.refinement.proofs.Objects.{IsThere}
+use Rattle.refinement.proofs.Accepted.{accepted}
 
 -- results
-
-abbrev pub accepted : {A : Type 0} → A → Result A Refusal
-accepted x = Ok x
 
 pub bind_ok : {A B : Type 0} (r : Result A Refusal) (f : A → Result B Refusal) (y : B) → r >>= f ≡ accepted y
     → (x : A) × (r ≡ accepted x) × (f x ≡ accepted y)

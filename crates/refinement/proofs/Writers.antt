@@ -37,7 +37,7 @@ use Rattle.laws.specs.Effects.{with_datum}
 use Rattle.laws.specs.Transitions.{SetDatum, CopyReg, ClearReg, New, MayBeBorn, Uses}
 use Rattle.laws.proofs.Runs.{transition_keeps}
 use Rattle.refinement.specs.Worlds.{world_of, as_barrier, barrier_in}
-use Rattle.refinement.specs.Births.{births_of, HasRootsOf}
+use Rattle.refinement.specs.Births.{births_of}
 use Rattle.refinement.specs.Roots.{HoldsWords}
 use Rattle.refinement.specs.Standing.{Holds, StepHolds}
 use Rattle.refinement.proofs.Rooted.{register_word, register_holds_words, buffer_holds_words, handed_holds_words}
@@ -48,24 +48,16 @@ use Rattle.refinement.proofs.Written.{datum_write}
 use Rattle.refinement.proofs.Written as written
 use Rattle.refinement.proofs.Born as births
 use Rattle.model.proofs.Memory.{frames_stay}
-use Rattle.refinement.proofs.Sizes.{sizes_stay}
+use Rattle.refinement.proofs.Carrying.{sizes_stay, moved_roots}
 use Rattle.refinement.proofs.Registers.{register_world, register_laid, buffer_world, given_back_laid}
 use Rattle.refinement.proofs.Births.{naming_is, naming_roots, writing_is, writing_roots, born_is, born_roots}
-use Rattle.refinement.proofs.Verdicts.{bind_ok, found_ok, accepted, Passed, first_false, used_ok, datum_there}
+use Rattle.refinement.proofs.Accepted.{accepted}
+use Rattle.refinement.proofs.Verdicts.{bind_ok, found_ok, Passed, first_false, used_ok, datum_there}
 use Rattle.refinement.proofs.Readers.{names_object}
 
 -- the invariant of other heaps that are these
 pub moved : (w v : AddressHeap) (p q p0 : BirthHeap) → v ≡ w → q ≡ p → Invariant w p p0 → Invariant v q p0
 moved w v p q p0 e f i = subst (λ x. Invariant x q p0) (sym e) (subst (λ x. Invariant w x p0) (sym f) i)
-
--- the roots of a heap that has as many threads and globals
-pub moved_roots : (h g : HeapState) (p : PlainHeap) → length g.threads ≡ length h.threads
-    → g.config.registers ≡ h.config.registers → length g.globals ≡ length h.globals → HasRootsOf h p → HasRootsOf g p
-moved_roots h g p e f n k = record {
-  threads = k.threads ∙ sym e;
-  registers = λ i x a. k.registers i x a ∙ sym f;
-  globals = k.globals ∙ sym n;
-}
 
 module _ (h : HeapState) (p p0 : PlainHeap) (s : IsStore h.store) (d : IsHeap h) (k : Holds h p p0) (t : ℕ) where
   -- the plain heap has the thread

@@ -1,0 +1,44 @@
+-- What is to hold of an accepted outcome, by combinators that mirror the `do` of a row: each opens its first line, and
+-- hands on what that line found or tested.
+use Rattle.std.proofs.Common.{◌≡◌, Bool, true, false, cond, Option, Some, None, refl, subst}
+use Rattle.std.specs.Prelude.{Result, Ok, Err}
+use Rattle.model.specs.declared.steps.Refusal.{Refusal}
+use Rattle.model.specs.Refusing.{◌>>=◌, or_refuse}
+use Rattle.model.proofs.Results.{same_result}
+
+abbrev pub accepted : {A : Type 0} → A → Result A Refusal
+accepted x = Ok x
+
+-- this holds of what was accepted; of a refusal nothing is said
+abbrev pub OnAccepted : {A : Type 0} → (A → Type 0) → Result A Refusal → Type 0
+OnAccepted P (Ok x) = P x
+OnAccepted P (Err n) = Unit {0}
+
+-- what is accepted in full has it
+pub of_accepted : {A : Type 0} (P : A → Type 0) (r : Result A Refusal) (x : A) → OnAccepted P r → r ≡ accepted x → P x
+of_accepted P (Ok y) x h e = subst P (same_result y x e) h
+of_accepted P (Err n) x h e = absurd (cc)
+
+-- x ← r
+pub on_bind : {A B : Type 0} (P : B → Type 0) (r : Result A Refusal) (f : A → Result B Refusal)
+    → ((x : A) → r ≡ accepted x → OnAccepted P (f x)) → OnAccepted P (r >>= f)
+on_bind P (Ok x) f h = h x refl
+on_bind P (Err n) f h = tt
+
+-- x ← or_refuse o n
+pub on_some : {A B : Type 0} (P : B → Type 0) (o : Option A) (n : Refusal) (f : A → Result B Refusal)
+    → ((x : A) → o ≡ Some x → OnAccepted P (f x)) → OnAccepted P (or_refuse o n >>= f)
+on_some P (Some x) n f h = h x refl
+on_some P None n f h = tt
+
+-- if c then Err n else r
+pub on_test : {B : Type 0} (P : B → Type 0) (c : Bool) (n : Refusal) (r : Result B Refusal)
+    → (c ≡ false → OnAccepted P r) → OnAccepted P (cond c (Err n) r)
+on_test P true n r h = tt
+on_test P false n r h = h refl
+
+-- if c then r else Err n
+pub on_truth : {B : Type 0} (P : B → Type 0) (c : Bool) (n : Refusal) (r : Result B Refusal)
+    → (c ≡ true → OnAccepted P r) → OnAccepted P (cond c r (Err n))
+on_truth P true n r h = h refl
+on_truth P false n r h = tt

@@ -1,0 +1,126 @@
+-- What an edit does to all that is kept of a heap, and the step that it makes.
+use Rattle.std.proofs.Common.{◌≡◌, ℕ, length, refl, sym, ◌∙◌, ap, subst}
+use Rattle.model.specs.declared.config.Config.{Config}
+use Rattle.model.specs.declared.steps.Actor.TheVariants.{Thread}
+use Rattle.model.specs.declared.steps.Step.{Step}
+use Rattle.model.specs.declared.steps.Answer.{Answer}
+use Rattle.model.specs.Owning.{Each}
+use Rattle.model.specs.Holding.{HasSizes}
+use Rattle.model.specs.Heaps.{HeapState}
+use Rattle.model.specs.Refusing.{Outcome}
+use Rattle.model.specs.Plain.{PlainHeap, plain_step, plain_answer}
+use Rattle.laws.specs.AddressHeap.{AddressHeap}
+use Rattle.laws.specs.BirthHeap.{BirthHeap}
+use Rattle.laws.specs.Invariant.{Invariant}
+use Rattle.laws.specs.Transitions.{Transition}
+use Rattle.laws.proofs.Runs.{transition_keeps}
+use Rattle.refinement.specs.Worlds.{world_of}
+use Rattle.refinement.specs.Births.{births_of, HasRootsOf}
+use Rattle.refinement.specs.Claims.{IsLaid, HasGiven}
+use Rattle.refinement.specs.Roots.{HasWords}
+use Rattle.refinement.specs.Standing.{Holds, StepHolds, AnswersPlain, kept_at_mark}
+use Rattle.refinement.proofs.Accepted.{OnAccepted}
+
+-- a heap of as many threads, globals and frames has the sizes of another, where all else stays
+pub sizes_stay : (h g : HeapState) → HasSizes h → g.config ≡ h.config
+    → g.store.words ≡ h.store.words → length g.store.frames ≡ length h.store.frames → g.store.count ≡ h.store.count
+    → length g.threads ≡ length h.threads → g.workers ≡ h.workers → length g.globals ≡ length h.globals → HasSizes g
+sizes_stay h g k c w f n t x y = record {
+  words = w ∙ k.words ∙ sym (ap (λ (z : Config). z.words) c);
+  frames = f ∙ k.frames ∙ sym (ap (λ (z : Config). z.frames) c);
+  pages = n ∙ k.pages ∙ sym (ap (λ (z : Config). z.pages) c);
+  threads = t ∙ k.threads ∙ sym (ap (λ (z : Config). z.threads) c);
+  workers = ap length x ∙ k.workers ∙ sym (ap (λ (z : Config). z.workers) c);
+  globals = y ∙ k.globals ∙ sym (ap (λ (z : Config). z.globals) c);
+}
+
+-- the roots of a heap that has as many threads and globals
+pub moved_roots : (h g : HeapState) (p : PlainHeap) → length g.threads ≡ length h.threads
+    → g.config.registers ≡ h.config.registers → length g.globals ≡ length h.globals → HasRootsOf h p → HasRootsOf g p
+moved_roots h g p e f n k = record {
+  threads = k.threads ∙ sym e;
+  registers = λ i x a. k.registers i x a ∙ sym f;
+  globals = k.globals ∙ sym n;
+}
+
+-- where h is kept, g is, and the heap by addresses of g is that of h with the edit e
+pub record Carries (h g : HeapState) (e : AddressHeap → AddressHeap) : Type 0 where
+  pub config : g.config ≡ h.config
+  pub sizes : HasSizes h → HasSizes g
+  pub laid : IsLaid h → IsLaid g
+  pub given : Each h.store.pages HasGiven → Each g.store.pages HasGiven
+  pub words : HasWords h → HasWords g
+  pub roots : (p : PlainHeap) → HasRootsOf h p → HasRootsOf g p
+  pub world : world_of g ≡ e (world_of h)
+
+-- the plain heap q has the roots that p has, and is the births b
+pub record Follows (h : HeapState) (p q : PlainHeap) (b : BirthHeap) : Type 0 where
+  pub roots : HasRootsOf h p → HasRootsOf h q
+  pub births : births_of q ≡ b
+
+-- a plain heap that stays
+pub stays : (h : HeapState) (p : PlainHeap) → Follows h p p (births_of p)
+stays h p = record { roots = λ r. r; births = refl }
+
+-- the same edit, said in another way
+pub becomes : {h g : HeapState} {e : AddressHeap → AddressHeap} (c : Carries h g e)
+    (f : AddressHeap → AddressHeap) → e (world_of h) ≡ f (world_of h) → Carries h g f
+becomes c f same = record {
+  config = c.config;
+  sizes = c.sizes;
+  laid = c.laid;
+  given = c.given;
+  words = c.words;
+  roots = c.roots;
+  world = c.world ∙ same;
+}
+
+-- one edit, and then another
+pub and_then : {h g k : HeapState} {e f : AddressHeap → AddressHeap} → Carries h g e → Carries g k f
+    → Carries h k (λ w. f (e w))
+and_then {f = f} c d = record {
+  config = d.config ∙ c.config;
+  sizes = λ z. d.sizes (c.sizes z);
+  laid = λ z. d.laid (c.laid z);
+  given = λ z. d.given (c.given z);
+  words = λ z. d.words (c.words z);
+  roots = λ p z. d.roots p (c.roots p z);
+  world = d.world ∙ ap f c.world;
+}
+
+-- an edit that the heap by addresses doesn't see
+pub unseen : {h g : HeapState} {p p0 : PlainHeap} → Carries h g (λ w. w) → Holds h p p0 → Holds g p p0
+unseen {p = p} {p0 = p0} c k = record {
+  sizes = c.sizes k.sizes;
+  laid = c.laid k.laid;
+  given = c.given k.given;
+  words = c.words k.words;
+  roots = c.roots p k.roots;
+  invariant = subst (λ w. Invariant w (births_of p) (births_of p0)) (sym c.world) k.invariant;
+}
+
+-- an edit that is a transition of the laws
+pub step_by : {h g : HeapState} {e : AddressHeap → AddressHeap} {p p0 q q0 : PlainHeap} {b : BirthHeap}
+    → Holds h p p0 → Carries h g e → Follows h p q b
+    → Transition (world_of h) (births_of p) (births_of p0) (e (world_of h)) b (births_of q0) → Holds g q q0
+step_by {h = h} {e = e} {p = p} {p0 = p0} {q = q} {q0 = q0} k c f step = record {
+  sizes = c.sizes k.sizes;
+  laid = c.laid k.laid;
+  given = c.given k.given;
+  words = c.words k.words;
+  roots = c.roots q (f.roots k.roots);
+  invariant = subst (λ w. Invariant w (births_of q) (births_of q0)) (sym c.world) (subst
+      (λ x. Invariant (e (world_of h)) x (births_of q0)) (sym f.births) (transition_keeps _ _ _ _ _ _ k.invariant step));
+}
+
+-- a row keeps what stands
+abbrev pub RowHolds : HeapState → PlainHeap → PlainHeap → ℕ → Step → Outcome → Type 0
+RowHolds h p p0 t step o = OnAccepted (λ (z : HeapState × Answer). StepHolds h p p0 (Thread t) step z.0 z.1) o
+
+-- a step that is such an edit
+pub row_by : {h g : HeapState} {e : AddressHeap → AddressHeap} {p p0 : PlainHeap} {t : ℕ} {step : Step}
+    {answer : Answer} {b : BirthHeap}
+    → Holds h p p0 → Carries h g e → Follows h p (plain_step h.config.layouts p (Thread t) step) b
+    → Transition (world_of h) (births_of p) (births_of p0) (e (world_of h)) b (births_of (kept_at_mark p p0 step))
+    → AnswersPlain (plain_answer p (Thread t) step) answer → StepHolds h p p0 (Thread t) step g answer
+row_by k c f step a = record { config = c.config; holds = step_by k c f step; answers = a }
