@@ -20,25 +20,25 @@ of_accepted P (Ok y) x h e = subst P (same_result y x e) h
 of_accepted P (Err n) x h e = absurd (cc)
 
 -- x ← r
-pub on_bind : {A B : Type 0} (P : B → Type 0) (r : Result A Refusal) (f : A → Result B Refusal)
+pub on_bind : {A B : Type 0} (r : Result A Refusal) (f : A → Result B Refusal) (P : B → Type 0)
     → ((x : A) → r ≡ accepted x → OnAccepted P (f x)) → OnAccepted P (r >>= f)
-on_bind P (Ok x) f h = h x refl
-on_bind P (Err n) f h = tt
+on_bind (Ok x) f P h = h x refl
+on_bind (Err n) f P h = tt
 
 -- x ← or_refuse o n
-pub on_some : {A B : Type 0} (P : B → Type 0) (o : Option A) (n : Refusal) (f : A → Result B Refusal)
+pub on_some : {A B : Type 0} (o : Option A) (n : Refusal) (f : A → Result B Refusal) (P : B → Type 0)
     → ((x : A) → o ≡ Some x → OnAccepted P (f x)) → OnAccepted P (or_refuse o n >>= f)
-on_some P (Some x) n f h = h x refl
-on_some P None n f h = tt
+on_some (Some x) n f P h = h x refl
+on_some None n f P h = tt
 
 -- if c then Err n else r
-pub on_test : {B : Type 0} (P : B → Type 0) (c : Bool) (n : Refusal) (r : Result B Refusal)
+pub on_test : {B : Type 0} (c : Bool) (n : Refusal) (r : Result B Refusal) (P : B → Type 0)
     → (c ≡ false → OnAccepted P r) → OnAccepted P (cond c (Err n) r)
-on_test P true n r h = tt
-on_test P false n r h = h refl
+on_test true n r P h = tt
+on_test false n r P h = h refl
 
 -- if c then r else Err n
-pub on_truth : {B : Type 0} (P : B → Type 0) (c : Bool) (n : Refusal) (r : Result B Refusal)
+pub on_truth : {B : Type 0} (c : Bool) (n : Refusal) (r : Result B Refusal) (P : B → Type 0)
     → (c ≡ true → OnAccepted P r) → OnAccepted P (cond c r (Err n))
-on_truth P true n r h = h refl
-on_truth P false n r h = tt
+on_truth true n r P h = h refl
+on_truth false n r P h = tt

@@ -11,7 +11,7 @@ use Rattle.model.specs.Heaps.{HeapState}
 use Rattle.model.specs.Outcome.{outcome, thread_row, cross_outcome}
 use Rattle.model.specs.Plain.{PlainHeap}
 use Rattle.refinement.specs.Standing.{Holds, StepHolds}
-use Rattle.refinement.proofs.Accepted.{accepted}
+use Rattle.refinement.proofs.Accepted.{accepted, of_accepted}
 use Rattle.refinement.proofs.Verdicts.{Passed, passed}
 use Rattle.refinement.proofs.Readers.{is_null_holds, same_holds, datum_holds}
 use Rattle.refinement.proofs.Writers.{give_back_holds, copy_holds, clear_holds, set_datum_holds, new_holds}
@@ -41,9 +41,9 @@ row_holds h p p0 t (steps.Same l r) y s d k g e = same_holds h p p0 s k t g.thre
 row_holds h p p0 t (steps.IsNull r) y s d k g e = is_null_holds h p p0 s k t g.thread g.there r y e
 row_holds h p p0 t (steps.CopyReg r q) y s d k g e = copy_holds h p p0 s d k t r q g y e
 row_holds h p p0 t (steps.ClearReg r) y s d k g e = clear_holds h p p0 s d k t r g y e
-row_holds h p p0 t (steps.Scrub r) y s d k g e = scrub_holds h p p0 s d k t r y e
-row_holds h p p0 t steps.Park y s d k g e = park_holds h p p0 s d k t g y e
-row_holds h p p0 t steps.Unpark y s d k g e = unpark_holds h p p0 s d k t g y e
+row_holds h p p0 t (steps.Scrub r) y s d k g e = of_accepted _ _ y (scrub_holds h p p0 s d k t r) e
+row_holds h p p0 t steps.Park y s d k g e = of_accepted _ _ y (park_holds h p p0 s d k t g) e
+row_holds h p p0 t steps.Unpark y s d k g e = of_accepted _ _ y (unpark_holds h p p0 s d k t g) e
 row_holds h p p0 t _ y s d k g e = absurd (cc)
 
 pub step_holds : (h : HeapState) (p p0 : PlainHeap) (actor : Actor) (step : Step) (g : HeapState) (answer : Answer)
