@@ -33,6 +33,12 @@ use Rattle.refinement.proofs.Reading.{IsRead, read_fits, read_fresh, new_object}
 use Rattle.refinement.proofs.Objects.{Rewrites, there, rewritten}
 use Rattle.refinement.proofs.Changes.{get_changed, kept_of, rows_changed, length_put, bit_put}
 use Rattle.refinement.proofs.Claims.{object_extent, Splits, split_apart}
+use Rattle.model.proofs.Memory.{frames_stay}
+use Rattle.page.proofs.Lying.{buffer_address}
+use Rattle.refinement.specs.Roots.{HoldsWords}
+use Rattle.refinement.proofs.Rooted.{handed_holds_words}
+use Rattle.refinement.proofs.Carrying.{Carries, sizes_stay, moved_roots}
+use Rattle.refinement.proofs.Changes.{length_changed}
 use Rattle.refinement.proofs.Registers.{register_changed}
 
 -- a buffer's page is open
@@ -208,7 +214,7 @@ module _ (h : HeapState) (s : IsStore h.store) (l : IsLaid h) (t target number :
   born_objects y = rewritten h starts b.page address change fresh s rewrites y
 
   -- the heap by addresses has one more birth
-  pub born_world : world_of after ≡ born address fresh t target (world_of h)
+  born_world : world_of after ≡ born address fresh t target (world_of h)
   unfolding placed with_words state_at page_at register_of
   born_world = λ z. record (world_of h) {
     object_at = fun_ext born_objects z;
@@ -351,7 +357,7 @@ module _ (h : HeapState) (s : IsStore h.store) (l : IsLaid h) (t target number :
       go (inr d) = l.planned y n o k d.1
 
   -- and memory is in order
-  pub born_laid : IsLaid after
+  born_laid : IsLaid after
   unfolding placed with_words state_at page_at register_of
   born_laid = record {
     starts = rows h.starts l.starts true;
@@ -373,3 +379,22 @@ module _ (h : HeapState) (s : IsStore h.store) (l : IsLaid h) (t target number :
           → AreRows after.store (changed xs (b.page - 1) (put_bit b.next bit))
       rows xs r bit = let k = rows_changed h.store xs (b.page - 1) (put_bit b.next bit) r (length_put b.next bit) in
           record { pages = k.pages; words = k.words }
+
+  pub born_carries : Carries h after (born address fresh t target)
+  unfolding placed with_words
+  born_carries = record {
+    config = refl;
+    sizes = λ z. sizes_stay h after z refl refl (frames_stay h.store _ _) refl
+        (length_changed h.threads t (handed target (Some (address, h.nmt)) rest)) refl refl;
+    laid = λ z. born_laid;
+    given = λ z. z;
+    words = λ w. record {
+      threads = each_changed (HoldsWords h.config.registers) h.threads t (handed target (Some (address, h.nmt)) rest)
+          w.threads (λ y. handed_holds_words h.config.registers target (Some (address, h.nmt)) rest y
+          (buffer_address h.store b s m.lies (omega (arith, m.room))));
+      globals = w.globals;
+    };
+    roots = λ p. moved_roots h after p (length_changed h.threads t (handed target (Some (address, h.nmt)) rest)) refl
+        refl;
+    world = born_world;
+  }

@@ -6,7 +6,7 @@ use Rattle.model.specs.declared.steps.Step.{Step}
 use Rattle.model.specs.declared.steps.Answer.{Answer}
 use Rattle.model.specs.Owning.{Each}
 use Rattle.model.specs.Holding.{HasSizes}
-use Rattle.model.specs.Heaps.{HeapState}
+use Rattle.model.specs.Heaps.{HeapState, ThreadState, changed}
 use Rattle.model.specs.Refusing.{Outcome}
 use Rattle.model.specs.Plain.{PlainHeap, plain_step, plain_answer}
 use Rattle.laws.specs.AddressHeap.{AddressHeap}
@@ -17,8 +17,10 @@ use Rattle.laws.proofs.Runs.{transition_keeps}
 use Rattle.refinement.specs.Worlds.{world_of}
 use Rattle.refinement.specs.Births.{births_of, HasRootsOf}
 use Rattle.refinement.specs.Claims.{IsLaid, HasGiven}
-use Rattle.refinement.specs.Roots.{HasWords}
+use Rattle.refinement.specs.Roots.{HoldsWords, HasWords}
 use Rattle.refinement.specs.Standing.{Holds, StepHolds, AnswersPlain, kept_at_mark}
+use Rattle.model.proofs.Lists.{each_changed}
+use Rattle.refinement.proofs.Changes.{length_changed}
 use Rattle.refinement.proofs.Accepted.{OnAccepted}
 
 -- a heap of as many threads, globals and frames has the sizes of another, where all else stays
@@ -62,6 +64,10 @@ pub record Follows (h : HeapState) (p q : PlainHeap) (b : BirthHeap) : Type 0 wh
 pub stays : (h : HeapState) (p : PlainHeap) → Follows h p p (births_of p)
 stays h p = record { roots = λ r. r; births = refl }
 
+-- the same births, said in another way
+pub agrees : {h : HeapState} {p q : PlainHeap} {b c : BirthHeap} → Follows h p q b → b ≡ c → Follows h p q c
+agrees f same = record { roots = f.roots; births = f.births ∙ same }
+
 -- the same edit, said in another way
 pub becomes : {h g : HeapState} {e : AddressHeap → AddressHeap} (c : Carries h g e)
     (f : AddressHeap → AddressHeap) → e (world_of h) ≡ f (world_of h) → Carries h g f
@@ -86,6 +92,26 @@ and_then {f = f} c d = record {
   words = λ z. d.words (c.words z);
   roots = λ p z. d.roots p (c.roots p z);
   world = d.world ∙ ap f c.world;
+}
+
+-- an edit of one thread
+pub thread_carries : (h : HeapState) (t : ℕ) (f : ThreadState → ThreadState) (e : AddressHeap → AddressHeap)
+    → (IsLaid h → IsLaid (record h { threads = changed h.threads t f }))
+    → ((y : ThreadState) → HoldsWords h.config.registers y → HoldsWords h.config.registers (f y))
+    → world_of (record h { threads = changed h.threads t f }) ≡ e (world_of h)
+    → Carries h (record h { threads = changed h.threads t f }) e
+thread_carries h t f e laid words world = record {
+  config = refl;
+  sizes = λ z. sizes_stay h (record h { threads = changed h.threads t f }) z refl refl refl refl
+      (length_changed h.threads t f) refl refl;
+  laid = laid;
+  given = λ z. z;
+  words = λ w. record {
+    threads = each_changed (HoldsWords h.config.registers) h.threads t f w.threads words;
+    globals = w.globals;
+  };
+  roots = λ p. moved_roots h (record h { threads = changed h.threads t f }) p (length_changed h.threads t f) refl refl;
+  world = world;
 }
 
 -- an edit that the heap by addresses doesn't see
@@ -124,3 +150,15 @@ pub row_by : {h g : HeapState} {e : AddressHeap → AddressHeap} {p p0 : PlainHe
     → Transition (world_of h) (births_of p) (births_of p0) (e (world_of h)) b (births_of (kept_at_mark p p0 step))
     → AnswersPlain (plain_answer p (Thread t) step) answer → StepHolds h p p0 (Thread t) step g answer
 row_by k c f step a = record { config = c.config; holds = step_by k c f step; answers = a }
+
+-- a step whose edit the heap by addresses doesn't see, and that leaves the plain heap
+pub unseen_by : {h g : HeapState} {p p0 : PlainHeap} {t : ℕ} {step : Step} {answer : Answer}
+    → Holds h (plain_step h.config.layouts p (Thread t) step) (kept_at_mark p p0 step) → Carries h g (λ w. w)
+    → AnswersPlain (plain_answer p (Thread t) step) answer → StepHolds h p p0 (Thread t) step g answer
+unseen_by k c a = record { config = c.config; holds = unseen c k; answers = a }
+
+-- a step that changes nothing
+pub read_by : {h : HeapState} {p p0 : PlainHeap} {t : ℕ} {step : Step} {answer : Answer}
+    → Holds h (plain_step h.config.layouts p (Thread t) step) (kept_at_mark p p0 step)
+    → AnswersPlain (plain_answer p (Thread t) step) answer → StepHolds h p p0 (Thread t) step h answer
+read_by k a = record { config = refl; holds = k; answers = a }

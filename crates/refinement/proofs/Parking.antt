@@ -10,25 +10,24 @@ use Rattle.model.specs.Plain.{PlainHeap, plain_step, plain_answer}
 use Rattle.laws.specs.Transitions.{Park}
 use Rattle.refinement.specs.Standing.{Holds}
 use Rattle.refinement.proofs.Accepted.{on_bind, on_truth}
-use Rattle.refinement.proofs.Carrying.{RowHolds, row_by, stays}
+use Rattle.refinement.proofs.Carrying.{RowHolds, row_by, read_by, stays}
 use Rattle.refinement.proofs.Threads.{parked_carries}
-use Rattle.refinement.proofs.Verdicts.{Passed}
-use Rattle.refinement.proofs.Writers.{closed_barrier}
+use Rattle.refinement.proofs.Verdicts.{Passed, closed_barrier}
 
 module _ (h : HeapState) (p p0 : PlainHeap) (s : IsStore h.store) (d : IsHeap h) (k : Holds h p p0) (t : ℕ) where
   -- a thread is parked
   pub park_holds : Passed h t steps.Park → RowHolds h p p0 t steps.Park (park_outcome h t)
   unfolding park_outcome plain_step plain_answer
   park_holds g = row_by k (parked_carries h t g.thread g.there true) (stays h p)
-      (Park t true (closed_barrier h p p0 s d k t g.thread g.there (g.closed refl))) tt
+      (Park t true (closed_barrier g refl)) tt
 
   -- a thread runs again
   pub unpark_holds : Passed h t steps.Unpark → RowHolds h p p0 t steps.Unpark (unpark_outcome h t)
   unfolding unpark_outcome plain_step plain_answer
   unpark_holds g = on_truth (is_parked_in (slice_get h.threads t)) _ _ _ (λ e. row_by k (parked_carries h t g.thread g.there false) (stays h p)
-      (Park t false (closed_barrier h p p0 s d k t g.thread g.there (g.closed refl))) tt)
+      (Park t false (closed_barrier g refl)) tt)
 
   -- a register is clean
   pub scrub_holds : (r : ℕ) → RowHolds h p p0 t (steps.Scrub r) (scrub_outcome h t r)
   unfolding scrub_outcome plain_step plain_answer
-  scrub_holds r = on_bind (usable h t r) _ _ (λ a first. record { config = refl; holds = k; answers = tt })
+  scrub_holds r = on_bind (usable h t r) _ _ (λ a first. read_by k tt)

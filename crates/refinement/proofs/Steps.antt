@@ -26,21 +26,21 @@ row_holds : (h : HeapState) (p p0 : PlainHeap) (t : ℕ) (step : Step) (y : Heap
     → StepHolds h p p0 (Thread t) step y.0 y.1
 unfolding cross_outcome
 row_holds h p p0 t (steps.Take n) y s d k g e = take_holds h p p0 s d k t n g y e
-row_holds h p p0 t steps.GiveBack y s d k g e = give_back_holds h p p0 s d k t y e
-row_holds h p p0 t (steps.New r number) y s d k g e = new_holds h p p0 s d k t r number g y e
-row_holds h p p0 t (steps.Load r o i) y s d k g e = load_holds h p p0 s d k t r o i g y e
-row_holds h p p0 t (steps.LoadGlobal r n) y s d k g e = load_global_holds h p p0 s d k t r n g y e
-row_holds h p p0 t steps.Trap y s d k g e = trap_holds h p p0 s d k t g.thread g.there y e
-row_holds h p p0 t steps.Heal y s d k g e = heal_holds h p p0 s d k t g.thread g.there y e
-row_holds h p p0 t steps.Finish y s d k g e = finish_holds h p p0 s d k t g.thread g.there y e
-row_holds h p p0 t (steps.Store r i q) y s d k g e = store_holds h p p0 s d k t r i q g y e
-row_holds h p p0 t (steps.StoreGlobal n q) y s d k g e = store_global_holds h p p0 s d k t n q g y e
-row_holds h p p0 t (steps.Datum r j) y s d k g e = datum_holds h p p0 s k t g.thread g.there r j y e
-row_holds h p p0 t (steps.SetDatum r j v) y s d k g e = set_datum_holds h p p0 s d k t r j v g y e
-row_holds h p p0 t (steps.Same l r) y s d k g e = same_holds h p p0 s k t g.thread g.there l r y e
-row_holds h p p0 t (steps.IsNull r) y s d k g e = is_null_holds h p p0 s k t g.thread g.there r y e
-row_holds h p p0 t (steps.CopyReg r q) y s d k g e = copy_holds h p p0 s d k t r q g y e
-row_holds h p p0 t (steps.ClearReg r) y s d k g e = clear_holds h p p0 s d k t r g y e
+row_holds h p p0 t steps.GiveBack y s d k g e = of_accepted _ _ y (give_back_holds h p p0 s d k t) e
+row_holds h p p0 t (steps.New r number) y s d k g e = of_accepted _ _ y (new_holds h p p0 s d k t r number g) e
+row_holds h p p0 t (steps.Load r o i) y s d k g e = of_accepted _ _ y (load_holds h p p0 s d k t r o i g) e
+row_holds h p p0 t (steps.LoadGlobal r n) y s d k g e = of_accepted _ _ y (load_global_holds h p p0 s d k t r n g) e
+row_holds h p p0 t steps.Trap y s d k g e = of_accepted _ _ y (trap_holds h p p0 s d k t g.thread g.there) e
+row_holds h p p0 t steps.Heal y s d k g e = of_accepted _ _ y (heal_holds h p p0 s d k t g.thread g.there) e
+row_holds h p p0 t steps.Finish y s d k g e = of_accepted _ _ y (finish_holds h p p0 s d k t g.thread g.there) e
+row_holds h p p0 t (steps.Store r i q) y s d k g e = of_accepted _ _ y (store_holds h p p0 s d k t r i q g) e
+row_holds h p p0 t (steps.StoreGlobal n q) y s d k g e = of_accepted _ _ y (store_global_holds h p p0 s d k t n q g) e
+row_holds h p p0 t (steps.Datum r j) y s d k g e = of_accepted _ _ y (datum_holds h p p0 s d k t r j g) e
+row_holds h p p0 t (steps.SetDatum r j v) y s d k g e = of_accepted _ _ y (set_datum_holds h p p0 s d k t r j v g) e
+row_holds h p p0 t (steps.Same l r) y s d k g e = of_accepted _ _ y (same_holds h p p0 s d k t l r g) e
+row_holds h p p0 t (steps.IsNull r) y s d k g e = of_accepted _ _ y (is_null_holds h p p0 s d k t r g) e
+row_holds h p p0 t (steps.CopyReg r q) y s d k g e = of_accepted _ _ y (copy_holds h p p0 s d k t r q g) e
+row_holds h p p0 t (steps.ClearReg r) y s d k g e = of_accepted _ _ y (clear_holds h p p0 s d k t r g) e
 row_holds h p p0 t (steps.Scrub r) y s d k g e = of_accepted _ _ y (scrub_holds h p p0 s d k t r) e
 row_holds h p p0 t steps.Park y s d k g e = of_accepted _ _ y (park_holds h p p0 s d k t g) e
 row_holds h p p0 t steps.Unpark y s d k g e = of_accepted _ _ y (unpark_holds h p p0 s d k t g) e

@@ -1,9 +1,9 @@
 -- What an accepted step has passed: the tests before its row, and those of the row.
-use Rattle.std.proofs.Common.{◌≡◌, ◌⊎◌, inl, inr, ℕ, ◌+◌, ◌%◌, ◌<◌, ◌&&◌, ◌||◌, Bool, true, false, not}
+use Rattle.std.proofs.Common.{◌≡◌, ◌⊎◌, inl, inr, ℕ, ◌+◌, ◌%◌, ◌<◌, ◌&&◌, ◌||◌, arith, Bool, true, false, not}
 use Rattle.std.proofs.Common.{cond, length, nat_le, nat_lt, Option, Some, None, refl, sym, ◌∙◌, ap, subst}
 use Rattle.std.specs.Prelude.{Result, Ok, Err}
 use Rattle.std.specs.List.{slice_get}
-use Rattle.std.specs.Option.{option_and_then}
+use Rattle.std.specs.Option.{option_and_then, option_map}
 use Rattle.std.proofs.lemmas.Bool.{or_parts, leb-false, ltb-true}
 use Rattle.model.specs.declared.steps.Actor.TheVariants.{Thread}
 use Rattle.model.specs.declared.steps.Step.{Step}
@@ -15,7 +15,7 @@ use Rattle.model.specs.declared.records.Phase.TheVariants.{Idle, MarkCrossing, S
 use Rattle.model.specs.Heaps.{HeapState, ThreadState, Reference, register_of, layout_at}
 use Rattle.model.specs.Heaps.{layout_in, header_layout, field_address, datum_address}
 use Rattle.model.specs.Refusing.{◌>>=◌, or_refuse}
-use Rattle.model.specs.Outcome.{outcome, thread_gate, thread_row, has_bad_index, is_for_threads}
+use Rattle.model.specs.Outcome.{outcome, thread_gate, thread_row, has_bad_index, is_for_threads, no_register, no_global}
 use Rattle.model.specs.Outcome.{is_for_parked, is_for_loading, is_parked_in, is_loading_in, usable}
 use Rattle.model.specs.Outcome.{use_word, usable_or_null, use_or_null, let_through, held_back}
 use Rattle.model.specs.Outcome.{has_crossed, field_at, field_place, datum_at, datum_place}
@@ -24,8 +24,9 @@ use Rattle.model.proofs.Memory.{word_on_page}
 use Rattle.model.proofs.Results.{same_result, not_refused}
 use Rattle.laws.specs.AddressHeap.{HeapObject}
 use Rattle.laws.specs.Transitions.{IsUsable}
-use Rattle.refinement.specs.Worlds.{world_of}
-use Rattle.refinement.proofs.Objects.{IsThere}
+use Rattle.refinement.specs.Worlds.{world_of, object_at, as_barrier, barrier_in}
+use Rattle.refinement.proofs.Reading.{read_refs, read_data}
+use Rattle.refinement.proofs.Objects.{IsThere, there}
 use Rattle.refinement.proofs.Accepted.{accepted}
 
 -- results
@@ -83,6 +84,19 @@ passed h t s x e =
       },
       row,
     )
+
+pub is_register : (h : HeapState) (r : ℕ) → no_register h r ≡ false → r < h.config.registers
+unfolding no_register
+is_register h r e = leb-false h.config.registers r e
+
+pub is_global : (h : HeapState) (g : ℕ) → no_global h g ≡ false → g < length h.globals
+unfolding no_global
+is_global h g e = leb-false (length h.globals) g e
+
+-- a thread that isn't loading has no barrier in the heap by addresses
+pub closed_barrier : {h : HeapState} {t : ℕ} {s : Step} (g : Passed h t s) → is_for_loading s ≡ false
+    → (world_of h).barrier t ≡ None
+closed_barrier g e = ap barrier_in g.there ∙ ap (option_map as_barrier) (g.closed e)
 
 -- registers that may be used
 
@@ -153,26 +167,41 @@ shape_there h a q t = ap (λ o. layout_in h.config.layouts (header_layout o)) (w
     ∙ ap (option_and_then (λ ws. slice_get ws (a % h.store.words))) t.page ∙ t.read.at) ∙ t.read.known
 
 -- where a reference of an object stands
-pub field_there : (h : HeapState) (a : ℕ) (q : HeapObject) (t : IsThere h a q) (i place : ℕ)
-    → field_at h a i ≡ Some place → (i < t.read.shape.refs) × (a + 1 + i ≡ place)
+pub field_there : (h : HeapState) (a : ℕ) (q : HeapObject) (e : object_at h a ≡ Some q) (i place : ℕ)
+    → field_at h a i ≡ Some place → (i < length q.refs) × (a + (1 + i) ≡ place)
 unfolding field_at
-field_there h a q t i place e =
-    by_test (nat_lt i t.read.shape.refs) refl (sym (ap (field_place a i) (shape_there h a q t)) ∙ e)
+field_there h a q e i place f =
+    by_test (nat_lt i t.read.shape.refs) refl (sym (ap (field_place a i) (shape_there h a q t)) ∙ f)
   where
+    t : IsThere h a q
+    t = there h a q e
+
     by_test : (b : Bool) → nat_lt i t.read.shape.refs ≡ b → cond b (Some (field_address a i)) None ≡ Some place
-        → (i < t.read.shape.refs) × (a + 1 + i ≡ place)
-    by_test true f k = (ltb-true i t.read.shape.refs f, cc)
+        → (i < length q.refs) × (a + (1 + i) ≡ place)
     by_test false f k = absurd (cc)
+    by_test true f k =
+        let spot : a + 1 + i ≡ place = cc in
+        let low = ltb-true i t.read.shape.refs f in
+        let refs = read_refs h.config.layouts t.words (a % h.store.words) q t.read in
+        (omega (arith, low, refs), omega (arith, spot))
 
 -- where a datum of an object stands
-pub datum_there : (h : HeapState) (a : ℕ) (q : HeapObject) (t : IsThere h a q) (j place : ℕ)
-    → datum_at h a j ≡ Some place → (j < t.read.shape.nums) × (a + 1 + t.read.shape.refs + j ≡ place)
+pub datum_there : (h : HeapState) (a : ℕ) (q : HeapObject) (e : object_at h a ≡ Some q) (j place : ℕ)
+    → datum_at h a j ≡ Some place → (j < length q.data_words) × (a + (1 + length q.refs + j) ≡ place)
 unfolding datum_at
-datum_there h a q t j place e =
-    by_test (nat_lt j t.read.shape.nums) refl (sym (ap (datum_place a j) (shape_there h a q t)) ∙ e)
+datum_there h a q e j place f =
+    by_test (nat_lt j t.read.shape.nums) refl (sym (ap (datum_place a j) (shape_there h a q t)) ∙ f)
   where
+    t : IsThere h a q
+    t = there h a q e
+
     by_test : (b : Bool)
         → nat_lt j t.read.shape.nums ≡ b → cond b (Some (datum_address a t.read.shape j)) None ≡ Some place
-        → (j < t.read.shape.nums) × (a + 1 + t.read.shape.refs + j ≡ place)
-    by_test true f k = (ltb-true j t.read.shape.nums f, cc)
+        → (j < length q.data_words) × (a + (1 + length q.refs + j) ≡ place)
     by_test false f k = absurd (cc)
+    by_test true f k =
+        let spot : a + 1 + t.read.shape.refs + j ≡ place = cc in
+        let low = ltb-true j t.read.shape.nums f in
+        let refs = read_refs h.config.layouts t.words (a % h.store.words) q t.read in
+        let nums = read_data h.config.layouts t.words (a % h.store.words) q t.read in
+        (omega (arith, low, nums), omega (arith, refs, spot))
