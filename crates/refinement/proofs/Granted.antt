@@ -1,5 +1,5 @@
 -- A thread gets words of an open page as its buffer: the objects stay, and the free end of the page is split.
-use Rattle.std.proofs.Common.{◌≡◌, ◌≢◌, ◌⊎◌, inl, inr, ℕ, ◌+◌, ◌-◌, ◌*◌, ◌/◌, ◌%◌, ◌≤◌, Bool, true, List}
+use Rattle.std.proofs.Common.{◌≡◌, ◌≢◌, ◌⊎◌, inl, inr, ℕ, ◌+◌, ◌-◌, ◌*◌, ◌/◌, ◌%◌, ◌<◌, ◌≤◌, Bool, true, List}
 use Rattle.std.proofs.Common.{length, set, Option, Some, None, refl, sym, ◌∙◌, ap, ap₂, arith, cond}
 use mathlib.Core.Path.{fun_ext}
 use Rattle.std.specs.List.{slice_get}
@@ -20,6 +20,12 @@ use Rattle.refinement.specs.Worlds.{world_of, object_at, object_in, bit_at, as_w
 use Rattle.refinement.specs.Claims.{IsLaid, AreRows, Claim, OfObject, OfBuffer, OfPlan, OfEnd, Extent, extent}
 use Rattle.refinement.specs.Claims.{object_size, sized_extent, planned_extent, buffer_extent, end_extent, size_at}
 use Rattle.refinement.proofs.Changes.{get_changed, kept_of}
+use Rattle.model.proofs.Lists.{each_set}
+use Rattle.refinement.specs.Claims.{HasGiven}
+use Rattle.refinement.specs.Roots.{HoldsWords}
+use Rattle.refinement.proofs.Changes.{length_changed}
+use Rattle.refinement.proofs.Rooted.{buffer_holds_words}
+use Rattle.refinement.proofs.Carrying.{Carries, sizes_stay, moved_roots}
 use Rattle.refinement.proofs.Claims.{Splits, split_apart}
 
 -- the pages of a store whose record of an index is replaced
@@ -77,8 +83,7 @@ module _ (h : HeapState) (l : IsLaid h) (t i : ℕ) (p : Page) (n : ℕ) (x : Th
   objects a = ap (λ o. object_in h.config.layouts (bit_at h.starts h.store.words a) o (a % h.store.words))
       (words (a / h.store.words))
 
-  -- the heap by addresses stays
-  pub granted_world : world_of (granted h t i p n) ≡ world_of h
+  granted_world : world_of (granted h t i p n) ≡ world_of h
   unfolding register_of
   granted_world = λ z. record (world_of h) {
     page_state = fun_ext (λ a. states (a / h.store.words)) z;
@@ -181,7 +186,7 @@ module _ (h : HeapState) (l : IsLaid h) (t i : ℕ) (p : Page) (n : ℕ) (x : Th
   rows xs r = record { pages = r.pages ∙ sym (length-set h.store.pages i (with_more p n)); words = r.words }
 
   -- and memory is in order
-  pub granted_laid : IsLaid (granted h t i p n)
+  granted_laid : IsLaid (granted h t i p n)
   granted_laid = record {
     starts = rows h.starts l.starts;
     live = rows h.live l.live;
@@ -201,3 +206,22 @@ module _ (h : HeapState) (l : IsLaid h) (t i : ℕ) (p : Page) (n : ℕ) (x : Th
         l.live_objects a e (ap has_memory (sym (states (a / h.store.words))) ∙ k) in (o, objects a ∙ is));
     unused = λ a k. l.unused a (sym (states (a / h.store.words)) ∙ k);
   }
+
+  -- the heap by addresses stays
+  pub granted_carries : 0 < n → Carries h (granted h t i p n) (λ w. w)
+  granted_carries low = record {
+    config = refl;
+    sizes = λ z. sizes_stay h after z refl refl refl refl (length_changed h.threads t change) refl refl;
+    laid = λ z. granted_laid;
+    given = λ z. each_set HasGiven h.store.pages i (with_more p n) z (λ e. omega (arith, low));
+    words = λ w. record {
+      threads = each_changed (HoldsWords h.config.registers) h.threads t change w.threads
+          (buffer_holds_words h.config.registers (Some (buffer_of i p.top n)));
+      globals = w.globals;
+    };
+    roots = λ q. moved_roots h after q (length_changed h.threads t change) refl refl;
+    world = granted_world;
+  }
+    where
+      change : ThreadState → ThreadState
+      change = set_buffer_of (Some (buffer_of i p.top n))
