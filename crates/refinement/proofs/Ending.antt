@@ -65,7 +65,7 @@ are_bits (Some n) w e = ap Some (eqb-true n (bits_of w) e)
 same_word : (v w : Reference) → IsWord v → IsWord w → bits_of v ≡ bits_of w → v ≡ w
 same_word v w j k e = sym (stored_again v j) ∙ ap stored e ∙ stored_again w k
 
-module _ (h : HeapState) (p p0 : PlainHeap) (s : IsStore h.store) (d : IsHeap h) (k : Holds h p p0) (t : ℕ)
+module _ {h : HeapState} {p p0 : PlainHeap} (s : IsStore h.store) (d : IsHeap h) (k : Holds h p p0) (t : ℕ)
     (x : ThreadState) (at : slice_get h.threads t ≡ Some x) where
   -- no trap is due
   pub trap_holds : RowHolds h p p0 t steps.Trap (trap_outcome h t)

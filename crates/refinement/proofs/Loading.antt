@@ -14,7 +14,7 @@ use Rattle.model.specs.Holding.{IsHeap}
 use Rattle.model.specs.Heaps.{HeapState, ThreadState, with_barrier}
 use Rattle.model.specs.Heaps.{Reference, stored, flat, global_of, word_of_global}
 use Rattle.model.specs.Outcome.{load_outcome, load_global_outcome, new_barrier}
-use Rattle.model.specs.Outcome.{no_register, no_global, usable, field_at, is_parked_in}
+use Rattle.model.specs.Outcome.{no_register, no_global, is_parked_in}
 use Rattle.model.specs.Plain.{PlainHeap, Object, plain_step, plain_answer, name_of, object_of, field_of}
 use Rattle.model.proofs.Lists.{get_within}
 use Rattle.laws.specs.AddressHeap.{HeapObject, Null, To, field, names as names_of}
@@ -34,13 +34,13 @@ use Rattle.model.specs.declared.records.Place.{Place}
 use Rattle.laws.specs.AddressHeap.{Word}
 use Rattle.refword.specs.Words.{IsWord}
 use Rattle.refinement.specs.Worlds.{as_place}
-use Rattle.refinement.proofs.Accepted.{on_bind, on_some}
+use Rattle.refinement.proofs.Accepted.{on_some}
 use Rattle.refinement.proofs.Carrying.{Carries, RowHolds, row_by, agrees}
 use Rattle.refinement.proofs.Threads.{barrier_carries}
 use Rattle.refinement.proofs.Rooted.{stored_word, global_word}
 use Rattle.refinement.proofs.Births.{loading_follows}
-use Rattle.refinement.proofs.Verdicts.{Passed, first_false, second_false, is_register, is_global, field_there}
-use Rattle.refinement.proofs.Readers.{named}
+use Rattle.refinement.proofs.Verdicts.{Passed, first_false, second_false, is_register, is_global}
+use Rattle.refinement.proofs.Readers.{on_named, on_field}
 use Rattle.refinement.proofs.Storing.{less_is}
 
 -- no object is at address 0
@@ -87,17 +87,15 @@ load_carries h t x at r z w v same word low =
     subst (λ v. Carries h (with_barrier h t (new_barrier r z w)) (set_barrier t (effects.new_barrier r (as_place z) v)))
     same (barrier_carries h t x at (new_barrier r z w) (record { target = low; raw = word; now = word }))
 
-module _ (h : HeapState) (p p0 : PlainHeap) (s : IsStore h.store) (d : IsHeap h) (k : Holds h p p0) (t : ℕ) where
+module _ {h : HeapState} {p p0 : PlainHeap} (s : IsStore h.store) (d : IsHeap h) (k : Holds h p p0) (t : ℕ) where
   -- a field is loaded
   pub load_holds : (r o i : ℕ) → Passed h t (steps.Load r o i)
       → RowHolds h p p0 t (steps.Load r o i) (load_outcome h t r o i)
   unfolding load_outcome plain_step plain_answer name_of
-  load_holds r o i g = on_bind (usable h t o) _ _ (λ a first. on_some (field_at h a i) _ _ _ (λ n second.
+  load_holds r o i g = on_named k g o _ _ (λ a names. on_field names i _ _ _ (λ n low spot.
       on_some (word_at h.store n) _ _ _ (λ v third.
-      let names = named k g o a first in
       let q = names.object in
       let found : Option ℕ = ref (births_of p) q.birth i in
-      let (low, spot) = field_there h a q names.uses.here i n second in
       let read : field q i ≡ word_in_memory v =
       field_is h s k.laid a q names.uses.here i v low (ap (word_at h.store) spot ∙ third) in
       let same : as_word (stored v) ≡ field q i =

@@ -14,7 +14,7 @@ use Rattle.refinement.proofs.Carrying.{RowHolds, row_by, read_by, stays}
 use Rattle.refinement.proofs.Threads.{parked_carries}
 use Rattle.refinement.proofs.Verdicts.{Passed, closed_barrier}
 
-module _ (h : HeapState) (p p0 : PlainHeap) (s : IsStore h.store) (d : IsHeap h) (k : Holds h p p0) (t : ℕ) where
+module _ {h : HeapState} {p p0 : PlainHeap} (s : IsStore h.store) (d : IsHeap h) (k : Holds h p p0) (t : ℕ) where
   -- a thread is parked
   pub park_holds : Passed h t steps.Park → RowHolds h p p0 t steps.Park (park_outcome h t)
   unfolding park_outcome plain_step plain_answer

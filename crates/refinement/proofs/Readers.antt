@@ -11,8 +11,9 @@ use Rattle.model.specs.Stores.{word_at}
 use Rattle.model.specs.Owning.{IsStore}
 use Rattle.model.specs.Holding.{IsHeap}
 use Rattle.model.specs.Heaps.{HeapState, Reference, register_of}
+use Rattle.model.specs.Refusing.{◌>>=◌, or_refuse}
 use Rattle.model.specs.Outcome.{datum_outcome, same_outcome, is_null_outcome}
-use Rattle.model.specs.Outcome.{usable, usable_or_null, datum_at, same_address}
+use Rattle.model.specs.Outcome.{usable, usable_or_null, field_at, datum_at, same_address}
 use Rattle.model.specs.Plain.{PlainHeap, Object, plain_step, plain_answer}
 use Rattle.model.specs.Plain.{name_of, object_of, datum_of, as_datum, same_name}
 use Rattle.laws.specs.AddressHeap.{HeapObject, Null, To}
@@ -28,9 +29,11 @@ use Rattle.refinement.proofs.Runs.{get_run}
 use Rattle.refinement.proofs.Reading.{read_refs, read_data}
 use Rattle.refinement.proofs.Objects.{there}
 use Rattle.refinement.proofs.Written.{word_there}
-use Rattle.refinement.proofs.Accepted.{accepted, on_bind, on_some}
+use Rattle.std.specs.Prelude.{Result}
+use Rattle.model.specs.declared.steps.Refusal.{Refusal}
+use Rattle.refinement.proofs.Accepted.{OnAccepted, on_bind, on_some}
 use Rattle.refinement.proofs.Carrying.{RowHolds, read_by}
-use Rattle.refinement.proofs.Verdicts.{Passed, IsUsed, used_ok, used_or_null, datum_there}
+use Rattle.refinement.proofs.Verdicts.{Passed, IsUsed, used_ok, used_or_null, field_there, datum_there}
 
 -- the object that a usable register names
 pub record NamesObject (h : HeapState) (p : PlainHeap) (t r a : ℕ) : Type 0 where
@@ -54,9 +57,28 @@ names_object {h = h} {p = p} {p0 = p0} k t r a u =
           (register_kept (world_of h) (births_of p) t r d.object.birth d.birth);
     }
 
-pub named : {h : HeapState} {p p0 : PlainHeap} {t : ℕ} {step : Step} → Holds h p p0 → Passed h t step → (r a : ℕ)
-    → usable h t r ≡ accepted a → NamesObject h p t r a
-named {h = h} {t = t} k g r a e = names_object k t r a (used_ok h t r a g.thread g.there e)
+-- a ← usable h t r
+pub on_named : {h : HeapState} {p p0 : PlainHeap} {t : ℕ} {step : Step} {B : Type 0} → Holds h p p0 → Passed h t step
+    → (r : ℕ) (f : ℕ → Result B Refusal) (P : B → Type 0) → ((a : ℕ) → NamesObject h p t r a → OnAccepted P (f a))
+    → OnAccepted P (usable h t r >>= f)
+on_named {h = h} {t = t} k g r f P use_it = on_bind (usable h t r) f P
+    (λ a e. use_it a (names_object k t r a (used_ok h t r a g.thread g.there e)))
+
+-- n ← or_refuse (field_at h a i) BadIndex
+pub on_field : {h : HeapState} {p : PlainHeap} {t r a : ℕ} {B : Type 0} (names : NamesObject h p t r a) (i : ℕ)
+    (e : Refusal) (f : ℕ → Result B Refusal) (P : B → Type 0)
+    → ((n : ℕ) → i < length names.object.refs → a + (1 + i) ≡ n → OnAccepted P (f n))
+    → OnAccepted P (or_refuse (field_at h a i) e >>= f)
+on_field {h = h} {a = a} names i e f P use_it = on_some (field_at h a i) e f P
+    (λ n found. let (low, spot) = field_there h a names.object names.uses.here i n found in use_it n low spot)
+
+-- n ← or_refuse (datum_at h a j) BadIndex
+pub on_datum : {h : HeapState} {p : PlainHeap} {t r a : ℕ} {B : Type 0} (names : NamesObject h p t r a) (j : ℕ)
+    (e : Refusal) (f : ℕ → Result B Refusal) (P : B → Type 0)
+    → ((n : ℕ) → j < length names.object.data_words → a + (1 + length names.object.refs + j) ≡ n
+    → OnAccepted P (f n)) → OnAccepted P (or_refuse (datum_at h a j) e >>= f)
+on_datum {h = h} {a = a} names j e f P use_it = on_some (datum_at h a j) e f P
+    (λ n found. let (low, spot) = datum_there h a names.object names.uses.here j n found in use_it n low spot)
 
 none_none : (o : Option ℕ) (w : Reference) → (as_word w ≡ Null) ↔ (o ≡ None) → is_none w ≡ is_none o
 none_none None None e = refl
@@ -73,7 +95,7 @@ none_none (Some b) None e = absurd (no (e.0 refl))
 no_word : (w : Reference) → w ≡ None → as_word w ≡ Null
 no_word w e = ap as_word e
 
-module _ (h : HeapState) (p p0 : PlainHeap) (s : IsStore h.store) (d : IsHeap h) (k : Holds h p p0) (t : ℕ) where
+module _ {h : HeapState} {p p0 : PlainHeap} (s : IsStore h.store) (d : IsHeap h) (k : Holds h p p0) (t : ℕ) where
   pub is_null_holds : (r : ℕ) → Passed h t (steps.IsNull r)
       → RowHolds h p p0 t (steps.IsNull r) (is_null_outcome h t r)
   unfolding is_null_outcome plain_step plain_answer name_of register_of
@@ -145,11 +167,9 @@ module _ (h : HeapState) (p p0 : PlainHeap) (s : IsStore h.store) (d : IsHeap h)
   pub datum_holds : (r j : ℕ) → Passed h t (steps.Datum r j)
       → RowHolds h p p0 t (steps.Datum r j) (datum_outcome h t r j)
   unfolding datum_outcome plain_step plain_answer name_of
-  datum_holds r j g = on_bind (usable h t r) _ _ (λ a first.
-      on_some (datum_at h a j) _ _ _ (λ n second. on_some (word_at h.store n) _ _ _ (λ v third.
-      let names = named k g r a first in
+  datum_holds r j g = on_named k g r _ _ (λ a names. on_datum names j _ _ _ (λ n low spot.
+      on_some (word_at h.store n) _ _ _ (λ v third.
       let q = names.object in
-      let (low, spot) = datum_there h a q names.uses.here j n second in
       let read = datum_read a q names.uses.here j v low (ap (word_at h.store) spot ∙ third) in
       let plain : as_datum (datum_of (object_of p (name_of p t r)) j) ≡ Some (answers.Datum v) =
       ap (λ o. as_datum (datum_of (object_of p o) j)) names.reads.birth

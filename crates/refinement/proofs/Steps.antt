@@ -25,25 +25,25 @@ use Rattle.refinement.proofs.Parking.{park_holds, unpark_holds, scrub_holds}
 row_holds : (h : HeapState) (p p0 : PlainHeap) (t : ℕ) (step : Step) → IsStore h.store → IsHeap h → Holds h p p0
     → Passed h t step → RowHolds h p p0 t step (thread_row h t step)
 unfolding cross_outcome
-row_holds h p p0 t (steps.Take n) s d k g = take_holds h p p0 s d k t n g
-row_holds h p p0 t steps.GiveBack s d k g = give_back_holds h p p0 s d k t
-row_holds h p p0 t (steps.New r number) s d k g = new_holds h p p0 s d k t r number g
-row_holds h p p0 t (steps.Load r o i) s d k g = load_holds h p p0 s d k t r o i g
-row_holds h p p0 t (steps.LoadGlobal r n) s d k g = load_global_holds h p p0 s d k t r n g
-row_holds h p p0 t steps.Trap s d k g = trap_holds h p p0 s d k t g.thread g.there
-row_holds h p p0 t steps.Heal s d k g = heal_holds h p p0 s d k t g.thread g.there
-row_holds h p p0 t steps.Finish s d k g = finish_holds h p p0 s d k t g.thread g.there
-row_holds h p p0 t (steps.Store r i q) s d k g = store_holds h p p0 s d k t r i q g
-row_holds h p p0 t (steps.StoreGlobal n q) s d k g = store_global_holds h p p0 s d k t n q g
-row_holds h p p0 t (steps.Datum r j) s d k g = datum_holds h p p0 s d k t r j g
-row_holds h p p0 t (steps.SetDatum r j v) s d k g = set_datum_holds h p p0 s d k t r j v g
-row_holds h p p0 t (steps.Same l r) s d k g = same_holds h p p0 s d k t l r g
-row_holds h p p0 t (steps.IsNull r) s d k g = is_null_holds h p p0 s d k t r g
-row_holds h p p0 t (steps.CopyReg r q) s d k g = copy_holds h p p0 s d k t r q g
-row_holds h p p0 t (steps.ClearReg r) s d k g = clear_holds h p p0 s d k t r g
-row_holds h p p0 t (steps.Scrub r) s d k g = scrub_holds h p p0 s d k t r
-row_holds h p p0 t steps.Park s d k g = park_holds h p p0 s d k t g
-row_holds h p p0 t steps.Unpark s d k g = unpark_holds h p p0 s d k t g
+row_holds h p p0 t (steps.Take n) s d k g = take_holds s d k t n g
+row_holds h p p0 t steps.GiveBack s d k g = give_back_holds s d k t
+row_holds h p p0 t (steps.New r number) s d k g = new_holds s d k t r number g
+row_holds h p p0 t (steps.Load r o i) s d k g = load_holds s d k t r o i g
+row_holds h p p0 t (steps.LoadGlobal r n) s d k g = load_global_holds s d k t r n g
+row_holds h p p0 t steps.Trap s d k g = trap_holds s d k t g.thread g.there
+row_holds h p p0 t steps.Heal s d k g = heal_holds s d k t g.thread g.there
+row_holds h p p0 t steps.Finish s d k g = finish_holds s d k t g.thread g.there
+row_holds h p p0 t (steps.Store r i q) s d k g = store_holds s d k t r i q g
+row_holds h p p0 t (steps.StoreGlobal n q) s d k g = store_global_holds s d k t n q g
+row_holds h p p0 t (steps.Datum r j) s d k g = datum_holds s d k t r j g
+row_holds h p p0 t (steps.SetDatum r j v) s d k g = set_datum_holds s d k t r j v g
+row_holds h p p0 t (steps.Same l r) s d k g = same_holds s d k t l r g
+row_holds h p p0 t (steps.IsNull r) s d k g = is_null_holds s d k t r g
+row_holds h p p0 t (steps.CopyReg r q) s d k g = copy_holds s d k t r q g
+row_holds h p p0 t (steps.ClearReg r) s d k g = clear_holds s d k t r g
+row_holds h p p0 t (steps.Scrub r) s d k g = scrub_holds s d k t r
+row_holds h p p0 t steps.Park s d k g = park_holds s d k t g
+row_holds h p p0 t steps.Unpark s d k g = unpark_holds s d k t g
 row_holds h p p0 t _ s d k g = tt
 
 pub step_holds : (h : HeapState) (p p0 : PlainHeap) (actor : Actor) (step : Step) (g : HeapState) (answer : Answer)

@@ -6,31 +6,29 @@ use Rattle.model.specs.Owning.{IsStore}
 use Rattle.model.specs.Holding.{IsHeap}
 use Rattle.model.specs.Heaps.{HeapState, register_of}
 use Rattle.model.specs.Outcome.{store_outcome, store_global_outcome, no_register}
-use Rattle.model.specs.Outcome.{no_global, usable, usable_or_null, field_at}
+use Rattle.model.specs.Outcome.{no_global, usable_or_null}
 use Rattle.model.specs.Plain.{PlainHeap, plain_step, plain_answer, name_of}
 use Rattle.laws.specs.Transitions.{Store, StoreGlobal}
 use Rattle.refinement.specs.Standing.{Holds}
 use Rattle.refinement.proofs.Rooted.{register_word}
-use Rattle.refinement.proofs.Accepted.{on_bind, on_some}
+use Rattle.refinement.proofs.Accepted.{on_bind}
 use Rattle.refinement.proofs.Carrying.{RowHolds, row_by}
 use Rattle.refinement.proofs.Threads.{global_carries}
 use Rattle.refinement.proofs.Written.{field_carries}
 use Rattle.refinement.proofs.Births.{storing_follows, global_follows}
-use Rattle.refinement.proofs.Verdicts.{Passed, first_false, is_global, field_there}
-use Rattle.refinement.proofs.Readers.{named}
+use Rattle.refinement.proofs.Verdicts.{Passed, first_false, is_global}
+use Rattle.refinement.proofs.Readers.{on_named, on_field}
 
 pub less_is : (m n : ℕ) → m < n → nat_lt m n ≡ true
 less_is m n h = grind (arith, nat_tests)
 
-module _ (h : HeapState) (p p0 : PlainHeap) (s : IsStore h.store) (d : IsHeap h) (k : Holds h p p0) (t : ℕ) where
+module _ {h : HeapState} {p p0 : PlainHeap} (s : IsStore h.store) (d : IsHeap h) (k : Holds h p p0) (t : ℕ) where
   -- a reference is stored in an object
   pub store_holds : (r i q : ℕ) → Passed h t (steps.Store r i q)
       → RowHolds h p p0 t (steps.Store r i q) (store_outcome h t r i q)
   unfolding store_outcome plain_step plain_answer
-  store_holds r i q g = on_bind (usable h t r) _ _ (λ a first. on_some (field_at h a i) _ _ _ (λ n second.
+  store_holds r i q g = on_named k g r _ _ (λ a names. on_field names i _ _ _ (λ n low spot.
       on_bind (usable_or_null h t q) _ _ (λ u third.
-      let names = named k g r a first in
-      let (low, spot) = field_there h a names.object names.uses.here i n second in
       row_by k (field_carries h s k.laid a names.object names.uses.here i n (register_of h t q)
       (register_word h t q k.words) low spot) (storing_follows h p (name_of p t r) i (name_of p t q))
       (Store t r a names.object i q names.uses low) tt)))

@@ -105,7 +105,7 @@ on_took h t (Ok z) P f = f z refl
 on_took h t (Err NoFrames) P f = tt
 on_took h t (Err NoPages) P f = tt
 
-module _ (h : HeapState) (p p0 : PlainHeap) (s : IsStore h.store) (d : IsHeap h) (k : Holds h p p0) (t : ℕ) where
+module _ {h : HeapState} {p p0 : PlainHeap} (s : IsStore h.store) (d : IsHeap h) (k : Holds h p p0) (t : ℕ) where
   lent_holds : (n : ℕ) (x : ThreadState) → slice_get h.threads t ≡ Some x → x.buffer ≡ None → 0 < n
       → n ≤ h.store.words → (z : StoreState × Buffer) → InOpenPage h.store n z ⊎ InFreshPage h.store n z
       → Holds (lent h t z.0 z.1) p p0

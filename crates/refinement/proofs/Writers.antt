@@ -18,7 +18,7 @@ use Rattle.model.specs.Holding.{IsHeap}
 use Rattle.model.specs.Heaps.{HeapState, register_of}
 use Rattle.model.specs.Heaps.{buffer_of_thread, buffer_in}
 use Rattle.model.specs.Outcome.{set_datum_outcome, copy_register_outcome, clear_register_outcome, give_back_outcome}
-use Rattle.model.specs.Outcome.{new_outcome, no_register, usable, datum_at}
+use Rattle.model.specs.Outcome.{new_outcome, no_register}
 use Rattle.model.specs.Plain.{PlainHeap, plain_step, plain_answer, name_of}
 use Rattle.laws.specs.AddressHeap.{AddressHeap, Word, Null}
 use Rattle.laws.specs.BirthHeap.{BirthHeap}
@@ -29,14 +29,14 @@ use Rattle.refinement.specs.Standing.{Holds}
 use Rattle.refinement.proofs.Rooted.{register_word}
 use Rattle.refinement.proofs.Reading.{new_object}
 use Rattle.refinement.proofs.Born as births
-use Rattle.refinement.proofs.Accepted.{on_bind, on_some, on_test, on_truth}
+use Rattle.refinement.proofs.Accepted.{on_some, on_test, on_truth}
 use Rattle.refinement.proofs.Carrying.{RowHolds, row_by, unseen_by}
 use Rattle.refinement.proofs.Registers.{given_back_carries}
 use Rattle.refinement.proofs.Threads.{register_carries}
 use Rattle.refinement.proofs.Written.{datum_carries}
 use Rattle.refinement.proofs.Births.{naming_follows, writing_follows, born_follows}
-use Rattle.refinement.proofs.Verdicts.{Passed, first_false, closed_barrier, is_register, datum_there}
-use Rattle.refinement.proofs.Readers.{named}
+use Rattle.refinement.proofs.Verdicts.{Passed, first_false, closed_barrier, is_register}
+use Rattle.refinement.proofs.Readers.{on_named, on_datum}
 use Rattle.model.specs.Stores.{StoreState}
 
 -- the invariant of other heaps that are these
@@ -57,7 +57,7 @@ lies_of : {s : StoreState} (o : Option Buffer) (b : Buffer) → o ≡ Some b →
 lies_of None b e f = absurd (cc)
 lies_of {s} (Some c) b e f = subst (LiesIn s) (same_Some _ _ e) f
 
-module _ (h : HeapState) (p p0 : PlainHeap) (s : IsStore h.store) (d : IsHeap h) (k : Holds h p p0) (t : ℕ) where
+module _ {h : HeapState} {p p0 : PlainHeap} (s : IsStore h.store) (d : IsHeap h) (k : Holds h p p0) (t : ℕ) where
   -- a buffer is given back
   pub give_back_holds : RowHolds h p p0 t steps.GiveBack (give_back_outcome h t)
   unfolding give_back_outcome plain_step plain_answer
@@ -86,9 +86,7 @@ module _ (h : HeapState) (p p0 : PlainHeap) (s : IsStore h.store) (d : IsHeap h)
   pub set_datum_holds : (r j v : ℕ) → Passed h t (steps.SetDatum r j v)
       → RowHolds h p p0 t (steps.SetDatum r j v) (set_datum_outcome h t r j v)
   unfolding set_datum_outcome plain_step plain_answer
-  set_datum_holds r j v g = on_bind (usable h t r) _ _ (λ a first. on_some (datum_at h a j) _ _ _ (λ n second.
-      let names = named k g r a first in
-      let (low, spot) = datum_there h a names.object names.uses.here j n second in
+  set_datum_holds r j v g = on_named k g r _ _ (λ a names. on_datum names j _ _ _ (λ n low spot.
       row_by k (datum_carries h s k.laid a names.object names.uses.here j n v low spot)
       (writing_follows h p (name_of p t r) j v) (SetDatum t r a names.object j v names.uses) tt))
 
