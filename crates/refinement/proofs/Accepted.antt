@@ -25,6 +25,12 @@ pub on_bind : {A B : Type 0} (r : Result A Refusal) (f : A → Result B Refusal)
 on_bind (Ok x) f P h = h x refl
 on_bind (Err n) f P h = tt
 
+-- x ← r, where what r accepts has Q
+pub on_has : {A B : Type 0} (r : Result A Refusal) (f : A → Result B Refusal) (Q : A → Type 0) (P : B → Type 0)
+    → OnAccepted Q r → ((x : A) → Q x → OnAccepted P (f x)) → OnAccepted P (r >>= f)
+on_has (Ok x) f Q P q h = h x q
+on_has (Err n) f Q P q h = tt
+
 -- x ← or_refuse o n
 pub on_some : {A B : Type 0} (o : Option A) (n : Refusal) (f : A → Result B Refusal) (P : B → Type 0)
     → ((x : A) → o ≡ Some x → OnAccepted P (f x)) → OnAccepted P (or_refuse o n >>= f)

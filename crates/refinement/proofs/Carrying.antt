@@ -1,7 +1,7 @@
 -- What an edit does to all that is kept of a heap, and the step that it makes.
 use Rattle.std.proofs.Common.{◌≡◌, ℕ, length, refl, sym, ◌∙◌, ap, subst}
 use Rattle.model.specs.declared.config.Config.{Config}
-use Rattle.model.specs.declared.steps.Actor.TheVariants.{Thread}
+use Rattle.model.specs.declared.steps.Actor.{Actor}
 use Rattle.model.specs.declared.steps.Step.{Step}
 use Rattle.model.specs.declared.steps.Answer.{Answer}
 use Rattle.model.specs.Owning.{Each}
@@ -140,25 +140,25 @@ step_by {h = h} {e = e} {p = p} {p0 = p0} {q = q} {q0 = q0} k c f step = record 
 }
 
 -- a row keeps what stands
-abbrev pub RowHolds : HeapState → PlainHeap → PlainHeap → ℕ → Step → Outcome → Type 0
-RowHolds h p p0 t step o = OnAccepted (λ (z : HeapState × Answer). StepHolds h p p0 (Thread t) step z.0 z.1) o
+abbrev pub RowHolds : HeapState → PlainHeap → PlainHeap → Actor → Step → Outcome → Type 0
+RowHolds h p p0 actor step o = OnAccepted (λ (z : HeapState × Answer). StepHolds h p p0 actor step z.0 z.1) o
 
 -- a step that is such an edit
-pub row_by : {h g : HeapState} {e : AddressHeap → AddressHeap} {p p0 : PlainHeap} {t : ℕ} {step : Step}
+pub row_by : {h g : HeapState} {e : AddressHeap → AddressHeap} {p p0 : PlainHeap} {actor : Actor} {step : Step}
     {answer : Answer} {b : BirthHeap}
-    → Holds h p p0 → Carries h g e → Follows h p (plain_step h.config.layouts p (Thread t) step) b
+    → Holds h p p0 → Carries h g e → Follows h p (plain_step h.config.layouts p actor step) b
     → Transition (world_of h) (births_of p) (births_of p0) (e (world_of h)) b (births_of (kept_at_mark p p0 step))
-    → AnswersPlain (plain_answer p (Thread t) step) answer → StepHolds h p p0 (Thread t) step g answer
+    → AnswersPlain (plain_answer p actor step) answer → StepHolds h p p0 actor step g answer
 row_by k c f step a = record { config = c.config; holds = step_by k c f step; answers = a }
 
 -- a step whose edit the heap by addresses doesn't see, and that leaves the plain heap
-pub unseen_by : {h g : HeapState} {p p0 : PlainHeap} {t : ℕ} {step : Step} {answer : Answer}
-    → Holds h (plain_step h.config.layouts p (Thread t) step) (kept_at_mark p p0 step) → Carries h g (λ w. w)
-    → AnswersPlain (plain_answer p (Thread t) step) answer → StepHolds h p p0 (Thread t) step g answer
+pub unseen_by : {h g : HeapState} {p p0 : PlainHeap} {actor : Actor} {step : Step} {answer : Answer}
+    → Holds h (plain_step h.config.layouts p actor step) (kept_at_mark p p0 step) → Carries h g (λ w. w)
+    → AnswersPlain (plain_answer p actor step) answer → StepHolds h p p0 actor step g answer
 unseen_by k c a = record { config = c.config; holds = unseen c k; answers = a }
 
 -- a step that changes nothing
-pub read_by : {h : HeapState} {p p0 : PlainHeap} {t : ℕ} {step : Step} {answer : Answer}
-    → Holds h (plain_step h.config.layouts p (Thread t) step) (kept_at_mark p p0 step)
-    → AnswersPlain (plain_answer p (Thread t) step) answer → StepHolds h p p0 (Thread t) step h answer
+pub read_by : {h : HeapState} {p p0 : PlainHeap} {actor : Actor} {step : Step} {answer : Answer}
+    → Holds h (plain_step h.config.layouts p actor step) (kept_at_mark p p0 step)
+    → AnswersPlain (plain_answer p actor step) answer → StepHolds h p p0 actor step h answer
 read_by k a = record { config = refl; holds = k; answers = a }

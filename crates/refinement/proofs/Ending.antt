@@ -68,7 +68,7 @@ same_word v w j k e = sym (stored_again v j) ∙ ap stored e ∙ stored_again w 
 module _ {h : HeapState} {p p0 : PlainHeap} (s : IsStore h.store) (d : IsHeap h) (k : Holds h p p0) (t : ℕ)
     (x : ThreadState) (at : slice_get h.threads t ≡ Some x) where
   -- no trap is due
-  pub trap_holds : RowHolds h p p0 t steps.Trap (trap_outcome h t)
+  pub trap_holds : RowHolds h p p0 (Thread t) steps.Trap (trap_outcome h t)
   unfolding trap_outcome plain_step plain_answer
   trap_holds = on_some (barrier_of_thread h t) _ _ _ (λ b first.
       on_test (trap_due h t b.now) _ _ _ (λ clear. read_by k tt))
@@ -157,13 +157,13 @@ module _ {h : HeapState} {p p0 : PlainHeap} (s : IsStore h.store) (d : IsHeap h)
             record { config = refl; holds = global_holds n q clear (same_Some _ _ e); answers = tt }
 
   -- a place is healed, or has another word by now
-  pub heal_holds : RowHolds h p p0 t steps.Heal (heal_outcome h t)
+  pub heal_holds : RowHolds h p p0 (Thread t) steps.Heal (heal_outcome h t)
   unfolding heal_outcome heal_place
   heal_holds = on_some (barrier_of_thread h t) _ _ _ (λ b first. on_test (trap_due h t b.now) _ _ _
       (λ clear. by_bits b first clear (are_bits_of (bits_at h b.place) b.raw) refl))
 
   -- a load ends
-  pub finish_holds : RowHolds h p p0 t steps.Finish (finish_outcome h t)
+  pub finish_holds : RowHolds h p p0 (Thread t) steps.Finish (finish_outcome h t)
   unfolding finish_outcome end_load plain_step plain_answer with_loaded
   finish_holds = on_some (barrier_of_thread h t) _ _ _ (λ b first. on_test (trap_due h t b.now) _ _ _ (λ clear.
       on_truth (may_finish b) _ _ _ (λ may. record { config = refl; holds = loaded_holds b first clear; answers = tt })))

@@ -5,6 +5,7 @@ use Rattle.std.specs.List.{slice_get}
 use Rattle.std.proofs.lemmas.Option.{get_or_from_slice_get, none-some}
 use Rattle.std.proofs.Math.Nat.{zero-div}
 use Rattle.refword.specs.Words.{read_word}
+use Rattle.model.specs.declared.steps.Actor.TheVariants.{Thread}
 use Rattle.model.specs.declared.steps.Step.TheVariants as steps
 use Rattle.model.specs.declared.records.Global.{Global}
 use Rattle.model.specs.declared.records.Place.TheVariants as places
@@ -90,9 +91,9 @@ load_carries h t x at r z w v same word low =
 module _ {h : HeapState} {p p0 : PlainHeap} (s : IsStore h.store) (d : IsHeap h) (k : Holds h p p0) (t : ℕ) where
   -- a field is loaded
   pub load_holds : (r o i : ℕ) → Passed h t (steps.Load r o i)
-      → RowHolds h p p0 t (steps.Load r o i) (load_outcome h t r o i)
+      → RowHolds h p p0 (Thread t) (steps.Load r o i) (load_outcome h t r o i)
   unfolding load_outcome plain_step plain_answer name_of
-  load_holds r o i g = on_named k g o _ _ (λ a names. on_field names i _ _ _ (λ n low spot.
+  load_holds r o i g = on_named k t o _ _ (λ a names. on_field names i _ _ _ (λ n low spot.
       on_some (word_at h.store n) _ _ _ (λ v third.
       let q = names.object in
       let found : Option ℕ = ref (births_of p) q.birth i in
@@ -111,7 +112,7 @@ module _ {h : HeapState} {p p0 : PlainHeap} (s : IsStore h.store) (d : IsHeap h)
 
   -- a global is loaded
   pub load_global_holds : (r n : ℕ) → Passed h t (steps.LoadGlobal r n)
-      → RowHolds h p p0 t (steps.LoadGlobal r n) (load_global_outcome h t r n)
+      → RowHolds h p p0 (Thread t) (steps.LoadGlobal r n) (load_global_outcome h t r n)
   unfolding load_global_outcome plain_step plain_answer global_of
   load_global_holds r n g =
       let low = is_global h n (second_false (no_register h r) (no_global h n) g.indices) in

@@ -1,11 +1,11 @@
 -- Steps that read: what the plain heap answers.
-use Rattle.std.proofs.Common.{◌≡◌, ◌⊎◌, ◌↔◌, inl, inr, ℕ, ◌+◌, ◌%◌, ◌<◌, Bool, true, false, nat_eq, List, length}
+use Rattle.std.proofs.Common.{◌≡◌, ◌↔◌, inl, inr, ℕ, ◌+◌, ◌%◌, ◌<◌, Bool, true, false, nat_eq, List, length}
 use Rattle.std.proofs.Common.{is_none, Option, Some, None, refl, sym, ◌∙◌, ap, ap₂, subst, arith, eq-eqb, ne_eqb}
 use Rattle.std.specs.List.{slice_get}
 use Rattle.std.proofs.lemmas.Option.{same_Some}
 use Rattle.std.proofs.lemmas.Bool.{eqb-true, eqb-false}
+use Rattle.model.specs.declared.steps.Actor.TheVariants.{Thread}
 use Rattle.model.specs.declared.steps.Step.TheVariants as steps
-use Rattle.model.specs.declared.steps.Step.{Step}
 use Rattle.model.specs.declared.steps.Answer.TheVariants as answers
 use Rattle.model.specs.Stores.{word_at}
 use Rattle.model.specs.Owning.{IsStore}
@@ -20,7 +20,8 @@ use Rattle.laws.specs.AddressHeap.{HeapObject, Null, To}
 use Rattle.laws.specs.Transitions.{Uses}
 use Rattle.laws.specs.Promises.{ReadsPlain}
 use Rattle.laws.proofs.Basics.{current_there}
-use Rattle.laws.proofs.Reading.{At, at, register_kept, used}
+use Rattle.laws.proofs.Reading.{At, at, register_kept}
+use Rattle.laws.proofs.Reading as reading
 use Rattle.laws.proofs.Promises.{reads, same, null_is_none}
 use Rattle.refinement.specs.Worlds.{world_of, as_word, object_at}
 use Rattle.refinement.specs.Births.{births_of, data_in}
@@ -31,9 +32,9 @@ use Rattle.refinement.proofs.Objects.{there}
 use Rattle.refinement.proofs.Written.{word_there}
 use Rattle.std.specs.Prelude.{Result}
 use Rattle.model.specs.declared.steps.Refusal.{Refusal}
-use Rattle.refinement.proofs.Accepted.{OnAccepted, on_bind, on_some}
+use Rattle.refinement.proofs.Accepted.{OnAccepted, on_has, on_some}
 use Rattle.refinement.proofs.Carrying.{RowHolds, read_by}
-use Rattle.refinement.proofs.Verdicts.{Passed, IsUsed, used_ok, used_or_null, field_there, datum_there}
+use Rattle.refinement.proofs.Verdicts.{Passed, IsUsed, used, NullOrUsed, null_or_used, field_there, datum_there}
 
 -- the object that a usable register names
 pub record NamesObject (h : HeapState) (p : PlainHeap) (t r a : ℕ) : Type 0 where
@@ -46,7 +47,7 @@ names_object : {h : HeapState} {p p0 : PlainHeap} → Holds h p p0 → (t r a : 
 unfolding name_of
 names_object {h = h} {p = p} {p0 = p0} k t r a u =
     let word : as_word (register_of h t r) ≡ To a u.bit = ap as_word u.word in
-    let d = used (world_of h) (births_of p) (births_of p0) k.invariant t r a u.bit word u.usable in
+    let d = reading.used (world_of h) (births_of p) (births_of p0) k.invariant t r a u.bit word u.usable in
     let here : object_at h a ≡ Some d.object = current_there (world_of h) a d.object d.here in
     let uses : Uses (world_of h) t r a d.object = record { bit = u.bit; word = word; usable = u.usable; here = here } in
     record {
@@ -58,11 +59,11 @@ names_object {h = h} {p = p} {p0 = p0} k t r a u =
     }
 
 -- a ← usable h t r
-pub on_named : {h : HeapState} {p p0 : PlainHeap} {t : ℕ} {step : Step} {B : Type 0} → Holds h p p0 → Passed h t step
-    → (r : ℕ) (f : ℕ → Result B Refusal) (P : B → Type 0) → ((a : ℕ) → NamesObject h p t r a → OnAccepted P (f a))
+pub on_named : {h : HeapState} {p p0 : PlainHeap} {B : Type 0} → Holds h p p0 → (t r : ℕ)
+    → (f : ℕ → Result B Refusal) (P : B → Type 0) → ((a : ℕ) → NamesObject h p t r a → OnAccepted P (f a))
     → OnAccepted P (usable h t r >>= f)
-on_named {h = h} {t = t} k g r f P use_it = on_bind (usable h t r) f P
-    (λ a e. use_it a (names_object k t r a (used_ok h t r a g.thread g.there e)))
+on_named {h = h} k t r f P use_it =
+    on_has (usable h t r) f (IsUsed h t r) P (used h t r) (λ a u. use_it a (names_object k t r a u))
 
 -- n ← or_refuse (field_at h a i) BadIndex
 pub on_field : {h : HeapState} {p : PlainHeap} {t r a : ℕ} {B : Type 0} (names : NamesObject h p t r a) (i : ℕ)
@@ -97,7 +98,7 @@ no_word w e = ap as_word e
 
 module _ {h : HeapState} {p p0 : PlainHeap} (s : IsStore h.store) (d : IsHeap h) (k : Holds h p p0) (t : ℕ) where
   pub is_null_holds : (r : ℕ) → Passed h t (steps.IsNull r)
-      → RowHolds h p p0 t (steps.IsNull r) (is_null_outcome h t r)
+      → RowHolds h p p0 (Thread t) (steps.IsNull r) (is_null_outcome h t r)
   unfolding is_null_outcome plain_step plain_answer name_of register_of
   is_null_holds r g = read_by k (ap answers.Truth (none_none (name_of p t r) (register_of h t r)
       (null_is_none (world_of h) (births_of p) (births_of p0) k.invariant t r)))
@@ -117,8 +118,7 @@ module _ {h : HeapState} {p p0 : PlainHeap} (s : IsStore h.store) (d : IsHeap h)
       (null_is_none (world_of h) (births_of p) (births_of p0) k.invariant t r).0 (no_word (register_of h t r) e)
 
   same_truth : (l r : ℕ) (a b : Option ℕ)
-      → ((a ≡ None) × (register_of h t l ≡ None)) ⊎ ((c : ℕ) × (a ≡ Some c) × IsUsed h t l c)
-      → ((b ≡ None) × (register_of h t r ≡ None)) ⊎ ((c : ℕ) × (b ≡ Some c) × IsUsed h t r c)
+      → NullOrUsed h t l a → NullOrUsed h t r b
       → same_address a b ≡ same_name (name_of p t l) (name_of p t r)
   unfolding name_of register_of
   same_truth l r a b (inl (f, g)) (inl (m, n)) = ap₂ same_address f m ∙ sym (ap₂ same_name (no_name l g) (no_name r n))
@@ -137,11 +137,11 @@ module _ {h : HeapState} {p p0 : PlainHeap} (s : IsStore h.store) (d : IsHeap h)
       ap₂ same_address m n ∙ same_numbers c d y.object.birth z.object.birth names
       ∙ sym (ap₂ same_name y.reads.birth z.reads.birth)
 
-  pub same_holds : (l r : ℕ) → Passed h t (steps.Same l r) → RowHolds h p p0 t (steps.Same l r) (same_outcome h t l r)
+  pub same_holds : (l r : ℕ) → Passed h t (steps.Same l r) → RowHolds h p p0 (Thread t) (steps.Same l r) (same_outcome h t l r)
   unfolding same_outcome plain_step plain_answer name_of register_of
-  same_holds l r g = on_bind (usable_or_null h t l) _ _ (λ a first. on_bind (usable_or_null h t r) _ _ (λ b second.
-      read_by k (ap answers.Truth (same_truth l r a b (used_or_null h t l a g.thread g.there first)
-      (used_or_null h t r b g.thread g.there second)))))
+  same_holds l r g = on_has (usable_or_null h t l) _ _ _ (null_or_used h t l) (λ a first.
+      on_has (usable_or_null h t r) _ _ _ (null_or_used h t r) (λ b second.
+      read_by k (ap answers.Truth (same_truth l r a b first second))))
 
   datum_answer : (o : Option Object) (ds : List ℕ) (j v : ℕ) → ds ≡ data_in o → slice_get ds j ≡ Some v
       → as_datum (datum_of o j) ≡ Some (answers.Datum v)
@@ -165,9 +165,9 @@ module _ {h : HeapState} {p p0 : PlainHeap} (s : IsStore h.store) (d : IsHeap h)
       ∙ ap (slice_get r.words) (omega (arith, refs)) ∙ sym word ∙ f
 
   pub datum_holds : (r j : ℕ) → Passed h t (steps.Datum r j)
-      → RowHolds h p p0 t (steps.Datum r j) (datum_outcome h t r j)
+      → RowHolds h p p0 (Thread t) (steps.Datum r j) (datum_outcome h t r j)
   unfolding datum_outcome plain_step plain_answer name_of
-  datum_holds r j g = on_named k g r _ _ (λ a names. on_datum names j _ _ _ (λ n low spot.
+  datum_holds r j g = on_named k t r _ _ (λ a names. on_datum names j _ _ _ (λ n low spot.
       on_some (word_at h.store n) _ _ _ (λ v third.
       let q = names.object in
       let read = datum_read a q names.uses.here j v low (ap (word_at h.store) spot ∙ third) in

@@ -8,11 +8,11 @@ use Rattle.model.specs.declared.steps.Answer.{Answer}
 use Rattle.model.specs.Owning.{IsStore}
 use Rattle.model.specs.Holding.{IsHeap}
 use Rattle.model.specs.Heaps.{HeapState}
-use Rattle.model.specs.Outcome.{outcome, thread_row, cross_outcome}
+use Rattle.model.specs.Outcome.{outcome, thread_gate, thread_row, cross_outcome}
 use Rattle.model.specs.Plain.{PlainHeap}
 use Rattle.refinement.specs.Standing.{Holds, StepHolds}
 use Rattle.refinement.proofs.Carrying.{RowHolds}
-use Rattle.refinement.proofs.Accepted.{accepted, of_accepted}
+use Rattle.refinement.proofs.Accepted.{accepted, of_accepted, on_has}
 use Rattle.refinement.proofs.Verdicts.{Passed, passed}
 use Rattle.refinement.proofs.Readers.{is_null_holds, same_holds, datum_holds}
 use Rattle.refinement.proofs.Writers.{give_back_holds, copy_holds, clear_holds, set_datum_holds, new_holds}
@@ -23,7 +23,7 @@ use Rattle.refinement.proofs.Ending.{trap_holds, heal_holds, finish_holds}
 use Rattle.refinement.proofs.Parking.{park_holds, unpark_holds, scrub_holds}
 
 row_holds : (h : HeapState) (p p0 : PlainHeap) (t : ℕ) (step : Step) → IsStore h.store → IsHeap h → Holds h p p0
-    → Passed h t step → RowHolds h p p0 t step (thread_row h t step)
+    → Passed h t step → RowHolds h p p0 (Thread t) step (thread_row h t step)
 unfolding cross_outcome
 row_holds h p p0 t (steps.Take n) s d k g = take_holds s d k t n g
 row_holds h p p0 t steps.GiveBack s d k g = give_back_holds s d k t
@@ -46,10 +46,16 @@ row_holds h p p0 t steps.Park s d k g = park_holds s d k t g
 row_holds h p p0 t steps.Unpark s d k g = unpark_holds s d k t g
 row_holds h p p0 t _ s d k g = tt
 
+outcome_holds : (h : HeapState) (p p0 : PlainHeap) (actor : Actor) (step : Step) → IsStore h.store → IsHeap h
+    → Holds h p p0 → RowHolds h p p0 actor step (outcome h actor step)
+unfolding outcome
+outcome_holds h p p0 (Thread t) step s d k =
+    on_has (thread_gate h t step) _ _ _ (passed h t step) (λ u g. row_holds h p p0 t step s d k g)
+outcome_holds h p p0 (Worker w) step s d k = tt
+
 pub step_holds : (h : HeapState) (p p0 : PlainHeap) (actor : Actor) (step : Step) (g : HeapState) (answer : Answer)
     → IsStore h.store → IsHeap h → Holds h p p0 → outcome h actor step ≡ accepted (g, answer)
     → StepHolds h p p0 actor step g answer
-unfolding outcome
-step_holds h p p0 (Thread t) step g answer s d k e =
-    let (passes, row) = passed h t step (g, answer) e in of_accepted _ (thread_row h t step) (g, answer) (row_holds h p p0 t step s d k passes) row
-step_holds h p p0 (Worker w) step g answer s d k e = absurd (cc)
+step_holds h p p0 actor step g answer s d k e = of_accepted
+    (λ (z : HeapState × Answer). StepHolds h p p0 actor step z.0 z.1) (outcome h actor step) (g, answer)
+    (outcome_holds h p p0 actor step s d k) e

@@ -5,6 +5,7 @@ use Rattle.std.specs.List.{slice_get}
 use Rattle.std.specs.Prelude.{Ok, Err, Result}
 use Rattle.std.proofs.Math.ListN.{length-set}
 use Rattle.std.proofs.lemmas.Bool.{ltb-false}
+use Rattle.model.specs.declared.steps.Actor.TheVariants.{Thread}
 use Rattle.model.specs.declared.steps.Step.TheVariants as steps
 use Rattle.model.specs.declared.steps.Answer.{Answer}
 use Rattle.model.specs.declared.steps.Answer.TheVariants as answers
@@ -132,7 +133,7 @@ module _ {h : HeapState} {p p0 : PlainHeap} (s : IsStore h.store) (d : IsHeap h)
       (TakeFresh (on_page h w.index) (was_unused h s d k.laid o m w.index w.frame w.page w.at w.unused w.free))))
 
   -- a buffer is taken
-  pub take_holds : (n : ℕ) → Passed h t (steps.Take n) → RowHolds h p p0 t (steps.Take n) (take_outcome h t n)
+  pub take_holds : (n : ℕ) → Passed h t (steps.Take n) → RowHolds h p p0 (Thread t) (steps.Take n) (take_outcome h t n)
   unfolding take_outcome plain_step plain_answer lent
   take_holds n g = on_test (is_some (buffer_of_thread h t)) _ _ _ (λ none.
       on_took h t (taken h.store n) _ (λ z ok.

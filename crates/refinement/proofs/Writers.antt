@@ -9,6 +9,7 @@ use Rattle.std.proofs.lemmas.Option.{same_Some}
 use Rattle.std.proofs.lemmas.Bool.{leb-false, ltb-false}
 use Rattle.layout.specs.declared.shape.Layout.{Layout}
 use Rattle.layout.specs.Objects.{size_of}
+use Rattle.model.specs.declared.steps.Actor.TheVariants.{Thread}
 use Rattle.model.specs.declared.steps.Step.TheVariants as steps
 use Rattle.model.specs.declared.steps.Answer.TheVariants as answers
 use Rattle.model.specs.declared.records.Buffer.{Buffer}
@@ -59,14 +60,14 @@ lies_of {s} (Some c) b e f = subst (LiesIn s) (same_Some _ _ e) f
 
 module _ {h : HeapState} {p p0 : PlainHeap} (s : IsStore h.store) (d : IsHeap h) (k : Holds h p p0) (t : ℕ) where
   -- a buffer is given back
-  pub give_back_holds : RowHolds h p p0 t steps.GiveBack (give_back_outcome h t)
+  pub give_back_holds : RowHolds h p p0 (Thread t) steps.GiveBack (give_back_outcome h t)
   unfolding give_back_outcome plain_step plain_answer
   give_back_holds =
       on_truth (is_some (buffer_of_thread h t)) _ _ _ (λ e. unseen_by k (given_back_carries h t k.laid) tt)
 
   -- a register gets another's word
   pub copy_holds : (r q : ℕ) → Passed h t (steps.CopyReg r q)
-      → RowHolds h p p0 t (steps.CopyReg r q) (copy_register_outcome h t r q)
+      → RowHolds h p p0 (Thread t) (steps.CopyReg r q) (copy_register_outcome h t r q)
   unfolding copy_register_outcome plain_step plain_answer
   copy_holds r q g =
       let low = is_register h r (first_false (no_register h r) (no_register h q) g.indices) in
@@ -75,7 +76,7 @@ module _ {h : HeapState} {p p0 : PlainHeap} (s : IsStore h.store) (d : IsHeap h)
 
   -- a register becomes null
   pub clear_holds : (r : ℕ) → Passed h t (steps.ClearReg r)
-      → RowHolds h p p0 t (steps.ClearReg r) (clear_register_outcome h t r)
+      → RowHolds h p p0 (Thread t) (steps.ClearReg r) (clear_register_outcome h t r)
   unfolding clear_register_outcome plain_step plain_answer
   clear_holds r g =
       let low = is_register h r g.indices in
@@ -84,9 +85,9 @@ module _ {h : HeapState} {p p0 : PlainHeap} (s : IsStore h.store) (d : IsHeap h)
 
   -- a datum is written
   pub set_datum_holds : (r j v : ℕ) → Passed h t (steps.SetDatum r j v)
-      → RowHolds h p p0 t (steps.SetDatum r j v) (set_datum_outcome h t r j v)
+      → RowHolds h p p0 (Thread t) (steps.SetDatum r j v) (set_datum_outcome h t r j v)
   unfolding set_datum_outcome plain_step plain_answer
-  set_datum_holds r j v g = on_named k g r _ _ (λ a names. on_datum names j _ _ _ (λ n low spot.
+  set_datum_holds r j v g = on_named k t r _ _ (λ a names. on_datum names j _ _ _ (λ n low spot.
       row_by k (datum_carries h s k.laid a names.object names.uses.here j n v low spot)
       (writing_follows h p (name_of p t r) j v) (SetDatum t r a names.object j v names.uses) tt))
 
@@ -133,7 +134,7 @@ module _ {h : HeapState} {p p0 : PlainHeap} (s : IsStore h.store) (d : IsHeap h)
 
   -- an object is made
   pub new_holds : (r number : ℕ) → Passed h t (steps.New r number)
-      → RowHolds h p p0 t (steps.New r number) (new_outcome h t r number)
+      → RowHolds h p p0 (Thread t) (steps.New r number) (new_outcome h t r number)
   unfolding new_outcome plain_step plain_answer
   new_holds r number g = on_some (buffer_of_thread h t) _ _ _ (λ b first.
       on_some (slice_get h.config.layouts number) _ _ _ (λ l second.
