@@ -59,8 +59,8 @@ pub record MayPlace (h : HeapState) (t target number : ℕ) (shape : Layout) (b 
   pub births : h.births < 2 ^ 32
   pub unplanned : (m : ℕ) → (world_of h).side_entry (b.page * h.store.words + b.next) ≢ Planned m
 
-module _ (h : HeapState) (s : IsStore h.store) (l : IsLaid h) (t target number : ℕ) (shape : Layout) (b : Buffer)
-    (x : ThreadState) (m : MayPlace h t target number shape b x) where
+module _ {h : HeapState} (s : IsStore h.store) (l : IsLaid h) {t target number : ℕ} {shape : Layout} {b : Buffer}
+    {x : ThreadState} (m : MayPlace h t target number shape b x) where
   -- the address of the new object
   abbrev pub address : ℕ
   address = b.page * h.store.words + b.next

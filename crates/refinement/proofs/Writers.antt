@@ -120,9 +120,9 @@ module _ {h : HeapState} {p p0 : PlainHeap} (s : IsStore h.store) (d : IsHeap h)
       → MayBeBorn (world_of h) (b.page * h.store.words + b.next) (new_object h.births number l) t number
       (replicate l.refs None) (replicate l.nums 0)
   may_be_born r number g b l m = record {
-    free = births.place_free h s k.laid t r number l b g.thread m;
+    free = births.place_free s k.laid m;
     page_open = births.open_at h b m.lies (omega (arith, m.room, m.lies.end));
-    unplanned = births.unplanned_place h s k.laid t r number l b g.thread m k.invariant.objects;
+    unplanned = births.unplanned_place s k.laid m k.invariant.objects;
     birth = refl;
     nulls = null_field l.refs;
     nones = none_field l.refs;
@@ -143,7 +143,7 @@ module _ {h : HeapState} {p p0 : PlainHeap} (s : IsStore h.store) (d : IsHeap h)
       let m = may_place r number g b l first second (ltb-false (b.end - b.next) (size_of l) room)
       (leb-false h.config.births h.births more) in
       let low = is_register h r (first_false (no_register h r) _ g.indices) in
-      row_by k (births.born_carries h s k.laid t r number l b g.thread m)
+      row_by k (births.born_carries s k.laid m)
       (born_follows k t g.thread g.there r number (slice_get h.config.layouts number) l second low)
       (New (b.page * h.store.words + b.next) (new_object h.births number l) t r number (replicate l.refs None)
       (replicate l.nums 0) (may_be_born r number g b l m)) (ap answers.Birth k.invariant.births)))))
