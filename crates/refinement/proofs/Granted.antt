@@ -64,20 +64,27 @@ granted h t i p n = record h {
   threads = changed h.threads t (set_buffer_of (Some (buffer_of i p.top n)));
 }
 
-module _ (h : HeapState) (l : IsLaid h) (t i : ℕ) (p : Page) (n : ℕ) (x : ThreadState)
-    (at : slice_get h.store.pages i ≡ Some p) (is_so : is_open p.state ≡ true) (room : p.top + n ≤ h.store.words)
-    (thread : slice_get h.threads t ≡ Some x) (had : x.buffer ≡ None) where
+-- page i + 1 is open with room for n more words, and thread t has no buffer
+pub record MayGrant (h : HeapState) (t i : ℕ) (p : Page) (n : ℕ) (x : ThreadState) : Type 0 where
+  pub at : slice_get h.store.pages i ≡ Some p
+  pub is_so : is_open p.state ≡ true
+  pub room : p.top + n ≤ h.store.words
+  pub thread : slice_get h.threads t ≡ Some x
+  pub had : x.buffer ≡ None
+  pub low : 0 < n
+
+module _ {h : HeapState} (l : IsLaid h) {t i : ℕ} {p : Page} {n : ℕ} {x : ThreadState} (w : MayGrant h t i p n x) where
   abbrev after : HeapState
   after = granted h t i p n
 
   states : (m : ℕ) → state_at after.store m ≡ state_at h.store m
   unfolding state_at
-  states = page_keeps state_in h.store after.store i p (with_more p n) at refl refl
+  states = page_keeps state_in h.store after.store i p (with_more p n) w.at refl refl
 
   words : (m : ℕ) → words_at after.store m ≡ words_at h.store m
   unfolding words_at
   words = page_keeps (λ o. option_and_then (slice_get h.store.frames) (frame_in o)) h.store after.store i p
-      (with_more p n) at refl refl
+      (with_more p n) w.at refl refl
 
   objects : (a : ℕ) → object_at after a ≡ object_at h a
   objects a = ap (λ o. object_in h.config.layouts (bit_at h.starts h.store.words a) o (a % h.store.words))
@@ -108,7 +115,7 @@ module _ (h : HeapState) (l : IsLaid h) (t i : ℕ) (p : Page) (n : ℕ) (x : Th
       (buffer_in (put (slice_get h.threads) t (option_map change (slice_get h.threads t)) v)) ≡ y)
       (λ v. extent h (OfBuffer v)) t (Some (buffer_extent h.store.words (buffer_of i p.top n)))
       (ap (λ o. option_map (buffer_extent h.store.words) (buffer_in o)) (put_same (slice_get h.threads) t
-      (option_map change (slice_get h.threads t)) ∙ ap (option_map change) thread))
+      (option_map change (slice_get h.threads t)) ∙ ap (option_map change) w.thread))
       (λ v d. ap (λ o. option_map (buffer_extent h.store.words) (buffer_in o))
       (put_other (slice_get h.threads) t (option_map change (slice_get h.threads t)) v d)) u
     where
@@ -117,16 +124,16 @@ module _ (h : HeapState) (l : IsLaid h) (t i : ℕ) (p : Page) (n : ℕ) (x : Th
 
   ends : (m : ℕ)
       → extent after (OfEnd m) ≡ end_extent h.store.words m (put (page_at h.store) (i + 1) (Some (with_more p n)) m)
-  ends m = ap (end_extent h.store.words m) (page_set h.store after.store i p (with_more p n) at refl m)
+  ends m = ap (end_extent h.store.words m) (page_set h.store after.store i p (with_more p n) w.at refl m)
 
   end_had : extent h (OfEnd (i + 1)) ≡ Some (record {
     from = (i + 1) * h.store.words + p.top;
     upto = (i + 1) * h.store.words + h.store.words;
   })
-  end_had = ap (end_extent h.store.words (i + 1)) (page_here h.store i p at) ∙ ap (λ b. cond b (Some (record {
+  end_had = ap (end_extent h.store.words (i + 1)) (page_here h.store i p w.at) ∙ ap (λ b. cond b (Some (record {
     from = (i + 1) * h.store.words + p.top;
     upto = (i + 1) * h.store.words + h.store.words;
-  })) None) is_so
+  })) None) w.is_so
 
   end_has : extent after (OfEnd (i + 1)) ≡ Some (record {
     from = (i + 1) * h.store.words + (p.top + n);
@@ -137,7 +144,7 @@ module _ (h : HeapState) (l : IsLaid h) (t i : ℕ) (p : Page) (n : ℕ) (x : Th
       ∙ ap (λ b. cond b (Some (record {
         from = (i + 1) * h.store.words + (p.top + n);
         upto = (i + 1) * h.store.words + h.store.words;
-      })) None) is_so
+      })) None) w.is_so
 
   others : (c : Claim) → (c ≡ OfEnd (i + 1)) ⊎ (c ≡ OfBuffer t) ⊎ (extent after c ≡ extent h c)
   others (OfObject a) = inr (inr (ap (option_map (sized_extent a)) (sizes a)))
@@ -161,10 +168,10 @@ module _ (h : HeapState) (l : IsLaid h) (t i : ℕ) (p : Page) (n : ℕ) (x : Th
   splits = record {
     whole = record { from = (i + 1) * h.store.words + p.top; upto = (i + 1) * h.store.words + h.store.words };
     had = end_had;
-    new = ap (λ o. option_map (buffer_extent h.store.words) (buffer_in o)) thread
-        ∙ ap (option_map (buffer_extent h.store.words)) had;
+    new = ap (λ o. option_map (buffer_extent h.store.words) (buffer_in o)) w.thread
+        ∙ ap (option_map (buffer_extent h.store.words)) w.had;
     rest = λ y e. let k = left y e in record { from = omega (arith, k.0); upto = omega (arith, k.1) };
-    part = λ y e. let k = part y e in record { from = omega (arith, k.0); upto = omega (arith, k.1, room) };
+    part = λ y e. let k = part y e in record { from = omega (arith, k.0); upto = omega (arith, k.1, w.room) };
     apart = λ y z e f. inr (let k = left y e in let g = part z f in omega (arith, k.0, g.1));
     others = others;
   }
@@ -208,16 +215,16 @@ module _ (h : HeapState) (l : IsLaid h) (t i : ℕ) (p : Page) (n : ℕ) (x : Th
   }
 
   -- the heap by addresses stays
-  pub granted_carries : 0 < n → Carries h (granted h t i p n) (λ w. w)
-  granted_carries low = record {
+  pub granted_carries : Carries h (granted h t i p n) (λ w. w)
+  granted_carries = record {
     config = refl;
     sizes = λ z. sizes_stay h after z refl refl refl refl (length_changed h.threads t change) refl refl;
     laid = λ z. granted_laid;
-    given = λ z. each_set HasGiven h.store.pages i (with_more p n) z (λ e. omega (arith, low));
-    words = λ w. record {
-      threads = each_changed (HoldsWords h.config.registers) h.threads t change w.threads
+    given = λ z. each_set HasGiven h.store.pages i (with_more p n) z (λ e. omega (arith, w.low));
+    words = λ z. record {
+      threads = each_changed (HoldsWords h.config.registers) h.threads t change z.threads
           (buffer_holds_words h.config.registers (Some (buffer_of i p.top n)));
-      globals = w.globals;
+      globals = z.globals;
     };
     roots = λ q. moved_roots h after q (length_changed h.threads t change) refl refl;
     world = granted_world;

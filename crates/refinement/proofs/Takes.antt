@@ -1,5 +1,5 @@
 -- A step that takes a buffer.
-use Rattle.std.proofs.Common.{replicate, ◌≡◌, ◌≢◌, ◌⊎◌, inl, inr, ℕ, ◌+◌, ◌-◌, ◌<◌, ◌≤◌, ◌==◌, Bool, true, false, cond}
+use Rattle.std.proofs.Common.{replicate, ◌≡◌, ◌≢◌, ◌⊎◌, inl, inr, ℕ, ◌-◌, ◌<◌, ◌≤◌, ◌==◌, Bool, false, cond}
 use Rattle.std.proofs.Common.{nat_eq, nat_lt, List, set, is_some, Some, None, refl, sym, ◌∙◌, ap, subst, arith, ne_eqb}
 use Rattle.std.specs.List.{slice_get}
 use Rattle.std.specs.Prelude.{Ok, Err, Result}
@@ -13,7 +13,7 @@ use Rattle.model.specs.declared.records.Page.{Page}
 use Rattle.model.specs.declared.records.Buffer.{Buffer}
 use Rattle.model.specs.declared.records.Room.{Room}
 use Rattle.model.specs.declared.records.Room.TheVariants.{NoFrames, NoPages}
-use Rattle.model.specs.Stores.{StoreState, taken, opened, fresh_page, buffer_of, is_unused}
+use Rattle.model.specs.Stores.{StoreState, taken, opened, fresh_page, buffer_of}
 use Rattle.model.specs.Owning.{Each, IsStore}
 use Rattle.model.specs.Holding.{IsHeap}
 use Rattle.model.specs.Heaps.{HeapState, ThreadState, buffer_of_thread, buffer_in}
@@ -27,13 +27,13 @@ use Rattle.refinement.specs.Worlds.{world_of}
 use Rattle.refinement.specs.Claims.{HasGiven}
 use Rattle.refinement.specs.Standing.{Holds}
 use Rattle.refinement.proofs.Taken.{InOpenPage, InFreshPage, ways}
-use Rattle.refinement.proofs.Opened.{opened_heap, opened_world, opened_laid, on_page, was_unused}
+use Rattle.refinement.proofs.Opened.{MayOpen, opened_heap, opened_world, opened_laid, on_page, was_unused}
 use Rattle.laws.specs.Invariant.{SoundObjects, SoundMarks}
 use Rattle.laws.specs.Edits.{open_page}
 use Rattle.refinement.specs.Claims.{IsLaid}
 use Rattle.refinement.proofs.Accepted.{OnAccepted, on_test}
 use Rattle.refinement.proofs.Carrying.{Carries, RowHolds, step_by, stays, unseen, sizes_stay, moved_roots}
-use Rattle.refinement.proofs.Granted.{granted, granted_carries, with_more}
+use Rattle.refinement.proofs.Granted.{MayGrant, granted, granted_carries, with_more}
 use Rattle.refinement.proofs.Verdicts.{Passed, first_false, second_false}
 
 -- what each element has, and the last of two that are put in one place
@@ -75,17 +75,22 @@ lent_fresh h t i f n = λ z. record (granted (opened_heap h i f) t i (fresh_page
 }
 
 -- a thread gets words of an unused page, which opens
-fresh_carries : (h : HeapState) (s : IsStore h.store) (d : IsHeap h) (l : IsLaid h) (o : SoundObjects (world_of h))
-    (m : SoundMarks (world_of h)) (t i f n : ℕ) (x : ThreadState) (q : Page) → slice_get h.threads t ≡ Some x
-    → x.buffer ≡ None → slice_get h.store.pages i ≡ Some q → is_unused q.state ≡ true
-    → slice_get h.store.owners f ≡ Some None → 0 < n → n ≤ h.store.words
+fresh_carries : {h : HeapState} (s : IsStore h.store) (d : IsHeap h) (l : IsLaid h) (o : SoundObjects (world_of h))
+    (m : SoundMarks (world_of h)) {i f : ℕ} {q : Page} (w : MayOpen h i f q) (t n : ℕ) (x : ThreadState)
+    → slice_get h.threads t ≡ Some x → x.buffer ≡ None → 0 < n → n ≤ h.store.words
     → Carries h (granted (opened_heap h i f) t i (fresh_page f) n) (open_page (on_page h i))
 unfolding opened
-fresh_carries h s d l o m t i f n x q at had there unused free low room =
-    let laid = opened_laid h s d l o m i f q there unused free in
-    let one : 0 + n ≤ h.store.words = omega (arith, room) in
-    let c = granted_carries (opened_heap h i f) laid t i (fresh_page f) n x (opened_at h.store i f q there) refl one at
-    had low in
+fresh_carries {h = h} s d l o m {i = i} {f = f} {q = q} w t n x at had low room =
+    let laid = opened_laid s d l o m w in
+    let may : MayGrant (opened_heap h i f) t i (fresh_page f) n x = record {
+      at = opened_at h.store i f q w.at;
+      is_so = refl;
+      room = omega (arith, room);
+      thread = at;
+      had = had;
+      low = low;
+    } in
+    let c = granted_carries laid may in
     record {
       config = refl;
       sizes = λ z. c.sizes (sizes_stay h (opened_heap h i f) z refl refl
@@ -95,7 +100,7 @@ fresh_carries h s d l o m t i f n x q at had there unused free low room =
           (λ e. omega (arith, low));
       words = λ w. c.words (record { threads = w.threads; globals = w.globals });
       roots = λ p r. c.roots p (moved_roots h (opened_heap h i f) p refl refl refl r);
-      world = c.world ∙ opened_world h s d l o m i f q there unused free;
+      world = c.world ∙ opened_world s d l o m w;
     }
 
 -- what the store gave out goes to the thread
@@ -111,16 +116,19 @@ module _ {h : HeapState} {p p0 : PlainHeap} (s : IsStore h.store) (d : IsHeap h)
       → n ≤ h.store.words → (z : StoreState × Buffer) → InOpenPage h.store n z ⊎ InFreshPage h.store n z
       → Holds (lent h t z.0 z.1) p p0
   lent_holds n x at had low high z (inl w) =
+      let may : MayGrant h t w.index w.page n x =
+      record { at = w.at; is_so = w.is_so; room = w.room; thread = at; had = had; low = low } in
       let same :
       (record h.store { pages = set h.store.pages w.index (with_more w.page n) }, buffer_of w.index w.page.top n)
       ≡ z = sym (given_at h.store w.index n w.page w.at) ∙ w.is in
       subst (λ (z : StoreState × Buffer). Holds (lent h t z.0 z.1) p p0) same
       (subst (λ g. Holds g p p0) (sym (lent_open h t w.index w.page n (k.given w.index w.page w.at w.is_so)))
-      (unseen (granted_carries h k.laid t w.index w.page n x w.at w.is_so w.room at had low) k))
+      (unseen (granted_carries k.laid may) k))
   lent_holds n x at had low high z (inr w) =
       let there = opened_at h.store w.index w.frame w.page w.at in
       let o = k.invariant.objects in
       let m = k.invariant.marks in
+      let may : MayOpen h w.index w.frame w.page = record { at = w.at; unused = w.unused; free = w.free } in
       let same : (
         record (opened h.store w.index w.frame) {
           pages = set (opened h.store w.index w.frame).pages w.index (with_more (fresh_page w.frame) n);
@@ -129,8 +137,8 @@ module _ {h : HeapState} {p p0 : PlainHeap} (s : IsStore h.store) (d : IsHeap h)
       ) ≡ z = sym (given_at (opened h.store w.index w.frame) w.index n (fresh_page w.frame) there) ∙ w.is in
       subst (λ (z : StoreState × Buffer). Holds (lent h t z.0 z.1) p p0) same
       (subst (λ g. Holds g p p0) (sym (lent_fresh h t w.index w.frame n)) (step_by k
-      (fresh_carries h s d k.laid o m t w.index w.frame n x w.page at had w.at w.unused w.free low high) (stays h p)
-      (TakeFresh (on_page h w.index) (was_unused h s d k.laid o m w.index w.frame w.page w.at w.unused w.free))))
+      (fresh_carries s d k.laid o m may t n x at had low high) (stays h p)
+      (TakeFresh (on_page h w.index) (was_unused s d k.laid o m may))))
 
   -- a buffer is taken
   pub take_holds : (n : ℕ) → Passed h t (steps.Take n) → RowHolds h p p0 (Thread t) (steps.Take n) (take_outcome h t n)
