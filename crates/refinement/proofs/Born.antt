@@ -37,7 +37,7 @@ use Rattle.model.proofs.Memory.{frames_stay}
 use Rattle.page.proofs.Lying.{buffer_address}
 use Rattle.refinement.specs.Roots.{HoldsWords}
 use Rattle.refinement.proofs.Rooted.{handed_holds_words}
-use Rattle.refinement.proofs.Carrying.{Carries, sizes_stay, moved_roots}
+use Rattle.refinement.proofs.Carrying.{Carries, alike}
 use Rattle.refinement.proofs.Changes.{length_changed}
 use Rattle.refinement.proofs.Registers.{register_changed}
 
@@ -383,8 +383,7 @@ module _ {h : HeapState} (s : IsStore h.store) (l : IsLaid h) {t target number :
   pub born_carries : Carries h after (born address fresh t target)
   unfolding placed with_words
   born_carries = record {
-    config = refl;
-    sizes = λ z. sizes_stay h after z refl refl (frames_stay h.store _ _) refl
+    size = alike h after refl refl (frames_stay h.store _ _) refl
         (length_changed h.threads t (handed target (Some (address, h.nmt)) rest)) refl refl;
     laid = λ z. born_laid;
     given = λ z. z;
@@ -394,7 +393,5 @@ module _ {h : HeapState} (s : IsStore h.store) (l : IsLaid h) {t target number :
           (buffer_address h.store b s m.lies (omega (arith, m.room))));
       globals = w.globals;
     };
-    roots = λ p. moved_roots h after p (length_changed h.threads t (handed target (Some (address, h.nmt)) rest)) refl
-        refl;
     world = born_world;
   }

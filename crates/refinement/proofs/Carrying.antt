@@ -23,36 +23,46 @@ use Rattle.model.proofs.Lists.{each_changed}
 use Rattle.refinement.proofs.Changes.{length_changed}
 use Rattle.refinement.proofs.Accepted.{OnAccepted}
 
--- a heap of as many threads, globals and frames has the sizes of another, where all else stays
-pub sizes_stay : (h g : HeapState) → HasSizes h → g.config ≡ h.config
-    → g.store.words ≡ h.store.words → length g.store.frames ≡ length h.store.frames → g.store.count ≡ h.store.count
-    → length g.threads ≡ length h.threads → g.workers ≡ h.workers → length g.globals ≡ length h.globals → HasSizes g
-sizes_stay h g k c w f n t x y = record {
-  words = w ∙ k.words ∙ sym (ap (λ (z : Config). z.words) c);
-  frames = f ∙ k.frames ∙ sym (ap (λ (z : Config). z.frames) c);
-  pages = n ∙ k.pages ∙ sym (ap (λ (z : Config). z.pages) c);
-  threads = t ∙ k.threads ∙ sym (ap (λ (z : Config). z.threads) c);
-  workers = ap length x ∙ k.workers ∙ sym (ap (λ (z : Config). z.workers) c);
-  globals = y ∙ k.globals ∙ sym (ap (λ (z : Config). z.globals) c);
+-- g has the configuration of h, and as much of everything
+pub record IsAlike (h g : HeapState) : Type 0 where
+  pub config : g.config ≡ h.config
+  pub words : g.store.words ≡ h.store.words
+  pub frames : length g.store.frames ≡ length h.store.frames
+  pub pages : g.store.count ≡ h.store.count
+  pub threads : length g.threads ≡ length h.threads
+  pub workers : length g.workers ≡ length h.workers
+  pub globals : length g.globals ≡ length h.globals
+
+pub alike : (h g : HeapState) → g.config ≡ h.config → g.store.words ≡ h.store.words
+    → length g.store.frames ≡ length h.store.frames → g.store.count ≡ h.store.count
+    → length g.threads ≡ length h.threads → length g.workers ≡ length h.workers
+    → length g.globals ≡ length h.globals → IsAlike h g
+alike h g c w f n t k x =
+    record { config = c; words = w; frames = f; pages = n; threads = t; workers = k; globals = x }
+
+has_sizes : {h g : HeapState} → IsAlike h g → HasSizes h → HasSizes g
+has_sizes a k = record {
+  words = a.words ∙ k.words ∙ sym (ap (λ (z : Config). z.words) a.config);
+  frames = a.frames ∙ k.frames ∙ sym (ap (λ (z : Config). z.frames) a.config);
+  pages = a.pages ∙ k.pages ∙ sym (ap (λ (z : Config). z.pages) a.config);
+  threads = a.threads ∙ k.threads ∙ sym (ap (λ (z : Config). z.threads) a.config);
+  workers = a.workers ∙ k.workers ∙ sym (ap (λ (z : Config). z.workers) a.config);
+  globals = a.globals ∙ k.globals ∙ sym (ap (λ (z : Config). z.globals) a.config);
 }
 
--- the roots of a heap that has as many threads and globals
-pub moved_roots : (h g : HeapState) (p : PlainHeap) → length g.threads ≡ length h.threads
-    → g.config.registers ≡ h.config.registers → length g.globals ≡ length h.globals → HasRootsOf h p → HasRootsOf g p
-moved_roots h g p e f n k = record {
-  threads = k.threads ∙ sym e;
-  registers = λ i x a. k.registers i x a ∙ sym f;
-  globals = k.globals ∙ sym n;
+has_roots : {h g : HeapState} {p : PlainHeap} → IsAlike h g → HasRootsOf h p → HasRootsOf g p
+has_roots a k = record {
+  threads = k.threads ∙ sym a.threads;
+  registers = λ i x e. k.registers i x e ∙ sym (ap (λ (z : Config). z.registers) a.config);
+  globals = k.globals ∙ sym a.globals;
 }
 
 -- where h is kept, g is, and the heap by addresses of g is that of h with the edit e
 pub record Carries (h g : HeapState) (e : AddressHeap → AddressHeap) : Type 0 where
-  pub config : g.config ≡ h.config
-  pub sizes : HasSizes h → HasSizes g
+  pub size : IsAlike h g
   pub laid : IsLaid h → IsLaid g
   pub given : Each h.store.pages HasGiven → Each g.store.pages HasGiven
   pub words : HasWords h → HasWords g
-  pub roots : (p : PlainHeap) → HasRootsOf h p → HasRootsOf g p
   pub world : world_of g ≡ e (world_of h)
 
 -- the plain heap q has the roots that p has, and is the births b
@@ -71,26 +81,25 @@ agrees f same = record { roots = f.roots; births = f.births ∙ same }
 -- the same edit, said in another way
 pub becomes : {h g : HeapState} {e : AddressHeap → AddressHeap} (c : Carries h g e)
     (f : AddressHeap → AddressHeap) → e (world_of h) ≡ f (world_of h) → Carries h g f
-becomes c f same = record {
-  config = c.config;
-  sizes = c.sizes;
-  laid = c.laid;
-  given = c.given;
-  words = c.words;
-  roots = c.roots;
-  world = c.world ∙ same;
-}
+becomes c f same =
+    record { size = c.size; laid = c.laid; given = c.given; words = c.words; world = c.world ∙ same }
 
 -- one edit, and then another
 pub and_then : {h g k : HeapState} {e f : AddressHeap → AddressHeap} → Carries h g e → Carries g k f
     → Carries h k (λ w. f (e w))
 and_then {f = f} c d = record {
-  config = d.config ∙ c.config;
-  sizes = λ z. d.sizes (c.sizes z);
+  size = record {
+    config = d.size.config ∙ c.size.config;
+    words = d.size.words ∙ c.size.words;
+    frames = d.size.frames ∙ c.size.frames;
+    pages = d.size.pages ∙ c.size.pages;
+    threads = d.size.threads ∙ c.size.threads;
+    workers = d.size.workers ∙ c.size.workers;
+    globals = d.size.globals ∙ c.size.globals;
+  };
   laid = λ z. d.laid (c.laid z);
   given = λ z. d.given (c.given z);
   words = λ z. d.words (c.words z);
-  roots = λ p z. d.roots p (c.roots p z);
   world = d.world ∙ ap f c.world;
 }
 
@@ -101,28 +110,30 @@ pub thread_carries : (h : HeapState) (t : ℕ) (f : ThreadState → ThreadState)
     → world_of (record h { threads = changed h.threads t f }) ≡ e (world_of h)
     → Carries h (record h { threads = changed h.threads t f }) e
 thread_carries h t f e laid words world = record {
-  config = refl;
-  sizes = λ z. sizes_stay h (record h { threads = changed h.threads t f }) z refl refl refl refl
-      (length_changed h.threads t f) refl refl;
+  size = alike h (record h { threads = changed h.threads t f }) refl refl refl refl (length_changed h.threads t f) refl
+      refl;
   laid = laid;
   given = λ z. z;
   words = λ w. record {
     threads = each_changed (HoldsWords h.config.registers) h.threads t f w.threads words;
     globals = w.globals;
   };
-  roots = λ p. moved_roots h (record h { threads = changed h.threads t f }) p (length_changed h.threads t f) refl refl;
   world = world;
 }
+
+-- the invariant of other heaps that are these
+pub moved : (w v : AddressHeap) (p q p0 : BirthHeap) → v ≡ w → q ≡ p → Invariant w p p0 → Invariant v q p0
+moved w v p q p0 e f i = subst (λ x. Invariant x q p0) (sym e) (subst (λ x. Invariant w x p0) (sym f) i)
 
 -- an edit that the heap by addresses doesn't see
 pub unseen : {h g : HeapState} {p p0 : PlainHeap} → Carries h g (λ w. w) → Holds h p p0 → Holds g p p0
 unseen {p = p} {p0 = p0} c k = record {
-  sizes = c.sizes k.sizes;
+  sizes = has_sizes c.size k.sizes;
   laid = c.laid k.laid;
   given = c.given k.given;
   words = c.words k.words;
-  roots = c.roots p k.roots;
-  invariant = subst (λ w. Invariant w (births_of p) (births_of p0)) (sym c.world) k.invariant;
+  roots = has_roots c.size k.roots;
+  invariant = moved _ _ _ _ (births_of p0) c.world refl k.invariant;
 }
 
 -- an edit that is a transition of the laws
@@ -130,13 +141,12 @@ pub step_by : {h g : HeapState} {e : AddressHeap → AddressHeap} {p p0 q q0 : P
     → Holds h p p0 → Carries h g e → Follows h p q b
     → Transition (world_of h) (births_of p) (births_of p0) (e (world_of h)) b (births_of q0) → Holds g q q0
 step_by {h = h} {e = e} {p = p} {p0 = p0} {q = q} {q0 = q0} k c f step = record {
-  sizes = c.sizes k.sizes;
+  sizes = has_sizes c.size k.sizes;
   laid = c.laid k.laid;
   given = c.given k.given;
   words = c.words k.words;
-  roots = c.roots q (f.roots k.roots);
-  invariant = subst (λ w. Invariant w (births_of q) (births_of q0)) (sym c.world) (subst
-      (λ x. Invariant (e (world_of h)) x (births_of q0)) (sym f.births) (transition_keeps _ _ _ _ _ _ k.invariant step));
+  roots = has_roots c.size (f.roots k.roots);
+  invariant = moved _ _ _ _ (births_of q0) c.world f.births (transition_keeps _ _ _ _ _ _ k.invariant step);
 }
 
 -- a row keeps what stands
@@ -149,13 +159,13 @@ pub row_by : {h g : HeapState} {e : AddressHeap → AddressHeap} {p p0 : PlainHe
     → Holds h p p0 → Carries h g e → Follows h p (plain_step h.config.layouts p actor step) b
     → Transition (world_of h) (births_of p) (births_of p0) (e (world_of h)) b (births_of (kept_at_mark p p0 step))
     → AnswersPlain (plain_answer p actor step) answer → StepHolds h p p0 actor step g answer
-row_by k c f step a = record { config = c.config; holds = step_by k c f step; answers = a }
+row_by k c f step a = record { config = c.size.config; holds = step_by k c f step; answers = a }
 
 -- a step whose edit the heap by addresses doesn't see, and that leaves the plain heap
 pub unseen_by : {h g : HeapState} {p p0 : PlainHeap} {actor : Actor} {step : Step} {answer : Answer}
     → Holds h (plain_step h.config.layouts p actor step) (kept_at_mark p p0 step) → Carries h g (λ w. w)
     → AnswersPlain (plain_answer p actor step) answer → StepHolds h p p0 actor step g answer
-unseen_by k c a = record { config = c.config; holds = unseen c k; answers = a }
+unseen_by k c a = record { config = c.size.config; holds = unseen c k; answers = a }
 
 -- a step that changes nothing
 pub read_by : {h : HeapState} {p p0 : PlainHeap} {actor : Actor} {step : Step} {answer : Answer}

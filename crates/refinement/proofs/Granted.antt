@@ -25,7 +25,7 @@ use Rattle.refinement.specs.Claims.{HasGiven}
 use Rattle.refinement.specs.Roots.{HoldsWords}
 use Rattle.refinement.proofs.Changes.{length_changed}
 use Rattle.refinement.proofs.Rooted.{buffer_holds_words}
-use Rattle.refinement.proofs.Carrying.{Carries, sizes_stay, moved_roots}
+use Rattle.refinement.proofs.Carrying.{Carries, alike}
 use Rattle.refinement.proofs.Claims.{Splits, split_apart}
 
 -- the pages of a store whose record of an index is replaced
@@ -217,8 +217,7 @@ module _ {h : HeapState} (l : IsLaid h) {t i : ℕ} {p : Page} {n : ℕ} {x : Th
   -- the heap by addresses stays
   pub granted_carries : Carries h (granted h t i p n) (λ w. w)
   granted_carries = record {
-    config = refl;
-    sizes = λ z. sizes_stay h after z refl refl refl refl (length_changed h.threads t change) refl refl;
+    size = alike h after refl refl refl refl (length_changed h.threads t change) refl refl;
     laid = λ z. granted_laid;
     given = λ z. each_set HasGiven h.store.pages i (with_more p n) z (λ e. omega (arith, w.low));
     words = λ z. record {
@@ -226,7 +225,6 @@ module _ {h : HeapState} (l : IsLaid h) {t i : ℕ} {p : Page} {n : ℕ} {x : Th
           (buffer_holds_words h.config.registers (Some (buffer_of i p.top n)));
       globals = z.globals;
     };
-    roots = λ q. moved_roots h after q (length_changed h.threads t change) refl refl;
     world = granted_world;
   }
     where

@@ -32,7 +32,7 @@ use Rattle.laws.specs.Invariant.{SoundObjects, SoundMarks}
 use Rattle.laws.specs.Edits.{open_page}
 use Rattle.refinement.specs.Claims.{IsLaid}
 use Rattle.refinement.proofs.Accepted.{OnAccepted, on_test}
-use Rattle.refinement.proofs.Carrying.{Carries, RowHolds, step_by, stays, unseen, sizes_stay, moved_roots}
+use Rattle.refinement.proofs.Carrying.{Carries, RowHolds, step_by, stays, unseen, alike}
 use Rattle.refinement.proofs.Granted.{MayGrant, granted, granted_carries, with_more}
 use Rattle.refinement.proofs.Verdicts.{Passed, first_false, second_false}
 
@@ -92,14 +92,12 @@ fresh_carries {h = h} s d l o m {i = i} {f = f} {q = q} w t n x at had low room 
     } in
     let c = granted_carries laid may in
     record {
-      config = refl;
-      sizes = λ z. c.sizes (sizes_stay h (opened_heap h i f) z refl refl
-          (length-set h.store.frames f (replicate h.store.words 0)) refl refl refl refl);
+      size = alike h (granted (opened_heap h i f) t i (fresh_page f) n) refl refl
+          (length-set h.store.frames f (replicate h.store.words 0)) refl c.size.threads refl refl;
       laid = λ z. c.laid laid;
       given = λ z. each_set_again HasGiven h.store.pages i (fresh_page f) (with_more (fresh_page f) n) z
           (λ e. omega (arith, low));
       words = λ w. c.words (record { threads = w.threads; globals = w.globals });
-      roots = λ p r. c.roots p (moved_roots h (opened_heap h i f) p refl refl refl r);
       world = c.world ∙ opened_world s d l o m w;
     }
 

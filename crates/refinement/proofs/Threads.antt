@@ -21,7 +21,7 @@ use Rattle.refinement.specs.Roots.{IsLoad}
 use Rattle.refword.specs.Words.{IsWord}
 use Rattle.laws.specs.Effects.{set_register}
 use Rattle.refinement.proofs.Rooted.{register_holds_words, barrier_holds_words, loaded_holds_words, parked_holds_words}
-use Rattle.refinement.proofs.Carrying.{Carries, thread_carries, sizes_stay, moved_roots}
+use Rattle.refinement.proofs.Carrying.{Carries, thread_carries, alike}
 
 -- a change that leaves a thread's buffer, and how many registers it has
 record KeepsShape (f : ThreadState → ThreadState) : Type 0 where
@@ -163,8 +163,7 @@ pub global_carries : (h : HeapState) (g : ℕ) (w : Reference) → IsWord w → 
     → Carries h (with_global h g w) (set_global g (as_word w))
 unfolding with_global
 global_carries h g w word low = record {
-  config = refl;
-  sizes = λ z. sizes_stay h (record h { globals = changed h.globals g (set_word_of w) }) z refl refl refl refl refl refl
+  size = alike h (record h { globals = changed h.globals g (set_word_of w) }) refl refl refl refl refl refl
       (length_changed h.globals g (set_word_of w));
   laid = global_laid h g w;
   given = λ z. z;
@@ -172,7 +171,5 @@ global_carries h g w word low = record {
     threads = z.threads;
     globals = each_changed (λ x. IsWord x.word) h.globals g (set_word_of w) z.globals (λ x e. word);
   };
-  roots = λ p. moved_roots h (record h { globals = changed h.globals g (set_word_of w) }) p refl refl
-      (length_changed h.globals g (set_word_of w));
   world = let (x, at) = get_within h.globals g low in global_world h g x w at;
 }

@@ -21,9 +21,7 @@ use Rattle.model.specs.Heaps.{buffer_of_thread, buffer_in}
 use Rattle.model.specs.Outcome.{set_datum_outcome, copy_register_outcome, clear_register_outcome, give_back_outcome}
 use Rattle.model.specs.Outcome.{new_outcome, no_register}
 use Rattle.model.specs.Plain.{PlainHeap, plain_step, plain_answer, name_of}
-use Rattle.laws.specs.AddressHeap.{AddressHeap, Word, Null}
-use Rattle.laws.specs.BirthHeap.{BirthHeap}
-use Rattle.laws.specs.Invariant.{Invariant}
+use Rattle.laws.specs.AddressHeap.{Word, Null}
 use Rattle.laws.specs.Transitions.{SetDatum, CopyReg, ClearReg, New, MayBeBorn}
 use Rattle.refinement.specs.Worlds.{world_of}
 use Rattle.refinement.specs.Standing.{Holds}
@@ -39,10 +37,6 @@ use Rattle.refinement.proofs.Births.{naming_follows, writing_follows, born_follo
 use Rattle.refinement.proofs.Verdicts.{Passed, first_false, closed_barrier, is_register}
 use Rattle.refinement.proofs.Readers.{on_named, on_datum}
 use Rattle.model.specs.Stores.{StoreState}
-
--- the invariant of other heaps that are these
-pub moved : (w v : AddressHeap) (p q p0 : BirthHeap) → v ≡ w → q ≡ p → Invariant w p p0 → Invariant v q p0
-moved w v p q p0 e f i = subst (λ x. Invariant x q p0) (sym e) (subst (λ x. Invariant w x p0) (sym f) i)
 
 null_field : (n j : ℕ) → get_or (replicate n Null) j Null ≡ Null
 null_field zero j = refl

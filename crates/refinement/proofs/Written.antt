@@ -24,7 +24,7 @@ use Rattle.model.proofs.Memory.{frames_stay}
 use Rattle.refword.specs.Words.{IsWord, bits_of}
 use Rattle.refword.proofs.Reading.{reads_back}
 use Rattle.refinement.specs.Worlds.{as_word, as_read}
-use Rattle.refinement.proofs.Carrying.{Carries, becomes, sizes_stay, moved_roots}
+use Rattle.refinement.proofs.Carrying.{Carries, becomes, alike}
 use Rattle.refinement.proofs.Runs.{Agree}
 use Rattle.refinement.proofs.Reading.{IsRead, read_refs, read_data, read_fits, read_datum, read_field}
 use Rattle.refinement.proofs.Objects.{Rewrites, IsThere, there, rewritten}
@@ -168,12 +168,10 @@ module _ (h : HeapState) (s : IsStore h.store) (l : IsLaid h) (a : ℕ) (q : Hea
     written_carries : Carries h after (set_object a p)
     unfolding with_word with_words
     written_carries = record {
-      config = refl;
-      sizes = λ z. sizes_stay h after z refl refl (frames_stay h.store _ _) refl refl refl refl;
+      size = alike h after refl refl (frames_stay h.store _ _) refl refl refl refl;
       laid = λ z. written_laid;
       given = λ z. z;
       words = λ z. record { threads = z.threads; globals = z.globals };
-      roots = λ x. moved_roots h after x refl refl refl;
       world = written_world;
     }
 
