@@ -1,24 +1,23 @@
 -- The steps of the model's plain heap are those of the laws' plain heap.
-use Rattle.std.proofs.Common.{◌≡◌, ◌≢◌, ℕ, zero, suc, ◌<◌, List, [], ◌∷◌, ◌++◌, length, set}
-use Rattle.std.proofs.Common.{replicate, Option, Some, None, refl, sym, ◌∙◌, ap, subst, arith, length-append}
-use mathlib.Core.Path.{fun_ext}
+use Rattle.std.proofs.Common.{◌≡◌, ◌≢◌, ℕ, zero, suc, ◌<◌, List, [], ◌∷◌, ◌++◌, length, set, replicate, Option, Some}
+use Rattle.std.proofs.Common.{None, refl, sym, ◌∙◌, ap, subst, arith, length-append}
 use Rattle.std.specs.List.{slice_get}
 use Rattle.std.specs.Option.{option_map}
 use Rattle.std.proofs.Math.ListN.{length-set}
+use Rattle.std.proofs.lemmas.Option.{slice_get_within}
+use mathlib.Core.Path.{fun_ext}
 use Rattle.layout.specs.declared.shape.Layout.{Layout}
-use Rattle.model.specs.Heaps.{HeapState, flat, changed}
-use Rattle.model.specs.Plain.{PlainHeap, PlainThread, Object, name_of, name_in, naming, set_name}
-use Rattle.model.specs.Plain.{born, blank_object, storing, set_field, writing, set_datum}
-use Rattle.model.specs.Plain.{Pending, pending_in, loading, start_load, finishing, end_load}
+use Rattle.model.specs.Heaps.{HeapState, flat, changed, ThreadState}
+use Rattle.model.specs.Plain.{PlainHeap, PlainThread, Object, name_of, name_in, naming, set_name, born, blank_object}
+use Rattle.model.specs.Plain.{storing, set_field, writing, set_datum, Pending, pending_in, loading, start_load}
+use Rattle.model.specs.Plain.{finishing, end_load}
+use Rattle.model.specs.Owning.{Each}
 use Rattle.model.proofs.Lists.{get_set_same, get_set_other, get_within, each_changed}
 use Rattle.laws.specs.AddressHeap.{put, put_at}
 use Rattle.laws.specs.Edits.{plain_born, plain_set_pending, plain_end_load, plain_set_global}
 use Rattle.laws.specs.Effects.{plain_set_register, datum_at, store_at}
 use Rattle.laws.proofs.Basics.{put_all, put_same, put_other, put_id}
 use Rattle.refinement.specs.Births.{births_of, layout_in, refs_in, data_in, as_pair, HasRootsOf}
-use Rattle.model.specs.Owning.{Each}
-use Rattle.model.specs.Heaps.{ThreadState}
-use Rattle.std.proofs.lemmas.Option.{slice_get_within}
 use Rattle.refinement.specs.Standing.{Holds}
 use Rattle.refinement.proofs.Carrying.{Follows, stays}
 use Rattle.refinement.proofs.Runs.{get_second}

@@ -1,14 +1,14 @@
 -- An object that is made in a buffer is born.
-use Rattle.std.proofs.Common.{◌≡◌, ◌≢◌, ◌⊎◌, inl, inr, ℕ, suc, ◌+◌, ◌-◌, ◌*◌, ◌/◌, ◌%◌, ◌^◌}
-use Rattle.std.proofs.Common.{◌<◌, ◌≤◌, Bool, true, List, length, Option, Some, None, refl}
-use Rattle.std.proofs.Common.{sym, ◌∙◌, ap, ap₂, subst, arith, div-add-mod', replicate}
-use mathlib.Core.Path.{fun_ext}
+use Rattle.std.proofs.Common.{◌≡◌, ◌≢◌, ◌⊎◌, inl, inr, ℕ, suc, ◌+◌, ◌-◌, ◌*◌, ◌/◌, ◌%◌, ◌^◌, ◌<◌, ◌≤◌, Bool, true}
+use Rattle.std.proofs.Common.{List, length, Option, Some, None, refl, sym, ◌∙◌, ap, ap₂, subst, arith, div-add-mod'}
+use Rattle.std.proofs.Common.{replicate}
 use Rattle.std.specs.List.{slice_get}
 use Rattle.std.specs.Option.{option_map}
 use Rattle.std.proofs.Math.ListN.{length-set, length-replicate}
 use Rattle.std.proofs.lemmas.Nat.{div-mul-add, mod-mul-add}
 use Rattle.std.proofs.lemmas.Option.{slice_get_within, same_Some}
 use Rattle.std.proofs.lemmas.Bool.{cases_eq}
+use mathlib.Core.Path.{fun_ext}
 use Rattle.layout.specs.declared.shape.Layout.{Layout}
 use Rattle.layout.specs.Objects.{size_of}
 use Rattle.model.specs.declared.records.Page.{Page}
@@ -20,7 +20,8 @@ use Rattle.model.specs.Owning.{IsStore, LiesIn}
 use Rattle.model.specs.Heaps.{HeapState, ThreadState, register_of, buffer_in, changed, put_bit, fresh_object}
 use Rattle.model.specs.Outcome.{placed, handed, used_buffer, has_crossed, is_parked_in}
 use Rattle.model.proofs.Lists.{get_within, each_changed}
-use Rattle.model.proofs.Memory.{open_state, words_sized, memory_words, page_there, length_overlaid}
+use Rattle.model.proofs.Memory.{open_state, words_sized, memory_words, page_there, length_overlaid, frames_stay}
+use Rattle.page.proofs.Lying.{buffer_address}
 use Rattle.laws.specs.AddressHeap.{HeapObject, Word, Null, SideEntry, NoEntry, Planned, Copied, put}
 use Rattle.laws.specs.Invariant.{SoundObjects}
 use Rattle.laws.specs.Edits.{born}
@@ -28,18 +29,15 @@ use Rattle.laws.proofs.Basics.{put_all, put_after, put_same, put_other}
 use Rattle.refinement.specs.Worlds.{world_of, object_at, bit_at, barrier_in}
 use Rattle.refinement.specs.Claims.{IsLaid, AreRows, AreApart, Claim, OfObject, OfBuffer, OfPlan, OfEnd, Extent}
 use Rattle.refinement.specs.Claims.{extent, object_size, size_at, sized_extent, planned_extent, buffer_extent}
+use Rattle.refinement.specs.Roots.{HoldsWords}
+use Rattle.refinement.proofs.Carrying.{Carries, alike}
 use Rattle.refinement.proofs.Runs.{Agree, overlaid_before, overlaid_behind}
 use Rattle.refinement.proofs.Reading.{IsRead, read_fits, read_fresh, new_object}
 use Rattle.refinement.proofs.Objects.{Rewrites, there, rewritten}
-use Rattle.refinement.proofs.Changes.{get_changed, kept_of, rows_changed, length_put, bit_put}
 use Rattle.refinement.proofs.Claims.{object_extent, Splits, split_apart}
-use Rattle.model.proofs.Memory.{frames_stay}
-use Rattle.page.proofs.Lying.{buffer_address}
-use Rattle.refinement.specs.Roots.{HoldsWords}
-use Rattle.refinement.proofs.Rooted.{handed_holds_words}
-use Rattle.refinement.proofs.Carrying.{Carries, alike}
-use Rattle.refinement.proofs.Changes.{length_changed}
+use Rattle.refinement.proofs.Changes.{get_changed, kept_of, rows_changed, length_put, bit_put, length_changed}
 use Rattle.refinement.proofs.Registers.{register_changed}
+use Rattle.refinement.proofs.Rooted.{handed_holds_words}
 
 -- a buffer's page is open
 pub open_at : (h : HeapState) (b : Buffer) → LiesIn h.store b → b.next < h.store.words

@@ -9,6 +9,7 @@ use Rattle.model.specs.Holding.{HasSizes}
 use Rattle.model.specs.Heaps.{HeapState, ThreadState, changed}
 use Rattle.model.specs.Refusing.{Outcome}
 use Rattle.model.specs.Plain.{PlainHeap, plain_step, plain_answer}
+use Rattle.model.proofs.Lists.{each_changed}
 use Rattle.laws.specs.AddressHeap.{AddressHeap}
 use Rattle.laws.specs.BirthHeap.{BirthHeap}
 use Rattle.laws.specs.Invariant.{Invariant}
@@ -19,9 +20,8 @@ use Rattle.refinement.specs.Births.{births_of, HasRootsOf}
 use Rattle.refinement.specs.Claims.{IsLaid, HasGiven}
 use Rattle.refinement.specs.Roots.{HoldsWords, HasWords}
 use Rattle.refinement.specs.Standing.{Holds, StepHolds, AnswersPlain, kept_at_mark}
-use Rattle.model.proofs.Lists.{each_changed}
-use Rattle.refinement.proofs.Changes.{length_changed}
 use Rattle.refinement.proofs.Accepted.{OnAccepted}
+use Rattle.refinement.proofs.Changes.{length_changed}
 
 -- g has the configuration of h, and as much of everything
 pub record IsAlike (h g : HeapState) : Type 0 where

@@ -1,10 +1,10 @@
 -- Steps of an open barrier: a trap that isn't due, the place healed, and the load's end.
-use Rattle.std.proofs.Common.{◌≡◌, ℕ, ◌+◌, Bool, true, false, cond, length}
-use Rattle.std.proofs.Common.{Option, Some, None, refl, sym, ◌∙◌, ap, subst, arith}
+use Rattle.std.proofs.Common.{◌≡◌, ℕ, ◌+◌, Bool, true, false, cond, length, Option, Some, None, refl, sym, ◌∙◌, ap}
+use Rattle.std.proofs.Common.{subst, arith}
 use Rattle.std.specs.List.{slice_get}
 use Rattle.std.specs.Prelude.{Ok}
 use Rattle.std.specs.Option.{option_map}
-use Rattle.std.proofs.lemmas.Option.{same_Some}
+use Rattle.std.proofs.lemmas.Option.{same_Some, none-some}
 use Rattle.std.proofs.lemmas.Bool.{ltb-true, eqb-true}
 use Rattle.refword.specs.Words.{IsWord, bits_of}
 use Rattle.model.specs.declared.steps.Actor.TheVariants.{Thread}
@@ -17,12 +17,12 @@ use Rattle.model.specs.declared.records.Place.TheVariants as places
 use Rattle.model.specs.Stores.{word_at}
 use Rattle.model.specs.Owning.{IsStore}
 use Rattle.model.specs.Holding.{IsHeap}
-use Rattle.model.specs.Heaps.{HeapState, ThreadState, Reference, barrier_of, barrier_of_thread}
-use Rattle.model.specs.Heaps.{with_barrier, with_loaded, with_global}
-use Rattle.model.specs.Heaps.{with_place, field_address, global_of, stored}
+use Rattle.model.specs.Heaps.{HeapState, ThreadState, Reference, barrier_of, barrier_of_thread, with_barrier}
+use Rattle.model.specs.Heaps.{with_loaded, with_global, with_place, field_address, global_of, stored}
 use Rattle.model.specs.Outcome.{trap_outcome, heal_outcome, heal_place, end_load, finish_outcome, trap_due}
 use Rattle.model.specs.Outcome.{gc_trap_due, nmt_trap_due, may_finish, bits_at, are_bits_of, healed}
 use Rattle.model.specs.Plain.{PlainHeap, Pending, plain_step, plain_answer, pending_in, finishing}
+use Rattle.refword.proofs.Reading.{reads_back}
 use Rattle.laws.specs.AddressHeap.{field}
 use Rattle.laws.specs.Invariant.{IsPlace}
 use Rattle.laws.specs.Effects.{with_field, finish_at}
@@ -34,12 +34,10 @@ use Rattle.refinement.specs.Worlds.{world_of, as_word, as_read, as_barrier, as_p
 use Rattle.refinement.specs.Births.{births_of, as_pair}
 use Rattle.refinement.specs.Roots.{IsLoad}
 use Rattle.refinement.specs.Standing.{Holds, StepHolds}
-use Rattle.refword.proofs.Reading.{reads_back}
-use Rattle.std.proofs.lemmas.Option.{none-some}
 use Rattle.refinement.proofs.Accepted.{OnAccepted, on_some, on_test, on_truth}
 use Rattle.refinement.proofs.Carrying.{RowHolds, step_by, read_by, and_then, agrees, stays}
-use Rattle.refinement.proofs.Threads.{barrier_carries, loaded_carries, global_carries}
 use Rattle.refinement.proofs.Written.{field_carries}
+use Rattle.refinement.proofs.Threads.{barrier_carries, loaded_carries, global_carries}
 use Rattle.refinement.proofs.Rooted.{load_there, global_word, stored_again}
 use Rattle.refinement.proofs.Births.{finishing_follows}
 use Rattle.refinement.proofs.Verdicts.{second_false}

@@ -1,32 +1,30 @@
 -- A thread gets words of an open page as its buffer: the objects stay, and the free end of the page is split.
-use Rattle.std.proofs.Common.{◌≡◌, ◌≢◌, ◌⊎◌, inl, inr, ℕ, ◌+◌, ◌-◌, ◌*◌, ◌/◌, ◌%◌, ◌<◌, ◌≤◌, Bool, true, List}
-use Rattle.std.proofs.Common.{length, set, Option, Some, None, refl, sym, ◌∙◌, ap, ap₂, arith, cond}
-use mathlib.Core.Path.{fun_ext}
+use Rattle.std.proofs.Common.{◌≡◌, ◌≢◌, ◌⊎◌, inl, inr, ℕ, ◌+◌, ◌-◌, ◌*◌, ◌/◌, ◌%◌, ◌<◌, ◌≤◌, Bool, true, List, length}
+use Rattle.std.proofs.Common.{set, Option, Some, None, refl, sym, ◌∙◌, ap, ap₂, arith, cond}
 use Rattle.std.specs.List.{slice_get}
 use Rattle.std.specs.Option.{option_map, option_and_then}
 use Rattle.std.proofs.Math.ListN.{length-set}
 use Rattle.std.proofs.lemmas.Bool.{cases_eq}
 use Rattle.std.proofs.lemmas.Option.{same_Some}
+use mathlib.Core.Path.{fun_ext}
 use Rattle.model.specs.declared.records.Page.{Page}
-use Rattle.model.specs.Stores.{StoreState, words_at, state_at, state_in}
-use Rattle.model.specs.Stores.{frame_in, page_at, has_memory, is_open, buffer_of}
+use Rattle.model.specs.Stores.{StoreState, words_at, state_at, state_in, frame_in, page_at, has_memory, is_open}
+use Rattle.model.specs.Stores.{buffer_of}
 use Rattle.model.specs.Heaps.{HeapState, ThreadState, register_of, register_in, buffer_in, changed, set_buffer_of}
-use Rattle.model.proofs.Lists.{get_set_same, get_set_other, each_changed}
-use Rattle.page.proofs.Keeping.{page_at_record, page_at_zero}
 use Rattle.model.specs.Outcome.{has_crossed, is_parked_in}
+use Rattle.model.proofs.Lists.{get_set_same, get_set_other, each_changed, each_set}
+use Rattle.page.proofs.Keeping.{page_at_record, page_at_zero}
 use Rattle.laws.specs.AddressHeap.{put}
 use Rattle.laws.proofs.Basics.{put_all, put_same, put_other}
 use Rattle.refinement.specs.Worlds.{world_of, object_at, object_in, bit_at, as_word, barrier_in}
 use Rattle.refinement.specs.Claims.{IsLaid, AreRows, Claim, OfObject, OfBuffer, OfPlan, OfEnd, Extent, extent}
 use Rattle.refinement.specs.Claims.{object_size, sized_extent, planned_extent, buffer_extent, end_extent, size_at}
-use Rattle.refinement.proofs.Changes.{get_changed, kept_of}
-use Rattle.model.proofs.Lists.{each_set}
 use Rattle.refinement.specs.Claims.{HasGiven}
 use Rattle.refinement.specs.Roots.{HoldsWords}
-use Rattle.refinement.proofs.Changes.{length_changed}
-use Rattle.refinement.proofs.Rooted.{buffer_holds_words}
 use Rattle.refinement.proofs.Carrying.{Carries, alike}
 use Rattle.refinement.proofs.Claims.{Splits, split_apart}
+use Rattle.refinement.proofs.Changes.{get_changed, kept_of, length_changed}
+use Rattle.refinement.proofs.Rooted.{buffer_holds_words}
 
 -- the pages of a store whose record of an index is replaced
 pub page_set : (s r : StoreState) (i : ℕ) (p q : Page) → slice_get s.pages i ≡ Some p → r.pages ≡ set s.pages i q

@@ -1,10 +1,10 @@
 -- Steps that begin a load: of a field, or of a global.
-use Rattle.std.proofs.Common.{◌≡◌, ℕ, ◌+◌, ◌%◌, ◌<◌, length, get_or, Option}
-use Rattle.std.proofs.Common.{Some, None, false, refl, sym, ◌∙◌, ap, subst, arith}
+use Rattle.std.proofs.Common.{◌≡◌, ℕ, ◌+◌, ◌%◌, ◌<◌, length, get_or, Option, Some, None, false, refl, sym, ◌∙◌, ap}
+use Rattle.std.proofs.Common.{subst, arith}
 use Rattle.std.specs.List.{slice_get}
 use Rattle.std.proofs.lemmas.Option.{get_or_from_slice_get, none-some}
 use Rattle.std.proofs.Math.Nat.{zero-div}
-use Rattle.refword.specs.Words.{read_word}
+use Rattle.refword.specs.Words.{read_word, IsWord}
 use Rattle.model.specs.declared.steps.Actor.TheVariants.{Thread}
 use Rattle.model.specs.declared.steps.Step.TheVariants as steps
 use Rattle.model.specs.declared.records.Global.{Global}
@@ -12,31 +12,27 @@ use Rattle.model.specs.declared.records.Place.TheVariants as places
 use Rattle.model.specs.Stores.{word_at}
 use Rattle.model.specs.Owning.{IsStore}
 use Rattle.model.specs.Holding.{IsHeap}
-use Rattle.model.specs.Heaps.{HeapState, ThreadState, with_barrier}
-use Rattle.model.specs.Heaps.{Reference, stored, flat, global_of, word_of_global}
-use Rattle.model.specs.Outcome.{load_outcome, load_global_outcome, new_barrier}
-use Rattle.model.specs.Outcome.{no_register, no_global, is_parked_in}
+use Rattle.model.specs.Heaps.{HeapState, ThreadState, with_barrier, Reference, stored, flat, global_of}
+use Rattle.model.specs.Heaps.{word_of_global}
+use Rattle.model.specs.Outcome.{load_outcome, load_global_outcome, new_barrier, no_register, no_global, is_parked_in}
 use Rattle.model.specs.Plain.{PlainHeap, Object, plain_step, plain_answer, name_of, object_of, field_of}
+use Rattle.model.specs.declared.records.Place.{Place}
 use Rattle.model.proofs.Lists.{get_within}
-use Rattle.laws.specs.AddressHeap.{HeapObject, Null, To, field, names as names_of}
+use Rattle.laws.specs.AddressHeap.{HeapObject, Null, To, field, names as names_of, Word}
 use Rattle.laws.specs.BirthHeap.{ref}
 use Rattle.laws.specs.Edits.{set_barrier, plain_set_pending}
 use Rattle.laws.specs.Effects.{load_at}
 use Rattle.laws.specs.Effects as effects
 use Rattle.laws.specs.Transitions.{Load, LoadGlobal}
-use Rattle.refinement.specs.Worlds.{world_of, as_word, as_read, object_at, word_in_memory, global_in}
+use Rattle.refinement.specs.Worlds.{world_of, as_word, as_read, object_at, word_in_memory, global_in, as_place}
 use Rattle.refinement.specs.Births.{births_of, refs_in}
 use Rattle.refinement.specs.Claims.{IsLaid}
 use Rattle.refinement.specs.Standing.{Holds}
+use Rattle.refinement.proofs.Accepted.{on_some}
+use Rattle.refinement.proofs.Carrying.{Carries, RowHolds, row_by, agrees}
 use Rattle.refinement.proofs.Reading.{read_refs, field_of_read}
 use Rattle.refinement.proofs.Objects.{there}
 use Rattle.refinement.proofs.Written.{word_there}
-use Rattle.model.specs.declared.records.Place.{Place}
-use Rattle.laws.specs.AddressHeap.{Word}
-use Rattle.refword.specs.Words.{IsWord}
-use Rattle.refinement.specs.Worlds.{as_place}
-use Rattle.refinement.proofs.Accepted.{on_some}
-use Rattle.refinement.proofs.Carrying.{Carries, RowHolds, row_by, agrees}
 use Rattle.refinement.proofs.Threads.{barrier_carries}
 use Rattle.refinement.proofs.Rooted.{stored_word, global_word}
 use Rattle.refinement.proofs.Births.{loading_follows}

@@ -1,19 +1,19 @@
 -- An unused page is opened: no object, mark or claim is on it, and its words are one claim.
-use Rattle.std.proofs.Common.{◌≡◌, ◌≢◌, ◌⊎◌, inl, inr, ℕ, suc, ◌+◌, ◌*◌, ◌/◌, ◌%◌, ◌<◌, ◌≤◌, Bool, true}
-use Rattle.std.proofs.Common.{false, List, set, replicate, Option, Some, None, nat_eq, refl, sym, ◌∙◌, ap}
-use Rattle.std.proofs.Common.{ap₂, arith, cond, IfSome, div-add-mod', eq-eqb, ne_eqb, mul-le-mul_right}
-use mathlib.Core.Path.{fun_ext}
+use Rattle.std.proofs.Common.{◌≡◌, ◌≢◌, ◌⊎◌, inl, inr, ℕ, suc, ◌+◌, ◌*◌, ◌/◌, ◌%◌, ◌<◌, ◌≤◌, Bool, true, false, List}
+use Rattle.std.proofs.Common.{set, replicate, Option, Some, None, nat_eq, refl, sym, ◌∙◌, ap, ap₂, arith, cond}
+use Rattle.std.proofs.Common.{IfSome, div-add-mod', eq-eqb, ne_eqb, mul-le-mul_right}
 use Rattle.std.proofs.Math.Nat.{suc-mul}
 use Rattle.std.specs.List.{slice_get}
 use Rattle.std.specs.Option.{option_map}
 use Rattle.std.proofs.Math.ListN.{length-set}
 use Rattle.std.proofs.lemmas.Option.{slice_get_within, same_Some, none-some}
 use Rattle.std.proofs.lemmas.Bool.{cases_eq, eqb-true, false≢true}
+use mathlib.Core.Path.{fun_ext}
 use Rattle.model.specs.declared.records.Page.{Page}
 use Rattle.model.specs.declared.records.PageState.TheVariants.{Unused, Open}
 use Rattle.model.specs.declared.records.Buffer.{Buffer}
-use Rattle.model.specs.Stores.{words_at, state_at, state_in, frame_in, page_at}
-use Rattle.model.specs.Stores.{has_memory, is_open, is_unused, opened, fresh_page}
+use Rattle.model.specs.Stores.{words_at, state_at, state_in, frame_in, page_at, has_memory, is_open, is_unused}
+use Rattle.model.specs.Stores.{opened, fresh_page}
 use Rattle.model.specs.Owning.{IsStore, LiesIn}
 use Rattle.model.specs.Holding.{IsHeap}
 use Rattle.model.specs.Heaps.{HeapState, ThreadState, register_of, buffer_in, changed, blank_row}
@@ -24,9 +24,9 @@ use Rattle.laws.specs.Invariant.{SoundObjects, SoundMarks}
 use Rattle.laws.specs.Edits.{open_page}
 use Rattle.laws.proofs.Basics.{put_same, put_other}
 use Rattle.refinement.specs.Worlds.{world_of, object_at, object_in, bit_at}
-use Rattle.refinement.specs.Claims.{IsLaid, AreRows, Apart, AreApart, Claim, OfObject, OfBuffer}
-use Rattle.refinement.specs.Claims.{OfPlan, OfEnd, Extent, extent, object_size, sized_extent}
-use Rattle.refinement.specs.Claims.{planned_extent, buffer_extent, end_extent, size_at}
+use Rattle.refinement.specs.Claims.{IsLaid, AreRows, Apart, AreApart, Claim, OfObject, OfBuffer, OfPlan, OfEnd}
+use Rattle.refinement.specs.Claims.{Extent, extent, object_size, sized_extent, planned_extent, buffer_extent}
+use Rattle.refinement.specs.Claims.{end_extent, size_at}
 use Rattle.refinement.proofs.Reading.{read_fits}
 use Rattle.refinement.proofs.Objects.{there}
 use Rattle.refinement.proofs.Changes.{blank_here, blank_other, rows_changed, length_blank}

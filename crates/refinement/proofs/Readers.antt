@@ -1,9 +1,10 @@
 -- Steps that read: what the plain heap answers.
-use Rattle.std.proofs.Common.{◌≡◌, ◌↔◌, inl, inr, ℕ, ◌+◌, ◌%◌, ◌<◌, Bool, true, false, nat_eq, List, length}
-use Rattle.std.proofs.Common.{is_none, Option, Some, None, refl, sym, ◌∙◌, ap, ap₂, subst, arith, eq-eqb, ne_eqb}
+use Rattle.std.proofs.Common.{◌≡◌, ◌↔◌, inl, inr, ℕ, ◌+◌, ◌%◌, ◌<◌, Bool, true, false, nat_eq, List, length, is_none}
+use Rattle.std.proofs.Common.{Option, Some, None, refl, sym, ◌∙◌, ap, ap₂, subst, arith, eq-eqb, ne_eqb}
 use Rattle.std.specs.List.{slice_get}
 use Rattle.std.proofs.lemmas.Option.{same_Some}
 use Rattle.std.proofs.lemmas.Bool.{eqb-true, eqb-false}
+use Rattle.std.specs.Prelude.{Result}
 use Rattle.model.specs.declared.steps.Actor.TheVariants.{Thread}
 use Rattle.model.specs.declared.steps.Step.TheVariants as steps
 use Rattle.model.specs.declared.steps.Answer.TheVariants as answers
@@ -12,10 +13,11 @@ use Rattle.model.specs.Owning.{IsStore}
 use Rattle.model.specs.Holding.{IsHeap}
 use Rattle.model.specs.Heaps.{HeapState, Reference, register_of}
 use Rattle.model.specs.Refusing.{◌>>=◌, or_refuse}
-use Rattle.model.specs.Outcome.{datum_outcome, same_outcome, is_null_outcome}
-use Rattle.model.specs.Outcome.{usable, usable_or_null, field_at, datum_at, same_address}
-use Rattle.model.specs.Plain.{PlainHeap, Object, plain_step, plain_answer}
-use Rattle.model.specs.Plain.{name_of, object_of, datum_of, as_datum, same_name}
+use Rattle.model.specs.Outcome.{datum_outcome, same_outcome, is_null_outcome, usable, usable_or_null, field_at}
+use Rattle.model.specs.Outcome.{datum_at, same_address}
+use Rattle.model.specs.Plain.{PlainHeap, Object, plain_step, plain_answer, name_of, object_of, datum_of, as_datum}
+use Rattle.model.specs.Plain.{same_name}
+use Rattle.model.specs.declared.steps.Refusal.{Refusal}
 use Rattle.laws.specs.AddressHeap.{HeapObject, Null, To}
 use Rattle.laws.specs.Transitions.{Uses}
 use Rattle.laws.specs.Promises.{ReadsPlain}
@@ -26,14 +28,12 @@ use Rattle.laws.proofs.Promises.{reads, same, null_is_none}
 use Rattle.refinement.specs.Worlds.{world_of, as_word, object_at}
 use Rattle.refinement.specs.Births.{births_of, data_in}
 use Rattle.refinement.specs.Standing.{Holds, AnswersPlain}
+use Rattle.refinement.proofs.Accepted.{OnAccepted, on_has, on_some}
+use Rattle.refinement.proofs.Carrying.{RowHolds, read_by}
 use Rattle.refinement.proofs.Runs.{get_run}
 use Rattle.refinement.proofs.Reading.{read_refs, read_data}
 use Rattle.refinement.proofs.Objects.{there}
 use Rattle.refinement.proofs.Written.{word_there}
-use Rattle.std.specs.Prelude.{Result}
-use Rattle.model.specs.declared.steps.Refusal.{Refusal}
-use Rattle.refinement.proofs.Accepted.{OnAccepted, on_has, on_some}
-use Rattle.refinement.proofs.Carrying.{RowHolds, read_by}
 use Rattle.refinement.proofs.Verdicts.{Passed, IsUsed, used, NullOrUsed, null_or_used, field_there, datum_there}
 
 -- the object that a usable register names

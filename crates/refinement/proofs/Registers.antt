@@ -1,22 +1,22 @@
 -- A register that is written, and a buffer that is given back.
-use Rattle.std.proofs.Common.{◌≡◌, ◌≢◌, ◌⊎◌, inl, inr, ℕ, ◌<◌, List, length}
-use Rattle.std.proofs.Common.{set, Option, Some, None, refl, sym, ◌∙◌, ap}
-use mathlib.Core.Path.{fun_ext}
+use Rattle.std.proofs.Common.{◌≡◌, ◌≢◌, ◌⊎◌, inl, inr, ℕ, ◌<◌, List, length, set, Option, Some, None, refl, sym, ◌∙◌}
+use Rattle.std.proofs.Common.{ap}
 use Rattle.std.specs.List.{slice_get}
 use Rattle.std.specs.Option.{option_map}
 use Rattle.std.proofs.lemmas.Bool.{cases_eq}
+use mathlib.Core.Path.{fun_ext}
 use Rattle.model.specs.declared.records.Buffer.{Buffer}
-use Rattle.model.specs.Heaps.{HeapState, ThreadState, Reference, flat, register_of, register_in}
-use Rattle.model.specs.Heaps.{with_buffer, changed, set_buffer_of, buffer_in}
-use Rattle.model.proofs.Lists.{get_set_same, get_set_other, get_within, each_changed}
+use Rattle.model.specs.Heaps.{HeapState, ThreadState, Reference, flat, register_of, register_in, with_buffer, changed}
+use Rattle.model.specs.Heaps.{set_buffer_of, buffer_in}
 use Rattle.model.specs.Outcome.{has_crossed, is_parked_in}
+use Rattle.model.proofs.Lists.{get_set_same, get_set_other, get_within, each_changed}
 use Rattle.laws.specs.AddressHeap.{put, put_at}
 use Rattle.laws.proofs.Basics.{put_all, put_same, put_other}
 use Rattle.refinement.specs.Worlds.{world_of, as_word, barrier_in}
 use Rattle.refinement.specs.Claims.{IsLaid, Claim, OfObject, OfBuffer, OfPlan, OfEnd, extent, Extent, buffer_extent}
+use Rattle.refinement.proofs.Carrying.{Carries, thread_carries}
 use Rattle.refinement.proofs.Changes.{get_changed, kept_of}
 use Rattle.refinement.proofs.Rooted.{buffer_holds_words}
-use Rattle.refinement.proofs.Carrying.{Carries, thread_carries}
 
 -- the registers of threads, of which one has its register r changed
 pub register_changed :

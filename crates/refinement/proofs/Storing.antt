@@ -6,16 +6,15 @@ use Rattle.model.specs.declared.steps.Step.TheVariants as steps
 use Rattle.model.specs.Owning.{IsStore}
 use Rattle.model.specs.Holding.{IsHeap}
 use Rattle.model.specs.Heaps.{HeapState, register_of}
-use Rattle.model.specs.Outcome.{store_outcome, store_global_outcome, no_register}
-use Rattle.model.specs.Outcome.{no_global, usable_or_null}
+use Rattle.model.specs.Outcome.{store_outcome, store_global_outcome, no_register, no_global, usable_or_null}
 use Rattle.model.specs.Plain.{PlainHeap, plain_step, plain_answer, name_of}
 use Rattle.laws.specs.Transitions.{Store, StoreGlobal}
 use Rattle.refinement.specs.Standing.{Holds}
-use Rattle.refinement.proofs.Rooted.{register_word}
 use Rattle.refinement.proofs.Accepted.{on_bind}
 use Rattle.refinement.proofs.Carrying.{RowHolds, row_by}
-use Rattle.refinement.proofs.Threads.{global_carries}
 use Rattle.refinement.proofs.Written.{field_carries}
+use Rattle.refinement.proofs.Threads.{global_carries}
+use Rattle.refinement.proofs.Rooted.{register_word}
 use Rattle.refinement.proofs.Births.{storing_follows, global_follows}
 use Rattle.refinement.proofs.Verdicts.{Passed, first_false, is_global}
 use Rattle.refinement.proofs.Readers.{on_named, on_field}

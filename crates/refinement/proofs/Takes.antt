@@ -1,6 +1,6 @@
 -- A step that takes a buffer.
-use Rattle.std.proofs.Common.{replicate, ◌≡◌, ◌≢◌, ◌⊎◌, inl, inr, ℕ, ◌-◌, ◌<◌, ◌≤◌, ◌==◌, Bool, false, cond}
-use Rattle.std.proofs.Common.{nat_eq, nat_lt, List, set, is_some, Some, None, refl, sym, ◌∙◌, ap, subst, arith, ne_eqb}
+use Rattle.std.proofs.Common.{replicate, ◌≡◌, ◌≢◌, ◌⊎◌, inl, inr, ℕ, ◌-◌, ◌<◌, ◌≤◌, ◌==◌, Bool, false, cond, nat_eq}
+use Rattle.std.proofs.Common.{nat_lt, List, set, is_some, Some, None, refl, sym, ◌∙◌, ap, subst, arith, ne_eqb}
 use Rattle.std.specs.List.{slice_get}
 use Rattle.std.specs.Prelude.{Ok, Err, Result}
 use Rattle.std.proofs.Math.ListN.{length-set}
@@ -16,24 +16,22 @@ use Rattle.model.specs.declared.records.Room.TheVariants.{NoFrames, NoPages}
 use Rattle.model.specs.Stores.{StoreState, taken, opened, fresh_page, buffer_of}
 use Rattle.model.specs.Owning.{Each, IsStore}
 use Rattle.model.specs.Holding.{IsHeap}
-use Rattle.model.specs.Heaps.{HeapState, ThreadState, buffer_of_thread, buffer_in}
-use Rattle.model.specs.Heaps.{changed, opened_rows, blank_row}
+use Rattle.model.specs.Heaps.{HeapState, ThreadState, buffer_of_thread, buffer_in, changed, opened_rows, blank_row}
 use Rattle.model.specs.Outcome.{take_outcome, took, lent}
 use Rattle.model.specs.Plain.{PlainHeap, plain_step, plain_answer}
 use Rattle.model.proofs.Lists.{get_set, get_set_other, no_some}
 use Rattle.page.proofs.Keeping.{given_at, opened_at}
 use Rattle.laws.specs.Transitions.{TakeFresh}
-use Rattle.refinement.specs.Worlds.{world_of}
-use Rattle.refinement.specs.Claims.{HasGiven}
-use Rattle.refinement.specs.Standing.{Holds}
-use Rattle.refinement.proofs.Taken.{InOpenPage, InFreshPage, ways}
-use Rattle.refinement.proofs.Opened.{MayOpen, opened_heap, opened_world, opened_laid, on_page, was_unused}
 use Rattle.laws.specs.Invariant.{SoundObjects, SoundMarks}
 use Rattle.laws.specs.Edits.{open_page}
-use Rattle.refinement.specs.Claims.{IsLaid}
+use Rattle.refinement.specs.Worlds.{world_of}
+use Rattle.refinement.specs.Claims.{HasGiven, IsLaid}
+use Rattle.refinement.specs.Standing.{Holds}
 use Rattle.refinement.proofs.Accepted.{OnAccepted, on_test}
 use Rattle.refinement.proofs.Carrying.{Carries, RowHolds, step_by, stays, unseen, alike}
+use Rattle.refinement.proofs.Taken.{InOpenPage, InFreshPage, ways}
 use Rattle.refinement.proofs.Granted.{MayGrant, granted, granted_carries, with_more}
+use Rattle.refinement.proofs.Opened.{MayOpen, opened_heap, opened_world, opened_laid, on_page, was_unused}
 use Rattle.refinement.proofs.Verdicts.{Passed, first_false, second_false}
 
 -- what each element has, and the last of two that are put in one place

@@ -1,7 +1,6 @@
 -- Steps that write: registers, data, buffers and new objects.
-use Rattle.std.proofs.Common.{◌≡◌, ℕ, zero, suc, ◌+◌, ◌-◌, ◌*◌, ◌<◌, ◌≤◌}
-use Rattle.std.proofs.Common.{nat_lt, nat_le, replicate, get_or}
-use Rattle.std.proofs.Common.{is_some, Option, Some, None, refl, sym, ◌∙◌, ap, subst, arith}
+use Rattle.std.proofs.Common.{◌≡◌, ℕ, zero, suc, ◌+◌, ◌-◌, ◌*◌, ◌<◌, ◌≤◌, nat_lt, nat_le, replicate, get_or, is_some}
+use Rattle.std.proofs.Common.{Option, Some, None, refl, sym, ◌∙◌, ap, subst, arith}
 use Rattle.std.specs.List.{slice_get}
 use Rattle.std.specs.Option.{IfSome}
 use Rattle.std.proofs.Math.ListN.{length-replicate}
@@ -16,27 +15,26 @@ use Rattle.model.specs.declared.records.Buffer.{Buffer}
 use Rattle.model.specs.declared.records.PageState.TheVariants.{Open, From}
 use Rattle.model.specs.Owning.{IsStore, LiesIn}
 use Rattle.model.specs.Holding.{IsHeap}
-use Rattle.model.specs.Heaps.{HeapState, register_of}
-use Rattle.model.specs.Heaps.{buffer_of_thread, buffer_in}
+use Rattle.model.specs.Heaps.{HeapState, register_of, buffer_of_thread, buffer_in}
 use Rattle.model.specs.Outcome.{set_datum_outcome, copy_register_outcome, clear_register_outcome, give_back_outcome}
 use Rattle.model.specs.Outcome.{new_outcome, no_register}
 use Rattle.model.specs.Plain.{PlainHeap, plain_step, plain_answer, name_of}
+use Rattle.model.specs.Stores.{StoreState}
 use Rattle.laws.specs.AddressHeap.{Word, Null}
 use Rattle.laws.specs.Transitions.{SetDatum, CopyReg, ClearReg, New, MayBeBorn}
 use Rattle.refinement.specs.Worlds.{world_of}
 use Rattle.refinement.specs.Standing.{Holds}
-use Rattle.refinement.proofs.Rooted.{register_word}
-use Rattle.refinement.proofs.Reading.{new_object}
-use Rattle.refinement.proofs.Born as births
 use Rattle.refinement.proofs.Accepted.{on_some, on_test, on_truth}
 use Rattle.refinement.proofs.Carrying.{RowHolds, row_by, unseen_by}
+use Rattle.refinement.proofs.Reading.{new_object}
+use Rattle.refinement.proofs.Written.{datum_carries}
 use Rattle.refinement.proofs.Registers.{given_back_carries}
 use Rattle.refinement.proofs.Threads.{register_carries}
-use Rattle.refinement.proofs.Written.{datum_carries}
+use Rattle.refinement.proofs.Rooted.{register_word}
+use Rattle.refinement.proofs.Born as births
 use Rattle.refinement.proofs.Births.{naming_follows, writing_follows, born_follows}
 use Rattle.refinement.proofs.Verdicts.{Passed, first_false, closed_barrier, is_register}
 use Rattle.refinement.proofs.Readers.{on_named, on_datum}
-use Rattle.model.specs.Stores.{StoreState}
 
 null_field : (n j : ℕ) → get_or (replicate n Null) j Null ≡ Null
 null_field zero j = refl

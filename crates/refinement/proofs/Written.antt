@@ -1,29 +1,26 @@
 -- A word of an object that is written in memory: the object reads as another of its size, and all others stay.
-use Rattle.std.proofs.Common.{◌≡◌, ◌≢◌, ◌⊎◌, inl, inr, ℕ, ◌+◌, ◌/◌, ◌%◌, ◌<◌, ◌≤◌, true}
-use Rattle.std.proofs.Common.{List, length, set, Some, refl, sym, ◌∙◌, ap, ap₂, subst, arith}
-use mathlib.Core.Path.{fun_ext}
+use Rattle.std.proofs.Common.{◌≡◌, ◌≢◌, ◌⊎◌, inl, inr, ℕ, ◌+◌, ◌/◌, ◌%◌, ◌<◌, ◌≤◌, true, List, length, set, Some}
+use Rattle.std.proofs.Common.{refl, sym, ◌∙◌, ap, ap₂, subst, arith}
 use Rattle.std.proofs.Math.ListN.{length-set}
 use Rattle.std.specs.List.{slice_get}
 use Rattle.std.specs.Option.{option_map, option_and_then}
 use Rattle.std.proofs.lemmas.Bool.{cases_eq}
 use Rattle.std.proofs.lemmas.Option.{same_Some}
+use mathlib.Core.Path.{fun_ext}
+use Rattle.refword.specs.Words.{IsWord, bits_of}
 use Rattle.model.specs.Stores.{words_at, word_at, with_words, with_word, state_at, page_at, has_memory}
 use Rattle.model.specs.Owning.{IsStore}
-use Rattle.model.specs.Heaps.{HeapState, register_of}
+use Rattle.model.specs.Heaps.{HeapState, register_of, Reference}
+use Rattle.refword.proofs.Reading.{reads_back}
 use Rattle.model.proofs.Lists.{get_set_other}
-use Rattle.model.proofs.Memory.{words_sized, words_memory, word_on_page}
+use Rattle.model.proofs.Memory.{words_sized, words_memory, word_on_page, frames_stay}
 use Rattle.laws.specs.AddressHeap.{HeapObject, Planned, put}
 use Rattle.laws.specs.Edits.{set_object}
 use Rattle.laws.specs.Effects.{with_datum, with_field}
 use Rattle.laws.proofs.Basics.{put_all, put_after, put_same, put_other}
-use Rattle.refinement.specs.Worlds.{world_of, object_at, bit_at, word_in_memory}
-use Rattle.refinement.specs.Claims.{IsLaid, Claim, OfObject, OfBuffer, OfPlan, OfEnd, extent}
-use Rattle.refinement.specs.Claims.{object_size, size_at, sized_extent, planned_extent}
-use Rattle.model.specs.Heaps.{Reference}
-use Rattle.model.proofs.Memory.{frames_stay}
-use Rattle.refword.specs.Words.{IsWord, bits_of}
-use Rattle.refword.proofs.Reading.{reads_back}
-use Rattle.refinement.specs.Worlds.{as_word, as_read}
+use Rattle.refinement.specs.Worlds.{world_of, object_at, bit_at, word_in_memory, as_word, as_read}
+use Rattle.refinement.specs.Claims.{IsLaid, Claim, OfObject, OfBuffer, OfPlan, OfEnd, extent, object_size, size_at}
+use Rattle.refinement.specs.Claims.{sized_extent, planned_extent}
 use Rattle.refinement.proofs.Carrying.{Carries, becomes, alike}
 use Rattle.refinement.proofs.Runs.{Agree}
 use Rattle.refinement.proofs.Reading.{IsRead, read_refs, read_data, read_fits, read_datum, read_field}
