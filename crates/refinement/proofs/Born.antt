@@ -25,7 +25,7 @@ use Rattle.page.proofs.Lying.{buffer_address}
 use Rattle.laws.specs.AddressHeap.{HeapObject, Word, Null, SideEntry, NoEntry, Planned, Copied, put}
 use Rattle.laws.specs.Invariant.{SoundObjects}
 use Rattle.laws.specs.Edits.{born}
-use Rattle.laws.proofs.Basics.{put_all, put_after, put_same, put_other}
+use Rattle.laws.proofs.Basics.{put_after, put_same, put_other}
 use Rattle.refinement.specs.Worlds.{world_of, object_at, bit_at, barrier_in}
 use Rattle.refinement.specs.Claims.{IsLaid, AreRows, AreApart, Claim, OfObject, OfBuffer, OfPlan, OfEnd, Extent}
 use Rattle.refinement.specs.Claims.{extent, object_size, size_at, sized_extent, planned_extent, buffer_extent}
@@ -35,7 +35,7 @@ use Rattle.refinement.proofs.Runs.{Agree, overlaid_before, overlaid_behind}
 use Rattle.refinement.proofs.Reading.{IsRead, read_fits, read_fresh, new_object}
 use Rattle.refinement.proofs.Objects.{Rewrites, there, rewritten}
 use Rattle.refinement.proofs.Claims.{object_extent, Splits, split_apart}
-use Rattle.refinement.proofs.Changes.{get_changed, kept_of, rows_changed, length_put, bit_put, length_changed}
+use Rattle.refinement.proofs.Changes.{read_changed, kept_of, rows_changed, length_put, bit_put, length_changed}
 use Rattle.refinement.proofs.Registers.{register_changed}
 use Rattle.refinement.proofs.Rooted.{handed_holds_words}
 
@@ -249,17 +249,8 @@ module _ {h : HeapState} (s : IsStore h.store) (l : IsLaid h) {t target number :
   buffers : (u : ℕ)
       → extent after (OfBuffer u) ≡ put (λ v. extent h (OfBuffer v)) t (Some (buffer_extent h.store.words rest)) u
   unfolding placed with_words
-  buffers u = ap (λ o. option_map (buffer_extent h.store.words) (buffer_in o)) (get_changed h.threads t change_thread u)
-      ∙ put_all (λ v y. option_map (buffer_extent h.store.words)
-      (buffer_in (put (slice_get h.threads) t (option_map change_thread (slice_get h.threads t)) v)) ≡ y)
-      (λ v. extent h (OfBuffer v)) t (Some (buffer_extent h.store.words rest))
-      (ap (λ o. option_map (buffer_extent h.store.words) (buffer_in o)) (put_same (slice_get h.threads) t
-      (option_map change_thread (slice_get h.threads t)) ∙ ap (option_map change_thread) m.thread))
-      (λ v d. ap (λ o. option_map (buffer_extent h.store.words) (buffer_in o))
-      (put_other (slice_get h.threads) t (option_map change_thread (slice_get h.threads t)) v d)) u
-    where
-      change_thread : ThreadState → ThreadState
-      change_thread = handed target (Some (address, h.nmt)) rest
+  buffers u = read_changed (λ o. option_map (buffer_extent h.store.words) (buffer_in o)) h.threads t
+      (handed target (Some (address, h.nmt)) rest) x (Some (buffer_extent h.store.words rest)) m.thread refl u
 
   plan_of : SideEntry → Option ℕ → Option Extent
   plan_of = planned_extent

@@ -23,7 +23,7 @@ use Rattle.refinement.specs.Claims.{HasGiven}
 use Rattle.refinement.specs.Roots.{HoldsWords}
 use Rattle.refinement.proofs.Carrying.{Carries, alike}
 use Rattle.refinement.proofs.Claims.{Splits, split_apart}
-use Rattle.refinement.proofs.Changes.{get_changed, kept_of, length_changed}
+use Rattle.refinement.proofs.Changes.{read_changed, kept_of, length_changed}
 use Rattle.refinement.proofs.Rooted.{buffer_holds_words}
 
 -- the pages of a store whose record of an index is replaced
@@ -108,17 +108,9 @@ module _ {h : HeapState} (l : IsLaid h) {t i : ℕ} {p : Page} {n : ℕ} {x : Th
 
   buffers : (u : ℕ) → extent after (OfBuffer u)
       ≡ put (λ v. extent h (OfBuffer v)) t (Some (buffer_extent h.store.words (buffer_of i p.top n))) u
-  buffers u = ap (λ o. option_map (buffer_extent h.store.words) (buffer_in o)) (get_changed h.threads t change u)
-      ∙ put_all (λ v y. option_map (buffer_extent h.store.words)
-      (buffer_in (put (slice_get h.threads) t (option_map change (slice_get h.threads t)) v)) ≡ y)
-      (λ v. extent h (OfBuffer v)) t (Some (buffer_extent h.store.words (buffer_of i p.top n)))
-      (ap (λ o. option_map (buffer_extent h.store.words) (buffer_in o)) (put_same (slice_get h.threads) t
-      (option_map change (slice_get h.threads t)) ∙ ap (option_map change) w.thread))
-      (λ v d. ap (λ o. option_map (buffer_extent h.store.words) (buffer_in o))
-      (put_other (slice_get h.threads) t (option_map change (slice_get h.threads t)) v d)) u
-    where
-      change : ThreadState → ThreadState
-      change = set_buffer_of (Some (buffer_of i p.top n))
+  buffers u = read_changed (λ o. option_map (buffer_extent h.store.words) (buffer_in o)) h.threads t
+      (set_buffer_of (Some (buffer_of i p.top n))) x (Some (buffer_extent h.store.words (buffer_of i p.top n))) w.thread
+      refl u
 
   ends : (m : ℕ)
       → extent after (OfEnd m) ≡ end_extent h.store.words m (put (page_at h.store) (i + 1) (Some (with_more p n)) m)

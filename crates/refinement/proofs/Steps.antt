@@ -26,7 +26,7 @@ row_holds : (h : HeapState) (p p0 : PlainHeap) (t : ℕ) (step : Step) → IsSto
     → Passed h t step → RowHolds h p p0 (Thread t) step (thread_row h t step)
 unfolding cross_outcome
 row_holds h p p0 t (steps.Take n) s d k g = take_holds s d k t n g
-row_holds h p p0 t steps.GiveBack s d k g = give_back_holds s d k t
+row_holds h p p0 t steps.GiveBack s d k g = give_back_holds s d k t g
 row_holds h p p0 t (steps.New r number) s d k g = new_holds s d k t r number g
 row_holds h p p0 t (steps.Load r o i) s d k g = load_holds s d k t r o i g
 row_holds h p p0 t (steps.LoadGlobal r n) s d k g = load_global_holds s d k t r n g

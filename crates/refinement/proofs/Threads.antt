@@ -7,6 +7,13 @@ use mathlib.Core.Path.{fun_ext}
 use Rattle.refword.specs.Words.{IsWord}
 use Rattle.model.specs.declared.records.Barrier.{Barrier}
 use Rattle.model.specs.declared.records.Global.{Global}
+use Rattle.model.specs.declared.records.Buffer.{Buffer}
+use Rattle.std.proofs.lemmas.Option.{none-some}
+use Rattle.std.proofs.Common.{Option}
+use Rattle.model.specs.Heaps.{with_buffer, set_buffer_of}
+use Rattle.refinement.specs.Claims.{Extent}
+use Rattle.refinement.proofs.Changes.{was_read}
+use Rattle.refinement.proofs.Rooted.{buffer_holds_words}
 use Rattle.model.specs.Heaps.{HeapState, ThreadState, Reference, register_of, register_in, with_register}
 use Rattle.model.specs.Heaps.{set_register_of, with_barrier, set_barrier_of, with_loaded, set_loaded_of, with_parked}
 use Rattle.model.specs.Heaps.{set_parked_of, with_global, set_word_of, changed, buffer_in}
@@ -24,9 +31,9 @@ use Rattle.refinement.proofs.Registers.{register_changed}
 use Rattle.refinement.proofs.Rooted.{register_holds_words, barrier_holds_words, loaded_holds_words}
 use Rattle.refinement.proofs.Rooted.{parked_holds_words}
 
--- a change that leaves a thread's buffer, and how many registers it has
+-- a change that leaves how many registers a thread has, and its buffer, or lets it go
 record KeepsShape (f : ThreadState → ThreadState) : Type 0 where
-  pub buffer : (y : ThreadState) → buffer_in (Some (f y)) ≡ buffer_in (Some y)
+  pub buffer : (y : ThreadState) (b : Buffer) → (f y).buffer ≡ Some b → y.buffer ≡ Some b
   pub size : (y : ThreadState) → length (f y).registers ≡ length y.registers
 
 thread_laid : (h : HeapState) (t : ℕ) (f : ThreadState → ThreadState) → KeepsShape f → IsLaid h
@@ -41,17 +48,26 @@ thread_laid h t f k l = record {
   registers =
       each_changed (λ y. length y.registers ≡ h.config.registers) h.threads t f l.registers (λ y e. k.size y ∙ e);
   objects = l.objects;
-  apart = extents_same (extent h) _ l.apart extents;
+  apart = λ c d x y e g. l.apart c d x y (had c x e) (had d y g);
   planned = l.planned;
   live_objects = l.live_objects;
   unused = l.unused;
 }
   where
-    extents : (c : Claim) → extent (record h { threads = changed h.threads t f }) c ≡ extent h c
-    extents (OfObject a) = refl
-    extents (OfBuffer u) = ap (option_map (buffer_extent h.store.words)) (kept_of buffer_in h.threads t f k.buffer u)
-    extents (OfPlan a) = refl
-    extents (OfEnd n) = refl
+    by_buffer : (y : ThreadState) (z : Extent) (o : Option Buffer) → (f y).buffer ≡ o
+        → option_map (buffer_extent h.store.words) o ≡ Some z
+        → option_map (buffer_extent h.store.words) y.buffer ≡ Some z
+    by_buffer y z None e g = absurd (none-some z g)
+    by_buffer y z (Some b) e g = ap (option_map (buffer_extent h.store.words)) (k.buffer y b e) ∙ g
+
+    -- what a claim has now, it had
+    had : (c : Claim) (x : Extent) → extent (record h { threads = changed h.threads t f }) c ≡ Some x
+        → extent h c ≡ Some x
+    had (OfObject a) x e = e
+    had (OfBuffer u) x e = was_read (λ o. option_map (buffer_extent h.store.words) (buffer_in o)) h.threads t f
+        (λ y z g. by_buffer y z (f y).buffer refl g) u x e
+    had (OfPlan a) x e = e
+    had (OfEnd n) x e = e
 
 module _ (h : HeapState) (t : ℕ) (x : ThreadState) (at : slice_get h.threads t ≡ Some x) where
   -- a register gets a word
@@ -70,7 +86,7 @@ module _ (h : HeapState) (t : ℕ) (x : ThreadState) (at : slice_get h.threads t
   unfolding with_register
   register_carries r w l word low = thread_carries h t (set_register_of r w) (set_register t r (as_word w))
       (thread_laid h t (set_register_of r w)
-      (record { buffer = λ y. refl; size = λ y. length-set y.registers r w }))
+      (record { buffer = λ y b e. e; size = λ y. length-set y.registers r w }))
       (λ y. register_holds_words h.config.registers r w y word)
       (register_world r w (omega (arith, low, l.registers t x at)))
 
@@ -89,7 +105,7 @@ module _ (h : HeapState) (t : ℕ) (x : ThreadState) (at : slice_get h.threads t
       → Carries h (with_barrier h t b) (set_barrier t (as_barrier b))
   unfolding with_barrier
   barrier_carries b load = thread_carries h t (set_barrier_of (Some b)) (set_barrier t (as_barrier b))
-      (thread_laid h t (set_barrier_of (Some b)) (record { buffer = λ y. refl; size = λ y. refl }))
+      (thread_laid h t (set_barrier_of (Some b)) (record { buffer = λ y b e. e; size = λ y. refl }))
       (λ y. barrier_holds_words h.config.registers b y load) (barrier_world b)
 
   -- a load ends
@@ -107,7 +123,7 @@ module _ (h : HeapState) (t : ℕ) (x : ThreadState) (at : slice_get h.threads t
       → Carries h (with_loaded h t r w) (end_load t r (as_word w))
   unfolding with_loaded
   loaded_carries r w l word low = thread_carries h t (set_loaded_of r w) (end_load t r (as_word w))
-      (thread_laid h t (set_loaded_of r w) (record { buffer = λ y. refl; size = λ y. length-set y.registers r w }))
+      (thread_laid h t (set_loaded_of r w) (record { buffer = λ y b e. e; size = λ y. length-set y.registers r w }))
       (λ y. loaded_holds_words h.config.registers r w y word)
       (loaded_world r w (omega (arith, low, l.registers t x at)))
 
@@ -125,8 +141,25 @@ module _ (h : HeapState) (t : ℕ) (x : ThreadState) (at : slice_get h.threads t
   pub parked_carries : (b : Bool) → Carries h (with_parked h t b) (set_parked t b)
   unfolding with_parked
   parked_carries b = thread_carries h t (set_parked_of b) (set_parked t b)
-      (thread_laid h t (set_parked_of b) (record { buffer = λ y. refl; size = λ y. refl }))
+      (thread_laid h t (set_parked_of b) (record { buffer = λ y b e. e; size = λ y. refl }))
       (parked_holds_words h.config.registers b) (parked_world b)
+
+  -- a buffer is given back
+  buffer_world : (b : Option Buffer) → world_of (with_buffer h t b) ≡ world_of h
+  unfolding with_buffer register_of
+  buffer_world b = λ z. record (world_of h) {
+    register = fun_ext (λ u.
+        fun_ext (λ s. kept_of (λ o. as_word (register_in o s)) h.threads t (set_buffer_of b) (λ y. refl) u)) z;
+    crossed = fun_ext (kept_of has_crossed h.threads t (set_buffer_of b) (λ y. refl)) z;
+    parked = fun_ext (kept_of is_parked_in h.threads t (set_buffer_of b) (λ y. refl)) z;
+    barrier = fun_ext (kept_of barrier_in h.threads t (set_buffer_of b) (λ y. refl)) z;
+  }
+
+  pub given_back_carries : Carries h (with_buffer h t None) (λ w. w)
+  unfolding with_buffer
+  given_back_carries = thread_carries h t (set_buffer_of None) (λ w. w)
+      (thread_laid h t (set_buffer_of None) (record { buffer = λ y b e. absurd (none-some b e); size = λ y. refl }))
+      (buffer_holds_words h.config.registers None) (buffer_world None)
 
 -- a global gets a word
 global_world : (h : HeapState) (g : ℕ) (x : Global) (w : Reference) → slice_get h.globals g ≡ Some x

@@ -28,7 +28,7 @@ use Rattle.refinement.proofs.Accepted.{on_some, on_test, on_truth}
 use Rattle.refinement.proofs.Carrying.{RowHolds, row_by, unseen_by}
 use Rattle.refinement.proofs.Reading.{new_object}
 use Rattle.refinement.proofs.Written.{datum_carries}
-use Rattle.refinement.proofs.Registers.{given_back_carries}
+use Rattle.refinement.proofs.Threads.{given_back_carries}
 use Rattle.refinement.proofs.Threads.{register_carries}
 use Rattle.refinement.proofs.Rooted.{register_word}
 use Rattle.refinement.proofs.Born as births
@@ -52,10 +52,10 @@ lies_of {s} (Some c) b e f = subst (LiesIn s) (same_Some _ _ e) f
 
 module _ {h : HeapState} {p p0 : PlainHeap} (s : IsStore h.store) (d : IsHeap h) (k : Holds h p p0) (t : ℕ) where
   -- a buffer is given back
-  pub give_back_holds : RowHolds h p p0 (Thread t) steps.GiveBack (give_back_outcome h t)
+  pub give_back_holds : Passed h t steps.GiveBack → RowHolds h p p0 (Thread t) steps.GiveBack (give_back_outcome h t)
   unfolding give_back_outcome plain_step plain_answer
-  give_back_holds =
-      on_truth (is_some (buffer_of_thread h t)) _ _ _ (λ e. unseen_by k (given_back_carries h t k.laid) tt)
+  give_back_holds g = on_truth (is_some (buffer_of_thread h t)) _ _ _
+      (λ e. unseen_by k (given_back_carries h t g.thread g.there) tt)
 
   -- a register gets another's word
   pub copy_holds : (r q : ℕ) → Passed h t (steps.CopyReg r q)
