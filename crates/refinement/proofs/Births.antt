@@ -19,9 +19,9 @@ use Rattle.laws.specs.Effects.{plain_set_register, datum_at, store_at}
 use Rattle.laws.proofs.Basics.{put_all, put_same, put_other, put_id}
 use Rattle.refinement.specs.Births.{births_of, layout_in, refs_in, data_in, as_pair, HasRootsOf}
 use Rattle.refinement.specs.Standing.{Holds}
-use Rattle.refinement.proofs.Carrying.{Follows, stays}
 use Rattle.refinement.proofs.Runs.{get_second}
 use Rattle.refinement.proofs.Changes.{get_changed, kept_of, read_changed, length_changed}
+use Rattle.refinement.proofs.Carrying.{Follows, stays}
 
 -- registers
 

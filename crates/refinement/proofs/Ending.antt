@@ -36,9 +36,9 @@ use Rattle.refinement.specs.Roots.{IsLoad}
 use Rattle.refinement.specs.Standing.{Holds, StepHolds}
 use Rattle.refinement.proofs.Accepted.{OnAccepted, on_some, on_test, on_truth}
 use Rattle.refinement.proofs.Carrying.{RowHolds, step_by, read_by, and_then, agrees, stays}
+use Rattle.refinement.proofs.Rooted.{load_there, global_word, stored_again}
 use Rattle.refinement.proofs.Written.{field_carries}
 use Rattle.refinement.proofs.Threads.{barrier_carries, loaded_carries, global_carries}
-use Rattle.refinement.proofs.Rooted.{load_there, global_word, stored_again}
 use Rattle.refinement.proofs.Births.{finishing_follows}
 use Rattle.refinement.proofs.Verdicts.{second_false}
 use Rattle.refinement.proofs.Loading.{global_same, field_is}

@@ -21,9 +21,9 @@ use Rattle.refinement.specs.Claims.{IsLaid, AreRows, Claim, OfObject, OfBuffer, 
 use Rattle.refinement.specs.Claims.{object_size, sized_extent, planned_extent, buffer_extent, end_extent, size_at}
 use Rattle.refinement.specs.Claims.{HasGiven}
 use Rattle.refinement.specs.Roots.{HoldsWords}
-use Rattle.refinement.proofs.Carrying.{Carries, alike}
 use Rattle.refinement.proofs.Claims.{Splits, split_apart}
 use Rattle.refinement.proofs.Changes.{read_changed, kept_of, length_changed}
+use Rattle.refinement.proofs.Carrying.{Carries, alike}
 use Rattle.refinement.proofs.Rooted.{buffer_holds_words}
 
 -- the pages of a store whose record of an index is replaced

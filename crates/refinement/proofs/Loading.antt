@@ -29,12 +29,12 @@ use Rattle.refinement.specs.Births.{births_of, refs_in}
 use Rattle.refinement.specs.Claims.{IsLaid}
 use Rattle.refinement.specs.Standing.{Holds}
 use Rattle.refinement.proofs.Accepted.{on_some}
-use Rattle.refinement.proofs.Carrying.{Carries, RowHolds, row_by, agrees}
 use Rattle.refinement.proofs.Reading.{read_refs, field_of_read}
 use Rattle.refinement.proofs.Objects.{there}
+use Rattle.refinement.proofs.Carrying.{Carries, RowHolds, row_by, agrees}
+use Rattle.refinement.proofs.Rooted.{stored_word, global_word}
 use Rattle.refinement.proofs.Written.{word_there}
 use Rattle.refinement.proofs.Threads.{barrier_carries}
-use Rattle.refinement.proofs.Rooted.{stored_word, global_word}
 use Rattle.refinement.proofs.Births.{loading_follows}
 use Rattle.refinement.proofs.Verdicts.{Passed, first_false, second_false, is_register, is_global}
 use Rattle.refinement.proofs.Readers.{on_named, on_field}

@@ -29,10 +29,10 @@ use Rattle.refinement.specs.Worlds.{world_of, as_word, object_at}
 use Rattle.refinement.specs.Births.{births_of, data_in}
 use Rattle.refinement.specs.Standing.{Holds, AnswersPlain}
 use Rattle.refinement.proofs.Accepted.{OnAccepted, on_has, on_some}
-use Rattle.refinement.proofs.Carrying.{RowHolds, read_by}
 use Rattle.refinement.proofs.Runs.{get_run}
 use Rattle.refinement.proofs.Reading.{read_refs, read_data}
 use Rattle.refinement.proofs.Objects.{there}
+use Rattle.refinement.proofs.Carrying.{RowHolds, read_by}
 use Rattle.refinement.proofs.Written.{word_there}
 use Rattle.refinement.proofs.Verdicts.{Passed, IsUsed, used, NullOrUsed, null_or_used, field_there, datum_there}
 

@@ -12,9 +12,9 @@ use Rattle.laws.specs.Transitions.{Store, StoreGlobal}
 use Rattle.refinement.specs.Standing.{Holds}
 use Rattle.refinement.proofs.Accepted.{on_bind}
 use Rattle.refinement.proofs.Carrying.{RowHolds, row_by}
+use Rattle.refinement.proofs.Rooted.{register_word}
 use Rattle.refinement.proofs.Written.{field_carries}
 use Rattle.refinement.proofs.Threads.{global_carries}
-use Rattle.refinement.proofs.Rooted.{register_word}
 use Rattle.refinement.proofs.Births.{storing_follows, global_follows}
 use Rattle.refinement.proofs.Verdicts.{Passed, first_false, is_global}
 use Rattle.refinement.proofs.Readers.{on_named, on_field}

@@ -1,35 +1,30 @@
 -- A thread is changed, or a global: what the heap by addresses becomes, and that memory stays in order.
-use Rattle.std.proofs.Common.{◌≡◌, ℕ, ◌<◌, nat_lt, Bool, length, Some, None, refl, ◌∙◌, ap, arith}
+use Rattle.std.proofs.Common.{◌≡◌, ℕ, ◌<◌, nat_lt, Bool, length, Some, None, refl, ◌∙◌, ap, arith, Option}
 use Rattle.std.specs.List.{slice_get}
 use Rattle.std.specs.Option.{option_map}
 use Rattle.std.proofs.Math.ListN.{length-set}
+use Rattle.std.proofs.lemmas.Option.{none-some}
 use mathlib.Core.Path.{fun_ext}
 use Rattle.refword.specs.Words.{IsWord}
 use Rattle.model.specs.declared.records.Barrier.{Barrier}
 use Rattle.model.specs.declared.records.Global.{Global}
 use Rattle.model.specs.declared.records.Buffer.{Buffer}
-use Rattle.std.proofs.lemmas.Option.{none-some}
-use Rattle.std.proofs.Common.{Option}
-use Rattle.model.specs.Heaps.{with_buffer, set_buffer_of}
-use Rattle.refinement.specs.Claims.{Extent}
-use Rattle.refinement.proofs.Changes.{was_read}
-use Rattle.refinement.proofs.Rooted.{buffer_holds_words}
-use Rattle.model.specs.Heaps.{HeapState, ThreadState, Reference, register_of, register_in, with_register}
-use Rattle.model.specs.Heaps.{set_register_of, with_barrier, set_barrier_of, with_loaded, set_loaded_of, with_parked}
-use Rattle.model.specs.Heaps.{set_parked_of, with_global, set_word_of, changed, buffer_in}
+use Rattle.model.specs.Heaps.{with_buffer, set_buffer_of, HeapState, ThreadState, Reference, register_of, register_in}
+use Rattle.model.specs.Heaps.{with_register, set_register_of, with_barrier, set_barrier_of, with_loaded}
+use Rattle.model.specs.Heaps.{set_loaded_of, with_parked, set_parked_of, with_global, set_word_of, changed, buffer_in}
 use Rattle.model.specs.Outcome.{has_crossed, is_parked_in}
 use Rattle.model.proofs.Lists.{get_within, each_changed}
 use Rattle.laws.specs.Edits.{set_barrier, end_load, set_global, set_parked}
 use Rattle.laws.specs.Effects.{set_register}
+use Rattle.refinement.specs.Claims.{Extent, IsLaid, Claim, OfObject, OfBuffer, OfPlan, OfEnd, extent, buffer_extent}
 use Rattle.refinement.specs.Worlds.{world_of, as_word, as_barrier, barrier_in, global_in, todo_in}
-use Rattle.refinement.specs.Claims.{IsLaid, Claim, OfObject, OfBuffer, OfPlan, OfEnd, extent, buffer_extent}
 use Rattle.refinement.specs.Roots.{IsLoad}
-use Rattle.refinement.proofs.Carrying.{Carries, thread_carries, alike}
 use Rattle.refinement.proofs.Claims.{extents_same}
-use Rattle.refinement.proofs.Changes.{kept_of, read_changed, length_changed}
+use Rattle.refinement.proofs.Changes.{was_read, kept_of, read_changed, length_changed}
+use Rattle.refinement.proofs.Carrying.{Carries, thread_carries, alike}
+use Rattle.refinement.proofs.Rooted.{buffer_holds_words, register_holds_words, barrier_holds_words}
+use Rattle.refinement.proofs.Rooted.{loaded_holds_words, parked_holds_words}
 use Rattle.refinement.proofs.Registers.{register_changed}
-use Rattle.refinement.proofs.Rooted.{register_holds_words, barrier_holds_words, loaded_holds_words}
-use Rattle.refinement.proofs.Rooted.{parked_holds_words}
 
 -- a change that leaves how many registers a thread has, and its buffer, or lets it go
 record KeepsShape (f : ThreadState → ThreadState) : Type 0 where

@@ -25,12 +25,11 @@ use Rattle.laws.specs.Transitions.{SetDatum, CopyReg, ClearReg, New, MayBeBorn}
 use Rattle.refinement.specs.Worlds.{world_of}
 use Rattle.refinement.specs.Standing.{Holds}
 use Rattle.refinement.proofs.Accepted.{on_some, on_test, on_truth}
-use Rattle.refinement.proofs.Carrying.{RowHolds, row_by, unseen_by}
 use Rattle.refinement.proofs.Reading.{new_object}
-use Rattle.refinement.proofs.Written.{datum_carries}
-use Rattle.refinement.proofs.Threads.{given_back_carries}
-use Rattle.refinement.proofs.Threads.{register_carries}
+use Rattle.refinement.proofs.Carrying.{RowHolds, row_by, unseen_by}
 use Rattle.refinement.proofs.Rooted.{register_word}
+use Rattle.refinement.proofs.Written.{datum_carries}
+use Rattle.refinement.proofs.Threads.{given_back_carries, register_carries}
 use Rattle.refinement.proofs.Born as births
 use Rattle.refinement.proofs.Births.{naming_follows, writing_follows, born_follows}
 use Rattle.refinement.proofs.Verdicts.{Passed, first_false, closed_barrier, is_register}

@@ -21,11 +21,11 @@ use Rattle.laws.proofs.Basics.{put_all, put_after, put_same, put_other}
 use Rattle.refinement.specs.Worlds.{world_of, object_at, bit_at, word_in_memory, as_word, as_read}
 use Rattle.refinement.specs.Claims.{IsLaid, Claim, OfObject, OfBuffer, OfPlan, OfEnd, extent, object_size, size_at}
 use Rattle.refinement.specs.Claims.{sized_extent, planned_extent}
-use Rattle.refinement.proofs.Carrying.{Carries, becomes, alike}
 use Rattle.refinement.proofs.Runs.{Agree}
 use Rattle.refinement.proofs.Reading.{IsRead, read_refs, read_data, read_fits, read_datum, read_field}
 use Rattle.refinement.proofs.Objects.{Rewrites, IsThere, there, rewritten}
 use Rattle.refinement.proofs.Claims.{within_page, objects_apart, extents_same}
+use Rattle.refinement.proofs.Carrying.{Carries, becomes, alike}
 
 -- word k of the object q becomes v, and then it reads as p
 pub record IsWrite (h : HeapState) (a : ℕ) (q : HeapObject) (k v : ℕ) (p : HeapObject) : Type 0 where
