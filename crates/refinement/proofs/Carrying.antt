@@ -1,4 +1,10 @@
 -- What an edit does to all that is kept of a heap, and the step that it makes.
+--
+-- Letters, here and in the files of rows: h is a heap's state, and g the one after an edit; p is a plain heap, q the one
+-- after a step, and p0 the one as the last mark began; b is births as the laws speak of them, and e an edit of the heap
+-- by addresses. k says that h stands for p and p0, s that its store is one, d that it is a heap, and l that its memory is
+-- in order. In a row t is the thread, x its record, and g what the step has passed before; r, o and q are registers, a is
+-- an address, i the index of a reference and j that of a datum, n where a word stands or which global, v what is written.
 use Rattle.std.proofs.Common.{◌≡◌, ℕ, length, refl, sym, ◌∙◌, ap, subst}
 use Rattle.model.specs.declared.config.Config.{Config}
 use Rattle.model.specs.declared.steps.Actor.{Actor}
@@ -85,8 +91,8 @@ becomes c f same =
     record { size = c.size; laid = c.laid; given = c.given; words = c.words; world = c.world ∙ same }
 
 -- one edit, and then another
-pub and_then : {h g k : HeapState} {e f : AddressHeap → AddressHeap} → Carries h g e → Carries g k f
-    → Carries h k (λ w. f (e w))
+pub and_then : {h g m : HeapState} {e f : AddressHeap → AddressHeap} → Carries h g e → Carries g m f
+    → Carries h m (λ w. f (e w))
 and_then {f = f} c d = record {
   size = record {
     config = d.size.config ∙ c.size.config;
@@ -103,7 +109,7 @@ and_then {f = f} c d = record {
   world = d.world ∙ ap f c.world;
 }
 
--- an edit of one thread
+-- an edit of one thread, said of its record
 pub thread_carries : (h : HeapState) (t : ℕ) (f : ThreadState → ThreadState) (e : AddressHeap → AddressHeap)
     → (IsLaid h → IsLaid (record h { threads = changed h.threads t f }))
     → ((y : ThreadState) → HoldsWords h.config.registers y → HoldsWords h.config.registers (f y))

@@ -21,7 +21,7 @@ use Rattle.model.specs.Heaps.{HeapState, ThreadState, Reference, barrier_of, bar
 use Rattle.model.specs.Heaps.{with_loaded, with_global, with_place, field_address, global_of, stored}
 use Rattle.model.specs.Outcome.{trap_outcome, heal_outcome, heal_place, end_load, finish_outcome, trap_due}
 use Rattle.model.specs.Outcome.{gc_trap_due, nmt_trap_due, may_finish, bits_at, are_bits_of, healed}
-use Rattle.model.specs.Plain.{PlainHeap, Pending, plain_step, plain_answer, pending_in, finishing}
+use Rattle.model.specs.Plain.{PlainHeap, Pending, plain_step, plain_answer, pending_in}
 use Rattle.refword.proofs.Reading.{reads_back}
 use Rattle.laws.specs.AddressHeap.{field}
 use Rattle.laws.specs.Invariant.{IsPlace}
@@ -35,7 +35,7 @@ use Rattle.refinement.specs.Births.{births_of, as_pair}
 use Rattle.refinement.specs.Roots.{IsLoad}
 use Rattle.refinement.specs.Standing.{Holds, StepHolds}
 use Rattle.refinement.proofs.Accepted.{OnAccepted, on_some, on_test, on_truth}
-use Rattle.refinement.proofs.Carrying.{RowHolds, step_by, read_by, and_then, agrees, stays}
+use Rattle.refinement.proofs.Carrying.{RowHolds, row_by, read_by, and_then, agrees, stays}
 use Rattle.refinement.proofs.Rooted.{load_there, global_word, stored_again}
 use Rattle.refinement.proofs.Written.{field_carries}
 use Rattle.refinement.proofs.Threads.{barrier_carries, loaded_carries, global_carries}
@@ -89,15 +89,18 @@ module _ {h : HeapState} {p p0 : PlainHeap} (s : IsStore h.store) (d : IsHeap h)
     still_load = record { target = load.target; raw = load.raw; now = load.now }
 
     -- the place has another word by now
-    changed_holds : Holds (with_barrier h t (healed b)) p p0
-    changed_holds = step_by k (barrier_carries h t x at (healed b) still_load) (stays h p)
-        (HealChanged t (as_barrier b) in_world)
+    other_word : StepHolds h p p0 (Thread t) steps.Heal (with_barrier h t (healed b)) answers.Changed
+    unfolding plain_step plain_answer
+    other_word = row_by k (barrier_carries h t x at (healed b) still_load) (stays h p)
+        (HealChanged t (as_barrier b) in_world) tt
 
     -- a field is healed
-    field_holds : (a i : ℕ) → b.place ≡ places.Field a i
+    field_healed : (a i : ℕ) → b.place ≡ places.Field a i
         → trap_due h t b.now ≡ false → word_at h.store (field_address a i) ≡ Some (bits_of b.raw)
-        → Holds (with_barrier (with_place h (places.Field a i) b.now) t (healed b)) p p0
-    field_holds a i place clear bits =
+        → StepHolds h p p0 (Thread t) steps.Heal
+        (with_barrier (with_place h (places.Field a i) b.now) t (healed b)) answers.Healed
+    unfolding plain_step plain_answer
+    field_healed a i place clear bits =
         let there = subst (λ z. IsPlace (world_of h) (births_of p) t (as_place z)) place opened.barrier.place in
         let q = there.object in
         let here : object_at h a ≡ Some q = current_there (world_of h) a q there.here in
@@ -105,63 +108,66 @@ module _ {h : HeapState} {p p0 : PlainHeap} (s : IsStore h.store) (d : IsHeap h)
         let same : field q i ≡ as_word b.raw =
         field_is h s k.laid a q here i (bits_of b.raw) there.within (ap (word_at h.store) spot ∙ bits)
         ∙ ap as_read (reads_back b.raw load.raw) in
-        step_by k (and_then (field_carries h s k.laid a q here i (field_address a i) b.now load.now there.within spot)
+        row_by k (and_then (field_carries h s k.laid a q here i (field_address a i) b.now load.now there.within spot)
         (barrier_carries (with_place h (places.Field a i) b.now) t x at (healed b) still_load)) (stays h p)
-        (HealField t (as_barrier b) a i q in_world (ap as_place place) here same (unmarked clear))
+        (HealField t (as_barrier b) a i q in_world (ap as_place place) here same (unmarked clear)) tt
 
     -- a global is healed
-    global_holds : (n : ℕ)
-        → b.place ≡ places.Global n → trap_due h t b.now ≡ false → bits_of (global_of h n) ≡ bits_of b.raw
-        → Holds (with_barrier (with_place h (places.Global n) b.now) t (healed b)) p p0
-    unfolding with_global global_of
-    global_holds n place clear bits =
+    global_healed : (n : ℕ) → b.place ≡ places.Global n → trap_due h t b.now ≡ false
+        → bits_of (global_of h n) ≡ bits_of b.raw → StepHolds h p p0 (Thread t) steps.Heal
+        (with_barrier (with_place h (places.Global n) b.now) t (healed b)) answers.Healed
+    unfolding plain_step plain_answer with_global global_of
+    global_healed n place clear bits =
         let there = subst (λ z. IsPlace (world_of h) (births_of p) t (as_place z)) place opened.barrier.place in
         let same : (world_of h).global n ≡ as_word b.raw = global_same (slice_get h.globals n)
         ∙ ap as_word (same_word (global_of h n) b.raw (global_word h n k.words) load.raw bits) in
-        step_by k (and_then (global_carries h n b.now load.now (ltb-true n (length h.globals) there))
+        row_by k (and_then (global_carries h n b.now load.now (ltb-true n (length h.globals) there))
         (barrier_carries (with_global h n b.now) t x at (healed b) still_load)) (stays h p)
-        (HealGlobal t (as_barrier b) n in_world (ap as_place place) same (unmarked clear))
+        (HealGlobal t (as_barrier b) n in_world (ap as_place place) same (unmarked clear)) tt
+
+    -- a place is healed where it still has what was loaded
+    place_healed : trap_due h t b.now ≡ false
+        → OnAccepted (λ (z : HeapState × Answer). StepHolds h p p0 (Thread t) steps.Heal z.0 z.1) (Ok (heal_place h t b))
+    unfolding heal_place
+    place_healed clear = by_bits (are_bits_of (bits_at h b.place) b.raw) refl
+      where
+        by_place : (z : Place) → b.place ≡ z → bits_at h z ≡ Some (bits_of b.raw) → StepHolds h p p0
+            (Thread t) steps.Heal (with_barrier (with_place h z b.now) t (healed b)) answers.Healed
+        by_place (places.Field a i) q e = field_healed a i q clear e
+        by_place (places.Global n) q e = global_healed n q clear (same_Some _ _ e)
+
+        by_bits : (c : Bool) → are_bits_of (bits_at h b.place) b.raw ≡ c
+            → OnAccepted (λ (z : HeapState × Answer). StepHolds h p p0 (Thread t) steps.Heal z.0 z.1) (Ok (cond c
+            (with_barrier (with_place h b.place b.now) t (healed b), answers.Healed)
+            (with_barrier h t (healed b), answers.Changed)))
+        by_bits false f = other_word
+        by_bits true f = by_place b.place refl (are_bits (bits_at h b.place) b.raw f)
 
     -- a load's end
-    loaded_holds : trap_due h t b.now ≡ false
-        → Holds (with_loaded h t b.target b.now) (finishing p t (pending_in (slice_get p.threads t))) p0
-    loaded_holds clear = by_pending (pending_in (slice_get p.threads t)) refl
+    loaded : trap_due h t b.now ≡ false
+        → StepHolds h p p0 (Thread t) steps.Finish (with_loaded h t b.target b.now) answers.Done
+    unfolding plain_step plain_answer
+    loaded clear = by_pending (pending_in (slice_get p.threads t)) refl
       where
         by_pending : (o : Option Pending) → pending_in (slice_get p.threads t) ≡ o
-            → Holds (with_loaded h t b.target b.now) (finishing p t (pending_in (slice_get p.threads t))) p0
+            → StepHolds h p p0 (Thread t) steps.Finish (with_loaded h t b.target b.now) answers.Done
         by_pending None e = absurd (none-some opened.pending (sym (ap (option_map as_pair) e) ∙ opened.is))
         by_pending (Some l) e =
             let pair : as_pair l ≡ opened.pending = same_Some _ _ (sym (ap (option_map as_pair) e) ∙ opened.is) in
             let target : l.target ≡ b.target = ap (λ (z : ℕ × Option ℕ). z.0) pair ∙ sym opened.barrier.target in
-            step_by k (loaded_carries h t x at b.target b.now k.laid load.now load.target)
+            row_by k (loaded_carries h t x at b.target b.now k.laid load.now load.target)
             (agrees (finishing_follows k t x at _ l e (omega (arith, target, load.target)))
             (ap (λ o. finish_at t o (births_of p)) (sym (ap (option_map as_pair) e))))
-            (Finish t (as_barrier b) in_world (unmarked clear))
-
-    -- the place of a load, healed or not
-    by_bits : trap_due h t b.now ≡ false → (c : Bool) → are_bits_of (bits_at h b.place) b.raw ≡ c
-        → OnAccepted (λ (z : HeapState × Answer). StepHolds h p p0 (Thread t) steps.Heal z.0 z.1) (Ok (cond c
-        (with_barrier (with_place h b.place b.now) t (healed b), answers.Healed)
-        (with_barrier h t (healed b), answers.Changed)))
-    unfolding plain_step plain_answer with_barrier with_global
-    by_bits clear false f = record { config = refl; holds = changed_holds; answers = tt }
-    by_bits clear true f = by_place b.place refl (are_bits (bits_at h b.place) b.raw f)
-      where
-        by_place : (z : Place) → b.place ≡ z → bits_at h z ≡ Some (bits_of b.raw) → StepHolds h p p0
-            (Thread t) steps.Heal (with_barrier (with_place h z b.now) t (healed b)) answers.Healed
-        by_place (places.Field a i) q e =
-            record { config = refl; holds = field_holds a i q clear e; answers = tt }
-        by_place (places.Global n) q e =
-            record { config = refl; holds = global_holds n q clear (same_Some _ _ e); answers = tt }
+            (Finish t (as_barrier b) in_world (unmarked clear)) tt
 
   -- a place is healed, or has another word by now
   pub heal_holds : RowHolds h p p0 (Thread t) steps.Heal (heal_outcome h t)
-  unfolding heal_outcome heal_place
-  heal_holds = on_some (barrier_of_thread h t) _ _ _ (λ b first. on_test (trap_due h t b.now) _ _ _
-      (λ clear. by_bits b first clear (are_bits_of (bits_at h b.place) b.raw) refl))
+  unfolding heal_outcome
+  heal_holds = on_some (barrier_of_thread h t) _ _ _ (λ b first.
+      on_test (trap_due h t b.now) _ _ _ (λ clear. place_healed b first clear))
 
   -- a load ends
   pub finish_holds : RowHolds h p p0 (Thread t) steps.Finish (finish_outcome h t)
-  unfolding finish_outcome end_load plain_step plain_answer with_loaded
+  unfolding finish_outcome end_load
   finish_holds = on_some (barrier_of_thread h t) _ _ _ (λ b first. on_test (trap_due h t b.now) _ _ _ (λ clear.
-      on_truth (may_finish b) _ _ _ (λ may. record { config = refl; holds = loaded_holds b first clear; answers = tt })))
+      on_truth (may_finish b) _ _ _ (λ may. loaded b first clear)))
