@@ -9,7 +9,6 @@ use Rattle.std.proofs.lemmas.Bool.{ltb-true, eqb-true}
 use Rattle.refword.specs.Words.{IsWord, bits_of}
 use Rattle.model.specs.declared.steps.Actor.TheVariants.{Thread}
 use Rattle.model.specs.declared.steps.Step.TheVariants as steps
-use Rattle.model.specs.declared.steps.Answer.{Answer}
 use Rattle.model.specs.declared.steps.Answer.TheVariants as answers
 use Rattle.model.specs.declared.records.Barrier.{Barrier}
 use Rattle.model.specs.declared.records.Place.{Place}
@@ -34,7 +33,7 @@ use Rattle.refinement.specs.Worlds.{world_of, as_word, as_read, as_barrier, as_p
 use Rattle.refinement.specs.Births.{births_of, as_pair}
 use Rattle.refinement.specs.Roots.{IsLoad}
 use Rattle.refinement.specs.Standing.{Holds, StepHolds}
-use Rattle.refinement.proofs.Accepted.{OnAccepted, on_some, on_test, on_truth}
+use Rattle.refinement.proofs.Accepted.{on_some, on_test, on_truth}
 use Rattle.refinement.proofs.Carrying.{RowHolds, row_by, read_by, and_then, agrees, stays}
 use Rattle.refinement.proofs.Rooted.{load_there, global_word, stored_again}
 use Rattle.refinement.proofs.Written.{field_carries}
@@ -127,7 +126,7 @@ module _ {h : HeapState} {p p0 : PlainHeap} (s : IsStore h.store) (d : IsHeap h)
 
     -- a place is healed where it still has what was loaded
     place_healed : trap_due h t b.now ≡ false
-        → OnAccepted (λ (z : HeapState × Answer). StepHolds h p p0 (Thread t) steps.Heal z.0 z.1) (Ok (heal_place h t b))
+        → RowHolds h p p0 (Thread t) steps.Heal (Ok (heal_place h t b))
     unfolding heal_place
     place_healed clear = by_bits (are_bits_of (bits_at h b.place) b.raw) refl
       where
@@ -137,7 +136,7 @@ module _ {h : HeapState} {p p0 : PlainHeap} (s : IsStore h.store) (d : IsHeap h)
         by_place (places.Global n) q e = global_healed n q clear (same_Some _ _ e)
 
         by_bits : (c : Bool) → are_bits_of (bits_at h b.place) b.raw ≡ c
-            → OnAccepted (λ (z : HeapState × Answer). StepHolds h p p0 (Thread t) steps.Heal z.0 z.1) (Ok (cond c
+            → RowHolds h p p0 (Thread t) steps.Heal (Ok (cond c
             (with_barrier (with_place h b.place b.now) t (healed b), answers.Healed)
             (with_barrier h t (healed b), answers.Changed)))
         by_bits false f = other_word

@@ -25,7 +25,8 @@ module _ {h : HeapState} {p p0 : PlainHeap} (s : IsStore h.store) (d : IsHeap h)
   -- a thread runs again
   pub unpark_holds : Passed h t steps.Unpark → RowHolds h p p0 (Thread t) steps.Unpark (unpark_outcome h t)
   unfolding unpark_outcome plain_step plain_answer
-  unpark_holds g = on_truth (is_parked_in (slice_get h.threads t)) _ _ _ (λ e. row_by k (parked_carries h t g.thread g.there false) (stays h p)
+  unpark_holds g = on_truth (is_parked_in (slice_get h.threads t)) _ _ _ (λ e.
+      row_by k (parked_carries h t g.thread g.there false) (stays h p)
       (Park t false (closed_barrier g refl)) tt)
 
   -- a register is clean

@@ -137,7 +137,8 @@ module _ {h : HeapState} {p p0 : PlainHeap} (s : IsStore h.store) (d : IsHeap h)
       ap₂ same_address m n ∙ same_numbers c d y.object.birth z.object.birth names
       ∙ sym (ap₂ same_name y.reads.birth z.reads.birth)
 
-  pub same_holds : (l r : ℕ) → Passed h t (steps.Same l r) → RowHolds h p p0 (Thread t) (steps.Same l r) (same_outcome h t l r)
+  pub same_holds : (l r : ℕ) → Passed h t (steps.Same l r)
+      → RowHolds h p p0 (Thread t) (steps.Same l r) (same_outcome h t l r)
   unfolding same_outcome plain_step plain_answer name_of register_of
   same_holds l r g = on_has (usable_or_null h t l) _ _ _ (null_or_used h t l) (λ a first.
       on_has (usable_or_null h t r) _ _ _ (null_or_used h t r) (λ b second.

@@ -196,7 +196,8 @@ field_write h a q e i v m = record {
       (omega (arith, m, read_refs h.config.layouts ws (a % h.store.words) q r)));
 }
 
-module _ (h : HeapState) (s : IsStore h.store) (l : IsLaid h) (a : ℕ) (q : HeapObject) (e : object_at h a ≡ Some q) where
+module _ (h : HeapState) (s : IsStore h.store) (l : IsLaid h) (a : ℕ) (q : HeapObject)
+    (e : object_at h a ≡ Some q) where
   -- a datum gets a number
   pub datum_carries : (j n v : ℕ) → j < length q.data_words → a + (1 + length q.refs + j) ≡ n
       → Carries h (record h { store = with_word h.store n v }) (set_object a (with_datum q j v))
