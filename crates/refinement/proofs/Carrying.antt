@@ -1,10 +1,10 @@
 -- What an edit does to all that is kept of a heap, and the step that it makes.
 --
--- Letters, here and in the files of rows. h is a heap's state, and g the one after an edit. p is a plain heap, q the one
--- after a step, and p0 the one as the last mark began; b is births as the laws speak of them, and e an edit of the heap
--- by addresses. k says that h stands for p and p0, s that its store is one, d that it is a heap, l that its memory is in
--- order. In a row t is the thread, x its record, and g what the step has passed before; r, o and q are registers, a is
--- an address, i the index of a reference and j that of a datum, n where a word stands or which global, v what is
+-- Letters, here and in the files of rows. h is a heap's state, and g the one after an edit. p is a plain heap, q the
+-- one after a step, and p0 the one as the last mark began; b is births as the laws speak of them, and e an edit of the
+-- heap by addresses. k says that h stands for p and p0, s that its store is one, d that it is a heap, l that its memory
+-- is in order. In a row t is the thread, x its record, and g what the step has passed before; r, o and q are registers,
+-- a is an address, i the index of a reference and j that of a datum, n where a word stands or which global, v what is
 -- written.
 use Rattle.std.proofs.Common.{◌≡◌, ℕ, length, refl, sym, ◌∙◌, ap, subst}
 use Rattle.model.specs.declared.config.Config.{Config}
