@@ -32,7 +32,7 @@ use Rattle.refword.specs.Words.{IsWord}
 use Rattle.refinement.specs.Roots.{HoldsWords}
 use Rattle.refinement.specs.Standing.{Holds}
 use Rattle.refinement.proofs.Changes.{blank_bit}
-use Rattle.refinement.proofs.Writers.{moved}
+use Rattle.refinement.proofs.Carrying.{moved}
 
 -- what is read of equal elements
 read_of : {X B : Type 0} (P : Option X → B) (n : ℕ) (x : X) → P None ≡ P (Some x) → (i : ℕ)

@@ -1,23 +1,27 @@
 -- The steps of the model's plain heap are those of the laws' plain heap.
-use Rattle.std.proofs.Common.{◌≡◌, ◌≢◌, ℕ, zero, suc, ◌<◌, List, [], ◌∷◌, ◌++◌, length, set}
-use Rattle.std.proofs.Common.{replicate, Option, Some, None, refl, sym, ◌∙◌, ap, arith, length-append}
-use mathlib.Core.Path.{fun_ext}
+use Rattle.std.proofs.Common.{◌≡◌, ◌≢◌, ℕ, zero, suc, ◌<◌, List, [], ◌∷◌, ◌++◌, length, set, replicate, Option, Some}
+use Rattle.std.proofs.Common.{None, refl, sym, ◌∙◌, ap, subst, arith, length-append}
 use Rattle.std.specs.List.{slice_get}
 use Rattle.std.specs.Option.{option_map}
 use Rattle.std.proofs.Math.ListN.{length-set}
+use Rattle.std.proofs.lemmas.Option.{slice_get_within}
+use mathlib.Core.Path.{fun_ext}
 use Rattle.layout.specs.declared.shape.Layout.{Layout}
-use Rattle.model.specs.Heaps.{HeapState, flat, changed}
-use Rattle.model.specs.Plain.{PlainHeap, PlainThread, Object, name_of, name_in, naming, set_name}
-use Rattle.model.specs.Plain.{born, blank_object, storing, set_field, writing, set_datum}
-use Rattle.model.specs.Plain.{Pending, pending_in, loading, start_load, finishing, end_load}
+use Rattle.model.specs.Heaps.{HeapState, flat, changed, ThreadState}
+use Rattle.model.specs.Plain.{PlainHeap, PlainThread, Object, name_of, name_in, naming, set_name, born, blank_object}
+use Rattle.model.specs.Plain.{storing, set_field, writing, set_datum, Pending, pending_in, loading, start_load}
+use Rattle.model.specs.Plain.{finishing, end_load}
+use Rattle.model.specs.Owning.{Each}
 use Rattle.model.proofs.Lists.{get_set_same, get_set_other, get_within, each_changed}
 use Rattle.laws.specs.AddressHeap.{put, put_at}
 use Rattle.laws.specs.Edits.{plain_born, plain_set_pending, plain_end_load, plain_set_global}
 use Rattle.laws.specs.Effects.{plain_set_register, datum_at, store_at}
 use Rattle.laws.proofs.Basics.{put_all, put_same, put_other, put_id}
 use Rattle.refinement.specs.Births.{births_of, layout_in, refs_in, data_in, as_pair, HasRootsOf}
+use Rattle.refinement.specs.Standing.{Holds}
 use Rattle.refinement.proofs.Runs.{get_second}
 use Rattle.refinement.proofs.Changes.{get_changed, kept_of, read_changed, length_changed}
+use Rattle.refinement.proofs.Carrying.{Follows, stays}
 
 -- registers
 
@@ -45,8 +49,27 @@ name_changed ts t r v f y e k is u s =
         ∙ in_thread q
         ∙ ap (λ o. put (λ q. name_in o q) r v q) (sym e)
 
+-- the plain heap has the threads of a heap
+pub plain_thread : {h : HeapState} {p p0 : PlainHeap} → Holds h p p0 → (t : ℕ) (x : ThreadState)
+    → slice_get h.threads t ≡ Some x
+    → (y : PlainThread) × (slice_get p.threads t ≡ Some y) × (length y.registers ≡ h.config.registers)
+plain_thread {h = h} {p = p} k t x at =
+    let (y, e) = get_within p.threads t (omega (arith, slice_get_within h.threads t x at, k.roots.threads)) in
+    (y, e, k.roots.registers t y e)
+
+-- the roots of a plain heap with a thread changed
+changed_roots : (h : HeapState) (p q : PlainHeap) (t : ℕ) (f : PlainThread → PlainThread)
+    → q.threads ≡ changed p.threads t f → length q.globals ≡ length p.globals
+    → ((y : PlainThread) → length (f y).registers ≡ length y.registers) → HasRootsOf h p → HasRootsOf h q
+changed_roots h p q t f e g size k = record {
+  threads = ap length e ∙ length_changed p.threads t f ∙ k.threads;
+  registers = subst (λ ts. Each ts (λ y. length y.registers ≡ h.config.registers)) (sym e)
+      (each_changed (λ y. length y.registers ≡ h.config.registers) p.threads t f k.registers (λ y r. size y ∙ r));
+  globals = g ∙ k.globals;
+}
+
 -- a register gets a birth
-pub naming_is : (p : PlainHeap) (t r : ℕ) (v : Option ℕ) (y : PlainThread) → slice_get p.threads t ≡ Some y
+naming_is : (p : PlainHeap) (t r : ℕ) (v : Option ℕ) (y : PlainThread) → slice_get p.threads t ≡ Some y
     → r < length y.registers → births_of (naming p t r v) ≡ plain_set_register t r v (births_of p)
 unfolding naming name_of
 naming_is p t r v y e k = λ z. record (births_of p) {
@@ -54,15 +77,16 @@ naming_is p t r v y e k = λ z. record (births_of p) {
   pending = fun_ext (kept_of (λ o. option_map as_pair (pending_in o)) p.threads t (set_name r v) (λ x. refl)) z;
 }
 
-pub naming_roots : (h : HeapState) (p : PlainHeap) (t r : ℕ) (v : Option ℕ) → HasRootsOf h p
-    → HasRootsOf h (naming p t r v)
+pub naming_follows : {h : HeapState} {p p0 : PlainHeap} → Holds h p p0 → (t : ℕ) (x : ThreadState)
+    → slice_get h.threads t ≡ Some x → (r : ℕ) (v : Option ℕ) → r < h.config.registers
+    → Follows h p (naming p t r v) (plain_set_register t r v (births_of p))
 unfolding naming
-naming_roots h p t r v k = record {
-  threads = length_changed p.threads t (set_name r v) ∙ k.threads;
-  registers = each_changed (λ y. length y.registers ≡ h.config.registers) p.threads t (set_name r v) k.registers
-      (λ y e. length-set y.registers r v ∙ e);
-  globals = k.globals;
-}
+naming_follows {h = h} {p = p} k t x at r v low =
+    let (y, there, size) = plain_thread k t x at in
+    record {
+      roots = changed_roots h p _ t (set_name r v) refl refl (λ y. length-set y.registers r v);
+      births = naming_is p t r v y there (omega (arith, low, size));
+    }
 
 -- objects
 
@@ -89,7 +113,7 @@ put_read P f a v = put_all (λ b y. P (put f a v b) ≡ y) (λ c. P (f c)) a (P 
     (λ b d. ap P (put_other f a v b d))
 
 -- an object is born
-pub born_is : (p : PlainHeap) (t r number : ℕ) (l : Layout) (y : PlainThread) → slice_get p.threads t ≡ Some y
+born_is : (p : PlainHeap) (t r number : ℕ) (l : Layout) (y : PlainThread) → slice_get p.threads t ≡ Some y
     → r < length y.registers
     → births_of (born p t r number (Some l)) ≡ plain_born number (replicate l.refs None) (replicate l.nums 0) t r
     (births_of p)
@@ -116,18 +140,22 @@ born_is p t r number l y e k = λ z. record (births_of p) {
     count : length (p.objects ++ new ∷ []) ≡ suc (length p.objects)
     count = omega (arith, length-append p.objects (new ∷ []))
 
-pub born_roots : (h : HeapState) (p : PlainHeap) (t r number : ℕ) (l : Layout) → HasRootsOf h p
-    → HasRootsOf h (born p t r number (Some l))
+pub born_follows : {h : HeapState} {p p0 : PlainHeap} → Holds h p p0 → (t : ℕ) (x : ThreadState)
+    → slice_get h.threads t ≡ Some x → (r number : ℕ) (o : Option Layout) (l : Layout) → o ≡ Some l
+    → r < h.config.registers → Follows h p (born p t r number o)
+    (plain_born number (replicate l.refs None) (replicate l.nums 0) t r (births_of p))
 unfolding naming
-born_roots h p t r number l k = record {
-  threads = length_changed p.threads t (set_name r (Some (length p.objects))) ∙ k.threads;
-  registers = each_changed (λ y. length y.registers ≡ h.config.registers) p.threads t (set_name r
-      (Some (length p.objects))) k.registers (λ y e. length-set y.registers r (Some (length p.objects)) ∙ e);
-  globals = k.globals;
-}
+born_follows {h = h} {p = p} k t x at r number o l is low =
+    let (y, there, size) = plain_thread k t x at in
+    subst (λ z. Follows h p (born p t r number z) (plain_born number (replicate l.refs None) (replicate l.nums 0) t r
+    (births_of p))) (sym is) (record {
+      roots = changed_roots h p _ t (set_name r (Some (length p.objects))) refl refl
+          (λ y. length-set y.registers r (Some (length p.objects)));
+      births = born_is p t r number l y there (omega (arith, low, size));
+    })
 
 -- a datum is written
-pub writing_is : (p : PlainHeap) (o : Option ℕ) (j v : ℕ) → births_of (writing p o j v) ≡ datum_at o j v (births_of p)
+writing_is : (p : PlainHeap) (o : Option ℕ) (j v : ℕ) → births_of (writing p o j v) ≡ datum_at o j v (births_of p)
 unfolding name_of
 writing_is p None j v = refl
 writing_is p (Some b) j v = λ z. record (births_of p) {
@@ -144,13 +172,16 @@ writing_is p (Some b) j v = λ z. record (births_of p) {
     set_in None = refl
     set_in (Some o) = refl
 
-pub writing_roots : (h : HeapState) (p : PlainHeap) (o : Option ℕ) (j v : ℕ) → HasRootsOf h p
-    → HasRootsOf h (writing p o j v)
-writing_roots h p None j v k = k
-writing_roots h p (Some b) j v k = record { threads = k.threads; registers = k.registers; globals = k.globals }
+pub writing_follows : (h : HeapState) (p : PlainHeap) (o : Option ℕ) (j v : ℕ)
+    → Follows h p (writing p o j v) (datum_at o j v (births_of p))
+writing_follows h p None j v = stays h p
+writing_follows h p (Some b) j v = record {
+  roots = λ k. record { threads = k.threads; registers = k.registers; globals = k.globals };
+  births = writing_is p (Some b) j v;
+}
 
 -- a reference is written
-pub storing_is : (p : PlainHeap) (o : Option ℕ) (i : ℕ) (v : Option ℕ)
+storing_is : (p : PlainHeap) (o : Option ℕ) (i : ℕ) (v : Option ℕ)
     → births_of (storing p o i v) ≡ store_at o i v (births_of p)
 unfolding name_of
 storing_is p None i v = refl
@@ -168,13 +199,16 @@ storing_is p (Some b) i v = λ z. record (births_of p) {
     set_in None = refl
     set_in (Some o) = refl
 
-pub storing_roots : (h : HeapState) (p : PlainHeap) (o : Option ℕ) (i : ℕ) (v : Option ℕ) → HasRootsOf h p
-    → HasRootsOf h (storing p o i v)
-storing_roots h p None i v k = k
-storing_roots h p (Some b) i v k = record { threads = k.threads; registers = k.registers; globals = k.globals }
+pub storing_follows : (h : HeapState) (p : PlainHeap) (o : Option ℕ) (i : ℕ) (v : Option ℕ)
+    → Follows h p (storing p o i v) (store_at o i v (births_of p))
+storing_follows h p None i v = stays h p
+storing_follows h p (Some b) i v = record {
+  roots = λ k. record { threads = k.threads; registers = k.registers; globals = k.globals };
+  births = storing_is p (Some b) i v;
+}
 
 -- a global gets a birth
-pub global_is : (p : PlainHeap) (g : ℕ) (v : Option ℕ) → g < length p.globals
+global_is : (p : PlainHeap) (g : ℕ) (v : Option ℕ) → g < length p.globals
     → births_of (record p { globals = set p.globals g v }) ≡ plain_set_global g v (births_of p)
 unfolding name_of
 global_is p g v k = λ z. record (births_of p) { global = fun_ext globals z }
@@ -184,8 +218,19 @@ global_is p g v k = λ z. record (births_of p) { global = fun_ext globals z }
         (let (z, there) = get_within p.globals g k in ap flat (get_set_same p.globals g z v there))
         (λ n d. ap flat (get_set_other p.globals g n v d))
 
+pub global_follows : {h : HeapState} {p p0 : PlainHeap} → Holds h p p0 → (g : ℕ) (v : Option ℕ) → g < length h.globals
+    → Follows h p (record p { globals = set p.globals g v }) (plain_set_global g v (births_of p))
+global_follows {h = h} {p = p} k g v low = record {
+  roots = λ r. record {
+    threads = r.threads;
+    registers = r.registers;
+    globals = length-set p.globals g v ∙ r.globals;
+  };
+  births = global_is p g v (omega (arith, low, k.roots.globals));
+}
+
 -- a load begins
-pub loading_is : (p : PlainHeap) (t r : ℕ) (b : Option ℕ) (y : PlainThread) → slice_get p.threads t ≡ Some y
+loading_is : (p : PlainHeap) (t r : ℕ) (b : Option ℕ) (y : PlainThread) → slice_get p.threads t ≡ Some y
     → births_of (loading p t r (Some b)) ≡ plain_set_pending t (r, b) (births_of p)
 unfolding name_of
 loading_is p t r b y e = λ z. record (births_of p) {
@@ -194,17 +239,18 @@ loading_is p t r b y e = λ z. record (births_of p) {
       (Some (r, b)) e refl) z;
 }
 
-pub loading_roots : (h : HeapState) (p : PlainHeap) (t r : ℕ) (b : Option ℕ) → HasRootsOf h p
-    → HasRootsOf h (loading p t r (Some b))
-loading_roots h p t r b k = record {
-  threads = length_changed p.threads t (start_load r b) ∙ k.threads;
-  registers = each_changed (λ y. length y.registers ≡ h.config.registers) p.threads t (start_load r b) k.registers
-      (λ y e. e);
-  globals = k.globals;
-}
+pub loading_follows : {h : HeapState} {p p0 : PlainHeap} → Holds h p p0 → (t : ℕ) (x : ThreadState)
+    → slice_get h.threads t ≡ Some x → (r : ℕ) (o : Option (Option ℕ)) (b : Option ℕ) → o ≡ Some b
+    → Follows h p (loading p t r o) (plain_set_pending t (r, b) (births_of p))
+loading_follows {h = h} {p = p} k t x at r o b is =
+    let (y, there, size) = plain_thread k t x at in
+    subst (λ z. Follows h p (loading p t r z) (plain_set_pending t (r, b) (births_of p))) (sym is) (record {
+      roots = changed_roots h p _ t (start_load r b) refl refl (λ y. refl);
+      births = loading_is p t r b y there;
+    })
 
 -- a load ends
-pub finishing_is : (p : PlainHeap) (t : ℕ) (l : Pending) (y : PlainThread)
+finishing_is : (p : PlainHeap) (t : ℕ) (l : Pending) (y : PlainThread)
     → slice_get p.threads t ≡ Some y → l.target < length y.registers
     → births_of (finishing p t (Some l)) ≡ plain_end_load t l.target l.found (births_of p)
 unfolding name_of
@@ -213,11 +259,12 @@ finishing_is p t l y e k = λ z. record (births_of p) {
   pending = fun_ext (read_changed (λ o. option_map as_pair (pending_in o)) p.threads t (end_load l) y None e refl) z;
 }
 
-pub finishing_roots : (h : HeapState) (p : PlainHeap) (t : ℕ) (l : Pending) → HasRootsOf h p
-    → HasRootsOf h (finishing p t (Some l))
-finishing_roots h p t l k = record {
-  threads = length_changed p.threads t (end_load l) ∙ k.threads;
-  registers = each_changed (λ y. length y.registers ≡ h.config.registers) p.threads t (end_load l) k.registers
-      (λ y e. length-set y.registers l.target l.found ∙ e);
-  globals = k.globals;
-}
+pub finishing_follows : {h : HeapState} {p p0 : PlainHeap} → Holds h p p0 → (t : ℕ) (x : ThreadState)
+    → slice_get h.threads t ≡ Some x → (o : Option Pending) (l : Pending) → o ≡ Some l → l.target < h.config.registers
+    → Follows h p (finishing p t o) (plain_end_load t l.target l.found (births_of p))
+finishing_follows {h = h} {p = p} k t x at o l is low =
+    let (y, there, size) = plain_thread k t x at in
+    subst (λ z. Follows h p (finishing p t z) (plain_end_load t l.target l.found (births_of p))) (sym is) (record {
+      roots = changed_roots h p _ t (end_load l) refl refl (λ y. length-set y.registers l.target l.found);
+      births = finishing_is p t l y there (omega (arith, low, size));
+    })

@@ -1,14 +1,14 @@
 -- An object that is made in a buffer is born.
-use Rattle.std.proofs.Common.{◌≡◌, ◌≢◌, ◌⊎◌, inl, inr, ℕ, suc, ◌+◌, ◌-◌, ◌*◌, ◌/◌, ◌%◌, ◌^◌}
-use Rattle.std.proofs.Common.{◌<◌, ◌≤◌, Bool, true, List, length, Option, Some, None, refl}
-use Rattle.std.proofs.Common.{sym, ◌∙◌, ap, ap₂, subst, arith, div-add-mod', replicate}
-use mathlib.Core.Path.{fun_ext}
+use Rattle.std.proofs.Common.{◌≡◌, ◌≢◌, ◌⊎◌, inl, inr, ℕ, suc, ◌+◌, ◌-◌, ◌*◌, ◌/◌, ◌%◌, ◌^◌, ◌<◌, ◌≤◌, Bool, true}
+use Rattle.std.proofs.Common.{List, length, Option, Some, None, refl, sym, ◌∙◌, ap, ap₂, subst, arith, div-add-mod'}
+use Rattle.std.proofs.Common.{replicate}
 use Rattle.std.specs.List.{slice_get}
 use Rattle.std.specs.Option.{option_map}
 use Rattle.std.proofs.Math.ListN.{length-set, length-replicate}
 use Rattle.std.proofs.lemmas.Nat.{div-mul-add, mod-mul-add}
 use Rattle.std.proofs.lemmas.Option.{slice_get_within, same_Some}
 use Rattle.std.proofs.lemmas.Bool.{cases_eq}
+use mathlib.Core.Path.{fun_ext}
 use Rattle.layout.specs.declared.shape.Layout.{Layout}
 use Rattle.layout.specs.Objects.{size_of}
 use Rattle.model.specs.declared.records.Page.{Page}
@@ -20,19 +20,23 @@ use Rattle.model.specs.Owning.{IsStore, LiesIn}
 use Rattle.model.specs.Heaps.{HeapState, ThreadState, register_of, buffer_in, changed, put_bit, fresh_object}
 use Rattle.model.specs.Outcome.{placed, handed, used_buffer, has_crossed, is_parked_in}
 use Rattle.model.proofs.Lists.{get_within, each_changed}
-use Rattle.model.proofs.Memory.{open_state, words_sized, memory_words, page_there, length_overlaid}
+use Rattle.model.proofs.Memory.{open_state, words_sized, memory_words, page_there, length_overlaid, frames_stay}
+use Rattle.page.proofs.Lying.{buffer_address}
 use Rattle.laws.specs.AddressHeap.{HeapObject, Word, Null, SideEntry, NoEntry, Planned, Copied, put}
 use Rattle.laws.specs.Invariant.{SoundObjects}
 use Rattle.laws.specs.Edits.{born}
-use Rattle.laws.proofs.Basics.{put_all, put_after, put_same, put_other}
+use Rattle.laws.proofs.Basics.{put_after, put_same, put_other}
 use Rattle.refinement.specs.Worlds.{world_of, object_at, bit_at, barrier_in}
 use Rattle.refinement.specs.Claims.{IsLaid, AreRows, AreApart, Claim, OfObject, OfBuffer, OfPlan, OfEnd, Extent}
 use Rattle.refinement.specs.Claims.{extent, object_size, size_at, sized_extent, planned_extent, buffer_extent}
+use Rattle.refinement.specs.Roots.{HoldsWords}
 use Rattle.refinement.proofs.Runs.{Agree, overlaid_before, overlaid_behind}
 use Rattle.refinement.proofs.Reading.{IsRead, read_fits, read_fresh, new_object}
 use Rattle.refinement.proofs.Objects.{Rewrites, there, rewritten}
-use Rattle.refinement.proofs.Changes.{get_changed, kept_of, rows_changed, length_put, bit_put}
 use Rattle.refinement.proofs.Claims.{object_extent, Splits, split_apart}
+use Rattle.refinement.proofs.Changes.{read_changed, kept_of, rows_changed, length_put, bit_put, length_changed}
+use Rattle.refinement.proofs.Carrying.{Carries, alike}
+use Rattle.refinement.proofs.Rooted.{handed_holds_words}
 use Rattle.refinement.proofs.Registers.{register_changed}
 
 -- a buffer's page is open
@@ -53,8 +57,8 @@ pub record MayPlace (h : HeapState) (t target number : ℕ) (shape : Layout) (b 
   pub births : h.births < 2 ^ 32
   pub unplanned : (m : ℕ) → (world_of h).side_entry (b.page * h.store.words + b.next) ≢ Planned m
 
-module _ (h : HeapState) (s : IsStore h.store) (l : IsLaid h) (t target number : ℕ) (shape : Layout) (b : Buffer)
-    (x : ThreadState) (m : MayPlace h t target number shape b x) where
+module _ {h : HeapState} (s : IsStore h.store) (l : IsLaid h) {t target number : ℕ} {shape : Layout} {b : Buffer}
+    {x : ThreadState} (m : MayPlace h t target number shape b x) where
   -- the address of the new object
   abbrev pub address : ℕ
   address = b.page * h.store.words + b.next
@@ -208,7 +212,7 @@ module _ (h : HeapState) (s : IsStore h.store) (l : IsLaid h) (t target number :
   born_objects y = rewritten h starts b.page address change fresh s rewrites y
 
   -- the heap by addresses has one more birth
-  pub born_world : world_of after ≡ born address fresh t target (world_of h)
+  born_world : world_of after ≡ born address fresh t target (world_of h)
   unfolding placed with_words state_at page_at register_of
   born_world = λ z. record (world_of h) {
     object_at = fun_ext born_objects z;
@@ -245,17 +249,8 @@ module _ (h : HeapState) (s : IsStore h.store) (l : IsLaid h) (t target number :
   buffers : (u : ℕ)
       → extent after (OfBuffer u) ≡ put (λ v. extent h (OfBuffer v)) t (Some (buffer_extent h.store.words rest)) u
   unfolding placed with_words
-  buffers u = ap (λ o. option_map (buffer_extent h.store.words) (buffer_in o)) (get_changed h.threads t change_thread u)
-      ∙ put_all (λ v y. option_map (buffer_extent h.store.words)
-      (buffer_in (put (slice_get h.threads) t (option_map change_thread (slice_get h.threads t)) v)) ≡ y)
-      (λ v. extent h (OfBuffer v)) t (Some (buffer_extent h.store.words rest))
-      (ap (λ o. option_map (buffer_extent h.store.words) (buffer_in o)) (put_same (slice_get h.threads) t
-      (option_map change_thread (slice_get h.threads t)) ∙ ap (option_map change_thread) m.thread))
-      (λ v d. ap (λ o. option_map (buffer_extent h.store.words) (buffer_in o))
-      (put_other (slice_get h.threads) t (option_map change_thread (slice_get h.threads t)) v d)) u
-    where
-      change_thread : ThreadState → ThreadState
-      change_thread = handed target (Some (address, h.nmt)) rest
+  buffers u = read_changed (λ o. option_map (buffer_extent h.store.words) (buffer_in o)) h.threads t
+      (handed target (Some (address, h.nmt)) rest) x (Some (buffer_extent h.store.words rest)) m.thread refl u
 
   plan_of : SideEntry → Option ℕ → Option Extent
   plan_of = planned_extent
@@ -351,7 +346,7 @@ module _ (h : HeapState) (s : IsStore h.store) (l : IsLaid h) (t target number :
       go (inr d) = l.planned y n o k d.1
 
   -- and memory is in order
-  pub born_laid : IsLaid after
+  born_laid : IsLaid after
   unfolding placed with_words state_at page_at register_of
   born_laid = record {
     starts = rows h.starts l.starts true;
@@ -373,3 +368,19 @@ module _ (h : HeapState) (s : IsStore h.store) (l : IsLaid h) (t target number :
           → AreRows after.store (changed xs (b.page - 1) (put_bit b.next bit))
       rows xs r bit = let k = rows_changed h.store xs (b.page - 1) (put_bit b.next bit) r (length_put b.next bit) in
           record { pages = k.pages; words = k.words }
+
+  pub born_carries : Carries h after (born address fresh t target)
+  unfolding placed with_words
+  born_carries = record {
+    size = alike h after refl refl (frames_stay h.store _ _) refl
+        (length_changed h.threads t (handed target (Some (address, h.nmt)) rest)) refl refl;
+    laid = λ z. born_laid;
+    given = λ z. z;
+    words = λ w. record {
+      threads = each_changed (HoldsWords h.config.registers) h.threads t (handed target (Some (address, h.nmt)) rest)
+          w.threads (λ y. handed_holds_words h.config.registers target (Some (address, h.nmt)) rest y
+          (buffer_address h.store b s m.lies (omega (arith, m.room))));
+      globals = w.globals;
+    };
+    world = born_world;
+  }

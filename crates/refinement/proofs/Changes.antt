@@ -48,6 +48,17 @@ read_changed {X} P xs t f x v e k u = ap P (get_changed xs t f u) ∙ put_all (�
     now : Option X
     now = option_map f (slice_get xs t)
 
+-- what is read of a changed element was there
+pub was_read : {X B : Type 0} (P : Option X → Option B) (xs : List X) (t : ℕ) (f : X → X)
+    → ((x : X) (y : B) → P (Some (f x)) ≡ Some y → P (Some x) ≡ Some y) → (u : ℕ) (y : B)
+    → P (slice_get (changed xs t f) u) ≡ Some y → P (slice_get xs u) ≡ Some y
+was_read {X} P xs t f h u y e = put_all (λ v o. P o ≡ Some y → P (slice_get xs v) ≡ Some y) (slice_get xs) t
+    (option_map f (slice_get xs t)) (here (slice_get xs t)) (λ v d k. k) u (sym (ap P (get_changed xs t f u)) ∙ e)
+  where
+    here : (o : Option X) → P (option_map f o) ≡ Some y → P o ≡ Some y
+    here None k = k
+    here (Some x) k = h x y k
+
 pub length_changed : {X : Type 0} (xs : List X) (t : ℕ) (f : X → X) → length (changed xs t f) ≡ length xs
 length_changed {X} xs t f = go (slice_get xs t)
   where

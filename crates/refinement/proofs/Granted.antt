@@ -1,26 +1,30 @@
 -- A thread gets words of an open page as its buffer: the objects stay, and the free end of the page is split.
-use Rattle.std.proofs.Common.{◌≡◌, ◌≢◌, ◌⊎◌, inl, inr, ℕ, ◌+◌, ◌-◌, ◌*◌, ◌/◌, ◌%◌, ◌≤◌, Bool, true, List}
-use Rattle.std.proofs.Common.{length, set, Option, Some, None, refl, sym, ◌∙◌, ap, ap₂, arith, cond}
-use mathlib.Core.Path.{fun_ext}
+use Rattle.std.proofs.Common.{◌≡◌, ◌≢◌, ◌⊎◌, inl, inr, ℕ, ◌+◌, ◌-◌, ◌*◌, ◌/◌, ◌%◌, ◌<◌, ◌≤◌, Bool, true, List, length}
+use Rattle.std.proofs.Common.{set, Option, Some, None, refl, sym, ◌∙◌, ap, ap₂, arith, cond}
 use Rattle.std.specs.List.{slice_get}
 use Rattle.std.specs.Option.{option_map, option_and_then}
 use Rattle.std.proofs.Math.ListN.{length-set}
 use Rattle.std.proofs.lemmas.Bool.{cases_eq}
 use Rattle.std.proofs.lemmas.Option.{same_Some}
+use mathlib.Core.Path.{fun_ext}
 use Rattle.model.specs.declared.records.Page.{Page}
-use Rattle.model.specs.Stores.{StoreState, words_at, state_at, state_in}
-use Rattle.model.specs.Stores.{frame_in, page_at, has_memory, is_open, buffer_of}
+use Rattle.model.specs.Stores.{StoreState, words_at, state_at, state_in, frame_in, page_at, has_memory, is_open}
+use Rattle.model.specs.Stores.{buffer_of}
 use Rattle.model.specs.Heaps.{HeapState, ThreadState, register_of, register_in, buffer_in, changed, set_buffer_of}
-use Rattle.model.proofs.Lists.{get_set_same, get_set_other, each_changed}
-use Rattle.page.proofs.Keeping.{page_at_record, page_at_zero}
 use Rattle.model.specs.Outcome.{has_crossed, is_parked_in}
+use Rattle.model.proofs.Lists.{get_set_same, get_set_other, each_changed, each_set}
+use Rattle.page.proofs.Keeping.{page_at_record, page_at_zero}
 use Rattle.laws.specs.AddressHeap.{put}
 use Rattle.laws.proofs.Basics.{put_all, put_same, put_other}
 use Rattle.refinement.specs.Worlds.{world_of, object_at, object_in, bit_at, as_word, barrier_in}
 use Rattle.refinement.specs.Claims.{IsLaid, AreRows, Claim, OfObject, OfBuffer, OfPlan, OfEnd, Extent, extent}
 use Rattle.refinement.specs.Claims.{object_size, sized_extent, planned_extent, buffer_extent, end_extent, size_at}
-use Rattle.refinement.proofs.Changes.{get_changed, kept_of}
+use Rattle.refinement.specs.Claims.{HasGiven}
+use Rattle.refinement.specs.Roots.{HoldsWords}
 use Rattle.refinement.proofs.Claims.{Splits, split_apart}
+use Rattle.refinement.proofs.Changes.{read_changed, kept_of, length_changed}
+use Rattle.refinement.proofs.Carrying.{Carries, alike}
+use Rattle.refinement.proofs.Rooted.{buffer_holds_words}
 
 -- the pages of a store whose record of an index is replaced
 pub page_set : (s r : StoreState) (i : ℕ) (p q : Page) → slice_get s.pages i ≡ Some p → r.pages ≡ set s.pages i q
@@ -58,27 +62,33 @@ granted h t i p n = record h {
   threads = changed h.threads t (set_buffer_of (Some (buffer_of i p.top n)));
 }
 
-module _ (h : HeapState) (l : IsLaid h) (t i : ℕ) (p : Page) (n : ℕ) (x : ThreadState)
-    (at : slice_get h.store.pages i ≡ Some p) (is_so : is_open p.state ≡ true) (room : p.top + n ≤ h.store.words)
-    (thread : slice_get h.threads t ≡ Some x) (had : x.buffer ≡ None) where
+-- page i + 1 is open with room for n more words, and thread t has no buffer
+pub record MayGrant (h : HeapState) (t i : ℕ) (p : Page) (n : ℕ) (x : ThreadState) : Type 0 where
+  pub at : slice_get h.store.pages i ≡ Some p
+  pub is_so : is_open p.state ≡ true
+  pub room : p.top + n ≤ h.store.words
+  pub thread : slice_get h.threads t ≡ Some x
+  pub had : x.buffer ≡ None
+  pub low : 0 < n
+
+module _ {h : HeapState} (l : IsLaid h) {t i : ℕ} {p : Page} {n : ℕ} {x : ThreadState} (w : MayGrant h t i p n x) where
   abbrev after : HeapState
   after = granted h t i p n
 
   states : (m : ℕ) → state_at after.store m ≡ state_at h.store m
   unfolding state_at
-  states = page_keeps state_in h.store after.store i p (with_more p n) at refl refl
+  states = page_keeps state_in h.store after.store i p (with_more p n) w.at refl refl
 
   words : (m : ℕ) → words_at after.store m ≡ words_at h.store m
   unfolding words_at
   words = page_keeps (λ o. option_and_then (slice_get h.store.frames) (frame_in o)) h.store after.store i p
-      (with_more p n) at refl refl
+      (with_more p n) w.at refl refl
 
   objects : (a : ℕ) → object_at after a ≡ object_at h a
   objects a = ap (λ o. object_in h.config.layouts (bit_at h.starts h.store.words a) o (a % h.store.words))
       (words (a / h.store.words))
 
-  -- the heap by addresses stays
-  pub granted_world : world_of (granted h t i p n) ≡ world_of h
+  granted_world : world_of (granted h t i p n) ≡ world_of h
   unfolding register_of
   granted_world = λ z. record (world_of h) {
     page_state = fun_ext (λ a. states (a / h.store.words)) z;
@@ -98,30 +108,22 @@ module _ (h : HeapState) (l : IsLaid h) (t i : ℕ) (p : Page) (n : ℕ) (x : Th
 
   buffers : (u : ℕ) → extent after (OfBuffer u)
       ≡ put (λ v. extent h (OfBuffer v)) t (Some (buffer_extent h.store.words (buffer_of i p.top n))) u
-  buffers u = ap (λ o. option_map (buffer_extent h.store.words) (buffer_in o)) (get_changed h.threads t change u)
-      ∙ put_all (λ v y. option_map (buffer_extent h.store.words)
-      (buffer_in (put (slice_get h.threads) t (option_map change (slice_get h.threads t)) v)) ≡ y)
-      (λ v. extent h (OfBuffer v)) t (Some (buffer_extent h.store.words (buffer_of i p.top n)))
-      (ap (λ o. option_map (buffer_extent h.store.words) (buffer_in o)) (put_same (slice_get h.threads) t
-      (option_map change (slice_get h.threads t)) ∙ ap (option_map change) thread))
-      (λ v d. ap (λ o. option_map (buffer_extent h.store.words) (buffer_in o))
-      (put_other (slice_get h.threads) t (option_map change (slice_get h.threads t)) v d)) u
-    where
-      change : ThreadState → ThreadState
-      change = set_buffer_of (Some (buffer_of i p.top n))
+  buffers u = read_changed (λ o. option_map (buffer_extent h.store.words) (buffer_in o)) h.threads t
+      (set_buffer_of (Some (buffer_of i p.top n))) x (Some (buffer_extent h.store.words (buffer_of i p.top n))) w.thread
+      refl u
 
   ends : (m : ℕ)
       → extent after (OfEnd m) ≡ end_extent h.store.words m (put (page_at h.store) (i + 1) (Some (with_more p n)) m)
-  ends m = ap (end_extent h.store.words m) (page_set h.store after.store i p (with_more p n) at refl m)
+  ends m = ap (end_extent h.store.words m) (page_set h.store after.store i p (with_more p n) w.at refl m)
 
   end_had : extent h (OfEnd (i + 1)) ≡ Some (record {
     from = (i + 1) * h.store.words + p.top;
     upto = (i + 1) * h.store.words + h.store.words;
   })
-  end_had = ap (end_extent h.store.words (i + 1)) (page_here h.store i p at) ∙ ap (λ b. cond b (Some (record {
+  end_had = ap (end_extent h.store.words (i + 1)) (page_here h.store i p w.at) ∙ ap (λ b. cond b (Some (record {
     from = (i + 1) * h.store.words + p.top;
     upto = (i + 1) * h.store.words + h.store.words;
-  })) None) is_so
+  })) None) w.is_so
 
   end_has : extent after (OfEnd (i + 1)) ≡ Some (record {
     from = (i + 1) * h.store.words + (p.top + n);
@@ -132,7 +134,7 @@ module _ (h : HeapState) (l : IsLaid h) (t i : ℕ) (p : Page) (n : ℕ) (x : Th
       ∙ ap (λ b. cond b (Some (record {
         from = (i + 1) * h.store.words + (p.top + n);
         upto = (i + 1) * h.store.words + h.store.words;
-      })) None) is_so
+      })) None) w.is_so
 
   others : (c : Claim) → (c ≡ OfEnd (i + 1)) ⊎ (c ≡ OfBuffer t) ⊎ (extent after c ≡ extent h c)
   others (OfObject a) = inr (inr (ap (option_map (sized_extent a)) (sizes a)))
@@ -156,10 +158,10 @@ module _ (h : HeapState) (l : IsLaid h) (t i : ℕ) (p : Page) (n : ℕ) (x : Th
   splits = record {
     whole = record { from = (i + 1) * h.store.words + p.top; upto = (i + 1) * h.store.words + h.store.words };
     had = end_had;
-    new = ap (λ o. option_map (buffer_extent h.store.words) (buffer_in o)) thread
-        ∙ ap (option_map (buffer_extent h.store.words)) had;
+    new = ap (λ o. option_map (buffer_extent h.store.words) (buffer_in o)) w.thread
+        ∙ ap (option_map (buffer_extent h.store.words)) w.had;
     rest = λ y e. let k = left y e in record { from = omega (arith, k.0); upto = omega (arith, k.1) };
-    part = λ y e. let k = part y e in record { from = omega (arith, k.0); upto = omega (arith, k.1, room) };
+    part = λ y e. let k = part y e in record { from = omega (arith, k.0); upto = omega (arith, k.1, w.room) };
     apart = λ y z e f. inr (let k = left y e in let g = part z f in omega (arith, k.0, g.1));
     others = others;
   }
@@ -181,7 +183,7 @@ module _ (h : HeapState) (l : IsLaid h) (t i : ℕ) (p : Page) (n : ℕ) (x : Th
   rows xs r = record { pages = r.pages ∙ sym (length-set h.store.pages i (with_more p n)); words = r.words }
 
   -- and memory is in order
-  pub granted_laid : IsLaid (granted h t i p n)
+  granted_laid : IsLaid (granted h t i p n)
   granted_laid = record {
     starts = rows h.starts l.starts;
     live = rows h.live l.live;
@@ -201,3 +203,20 @@ module _ (h : HeapState) (l : IsLaid h) (t i : ℕ) (p : Page) (n : ℕ) (x : Th
         l.live_objects a e (ap has_memory (sym (states (a / h.store.words))) ∙ k) in (o, objects a ∙ is));
     unused = λ a k. l.unused a (sym (states (a / h.store.words)) ∙ k);
   }
+
+  -- the heap by addresses stays
+  pub granted_carries : Carries h (granted h t i p n) (λ w. w)
+  granted_carries = record {
+    size = alike h after refl refl refl refl (length_changed h.threads t change) refl refl;
+    laid = λ z. granted_laid;
+    given = λ z. each_set HasGiven h.store.pages i (with_more p n) z (λ e. omega (arith, w.low));
+    words = λ z. record {
+      threads = each_changed (HoldsWords h.config.registers) h.threads t change z.threads
+          (buffer_holds_words h.config.registers (Some (buffer_of i p.top n)));
+      globals = z.globals;
+    };
+    world = granted_world;
+  }
+    where
+      change : ThreadState → ThreadState
+      change = set_buffer_of (Some (buffer_of i p.top n))

@@ -1,19 +1,19 @@
 -- An unused page is opened: no object, mark or claim is on it, and its words are one claim.
-use Rattle.std.proofs.Common.{◌≡◌, ◌≢◌, ◌⊎◌, inl, inr, ℕ, suc, ◌+◌, ◌*◌, ◌/◌, ◌%◌, ◌<◌, ◌≤◌, Bool, true}
-use Rattle.std.proofs.Common.{false, List, set, replicate, Option, Some, None, nat_eq, refl, sym, ◌∙◌, ap}
-use Rattle.std.proofs.Common.{ap₂, arith, cond, IfSome, div-add-mod', eq-eqb, ne_eqb, mul-le-mul_right}
-use mathlib.Core.Path.{fun_ext}
+use Rattle.std.proofs.Common.{◌≡◌, ◌≢◌, ◌⊎◌, inl, inr, ℕ, suc, ◌+◌, ◌*◌, ◌/◌, ◌%◌, ◌<◌, ◌≤◌, Bool, true, false, List}
+use Rattle.std.proofs.Common.{set, replicate, Option, Some, None, nat_eq, refl, sym, ◌∙◌, ap, ap₂, arith, cond}
+use Rattle.std.proofs.Common.{IfSome, div-add-mod', eq-eqb, ne_eqb, mul-le-mul_right}
 use Rattle.std.proofs.Math.Nat.{suc-mul}
 use Rattle.std.specs.List.{slice_get}
 use Rattle.std.specs.Option.{option_map}
 use Rattle.std.proofs.Math.ListN.{length-set}
 use Rattle.std.proofs.lemmas.Option.{slice_get_within, same_Some, none-some}
 use Rattle.std.proofs.lemmas.Bool.{cases_eq, eqb-true, false≢true}
+use mathlib.Core.Path.{fun_ext}
 use Rattle.model.specs.declared.records.Page.{Page}
 use Rattle.model.specs.declared.records.PageState.TheVariants.{Unused, Open}
 use Rattle.model.specs.declared.records.Buffer.{Buffer}
-use Rattle.model.specs.Stores.{words_at, state_at, state_in, frame_in, page_at}
-use Rattle.model.specs.Stores.{has_memory, is_open, is_unused, opened, fresh_page}
+use Rattle.model.specs.Stores.{words_at, state_at, state_in, frame_in, page_at, has_memory, is_open, is_unused}
+use Rattle.model.specs.Stores.{opened, fresh_page}
 use Rattle.model.specs.Owning.{IsStore, LiesIn}
 use Rattle.model.specs.Holding.{IsHeap}
 use Rattle.model.specs.Heaps.{HeapState, ThreadState, register_of, buffer_in, changed, blank_row}
@@ -24,9 +24,9 @@ use Rattle.laws.specs.Invariant.{SoundObjects, SoundMarks}
 use Rattle.laws.specs.Edits.{open_page}
 use Rattle.laws.proofs.Basics.{put_same, put_other}
 use Rattle.refinement.specs.Worlds.{world_of, object_at, object_in, bit_at}
-use Rattle.refinement.specs.Claims.{IsLaid, AreRows, Apart, AreApart, Claim, OfObject, OfBuffer}
-use Rattle.refinement.specs.Claims.{OfPlan, OfEnd, Extent, extent, object_size, sized_extent}
-use Rattle.refinement.specs.Claims.{planned_extent, buffer_extent, end_extent, size_at}
+use Rattle.refinement.specs.Claims.{IsLaid, AreRows, Apart, AreApart, Claim, OfObject, OfBuffer, OfPlan, OfEnd}
+use Rattle.refinement.specs.Claims.{Extent, extent, object_size, sized_extent, planned_extent, buffer_extent}
+use Rattle.refinement.specs.Claims.{end_extent, size_at}
 use Rattle.refinement.proofs.Reading.{read_fits}
 use Rattle.refinement.proofs.Objects.{there}
 use Rattle.refinement.proofs.Changes.{blank_here, blank_other, rows_changed, length_blank}
@@ -142,27 +142,32 @@ opened_heap h i f = record h {
 abbrev pub on_page : HeapState → ℕ → ℕ → Bool
 on_page h i a = nat_eq (a / h.store.words) (i + 1)
 
-module _ (h : HeapState) (s : IsStore h.store) (k : IsHeap h) (l : IsLaid h) (o : SoundObjects (world_of h))
-    (m : SoundMarks (world_of h)) (i f : ℕ) (p : Page) (at : slice_get h.store.pages i ≡ Some p)
-    (unused : is_unused p.state ≡ true) (free : slice_get h.store.owners f ≡ Some None) where
+-- page i + 1 is unused, and frame f is free
+pub record MayOpen (h : HeapState) (i f : ℕ) (p : Page) : Type 0 where
+  pub at : slice_get h.store.pages i ≡ Some p
+  pub unused : is_unused p.state ≡ true
+  pub free : slice_get h.store.owners f ≡ Some None
+
+module _ {h : HeapState} (s : IsStore h.store) (k : IsHeap h) (l : IsLaid h) (o : SoundObjects (world_of h))
+    (m : SoundMarks (world_of h)) {i f : ℕ} {p : Page} (w : MayOpen h i f p) where
   abbrev after : HeapState
   after = opened_heap h i f
 
   state : state_at h.store (i + 1) ≡ Unused
   unfolding state_at
-  state = ap state_in (page_here h.store i p at) ∙ unused_state p.state unused
+  state = ap state_in (page_here h.store i p w.at) ∙ unused_state p.state w.unused
 
   no_frame : p.frame ≡ None
-  no_frame = no_some p.frame ((s.pages i p at).memory ∙ ap has_memory (unused_state p.state unused))
+  no_frame = no_some p.frame ((s.pages i p w.at).memory ∙ ap has_memory (unused_state p.state w.unused))
 
   no_words : words_at h.store (i + 1) ≡ None
   unfolding words_at
-  no_words = ap (λ y. words_in h.store.frames (frame_in y)) (page_here h.store i p at)
+  no_words = ap (λ y. words_in h.store.frames (frame_in y)) (page_here h.store i p w.at)
       ∙ ap (words_in h.store.frames) no_frame
 
   pages : (n : ℕ) → page_at after.store n ≡ put (page_at h.store) (i + 1) (Some (fresh_page f)) n
   unfolding opened
-  pages = page_set h.store after.store i p (fresh_page f) at refl
+  pages = page_set h.store after.store i p (fresh_page f) w.at refl
 
   words_other : (n : ℕ) → n ≢ i + 1 → words_at after.store n ≡ words_at h.store n
   unfolding words_at opened
@@ -176,13 +181,13 @@ module _ (h : HeapState) (s : IsStore h.store) (k : IsHeap h) (l : IsLaid h) (o 
           let (j, q, a, b, c) = page_record h.store n y e in
           let owned = s.owning.owned j y q b c in
           get_set_other h.store.frames f y (replicate h.store.words 0)
-          (λ z. no (j + 1) (same_Some _ _ (sym free ∙ ap (slice_get h.store.owners) (sym z) ∙ owned)))
+          (λ z. no (j + 1) (same_Some _ _ (sym w.free ∙ ap (slice_get h.store.owners) (sym z) ∙ owned)))
         where
           no : (n : ℕ) → None ≡ Some n → ⊥
           no n z = cc
 
   row : (xs : List (List Bool)) → AreRows h.store xs → (r : List Bool) × (slice_get xs i ≡ Some r)
-  row xs r = let within = slice_get_within h.store.pages i p at in get_within xs i (omega (arith, within, r.pages))
+  row xs r = let within = slice_get_within h.store.pages i p w.at in get_within xs i (omega (arith, within, r.pages))
 
   page_suc : (n : ℕ) → n ≡ i + 1 → n ≡ suc i
   page_suc n e = omega (arith, e)

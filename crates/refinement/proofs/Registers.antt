@@ -1,23 +1,13 @@
--- A register that is written, and a buffer that is given back.
-use Rattle.std.proofs.Common.{◌≡◌, ◌≢◌, ◌⊎◌, inl, inr, ℕ, ◌<◌, List, length}
-use Rattle.std.proofs.Common.{set, Option, Some, None, refl, sym, ◌∙◌, ap}
-use mathlib.Core.Path.{fun_ext}
+-- A register that is written.
+use Rattle.std.proofs.Common.{◌≡◌, ℕ, ◌<◌, List, length, set, Some, sym, ◌∙◌, ap}
 use Rattle.std.specs.List.{slice_get}
 use Rattle.std.specs.Option.{option_map}
-use Rattle.std.proofs.Math.ListN.{length-set}
-use Rattle.std.proofs.lemmas.Bool.{cases_eq}
-use Rattle.model.specs.declared.records.Buffer.{Buffer}
-use Rattle.model.specs.Heaps.{HeapState, ThreadState, Reference, flat, register_of, register_in}
-use Rattle.model.specs.Heaps.{with_register, with_buffer, changed, set_register_of, set_buffer_of, buffer_in}
-use Rattle.model.proofs.Lists.{get_set_same, get_set_other, get_within, each_changed}
-use Rattle.model.specs.Outcome.{has_crossed, is_parked_in}
+use Rattle.model.specs.Heaps.{ThreadState, Reference, flat, register_in, changed}
+use Rattle.model.proofs.Lists.{get_set_same, get_set_other, get_within}
 use Rattle.laws.specs.AddressHeap.{put, put_at}
-use Rattle.laws.specs.Effects.{set_register}
 use Rattle.laws.proofs.Basics.{put_all, put_same, put_other}
-use Rattle.refinement.specs.Worlds.{world_of, as_word, barrier_in}
-use Rattle.refinement.specs.Claims.{IsLaid, Claim, OfObject, OfBuffer, OfPlan, OfEnd, extent, Extent, buffer_extent}
-use Rattle.refinement.proofs.Changes.{get_changed, kept_of}
-use Rattle.refinement.proofs.Claims.{extents_same}
+use Rattle.refinement.specs.Worlds.{as_word}
+use Rattle.refinement.proofs.Changes.{get_changed}
 
 -- the registers of threads, of which one has its register r changed
 pub register_changed :
@@ -46,103 +36,3 @@ register_changed ts t r w f x e h k u s =
         ap (λ o. as_word (register_in o q)) (put_same (slice_get ts) t (option_map f (slice_get ts t))
         ∙ ap (option_map f) e) ∙ ap (λ l. as_word (flat (slice_get l q))) k ∙ in_thread q
         ∙ ap (λ o. put (λ q. as_word (register_in o q)) r (as_word w) q) (sym e)
-
-module _ (h : HeapState) (l : IsLaid h) (t : ℕ) where
-  -- a register gets a word
-  pub register_world : (r : ℕ) (w : Reference) (x : ThreadState) → slice_get h.threads t ≡ Some x
-      → r < length x.registers → world_of (with_register h t r w) ≡ set_register t r (as_word w) (world_of h)
-  unfolding with_register register_of
-  register_world r w x e k = λ z. record (world_of h) {
-    register = fun_ext (λ u. fun_ext (register_changed h.threads t r w (set_register_of r w) x e k refl u)) z;
-    crossed = fun_ext (kept_of has_crossed h.threads t (set_register_of r w) (λ y. refl)) z;
-    parked = fun_ext (kept_of is_parked_in h.threads t (set_register_of r w) (λ y. refl)) z;
-    barrier = fun_ext (kept_of barrier_in h.threads t (set_register_of r w) (λ y. refl)) z;
-  }
-
-  pub register_laid : (r : ℕ) (w : Reference) → IsLaid (with_register h t r w)
-  unfolding with_register register_of
-  register_laid r w = record {
-    starts = record { pages = l.starts.pages; words = l.starts.words };
-    live = record { pages = l.live.pages; words = l.live.words };
-    mark = record { pages = l.mark.pages; words = l.mark.words };
-    todo = record { pages = l.todo.pages; words = l.todo.words };
-    sides = record { pages = l.sides.pages; rising = l.sides.rising };
-    registers = each_changed (λ y. length y.registers ≡ h.config.registers) h.threads t
-        (set_register_of r w) l.registers (λ y e. length-set y.registers r w ∙ e);
-    objects = l.objects;
-    apart = extents_same (extent h) _ l.apart extents;
-    planned = l.planned;
-    live_objects = l.live_objects;
-    unused = l.unused;
-  }
-    where
-      extents : (c : Claim) → extent (with_register h t r w) c ≡ extent h c
-      extents (OfObject a) = refl
-      extents (OfBuffer u) = ap (option_map (buffer_extent h.store.words))
-          (kept_of buffer_in h.threads t (set_register_of r w) (λ y. refl) u)
-      extents (OfPlan a) = refl
-      extents (OfEnd n) = refl
-
-  -- a buffer is given back
-  pub buffer_world : (b : Option Buffer) → world_of (with_buffer h t b) ≡ world_of h
-  unfolding with_buffer register_of
-  buffer_world b = λ z. record (world_of h) {
-    register = fun_ext (λ u.
-        fun_ext (λ s. kept_of (λ o. as_word (register_in o s)) h.threads t (set_buffer_of b) (λ y. refl) u)) z;
-    crossed = fun_ext (kept_of has_crossed h.threads t (set_buffer_of b) (λ y. refl)) z;
-    parked = fun_ext (kept_of is_parked_in h.threads t (set_buffer_of b) (λ y. refl)) z;
-    barrier = fun_ext (kept_of barrier_in h.threads t (set_buffer_of b) (λ y. refl)) z;
-  }
-
-  pub given_back_laid : IsLaid (with_buffer h t None)
-  unfolding with_buffer register_of
-  given_back_laid = record {
-    starts = record { pages = l.starts.pages; words = l.starts.words };
-    live = record { pages = l.live.pages; words = l.live.words };
-    mark = record { pages = l.mark.pages; words = l.mark.words };
-    todo = record { pages = l.todo.pages; words = l.todo.words };
-    sides = record { pages = l.sides.pages; rising = l.sides.rising };
-    registers = each_changed (λ y. length y.registers ≡ h.config.registers) h.threads t
-        (set_buffer_of None) l.registers (λ y e. e);
-    objects = l.objects;
-    apart = λ c d x y e f. l.apart c d x y (back c x e) (back d y f);
-    planned = l.planned;
-    live_objects = l.live_objects;
-    unused = l.unused;
-  }
-    where
-      buffers : (u : ℕ) → buffer_in (slice_get (changed h.threads t (set_buffer_of None)) u)
-          ≡ put (λ v. buffer_in (slice_get h.threads v)) t None u
-      buffers u = ap buffer_in (get_changed h.threads t (set_buffer_of None) u) ∙ put_all
-          (λ v y. buffer_in (put (slice_get h.threads) t (option_map (set_buffer_of None) (slice_get h.threads t)) v)
-          ≡ y) (λ v. buffer_in (slice_get h.threads v)) t None
-          (ap buffer_in (put_same (slice_get h.threads) t (option_map (set_buffer_of None) (slice_get h.threads t)))
-          ∙ none (slice_get h.threads t)) (λ v d. ap buffer_in
-          (put_other (slice_get h.threads) t (option_map (set_buffer_of None) (slice_get h.threads t)) v d)) u
-        where
-          none : (o : Option ThreadState) → buffer_in (option_map (set_buffer_of None) o) ≡ None
-          none None = refl
-          none (Some y) = refl
-
-      -- what a claim has now, it had
-      back : (c : Claim) (x : Extent) → extent (with_buffer h t None) c ≡ Some x → extent h c ≡ Some x
-      back (OfObject a) x e = e
-      back (OfBuffer u) x e = by_thread (cases_eq u t)
-        where
-          now :
-              option_map (buffer_extent h.store.words) (put (λ v. buffer_in (slice_get h.threads v)) t None u) ≡ Some x
-          now = ap (option_map (buffer_extent h.store.words)) (sym (buffers u)) ∙ e
-
-          by_thread : (u ≡ t) ⊎ (u ≢ t) → extent h (OfBuffer u) ≡ Some x
-          by_thread (inl k) =
-              let gone : put (λ v. buffer_in (slice_get h.threads v)) t None u ≡ None =
-              ap (put (λ v. buffer_in (slice_get h.threads v)) t None) k
-              ∙ put_same (λ v. buffer_in (slice_get h.threads v)) t None in
-              absurd (no (ap (option_map (buffer_extent h.store.words)) (sym gone) ∙ now))
-            where
-              no : None ≡ Some x → ⊥
-              no k = cc
-          by_thread (inr k) = ap (option_map (buffer_extent h.store.words))
-              (sym (put_other (λ v. buffer_in (slice_get h.threads v)) t None u k)) ∙ now
-      back (OfPlan a) x e = e
-      back (OfEnd n) x e = e

@@ -8,47 +8,54 @@ use Rattle.model.specs.declared.steps.Answer.{Answer}
 use Rattle.model.specs.Owning.{IsStore}
 use Rattle.model.specs.Holding.{IsHeap}
 use Rattle.model.specs.Heaps.{HeapState}
-use Rattle.model.specs.Outcome.{outcome, thread_row, cross_outcome}
+use Rattle.model.specs.Outcome.{outcome, thread_gate, thread_row, cross_outcome}
 use Rattle.model.specs.Plain.{PlainHeap}
 use Rattle.refinement.specs.Standing.{Holds, StepHolds}
-use Rattle.refinement.proofs.Verdicts.{accepted, Passed, passed}
+use Rattle.refinement.proofs.Accepted.{accepted, of_accepted, on_has}
+use Rattle.refinement.proofs.Carrying.{RowHolds}
+use Rattle.refinement.proofs.Verdicts.{Passed, passed}
 use Rattle.refinement.proofs.Readers.{is_null_holds, same_holds, datum_holds}
 use Rattle.refinement.proofs.Writers.{give_back_holds, copy_holds, clear_holds, set_datum_holds, new_holds}
 use Rattle.refinement.proofs.Takes.{take_holds}
 use Rattle.refinement.proofs.Storing.{store_holds, store_global_holds}
+use Rattle.refinement.proofs.Parking.{park_holds, unpark_holds, scrub_holds}
 use Rattle.refinement.proofs.Loading.{load_holds, load_global_holds}
 use Rattle.refinement.proofs.Ending.{trap_holds, heal_holds, finish_holds}
-use Rattle.refinement.proofs.Parking.{park_holds, unpark_holds, scrub_holds}
 
-row_holds : (h : HeapState) (p p0 : PlainHeap) (t : ℕ) (step : Step) (y : HeapState × Answer) → IsStore h.store
-    → IsHeap h → Holds h p p0 → Passed h t step → thread_row h t step ≡ accepted y
-    → StepHolds h p p0 (Thread t) step y.0 y.1
+row_holds : (h : HeapState) (p p0 : PlainHeap) (t : ℕ) (step : Step) → IsStore h.store → IsHeap h → Holds h p p0
+    → Passed h t step → RowHolds h p p0 (Thread t) step (thread_row h t step)
 unfolding cross_outcome
-row_holds h p p0 t (steps.Take n) y s d k g e = take_holds h p p0 s d k t n g y e
-row_holds h p p0 t steps.GiveBack y s d k g e = give_back_holds h p p0 s d k t y e
-row_holds h p p0 t (steps.New r number) y s d k g e = new_holds h p p0 s d k t r number g y e
-row_holds h p p0 t (steps.Load r o i) y s d k g e = load_holds h p p0 s d k t r o i g y e
-row_holds h p p0 t (steps.LoadGlobal r n) y s d k g e = load_global_holds h p p0 s d k t r n g y e
-row_holds h p p0 t steps.Trap y s d k g e = trap_holds h p p0 s d k t g.thread g.there y e
-row_holds h p p0 t steps.Heal y s d k g e = heal_holds h p p0 s d k t g.thread g.there y e
-row_holds h p p0 t steps.Finish y s d k g e = finish_holds h p p0 s d k t g.thread g.there y e
-row_holds h p p0 t (steps.Store r i q) y s d k g e = store_holds h p p0 s d k t r i q g y e
-row_holds h p p0 t (steps.StoreGlobal n q) y s d k g e = store_global_holds h p p0 s d k t n q g y e
-row_holds h p p0 t (steps.Datum r j) y s d k g e = datum_holds h p p0 s k t g.thread g.there r j y e
-row_holds h p p0 t (steps.SetDatum r j v) y s d k g e = set_datum_holds h p p0 s d k t r j v g y e
-row_holds h p p0 t (steps.Same l r) y s d k g e = same_holds h p p0 s k t g.thread g.there l r y e
-row_holds h p p0 t (steps.IsNull r) y s d k g e = is_null_holds h p p0 s k t g.thread g.there r y e
-row_holds h p p0 t (steps.CopyReg r q) y s d k g e = copy_holds h p p0 s d k t r q g y e
-row_holds h p p0 t (steps.ClearReg r) y s d k g e = clear_holds h p p0 s d k t r g y e
-row_holds h p p0 t (steps.Scrub r) y s d k g e = scrub_holds h p p0 s d k t r y e
-row_holds h p p0 t steps.Park y s d k g e = park_holds h p p0 s d k t g y e
-row_holds h p p0 t steps.Unpark y s d k g e = unpark_holds h p p0 s d k t g y e
-row_holds h p p0 t _ y s d k g e = absurd (cc)
+row_holds h p p0 t (steps.Take n) s d k g = take_holds s d k t n g
+row_holds h p p0 t steps.GiveBack s d k g = give_back_holds s d k t g
+row_holds h p p0 t (steps.New r number) s d k g = new_holds s d k t r number g
+row_holds h p p0 t (steps.Load r o i) s d k g = load_holds s d k t r o i g
+row_holds h p p0 t (steps.LoadGlobal r n) s d k g = load_global_holds s d k t r n g
+row_holds h p p0 t steps.Trap s d k g = trap_holds s d k t g.thread g.there
+row_holds h p p0 t steps.Heal s d k g = heal_holds s d k t g.thread g.there
+row_holds h p p0 t steps.Finish s d k g = finish_holds s d k t g.thread g.there
+row_holds h p p0 t (steps.Store r i q) s d k g = store_holds s d k t r i q g
+row_holds h p p0 t (steps.StoreGlobal n q) s d k g = store_global_holds s d k t n q g
+row_holds h p p0 t (steps.Datum r j) s d k g = datum_holds s d k t r j g
+row_holds h p p0 t (steps.SetDatum r j v) s d k g = set_datum_holds s d k t r j v g
+row_holds h p p0 t (steps.Same l r) s d k g = same_holds s d k t l r g
+row_holds h p p0 t (steps.IsNull r) s d k g = is_null_holds s d k t r g
+row_holds h p p0 t (steps.CopyReg r q) s d k g = copy_holds s d k t r q g
+row_holds h p p0 t (steps.ClearReg r) s d k g = clear_holds s d k t r g
+row_holds h p p0 t (steps.Scrub r) s d k g = scrub_holds s d k t r
+row_holds h p p0 t steps.Park s d k g = park_holds s d k t g
+row_holds h p p0 t steps.Unpark s d k g = unpark_holds s d k t g
+row_holds h p p0 t _ s d k g = tt
+
+outcome_holds : (h : HeapState) (p p0 : PlainHeap) (actor : Actor) (step : Step) → IsStore h.store → IsHeap h
+    → Holds h p p0 → RowHolds h p p0 actor step (outcome h actor step)
+unfolding outcome
+outcome_holds h p p0 (Thread t) step s d k =
+    on_has (thread_gate h t step) _ _ _ (passed h t step) (λ u g. row_holds h p p0 t step s d k g)
+outcome_holds h p p0 (Worker w) step s d k = tt
 
 pub step_holds : (h : HeapState) (p p0 : PlainHeap) (actor : Actor) (step : Step) (g : HeapState) (answer : Answer)
     → IsStore h.store → IsHeap h → Holds h p p0 → outcome h actor step ≡ accepted (g, answer)
     → StepHolds h p p0 actor step g answer
-unfolding outcome
-step_holds h p p0 (Thread t) step g answer s d k e =
-    let (passes, row) = passed h t step (g, answer) e in row_holds h p p0 t step (g, answer) s d k passes row
-step_holds h p p0 (Worker w) step g answer s d k e = absurd (cc)
+step_holds h p p0 actor step g answer s d k e = of_accepted
+    (λ (z : HeapState × Answer). StepHolds h p p0 actor step z.0 z.1) (outcome h actor step) (g, answer)
+    (outcome_holds h p p0 actor step s d k) e

@@ -1,6 +1,6 @@
 -- A step that takes a buffer.
-use Rattle.std.proofs.Common.{replicate, ◌≡◌, ◌≢◌, ◌⊎◌, inl, inr, ℕ, ◌+◌, ◌-◌, ◌<◌, ◌≤◌, ◌==◌, Bool, true, false, cond}
-use Rattle.std.proofs.Common.{nat_eq, nat_lt, List, set, is_some, Some, None, refl, sym, ◌∙◌, ap, subst, arith, ne_eqb}
+use Rattle.std.proofs.Common.{replicate, ◌≡◌, ◌≢◌, ◌⊎◌, inl, inr, ℕ, ◌-◌, ◌<◌, ◌≤◌, ◌==◌, Bool, false, cond, nat_eq}
+use Rattle.std.proofs.Common.{nat_lt, List, set, is_some, Some, None, refl, sym, ◌∙◌, ap, subst, arith, ne_eqb}
 use Rattle.std.specs.List.{slice_get}
 use Rattle.std.specs.Prelude.{Ok, Err, Result}
 use Rattle.std.proofs.Math.ListN.{length-set}
@@ -9,36 +9,30 @@ use Rattle.model.specs.declared.steps.Actor.TheVariants.{Thread}
 use Rattle.model.specs.declared.steps.Step.TheVariants as steps
 use Rattle.model.specs.declared.steps.Answer.{Answer}
 use Rattle.model.specs.declared.steps.Answer.TheVariants as answers
-use Rattle.model.specs.declared.steps.Refusal.TheVariants as refusals
 use Rattle.model.specs.declared.records.Page.{Page}
 use Rattle.model.specs.declared.records.Buffer.{Buffer}
 use Rattle.model.specs.declared.records.Room.{Room}
 use Rattle.model.specs.declared.records.Room.TheVariants.{NoFrames, NoPages}
-use Rattle.model.specs.Stores.{StoreState, taken, opened, fresh_page, buffer_of, is_open, is_unused}
+use Rattle.model.specs.Stores.{StoreState, taken, opened, fresh_page, buffer_of}
 use Rattle.model.specs.Owning.{Each, IsStore}
 use Rattle.model.specs.Holding.{IsHeap}
-use Rattle.model.specs.Heaps.{HeapState, ThreadState, buffer_of_thread, buffer_in}
-use Rattle.model.specs.Heaps.{changed, set_buffer_of, opened_rows, blank_row}
+use Rattle.model.specs.Heaps.{HeapState, ThreadState, buffer_of_thread, buffer_in, changed, opened_rows, blank_row}
 use Rattle.model.specs.Outcome.{take_outcome, took, lent}
 use Rattle.model.specs.Plain.{PlainHeap, plain_step, plain_answer}
-use Rattle.model.proofs.Lists.{each_set, each_changed, get_set, get_set_other, no_some}
-use Rattle.model.proofs.Results.{same_result, not_refused}
+use Rattle.model.proofs.Lists.{get_set, get_set_other, no_some}
 use Rattle.page.proofs.Keeping.{given_at, opened_at}
 use Rattle.laws.specs.Transitions.{TakeFresh}
-use Rattle.laws.proofs.Runs.{transition_keeps}
+use Rattle.laws.specs.Invariant.{SoundObjects, SoundMarks}
+use Rattle.laws.specs.Edits.{open_page}
 use Rattle.refinement.specs.Worlds.{world_of}
-use Rattle.refinement.specs.Births.{births_of}
-use Rattle.refinement.specs.Claims.{HasGiven}
-use Rattle.refinement.specs.Roots.{HoldsWords, HasWords}
-use Rattle.refinement.specs.Standing.{Holds, StepHolds}
-use Rattle.refinement.proofs.Rooted.{buffer_holds_words}
-use Rattle.refinement.proofs.Changes.{length_changed}
-use Rattle.refinement.proofs.Sizes.{sizes_stay}
+use Rattle.refinement.specs.Claims.{HasGiven, IsLaid}
+use Rattle.refinement.specs.Standing.{Holds}
+use Rattle.refinement.proofs.Accepted.{OnAccepted, on_test}
+use Rattle.refinement.proofs.Carrying.{Carries, RowHolds, step_by, stays, unseen, alike}
 use Rattle.refinement.proofs.Taken.{InOpenPage, InFreshPage, ways}
-use Rattle.refinement.proofs.Granted.{granted, granted_world, granted_laid, with_more}
-use Rattle.refinement.proofs.Opened.{opened_heap, opened_world, opened_laid, on_page, was_unused}
-use Rattle.refinement.proofs.Verdicts.{accepted, Passed, first_false, second_false}
-use Rattle.refinement.proofs.Writers.{moved, moved_roots}
+use Rattle.refinement.proofs.Granted.{MayGrant, granted, granted_carries, with_more}
+use Rattle.refinement.proofs.Opened.{MayOpen, opened_heap, opened_world, opened_laid, on_page, was_unused}
+use Rattle.refinement.proofs.Verdicts.{Passed, first_false, second_false}
 
 -- what each element has, and the last of two that are put in one place
 each_set_again : {X : Type 0} (P : X → Type 0) (xs : List X) (i : ℕ) (v w : X) → Each xs P → P w
@@ -78,76 +72,59 @@ lent_fresh h t i f n = λ z. record (granted (opened_heap h i f) t i (fresh_page
   todo = blank_rows i n h.todo z;
 }
 
-module _ (h : HeapState) (p p0 : PlainHeap) (s : IsStore h.store) (d : IsHeap h) (k : Holds h p p0) (t n : ℕ)
-    (x : ThreadState) (at : slice_get h.threads t ≡ Some x) (had : x.buffer ≡ None) (low : 0 < n) where
-  taken_words : (b : Buffer) → HasWords (record h { threads = changed h.threads t (set_buffer_of (Some b)) })
-  taken_words b = record {
-    threads = each_changed (HoldsWords h.config.registers) h.threads t (set_buffer_of (Some b)) k.words.threads
-        (buffer_holds_words h.config.registers (Some b));
-    globals = k.words.globals;
-  }
+-- a thread gets words of an unused page, which opens
+fresh_carries : {h : HeapState} (s : IsStore h.store) (d : IsHeap h) (l : IsLaid h) (o : SoundObjects (world_of h))
+    (m : SoundMarks (world_of h)) {i f : ℕ} {q : Page} (w : MayOpen h i f q) (t n : ℕ) (x : ThreadState)
+    → slice_get h.threads t ≡ Some x → x.buffer ≡ None → 0 < n → n ≤ h.store.words
+    → Carries h (granted (opened_heap h i f) t i (fresh_page f) n) (open_page (on_page h i))
+unfolding opened
+fresh_carries {h = h} s d l o m {i = i} {f = f} {q = q} w t n x at had low room =
+    let laid = opened_laid s d l o m w in
+    let may : MayGrant (opened_heap h i f) t i (fresh_page f) n x = record {
+      at = opened_at h.store i f q w.at;
+      is_so = refl;
+      room = omega (arith, room);
+      thread = at;
+      had = had;
+      low = low;
+    } in
+    let c = granted_carries laid may in
+    record {
+      size = alike h (granted (opened_heap h i f) t i (fresh_page f) n) refl refl
+          (length-set h.store.frames f (replicate h.store.words 0)) refl c.size.threads refl refl;
+      laid = λ z. c.laid laid;
+      given = λ z. each_set_again HasGiven h.store.pages i (fresh_page f) (with_more (fresh_page f) n) z
+          (λ e. omega (arith, low));
+      words = λ w. c.words (record { threads = w.threads; globals = w.globals });
+      world = c.world ∙ opened_world s d l o m w;
+    }
 
-  in_open : (i : ℕ) (q : Page) → slice_get h.store.pages i ≡ Some q → is_open q.state ≡ true
-      → q.top + n ≤ h.store.words → Holds (granted h t i q n) p p0
-  in_open i q there is_so room = record {
-    sizes = sizes_stay h (granted h t i q n) k.sizes refl refl refl refl
-        (length_changed h.threads t (set_buffer_of (Some (buffer_of i q.top n)))) refl refl;
-    laid = granted_laid h k.laid t i q n x there is_so room at had;
-    given = each_set HasGiven h.store.pages i (with_more q n) k.given (λ e. omega (arith, low));
-    words = record { threads = (taken_words (buffer_of i q.top n)).threads; globals = k.words.globals };
-    roots = moved_roots h (granted h t i q n) p
-        (length_changed h.threads t (set_buffer_of (Some (buffer_of i q.top n)))) refl refl k.roots;
-    invariant = moved (world_of h) (world_of (granted h t i q n)) (births_of p) (births_of p) (births_of p0)
-        (granted_world h k.laid t i q n x there is_so room at had) refl k.invariant;
-  }
+-- what the store gave out goes to the thread
+on_took : (h : HeapState) (t : ℕ) (r : Result (StoreState × Buffer) Room) (P : HeapState × Answer → Type 0)
+    → ((z : StoreState × Buffer) → r ≡ Ok z → P (lent h t z.0 z.1, answers.Lent z.1.page z.1.next))
+    → OnAccepted P (took h t r)
+on_took h t (Ok z) P f = f z refl
+on_took h t (Err NoFrames) P f = tt
+on_took h t (Err NoPages) P f = tt
 
-  in_fresh : (i f : ℕ) (q : Page) → slice_get h.store.pages i ≡ Some q
-      → is_unused q.state ≡ true → slice_get h.store.owners f ≡ Some None → n ≤ h.store.words
-      → Holds (granted (opened_heap h i f) t i (fresh_page f) n) p p0
-  unfolding opened
-  in_fresh i f q there unused free room =
-      let o = k.invariant.objects in
-      let m = k.invariant.marks in
-      let laid = opened_laid h s d k.laid o m i f q there unused free in
-      let fresh = opened_at h.store i f q there in
-      let one : 0 + n ≤ h.store.words = omega (arith, room) in
-      let step = transition_keeps (world_of h) (births_of p) (births_of p0) _ _ _ k.invariant
-      (TakeFresh (on_page h i) (was_unused h s d k.laid o m i f q there unused free)) in
-      record {
-        sizes = sizes_stay h (granted (opened_heap h i f) t i (fresh_page f) n) k.sizes refl refl
-            (length-set h.store.frames f (replicate h.store.words 0)) refl
-            (length_changed h.threads t (set_buffer_of (Some (buffer_of i 0 n)))) refl refl;
-        laid = granted_laid (opened_heap h i f) laid t i (fresh_page f) n x fresh refl one at had;
-        given = each_set_again HasGiven h.store.pages i (fresh_page f) (with_more (fresh_page f) n) k.given
-            (λ e. omega (arith, low));
-        words = record { threads = (taken_words (buffer_of i 0 n)).threads; globals = k.words.globals };
-        roots = moved_roots h (granted (opened_heap h i f) t i (fresh_page f) n) p
-            (length_changed h.threads t (set_buffer_of (Some (buffer_of i 0 n)))) refl refl k.roots;
-        invariant = moved _ _ _ _ (births_of p0) (granted_world (opened_heap h i f) laid t i (fresh_page f) n x
-            fresh refl one at had ∙ opened_world h s d k.laid o m i f q there unused free) refl step;
-      }
-
-  abbrev taken_ok : StoreState × Buffer → Result (StoreState × Buffer) Room
-  taken_ok z = Ok z
-
-  took_ok : (r : Result (StoreState × Buffer) Room) (y : HeapState × Answer) → took h t r ≡ accepted y
-      → (z : StoreState × Buffer) × (r ≡ taken_ok z) × ((lent h t z.0 z.1, answers.Lent z.1.page z.1.next) ≡ y)
-  took_ok (Ok z) y e = (z, refl, same_result (lent h t z.0 z.1, answers.Lent z.1.page z.1.next) y e)
-  took_ok (Err NoFrames) y e = absurd (cc)
-  took_ok (Err NoPages) y e = absurd (cc)
-
-  lent_holds : (z : StoreState × Buffer) → n ≤ h.store.words → InOpenPage h.store n z ⊎ InFreshPage h.store n z
+module _ {h : HeapState} {p p0 : PlainHeap} (s : IsStore h.store) (d : IsHeap h) (k : Holds h p p0) (t : ℕ) where
+  lent_holds : (n : ℕ) (x : ThreadState) → slice_get h.threads t ≡ Some x → x.buffer ≡ None → 0 < n
+      → n ≤ h.store.words → (z : StoreState × Buffer) → InOpenPage h.store n z ⊎ InFreshPage h.store n z
       → Holds (lent h t z.0 z.1) p p0
-  lent_holds z high (inl w) =
+  lent_holds n x at had low high z (inl w) =
+      let may : MayGrant h t w.index w.page n x =
+      record { at = w.at; is_so = w.is_so; room = w.room; thread = at; had = had; low = low } in
       let same :
       (record h.store { pages = set h.store.pages w.index (with_more w.page n) }, buffer_of w.index w.page.top n)
       ≡ z = sym (given_at h.store w.index n w.page w.at) ∙ w.is in
-      let top = k.given w.index w.page w.at w.is_so in
       subst (λ (z : StoreState × Buffer). Holds (lent h t z.0 z.1) p p0) same
-      (subst (λ g. Holds g p p0) (sym (lent_open h t w.index w.page n top))
-      (in_open w.index w.page w.at w.is_so w.room))
-  lent_holds z high (inr w) =
+      (subst (λ g. Holds g p p0) (sym (lent_open h t w.index w.page n (k.given w.index w.page w.at w.is_so)))
+      (unseen (granted_carries k.laid may) k))
+  lent_holds n x at had low high z (inr w) =
       let there = opened_at h.store w.index w.frame w.page w.at in
+      let o = k.invariant.objects in
+      let m = k.invariant.marks in
+      let may : MayOpen h w.index w.frame w.page = record { at = w.at; unused = w.unused; free = w.free } in
       let same : (
         record (opened h.store w.index w.frame) {
           pages = set (opened h.store w.index w.frame).pages w.index (with_more (fresh_page w.frame) n);
@@ -155,28 +132,23 @@ module _ (h : HeapState) (p p0 : PlainHeap) (s : IsStore h.store) (d : IsHeap h)
         buffer_of w.index 0 n,
       ) ≡ z = sym (given_at (opened h.store w.index w.frame) w.index n (fresh_page w.frame) there) ∙ w.is in
       subst (λ (z : StoreState × Buffer). Holds (lent h t z.0 z.1) p p0) same
-      (subst (λ g. Holds g p p0) (sym (lent_fresh h t w.index w.frame n))
-      (in_fresh w.index w.frame w.page w.at w.unused w.free high))
+      (subst (λ g. Holds g p p0) (sym (lent_fresh h t w.index w.frame n)) (step_by k
+      (fresh_carries s d k.laid o m may t n x at had low high) (stays h p)
+      (TakeFresh (on_page h w.index) (was_unused s d k.laid o m may))))
 
--- a buffer is taken
-pub take_holds : (h : HeapState) (p p0 : PlainHeap) → IsStore h.store → IsHeap h
-    → Holds h p p0 → (t n : ℕ) → Passed h t (steps.Take n) → (y : HeapState × Answer) → take_outcome h t n ≡ accepted y
-    → StepHolds h p p0 (Thread t) (steps.Take n) y.0 y.1
-unfolding take_outcome plain_step plain_answer lent
-take_holds h p p0 s d k t n g y e =
-    let (none, rest) =
-    not_refused (is_some (buffer_of_thread h t)) refusals.HasBuffer (took h t (taken h.store n)) y e in
-    let had : g.thread.buffer ≡ None = no_some g.thread.buffer (ap (λ o. is_some (buffer_in o)) (sym g.there) ∙ none) in
-    let low : 0 < n = positive n (first_false (n == 0) (nat_lt h.store.words n) g.indices) in
-    let high : n ≤ h.store.words =
-    ltb-false h.store.words n (second_false (n == 0) (nat_lt h.store.words n) g.indices) in
-    let (z, ok, is) = took_ok h p p0 s d k t n g.thread g.there had low (taken h.store n) y rest in
-    subst (λ (z : HeapState × Answer). StepHolds h p p0 (Thread t) (steps.Take n) z.0 z.1) is
-    (record {
-      config = refl;
-      holds = lent_holds h p p0 s d k t n g.thread g.there had low z high (ways h.store n z s low ok);
-      answers = tt;
-    })
-  where
-    positive : (n : ℕ) → nat_eq n 0 ≡ false → 0 < n
-    positive n e = grind arith
+  -- a buffer is taken
+  pub take_holds : (n : ℕ) → Passed h t (steps.Take n) → RowHolds h p p0 (Thread t) (steps.Take n) (take_outcome h t n)
+  unfolding take_outcome plain_step plain_answer lent
+  take_holds n g = on_test (is_some (buffer_of_thread h t)) _ _ _ (λ none.
+      on_took h t (taken h.store n) _ (λ z ok.
+      let had = no_some g.thread.buffer (ap (λ o. is_some (buffer_in o)) (sym g.there) ∙ none) in
+      let low = positive n (first_false (n == 0) (nat_lt h.store.words n) g.indices) in
+      let high = ltb-false h.store.words n (second_false (n == 0) (nat_lt h.store.words n) g.indices) in
+      record {
+        config = refl;
+        holds = lent_holds n g.thread g.there had low high z (ways h.store n z s low ok);
+        answers = tt;
+      }))
+    where
+      positive : (n : ℕ) → nat_eq n 0 ≡ false → 0 < n
+      positive n e = grind arith

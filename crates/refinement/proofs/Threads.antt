@@ -1,29 +1,37 @@
 -- A thread is changed, or a global: what the heap by addresses becomes, and that memory stays in order.
-use Rattle.std.proofs.Common.{◌≡◌, ℕ, ◌<◌, nat_lt, Bool, length, Some, None, refl, ◌∙◌, ap}
-use mathlib.Core.Path.{fun_ext}
+use Rattle.std.proofs.Common.{◌≡◌, ℕ, ◌<◌, nat_lt, Bool, length, Some, None, refl, ◌∙◌, ap, arith, Option}
 use Rattle.std.specs.List.{slice_get}
 use Rattle.std.specs.Option.{option_map}
 use Rattle.std.proofs.Math.ListN.{length-set}
+use Rattle.std.proofs.lemmas.Option.{none-some}
+use mathlib.Core.Path.{fun_ext}
+use Rattle.refword.specs.Words.{IsWord}
 use Rattle.model.specs.declared.records.Barrier.{Barrier}
 use Rattle.model.specs.declared.records.Global.{Global}
-use Rattle.model.specs.Heaps.{HeapState, ThreadState, Reference, register_of, register_in}
-use Rattle.model.specs.Heaps.{with_barrier, set_barrier_of, with_loaded, set_loaded_of, with_parked}
-use Rattle.model.specs.Heaps.{set_parked_of, with_global, set_word_of, changed, buffer_in}
+use Rattle.model.specs.declared.records.Buffer.{Buffer}
+use Rattle.model.specs.Heaps.{with_buffer, set_buffer_of, HeapState, ThreadState, Reference, register_of, register_in}
+use Rattle.model.specs.Heaps.{with_register, set_register_of, with_barrier, set_barrier_of, with_loaded}
+use Rattle.model.specs.Heaps.{set_loaded_of, with_parked, set_parked_of, with_global, set_word_of, changed, buffer_in}
 use Rattle.model.specs.Outcome.{has_crossed, is_parked_in}
-use Rattle.model.proofs.Lists.{each_changed}
+use Rattle.model.proofs.Lists.{get_within, each_changed}
 use Rattle.laws.specs.Edits.{set_barrier, end_load, set_global, set_parked}
+use Rattle.laws.specs.Effects.{set_register}
+use Rattle.refinement.specs.Claims.{Extent, IsLaid, Claim, OfObject, OfBuffer, OfPlan, OfEnd, extent, buffer_extent}
 use Rattle.refinement.specs.Worlds.{world_of, as_word, as_barrier, barrier_in, global_in, todo_in}
-use Rattle.refinement.specs.Claims.{IsLaid, Claim, OfObject, OfBuffer, OfPlan, OfEnd, extent, buffer_extent}
-use Rattle.refinement.proofs.Changes.{kept_of, read_changed, length_changed}
+use Rattle.refinement.specs.Roots.{IsLoad}
 use Rattle.refinement.proofs.Claims.{extents_same}
+use Rattle.refinement.proofs.Changes.{was_read, kept_of, read_changed, length_changed}
+use Rattle.refinement.proofs.Carrying.{Carries, thread_carries, alike}
+use Rattle.refinement.proofs.Rooted.{buffer_holds_words, register_holds_words, barrier_holds_words}
+use Rattle.refinement.proofs.Rooted.{loaded_holds_words, parked_holds_words}
 use Rattle.refinement.proofs.Registers.{register_changed}
 
--- a change that leaves a thread's buffer, and how many registers it has
-pub record KeepsShape (f : ThreadState → ThreadState) : Type 0 where
-  pub buffer : (y : ThreadState) → buffer_in (Some (f y)) ≡ buffer_in (Some y)
+-- a change that leaves how many registers a thread has, and its buffer, or lets it go
+record KeepsShape (f : ThreadState → ThreadState) : Type 0 where
+  pub buffer : (y : ThreadState) (b : Buffer) → (f y).buffer ≡ Some b → y.buffer ≡ Some b
   pub size : (y : ThreadState) → length (f y).registers ≡ length y.registers
 
-pub thread_laid : (h : HeapState) (t : ℕ) (f : ThreadState → ThreadState) → KeepsShape f → IsLaid h
+thread_laid : (h : HeapState) (t : ℕ) (f : ThreadState → ThreadState) → KeepsShape f → IsLaid h
     → IsLaid (record h { threads = changed h.threads t f })
 unfolding register_of
 thread_laid h t f k l = record {
@@ -35,21 +43,50 @@ thread_laid h t f k l = record {
   registers =
       each_changed (λ y. length y.registers ≡ h.config.registers) h.threads t f l.registers (λ y e. k.size y ∙ e);
   objects = l.objects;
-  apart = extents_same (extent h) _ l.apart extents;
+  apart = λ c d x y e g. l.apart c d x y (had c x e) (had d y g);
   planned = l.planned;
   live_objects = l.live_objects;
   unused = l.unused;
 }
   where
-    extents : (c : Claim) → extent (record h { threads = changed h.threads t f }) c ≡ extent h c
-    extents (OfObject a) = refl
-    extents (OfBuffer u) = ap (option_map (buffer_extent h.store.words)) (kept_of buffer_in h.threads t f k.buffer u)
-    extents (OfPlan a) = refl
-    extents (OfEnd n) = refl
+    by_buffer : (y : ThreadState) (z : Extent) (o : Option Buffer) → (f y).buffer ≡ o
+        → option_map (buffer_extent h.store.words) o ≡ Some z
+        → option_map (buffer_extent h.store.words) y.buffer ≡ Some z
+    by_buffer y z None e g = absurd (none-some z g)
+    by_buffer y z (Some b) e g = ap (option_map (buffer_extent h.store.words)) (k.buffer y b e) ∙ g
+
+    -- what a claim has now, it had
+    had : (c : Claim) (x : Extent) → extent (record h { threads = changed h.threads t f }) c ≡ Some x
+        → extent h c ≡ Some x
+    had (OfObject a) x e = e
+    had (OfBuffer u) x e = was_read (λ o. option_map (buffer_extent h.store.words) (buffer_in o)) h.threads t f
+        (λ y z g. by_buffer y z (f y).buffer refl g) u x e
+    had (OfPlan a) x e = e
+    had (OfEnd n) x e = e
 
 module _ (h : HeapState) (t : ℕ) (x : ThreadState) (at : slice_get h.threads t ≡ Some x) where
+  -- a register gets a word
+  register_world : (r : ℕ) (w : Reference) → r < length x.registers
+      → world_of (with_register h t r w) ≡ set_register t r (as_word w) (world_of h)
+  unfolding with_register register_of
+  register_world r w k = λ z. record (world_of h) {
+    register = fun_ext (λ u. fun_ext (register_changed h.threads t r w (set_register_of r w) x at k refl u)) z;
+    crossed = fun_ext (kept_of has_crossed h.threads t (set_register_of r w) (λ y. refl)) z;
+    parked = fun_ext (kept_of is_parked_in h.threads t (set_register_of r w) (λ y. refl)) z;
+    barrier = fun_ext (kept_of barrier_in h.threads t (set_register_of r w) (λ y. refl)) z;
+  }
+
+  pub register_carries : (r : ℕ) (w : Reference) → IsLaid h → IsWord w → r < h.config.registers
+      → Carries h (with_register h t r w) (set_register t r (as_word w))
+  unfolding with_register
+  register_carries r w l word low = thread_carries h t (set_register_of r w) (set_register t r (as_word w))
+      (thread_laid h t (set_register_of r w)
+      (record { buffer = λ y b e. e; size = λ y. length-set y.registers r w }))
+      (λ y. register_holds_words h.config.registers r w y word)
+      (register_world r w (omega (arith, low, l.registers t x at)))
+
   -- a barrier is opened or changed
-  pub barrier_world : (b : Barrier) → world_of (with_barrier h t b) ≡ set_barrier t (as_barrier b) (world_of h)
+  barrier_world : (b : Barrier) → world_of (with_barrier h t b) ≡ set_barrier t (as_barrier b) (world_of h)
   unfolding with_barrier register_of
   barrier_world b = λ z. record (world_of h) {
     register = fun_ext (λ u. fun_ext
@@ -59,8 +96,15 @@ module _ (h : HeapState) (t : ℕ) (x : ThreadState) (at : slice_get h.threads t
     barrier = fun_ext (read_changed barrier_in h.threads t (set_barrier_of (Some b)) x (Some (as_barrier b)) at refl) z;
   }
 
+  pub barrier_carries : (b : Barrier) → IsLoad h.config.registers b
+      → Carries h (with_barrier h t b) (set_barrier t (as_barrier b))
+  unfolding with_barrier
+  barrier_carries b load = thread_carries h t (set_barrier_of (Some b)) (set_barrier t (as_barrier b))
+      (thread_laid h t (set_barrier_of (Some b)) (record { buffer = λ y b e. e; size = λ y. refl }))
+      (λ y. barrier_holds_words h.config.registers b y load) (barrier_world b)
+
   -- a load ends
-  pub loaded_world : (r : ℕ) (w : Reference) → r < length x.registers
+  loaded_world : (r : ℕ) (w : Reference) → r < length x.registers
       → world_of (with_loaded h t r w) ≡ end_load t r (as_word w) (world_of h)
   unfolding with_loaded register_of
   loaded_world r w k = λ z. record (world_of h) {
@@ -70,8 +114,16 @@ module _ (h : HeapState) (t : ℕ) (x : ThreadState) (at : slice_get h.threads t
     barrier = fun_ext (read_changed barrier_in h.threads t (set_loaded_of r w) x None at refl) z;
   }
 
+  pub loaded_carries : (r : ℕ) (w : Reference) → IsLaid h → IsWord w → r < h.config.registers
+      → Carries h (with_loaded h t r w) (end_load t r (as_word w))
+  unfolding with_loaded
+  loaded_carries r w l word low = thread_carries h t (set_loaded_of r w) (end_load t r (as_word w))
+      (thread_laid h t (set_loaded_of r w) (record { buffer = λ y b e. e; size = λ y. length-set y.registers r w }))
+      (λ y. loaded_holds_words h.config.registers r w y word)
+      (loaded_world r w (omega (arith, low, l.registers t x at)))
+
   -- a thread is parked, or runs again
-  pub parked_world : (b : Bool) → world_of (with_parked h t b) ≡ set_parked t b (world_of h)
+  parked_world : (b : Bool) → world_of (with_parked h t b) ≡ set_parked t b (world_of h)
   unfolding with_parked register_of
   parked_world b = λ z. record (world_of h) {
     register = fun_ext (λ u.
@@ -81,21 +133,31 @@ module _ (h : HeapState) (t : ℕ) (x : ThreadState) (at : slice_get h.threads t
     barrier = fun_ext (kept_of barrier_in h.threads t (set_parked_of b) (λ y. refl)) z;
   }
 
-pub barrier_laid : (h : HeapState) (t : ℕ) (b : Barrier) → IsLaid h → IsLaid (with_barrier h t b)
-unfolding with_barrier
-barrier_laid h t b l = thread_laid h t (set_barrier_of (Some b)) (record { buffer = λ y. refl; size = λ y. refl }) l
+  pub parked_carries : (b : Bool) → Carries h (with_parked h t b) (set_parked t b)
+  unfolding with_parked
+  parked_carries b = thread_carries h t (set_parked_of b) (set_parked t b)
+      (thread_laid h t (set_parked_of b) (record { buffer = λ y b e. e; size = λ y. refl }))
+      (parked_holds_words h.config.registers b) (parked_world b)
 
-pub loaded_laid : (h : HeapState) (t r : ℕ) (w : Reference) → IsLaid h → IsLaid (with_loaded h t r w)
-unfolding with_loaded
-loaded_laid h t r w l =
-    thread_laid h t (set_loaded_of r w) (record { buffer = λ y. refl; size = λ y. length-set y.registers r w }) l
+  -- a buffer is given back
+  buffer_world : (b : Option Buffer) → world_of (with_buffer h t b) ≡ world_of h
+  unfolding with_buffer register_of
+  buffer_world b = λ z. record (world_of h) {
+    register = fun_ext (λ u.
+        fun_ext (λ s. kept_of (λ o. as_word (register_in o s)) h.threads t (set_buffer_of b) (λ y. refl) u)) z;
+    crossed = fun_ext (kept_of has_crossed h.threads t (set_buffer_of b) (λ y. refl)) z;
+    parked = fun_ext (kept_of is_parked_in h.threads t (set_buffer_of b) (λ y. refl)) z;
+    barrier = fun_ext (kept_of barrier_in h.threads t (set_buffer_of b) (λ y. refl)) z;
+  }
 
-pub parked_laid : (h : HeapState) (t : ℕ) (b : Bool) → IsLaid h → IsLaid (with_parked h t b)
-unfolding with_parked
-parked_laid h t b l = thread_laid h t (set_parked_of b) (record { buffer = λ y. refl; size = λ y. refl }) l
+  pub given_back_carries : Carries h (with_buffer h t None) (λ w. w)
+  unfolding with_buffer
+  given_back_carries = thread_carries h t (set_buffer_of None) (λ w. w)
+      (thread_laid h t (set_buffer_of None) (record { buffer = λ y b e. absurd (none-some b e); size = λ y. refl }))
+      (buffer_holds_words h.config.registers None) (buffer_world None)
 
 -- a global gets a word
-pub global_world : (h : HeapState) (g : ℕ) (x : Global) (w : Reference) → slice_get h.globals g ≡ Some x
+global_world : (h : HeapState) (g : ℕ) (x : Global) (w : Reference) → slice_get h.globals g ≡ Some x
     → world_of (with_global h g w) ≡ set_global g (as_word w) (world_of h)
 unfolding with_global register_of
 global_world h g x w at = λ z. record (world_of h) {
@@ -104,7 +166,7 @@ global_world h g x w at = λ z. record (world_of h) {
   global_todo = fun_ext (kept_of todo_in h.globals g (set_word_of w) (λ y. refl)) z;
 }
 
-pub global_laid : (h : HeapState) (g : ℕ) (w : Reference) → IsLaid h → IsLaid (with_global h g w)
+global_laid : (h : HeapState) (g : ℕ) (w : Reference) → IsLaid h → IsLaid (with_global h g w)
 unfolding with_global register_of
 global_laid h g w l = record {
   starts = l.starts;
@@ -125,3 +187,18 @@ global_laid h g w l = record {
     extents (OfBuffer u) = refl
     extents (OfPlan a) = refl
     extents (OfEnd n) = refl
+
+pub global_carries : (h : HeapState) (g : ℕ) (w : Reference) → IsWord w → g < length h.globals
+    → Carries h (with_global h g w) (set_global g (as_word w))
+unfolding with_global
+global_carries h g w word low = record {
+  size = alike h (record h { globals = changed h.globals g (set_word_of w) }) refl refl refl refl refl refl
+      (length_changed h.globals g (set_word_of w));
+  laid = global_laid h g w;
+  given = λ z. z;
+  words = λ z. record {
+    threads = z.threads;
+    globals = each_changed (λ x. IsWord x.word) h.globals g (set_word_of w) z.globals (λ x e. word);
+  };
+  world = let (x, at) = get_within h.globals g low in global_world h g x w at;
+}

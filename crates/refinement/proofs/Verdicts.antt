@@ -1,45 +1,28 @@
 -- What an accepted step has passed: the tests before its row, and those of the row.
-use Rattle.std.proofs.Common.{◌≡◌, ◌⊎◌, inl, inr, ℕ, ◌+◌, ◌%◌, ◌<◌, ◌&&◌, ◌||◌, Bool, true, false, not}
-use Rattle.std.proofs.Common.{cond, length, nat_le, nat_lt, Option, Some, None, refl, sym, ◌∙◌, ap, subst}
-use Rattle.std.specs.Prelude.{Result, Ok, Err}
+use Rattle.std.proofs.Common.{◌≡◌, ◌⊎◌, inl, inr, ℕ, ◌+◌, ◌/◌, ◌%◌, ◌<◌, ◌&&◌, ◌||◌, arith, Bool, true, false, not}
+use Rattle.std.proofs.Common.{cond, length, nat_le, nat_lt, Option, Some, None, refl, sym, ◌∙◌, ap}
+use Rattle.std.specs.Prelude.{Ok}
 use Rattle.std.specs.List.{slice_get}
-use Rattle.std.specs.Option.{option_and_then}
-use Rattle.std.proofs.lemmas.Bool.{or_parts, leb-false, ltb-true}
-use Rattle.model.specs.declared.steps.Actor.TheVariants.{Thread}
+use Rattle.std.specs.Option.{option_and_then, option_map}
+use Rattle.std.proofs.lemmas.Bool.{or_parts, leb-false, ltb-true, false≢true}
 use Rattle.model.specs.declared.steps.Step.{Step}
-use Rattle.model.specs.declared.steps.Answer.{Answer}
-use Rattle.model.specs.declared.steps.Refusal.{Refusal}
-use Rattle.model.specs.declared.steps.Refusal.TheVariants as refusals
 use Rattle.model.specs.declared.records.Phase.{Phase}
 use Rattle.model.specs.declared.records.Phase.TheVariants.{Idle, MarkCrossing, Scanning, ProtectCrossing, Relocating}
-use Rattle.model.specs.Heaps.{HeapState, ThreadState, Reference, register_of, layout_at}
-use Rattle.model.specs.Heaps.{layout_in, header_layout, field_address, datum_address}
-use Rattle.model.specs.Refusing.{◌>>=◌, or_refuse}
-use Rattle.model.specs.Outcome.{outcome, thread_gate, thread_row, has_bad_index, is_for_threads}
-use Rattle.model.specs.Outcome.{is_for_parked, is_for_loading, is_parked_in, is_loading_in, usable}
-use Rattle.model.specs.Outcome.{use_word, usable_or_null, use_or_null, let_through, held_back}
-use Rattle.model.specs.Outcome.{has_crossed, field_at, field_place, datum_at, datum_place}
+use Rattle.model.specs.Stores.{state_at, is_protected}
+use Rattle.model.specs.Heaps.{HeapState, ThreadState, Reference, register_of, layout_at, layout_in, header_layout}
+use Rattle.model.specs.Heaps.{field_address, datum_address}
+use Rattle.model.specs.Outcome.{thread_gate, has_bad_index, is_for_threads, no_register, no_global, is_for_parked}
+use Rattle.model.specs.Outcome.{is_for_loading, is_parked_in, is_loading_in, usable, use_word, usable_or_null}
+use Rattle.model.specs.Outcome.{use_or_null, let_through, held_back, has_crossed, field_at, field_place, datum_at}
+use Rattle.model.specs.Outcome.{datum_place}
 use Rattle.model.proofs.Lists.{get_within, no_some}
 use Rattle.model.proofs.Memory.{word_on_page}
-use Rattle.model.proofs.Results.{same_result, not_refused}
 use Rattle.laws.specs.AddressHeap.{HeapObject}
 use Rattle.laws.specs.Transitions.{IsUsable}
-use Rattle.refinement.specs.Worlds.{world_of}
-use Rattle.refinement.proofs.Objects.{IsThere}
-
--- results
-
-abbrev pub accepted : {A : Type 0} → A → Result A Refusal
-accepted x = Ok x
-
-pub bind_ok : {A B : Type 0} (r : Result A Refusal) (f : A → Result B Refusal) (y : B) → r >>= f ≡ accepted y
-    → (x : A) × (r ≡ accepted x) × (f x ≡ accepted y)
-bind_ok (Ok x) f y e = (x, refl, e)
-bind_ok (Err n) f y e = absurd (cc)
-
-pub found_ok : {A : Type 0} (o : Option A) (n : Refusal) (x : A) → or_refuse o n ≡ accepted x → o ≡ Some x
-found_ok None n x e = absurd (cc)
-found_ok (Some y) n x e = cc
+use Rattle.refinement.specs.Worlds.{world_of, object_at, as_barrier, barrier_in}
+use Rattle.refinement.proofs.Accepted.{OnAccepted, on_has, on_test}
+use Rattle.refinement.proofs.Reading.{read_refs, read_data}
+use Rattle.refinement.proofs.Objects.{IsThere, there}
 
 -- the tests before a row
 
@@ -62,29 +45,35 @@ unless false b e f = refl
 unless true true e f = absurd (cc)
 unless true false e f = absurd (cc)
 
-pub passed : (h : HeapState) (t : ℕ) (s : Step) (x : HeapState × Answer) → outcome h (Thread t) s ≡ accepted x
-    → Passed h t s × (thread_row h t s ≡ accepted x)
-unfolding outcome thread_gate
-passed h t s x e =
-    let (u, gate, row) = bind_ok (thread_gate h t s) (λ u. thread_row h t s) x e in
-    let (a, rest) = not_refused (nat_le (length h.threads) t || not (is_for_threads s)) refusals.NoActor _ u gate in
-    let (b, rest2) = not_refused (has_bad_index h s) refusals.BadIndex _ u rest in
-    let (c, rest3) =
-    not_refused (is_parked_in (slice_get h.threads t) && not (is_for_parked s)) refusals.Parked _ u rest2 in
-    let (d, rest4) =
-    not_refused (is_loading_in (slice_get h.threads t) && not (is_for_loading s)) refusals.Busy _ u rest3 in
+pub passed : (h : HeapState) (t : ℕ) (s : Step) → OnAccepted (λ (u : Unit {0}). Passed h t s) (thread_gate h t s)
+unfolding thread_gate
+passed h t s = on_test (nat_le (length h.threads) t || not (is_for_threads s)) _ _ _ (λ a.
+    on_test (has_bad_index h s) _ _ _ (λ b.
+    on_test (is_parked_in (slice_get h.threads t) && not (is_for_parked s)) _ _ _ (λ c.
+    on_test (is_loading_in (slice_get h.threads t) && not (is_for_loading s)) _ _ _ (λ d.
     let (y, at) = get_within h.threads t
-    (leb-false (length h.threads) t (first_false (nat_le (length h.threads) t) (not (is_for_threads s)) a)) in (
-      record {
-        thread = y;
-        there = at;
-        indices = b;
-        awake = λ f. ap is_parked_in (sym at) ∙ unless (is_parked_in (slice_get h.threads t)) (is_for_parked s) c f;
-        closed = λ f. no_some y.barrier
-            (ap is_loading_in (sym at) ∙ unless (is_loading_in (slice_get h.threads t)) (is_for_loading s) d f);
-      },
-      row,
-    )
+    (leb-false (length h.threads) t (first_false (nat_le (length h.threads) t) (not (is_for_threads s)) a)) in
+    record {
+      thread = y;
+      there = at;
+      indices = b;
+      awake = λ f. ap is_parked_in (sym at) ∙ unless (is_parked_in (slice_get h.threads t)) (is_for_parked s) c f;
+      closed = λ f. no_some y.barrier
+          (ap is_loading_in (sym at) ∙ unless (is_loading_in (slice_get h.threads t)) (is_for_loading s) d f);
+    }))))
+
+pub is_register : (h : HeapState) (r : ℕ) → no_register h r ≡ false → r < h.config.registers
+unfolding no_register
+is_register h r e = leb-false h.config.registers r e
+
+pub is_global : (h : HeapState) (g : ℕ) → no_global h g ≡ false → g < length h.globals
+unfolding no_global
+is_global h g e = leb-false (length h.globals) g e
+
+-- a thread that isn't loading has no barrier in the heap by addresses
+pub closed_barrier : {h : HeapState} {t : ℕ} {s : Step} (g : Passed h t s) → is_for_loading s ≡ false
+    → (world_of h).barrier t ≡ None
+closed_barrier g e = ap barrier_in g.there ∙ ap (option_map as_barrier) (g.closed e)
 
 -- registers that may be used
 
@@ -93,58 +82,46 @@ pub record IsUsed (h : HeapState) (t r a : ℕ) : Type 0 where
   pub word : register_of h t r ≡ Some (a, bit)
   pub usable : IsUsable (world_of h) t a
 
-held : (p : Phase) (c : Bool) → held_back p c ≡ accepted tt → (p ≡ ProtectCrossing) × (c ≡ false)
-held ProtectCrossing false e = (refl, refl)
-held ProtectCrossing true e = absurd (cc)
-held Idle c e = absurd (cc)
-held MarkCrossing c e = absurd (cc)
-held Scanning c e = absurd (cc)
-held Relocating c e = absurd (cc)
+held : (A : Type 0) (p : Phase) (c : Bool)
+    → OnAccepted (λ (u : Unit {0}). A → (p ≡ ProtectCrossing) × (c ≡ false)) (held_back p c)
+held A ProtectCrossing false = λ x. (refl, refl)
+held A ProtectCrossing true = tt
+held A Idle c = tt
+held A MarkCrossing c = tt
+held A Scanning c = tt
+held A Relocating c = tt
 
-through : (h : HeapState) (t a : ℕ) (x : ThreadState) → slice_get h.threads t ≡ Some x
-    → let_through h t a ≡ accepted tt → IsUsable (world_of h) t a
+through : (h : HeapState) (t a : ℕ) → OnAccepted (λ (u : Unit {0}). IsUsable (world_of h) t a) (let_through h t a)
 unfolding let_through
-through h t a x at e p =
-    let z = held h.phase (has_crossed (slice_get h.threads t))
-    (sym (ap (λ b. cond b (held_back h.phase (has_crossed (slice_get h.threads t))) (Ok tt)) p) ∙ e) in
-    (z.0, ap has_crossed at ∙ sym (ap has_crossed at) ∙ z.1)
-
-one_unit : (u : Unit {0}) → u ≡ tt
-one_unit tt = refl
-
-pub used_ok : (h : HeapState) (t r a : ℕ) (x : ThreadState) → slice_get h.threads t ≡ Some x
-    → usable h t r ≡ accepted a → IsUsed h t r a
-unfolding usable
-used_ok h t r a x at e = by_word (register_of h t r) refl e
+through h t a = by_test (is_protected (state_at h.store (a / h.store.words))) refl
   where
-    by_word : (w : Reference) → register_of h t r ≡ w → use_word h t w ≡ accepted a → IsUsed h t r a
-    by_word None f k = absurd (cc)
-    by_word (Some w) f k =
-        let (u, pass, is) = bind_ok (let_through h t w.0) (λ u. Ok w.0) a k in
-        let same : w.0 ≡ a = same_result w.0 a is in
-        record {
-          bit = w.1;
-          word = f ∙ ap (λ n. Some (n, w.1)) same;
-          usable = subst (IsUsable (world_of h) t) same (through h t w.0 x at (pass ∙ ap accepted (one_unit u)));
-        }
+    by_test : (b : Bool) → is_protected (state_at h.store (a / h.store.words)) ≡ b
+        → OnAccepted (λ (u : Unit {0}). IsUsable (world_of h) t a)
+        (cond b (held_back h.phase (has_crossed (slice_get h.threads t))) (Ok tt))
+    by_test true e = held _ h.phase (has_crossed (slice_get h.threads t))
+    by_test false e = λ f. absurd (false≢true (sym e ∙ f))
+
+pub used : (h : HeapState) (t r : ℕ) → OnAccepted (IsUsed h t r) (usable h t r)
+unfolding usable
+used h t r = by_word (register_of h t r) refl
+  where
+    by_word : (w : Reference) → register_of h t r ≡ w → OnAccepted (IsUsed h t r) (use_word h t w)
+    by_word None e = tt
+    by_word (Some w) e = on_has (let_through h t w.0) _ _ _ (through h t w.0)
+        (λ u may. record { bit = w.1; word = e; usable = may })
 
 -- a register that is null, or may be used
-pub used_or_null : (h : HeapState) (t r : ℕ) (o : Option ℕ) (x : ThreadState)
-    → slice_get h.threads t ≡ Some x → usable_or_null h t r ≡ accepted o
-    → ((o ≡ None) × (register_of h t r ≡ None)) ⊎ ((a : ℕ) × (o ≡ Some a) × IsUsed h t r a)
+abbrev pub NullOrUsed : HeapState → ℕ → ℕ → Option ℕ → Type 0
+NullOrUsed h t r o = ((o ≡ None) × (register_of h t r ≡ None)) ⊎ ((a : ℕ) × (o ≡ Some a) × IsUsed h t r a)
+
+pub null_or_used : (h : HeapState) (t r : ℕ) → OnAccepted (NullOrUsed h t r) (usable_or_null h t r)
 unfolding usable_or_null
-used_or_null h t r o x at e = by_word (register_of h t r) refl e
+null_or_used h t r = by_word (register_of h t r) refl
   where
-    by_word : (w : Reference) → register_of h t r ≡ w → use_or_null h t w ≡ accepted o
-        → ((o ≡ None) × (register_of h t r ≡ None)) ⊎ ((a : ℕ) × (o ≡ Some a) × IsUsed h t r a)
-    by_word None f k = inl (sym (same_result None o k), f)
-    by_word (Some w) f k =
-        let (u, pass, is) = bind_ok (let_through h t w.0) (λ u. Ok (Some w.0)) o k in
-        inr (
-          w.0,
-          sym (same_result (Some w.0) o is),
-          record { bit = w.1; word = f; usable = through h t w.0 x at (pass ∙ ap accepted (one_unit u)) },
-        )
+    by_word : (w : Reference) → register_of h t r ≡ w → OnAccepted (NullOrUsed h t r) (use_or_null h t w)
+    by_word None e = inl (refl, e)
+    by_word (Some w) e = on_has (let_through h t w.0) _ _ _ (through h t w.0)
+        (λ u may. inr (w.0, refl, record { bit = w.1; word = e; usable = may }))
 
 -- data
 
@@ -155,26 +132,41 @@ shape_there h a q t = ap (λ o. layout_in h.config.layouts (header_layout o)) (w
     ∙ ap (option_and_then (λ ws. slice_get ws (a % h.store.words))) t.page ∙ t.read.at) ∙ t.read.known
 
 -- where a reference of an object stands
-pub field_there : (h : HeapState) (a : ℕ) (q : HeapObject) (t : IsThere h a q) (i place : ℕ)
-    → field_at h a i ≡ Some place → (i < t.read.shape.refs) × (a + 1 + i ≡ place)
+pub field_there : (h : HeapState) (a : ℕ) (q : HeapObject) (e : object_at h a ≡ Some q) (i place : ℕ)
+    → field_at h a i ≡ Some place → (i < length q.refs) × (a + (1 + i) ≡ place)
 unfolding field_at
-field_there h a q t i place e =
-    by_test (nat_lt i t.read.shape.refs) refl (sym (ap (field_place a i) (shape_there h a q t)) ∙ e)
+field_there h a q e i place f =
+    by_test (nat_lt i t.read.shape.refs) refl (sym (ap (field_place a i) (shape_there h a q t)) ∙ f)
   where
+    t : IsThere h a q
+    t = there h a q e
+
     by_test : (b : Bool) → nat_lt i t.read.shape.refs ≡ b → cond b (Some (field_address a i)) None ≡ Some place
-        → (i < t.read.shape.refs) × (a + 1 + i ≡ place)
-    by_test true f k = (ltb-true i t.read.shape.refs f, cc)
+        → (i < length q.refs) × (a + (1 + i) ≡ place)
     by_test false f k = absurd (cc)
+    by_test true f k =
+        let spot : a + 1 + i ≡ place = cc in
+        let low = ltb-true i t.read.shape.refs f in
+        let refs = read_refs h.config.layouts t.words (a % h.store.words) q t.read in
+        (omega (arith, low, refs), omega (arith, spot))
 
 -- where a datum of an object stands
-pub datum_there : (h : HeapState) (a : ℕ) (q : HeapObject) (t : IsThere h a q) (j place : ℕ)
-    → datum_at h a j ≡ Some place → (j < t.read.shape.nums) × (a + 1 + t.read.shape.refs + j ≡ place)
+pub datum_there : (h : HeapState) (a : ℕ) (q : HeapObject) (e : object_at h a ≡ Some q) (j place : ℕ)
+    → datum_at h a j ≡ Some place → (j < length q.data_words) × (a + (1 + length q.refs + j) ≡ place)
 unfolding datum_at
-datum_there h a q t j place e =
-    by_test (nat_lt j t.read.shape.nums) refl (sym (ap (datum_place a j) (shape_there h a q t)) ∙ e)
+datum_there h a q e j place f =
+    by_test (nat_lt j t.read.shape.nums) refl (sym (ap (datum_place a j) (shape_there h a q t)) ∙ f)
   where
+    t : IsThere h a q
+    t = there h a q e
+
     by_test : (b : Bool)
         → nat_lt j t.read.shape.nums ≡ b → cond b (Some (datum_address a t.read.shape j)) None ≡ Some place
-        → (j < t.read.shape.nums) × (a + 1 + t.read.shape.refs + j ≡ place)
-    by_test true f k = (ltb-true j t.read.shape.nums f, cc)
+        → (j < length q.data_words) × (a + (1 + length q.refs + j) ≡ place)
     by_test false f k = absurd (cc)
+    by_test true f k =
+        let spot : a + 1 + t.read.shape.refs + j ≡ place = cc in
+        let low = ltb-true j t.read.shape.nums f in
+        let refs = read_refs h.config.layouts t.words (a % h.store.words) q t.read in
+        let nums = read_data h.config.layouts t.words (a % h.store.words) q t.read in
+        (omega (arith, low, nums), omega (arith, refs, spot))

@@ -1,28 +1,31 @@
 -- A word of an object that is written in memory: the object reads as another of its size, and all others stay.
-use Rattle.std.proofs.Common.{◌≡◌, ◌≢◌, ◌⊎◌, inl, inr, ℕ, ◌+◌, ◌/◌, ◌%◌, ◌<◌, ◌≤◌, true}
-use Rattle.std.proofs.Common.{List, length, set, Some, refl, sym, ◌∙◌, ap, ap₂, subst, arith}
-use mathlib.Core.Path.{fun_ext}
+use Rattle.std.proofs.Common.{◌≡◌, ◌≢◌, ◌⊎◌, inl, inr, ℕ, ◌+◌, ◌/◌, ◌%◌, ◌<◌, ◌≤◌, true, List, length, set, Some}
+use Rattle.std.proofs.Common.{refl, sym, ◌∙◌, ap, ap₂, subst, arith}
 use Rattle.std.proofs.Math.ListN.{length-set}
 use Rattle.std.specs.List.{slice_get}
 use Rattle.std.specs.Option.{option_map, option_and_then}
 use Rattle.std.proofs.lemmas.Bool.{cases_eq}
 use Rattle.std.proofs.lemmas.Option.{same_Some}
+use mathlib.Core.Path.{fun_ext}
+use Rattle.refword.specs.Words.{IsWord, bits_of}
 use Rattle.model.specs.Stores.{words_at, word_at, with_words, with_word, state_at, page_at, has_memory}
 use Rattle.model.specs.Owning.{IsStore}
-use Rattle.model.specs.Heaps.{HeapState, register_of}
+use Rattle.model.specs.Heaps.{HeapState, register_of, Reference}
+use Rattle.refword.proofs.Reading.{reads_back}
 use Rattle.model.proofs.Lists.{get_set_other}
-use Rattle.model.proofs.Memory.{words_sized, words_memory, word_on_page}
+use Rattle.model.proofs.Memory.{words_sized, words_memory, word_on_page, frames_stay}
 use Rattle.laws.specs.AddressHeap.{HeapObject, Planned, put}
 use Rattle.laws.specs.Edits.{set_object}
 use Rattle.laws.specs.Effects.{with_datum, with_field}
 use Rattle.laws.proofs.Basics.{put_all, put_after, put_same, put_other}
-use Rattle.refinement.specs.Worlds.{world_of, object_at, bit_at, word_in_memory}
-use Rattle.refinement.specs.Claims.{IsLaid, Claim, OfObject, OfBuffer, OfPlan, OfEnd, extent}
-use Rattle.refinement.specs.Claims.{object_size, size_at, sized_extent, planned_extent}
+use Rattle.refinement.specs.Worlds.{world_of, object_at, bit_at, word_in_memory, as_word, as_read}
+use Rattle.refinement.specs.Claims.{IsLaid, Claim, OfObject, OfBuffer, OfPlan, OfEnd, extent, object_size, size_at}
+use Rattle.refinement.specs.Claims.{sized_extent, planned_extent}
 use Rattle.refinement.proofs.Runs.{Agree}
 use Rattle.refinement.proofs.Reading.{IsRead, read_refs, read_data, read_fits, read_datum, read_field}
 use Rattle.refinement.proofs.Objects.{Rewrites, IsThere, there, rewritten}
 use Rattle.refinement.proofs.Claims.{within_page, objects_apart, extents_same}
+use Rattle.refinement.proofs.Carrying.{Carries, becomes, alike}
 
 -- word k of the object q becomes v, and then it reads as p
 pub record IsWrite (h : HeapState) (a : ℕ) (q : HeapObject) (k v : ℕ) (p : HeapObject) : Type 0 where
@@ -37,7 +40,7 @@ module _ (h : HeapState) (s : IsStore h.store) (l : IsLaid h) (a : ℕ) (q : Hea
   t = there h a q e
 
   -- where the word stands
-  abbrev pub place : ℕ
+  abbrev place : ℕ
   place = a + k
 
   size : length t.words ≡ h.store.words
@@ -46,10 +49,10 @@ module _ (h : HeapState) (s : IsStore h.store) (l : IsLaid h) (a : ℕ) (q : Hea
   inside : k < object_size q → a % h.store.words + k < h.store.words
   inside m = omega (arith, m, size, read_fits h.config.layouts t.words (a % h.store.words) q t.read)
 
-  pub place_page : k < object_size q → place / h.store.words ≡ a / h.store.words
+  place_page : k < object_size q → place / h.store.words ≡ a / h.store.words
   place_page m = (within_page h.store.words a k (inside m)).0
 
-  pub place_offset : k < object_size q → place % h.store.words ≡ a % h.store.words + k
+  place_offset : k < object_size q → place % h.store.words ≡ a % h.store.words + k
   place_offset m = (within_page h.store.words a k (inside m)).1
 
   -- the word that stands there
@@ -58,7 +61,7 @@ module _ (h : HeapState) (s : IsStore h.store) (l : IsLaid h) (a : ℕ) (q : Hea
       (ap (words_at h.store) (place_page m) ∙ t.page) (place_offset m)
 
   -- the heap with the word written
-  abbrev pub after : HeapState
+  abbrev after : HeapState
   after = record h { store = with_word h.store place v }
 
   module _ (p : HeapObject) (w : IsWrite h a q k v p) where
@@ -99,7 +102,7 @@ module _ (h : HeapState) (s : IsStore h.store) (l : IsLaid h) (a : ℕ) (q : Hea
     unfolding with_word with_words
     objects_after x = rewritten h h.starts (place / h.store.words) a change p s rewrites x
 
-    pub written_world : world_of after ≡ set_object a p (world_of h)
+    written_world : world_of after ≡ set_object a p (world_of h)
     unfolding with_word with_words state_at page_at register_of
     written_world = λ z. record (world_of h) { object_at = fun_ext objects_after z }
 
@@ -143,7 +146,7 @@ module _ (h : HeapState) (s : IsStore h.store) (l : IsLaid h) (a : ℕ) (q : Hea
             omega (arith, size, w.size, l.planned x n q g (ap (object_at h) f ∙ e))
         go (inr (f, z)) = l.planned x n o g z
 
-    pub written_laid : IsLaid after
+    written_laid : IsLaid after
     unfolding with_word with_words state_at page_at
     written_laid = record {
       starts = record { pages = l.starts.pages; words = l.starts.words };
@@ -159,8 +162,18 @@ module _ (h : HeapState) (s : IsStore h.store) (l : IsLaid h) (a : ℕ) (q : Hea
       unused = l.unused;
     }
 
+    written_carries : Carries h after (set_object a p)
+    unfolding with_word with_words
+    written_carries = record {
+      size = alike h after refl refl (frames_stay h.store _ _) refl refl refl refl;
+      laid = λ z. written_laid;
+      given = λ z. z;
+      words = λ z. record { threads = z.threads; globals = z.globals };
+      world = written_world;
+    }
+
 -- a datum is written
-pub datum_write : (h : HeapState) (a : ℕ) (q : HeapObject) (e : object_at h a ≡ Some q) (j v : ℕ)
+datum_write : (h : HeapState) (a : ℕ) (q : HeapObject) (e : object_at h a ≡ Some q) (j v : ℕ)
     → j < length q.data_words → IsWrite h a q (1 + length q.refs + j) v (with_datum q j v)
 datum_write h a q e j v m = record {
   within = omega (arith, m);
@@ -172,7 +185,7 @@ datum_write h a q e j v m = record {
 }
 
 -- a reference is written
-pub field_write : (h : HeapState) (a : ℕ) (q : HeapObject) (e : object_at h a ≡ Some q) (i v : ℕ) → i < length q.refs
+field_write : (h : HeapState) (a : ℕ) (q : HeapObject) (e : object_at h a ≡ Some q) (i v : ℕ) → i < length q.refs
     → IsWrite h a q (1 + i) v (with_field q i (word_in_memory v))
 field_write h a q e i v m = record {
   within = omega (arith, m);
@@ -182,3 +195,23 @@ field_write h a q e i v m = record {
       (read_field h.config.layouts ws (a % h.store.words) q r i v
       (omega (arith, m, read_refs h.config.layouts ws (a % h.store.words) q r)));
 }
+
+module _ (h : HeapState) (s : IsStore h.store) (l : IsLaid h) (a : ℕ) (q : HeapObject)
+    (e : object_at h a ≡ Some q) where
+  -- a datum gets a number
+  pub datum_carries : (j n v : ℕ) → j < length q.data_words → a + (1 + length q.refs + j) ≡ n
+      → Carries h (record h { store = with_word h.store n v }) (set_object a (with_datum q j v))
+  datum_carries j n v low spot =
+      subst (λ m. Carries h (record h { store = with_word h.store m v }) (set_object a (with_datum q j v))) spot
+      (written_carries h s l a q e (1 + length q.refs + j) v (with_datum q j v) (datum_write h a q e j v low))
+
+  -- a reference gets a word
+  pub field_carries : (i n : ℕ) (w : Reference) → IsWord w → i < length q.refs → a + (1 + i) ≡ n
+      → Carries h (record h { store = with_word h.store n (bits_of w) }) (set_object a (with_field q i (as_word w)))
+  field_carries i n w word low spot =
+      let v : ℕ = bits_of w in
+      let read : word_in_memory v ≡ as_word w = ap as_read (reads_back w word) in
+      becomes (subst (λ m. Carries h (record h { store = with_word h.store m v })
+      (set_object a (with_field q i (word_in_memory v)))) spot (written_carries h s l a q e (1 + i) v
+      (with_field q i (word_in_memory v)) (field_write h a q e i v low)))
+      (set_object a (with_field q i (as_word w))) (ap (λ z. set_object a (with_field q i z) (world_of h)) read)

@@ -1,0 +1,50 @@
+-- What is to hold of an accepted outcome, by combinators that mirror the `do` of a row: each opens its first line, and
+-- hands on what that line found or tested.
+use Rattle.std.proofs.Common.{◌≡◌, Bool, true, false, cond, Option, Some, None, refl, subst}
+use Rattle.std.specs.Prelude.{Result, Ok, Err}
+use Rattle.model.specs.declared.steps.Refusal.{Refusal}
+use Rattle.model.specs.Refusing.{◌>>=◌, or_refuse}
+use Rattle.model.proofs.Results.{same_result}
+
+abbrev pub accepted : {A : Type 0} → A → Result A Refusal
+accepted x = Ok x
+
+-- this holds of what was accepted; of a refusal nothing is said
+abbrev pub OnAccepted : {A : Type 0} → (A → Type 0) → Result A Refusal → Type 0
+OnAccepted P (Ok x) = P x
+OnAccepted P (Err n) = Unit {0}
+
+-- what is accepted in full has it
+pub of_accepted : {A : Type 0} (P : A → Type 0) (r : Result A Refusal) (x : A) → OnAccepted P r → r ≡ accepted x → P x
+of_accepted P (Ok y) x h e = subst P (same_result y x e) h
+of_accepted P (Err n) x h e = absurd (cc)
+
+-- x ← r
+pub on_bind : {A B : Type 0} (r : Result A Refusal) (f : A → Result B Refusal) (P : B → Type 0)
+    → ((x : A) → r ≡ accepted x → OnAccepted P (f x)) → OnAccepted P (r >>= f)
+on_bind (Ok x) f P h = h x refl
+on_bind (Err n) f P h = tt
+
+-- x ← r, where what r accepts has Q
+pub on_has : {A B : Type 0} (r : Result A Refusal) (f : A → Result B Refusal) (Q : A → Type 0) (P : B → Type 0)
+    → OnAccepted Q r → ((x : A) → Q x → OnAccepted P (f x)) → OnAccepted P (r >>= f)
+on_has (Ok x) f Q P q h = h x q
+on_has (Err n) f Q P q h = tt
+
+-- x ← or_refuse o n
+pub on_some : {A B : Type 0} (o : Option A) (n : Refusal) (f : A → Result B Refusal) (P : B → Type 0)
+    → ((x : A) → o ≡ Some x → OnAccepted P (f x)) → OnAccepted P (or_refuse o n >>= f)
+on_some (Some x) n f P h = h x refl
+on_some None n f P h = tt
+
+-- if c then Err n else r
+pub on_test : {B : Type 0} (c : Bool) (n : Refusal) (r : Result B Refusal) (P : B → Type 0)
+    → (c ≡ false → OnAccepted P r) → OnAccepted P (cond c (Err n) r)
+on_test true n r P h = tt
+on_test false n r P h = h refl
+
+-- if c then r else Err n
+pub on_truth : {B : Type 0} (c : Bool) (n : Refusal) (r : Result B Refusal) (P : B → Type 0)
+    → (c ≡ true → OnAccepted P r) → OnAccepted P (cond c r (Err n))
+on_truth true n r P h = h refl
+on_truth false n r P h = tt
