@@ -60,12 +60,14 @@ IsConfig c = first_fault c ≡ None
 
 -- what the code uses of being in range
 pub record IsRanged (c : Config) : Type 0 where
+  pub page_size : is_page_size c.words ≡ true
   pub words_low : 16 ≤ c.words
   pub words_high : c.words ≤ 4096
   pub frames_low : 1 ≤ c.frames
   pub frames_high : c.frames ≤ 4096
   pub pages_low : c.frames ≤ c.pages
   pub pages_high : c.pages ≤ 65535
+  pub threads_low : 1 ≤ c.threads
   pub threads : c.threads ≤ 64
   pub workers : c.workers ≤ 16
   pub registers : c.registers ≤ 16

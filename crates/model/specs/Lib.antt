@@ -3,6 +3,7 @@ pub mod Phases
 pub mod Stores
 pub mod Owning
 pub mod Heaps
+pub mod Bits
 pub mod Holding
 pub mod Refusing
 pub mod Outcome

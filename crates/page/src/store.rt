@@ -1,6 +1,6 @@
 //! Pages and their frames.
 
-ghost use Rattle.std.specs.Prelude.{◌≡◌, ◌≤◌, ◌<◌, ◌+◌, ◌-◌, ◌^◌, length, slice_get, slice_set, slice_range, replicate, IfOk, IfSome, count_by, is_some, is_none, Some, None, true};
+ghost use Rattle.std.specs.Prelude.{◌≡◌, ◌≤◌, ◌<◌, ◌+◌, ◌-◌, ◌/◌, ◌^◌, length, slice_get, slice_set, slice_range, replicate, IfOk, IfSome, count_by, is_some, is_none, Some, None, true};
 ghost use Rattle.std.specs.Option.{option_map};
 ghost use Rattle.std.specs.Borrow.{sem};
 ghost use Rattle.model.specs.Stores.{first_store, page_at, state_at, state_in, spot_of, word_at, with_word, words_at, taken, Takes, given, opened, top_in, is_open, page_with_room, free_frame, unused_page, frame_in, record_count};
@@ -12,6 +12,7 @@ use crate::copies::many;
 use crate::frame::Frame;
 use crate::index::Tournament;
 use model::{Buffer, Page, PageState, Room};
+use refword::Addr;
 use std::alloc::{AllocError, Global};
 use std::marker::Model;
 
@@ -181,6 +182,14 @@ impl Store {
             None => PageState::Unused,
             Some(page) => page.state,
         }
+    }
+
+    /// The page of an address, which there need not be: no address is so high that its page has no
+    /// number.
+    pub fn page_of(&self, address: Addr) -> u32
+        ensures { result ≡ address / self.now.words }
+    {
+        (address.number() / u64::from(self.words)) as u32
     }
 
     /// The frame and the offset behind an address, if its page has memory.

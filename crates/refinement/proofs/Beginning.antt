@@ -22,7 +22,8 @@ use Rattle.laws.specs.AddressHeap.{Null, NoEntry}
 use Rattle.laws.specs.Invariant.{Invariant}
 use Rattle.laws.specs.First.{first, plain_first}
 use Rattle.laws.proofs.First.{first_holds}
-use Rattle.refinement.specs.Worlds.{world_of, as_word, object_at, object_in, of_page, bit_at}
+use Rattle.model.specs.Bits.{of_page, bit_at}
+use Rattle.refinement.specs.Worlds.{world_of, as_word, object_at, object_in}
 use Rattle.refinement.specs.Worlds.{entry_at, barrier_in, scan_in, global_in, todo_in}
 use Rattle.refinement.specs.Births.{births_of, as_pair}
 use Rattle.refinement.specs.Claims.{AreRising, IsLaid, AreRows, HasGiven, Claim, OfObject}

@@ -26,7 +26,8 @@ use Rattle.laws.specs.AddressHeap.{HeapObject, Word, Null, SideEntry, NoEntry, P
 use Rattle.laws.specs.Invariant.{SoundObjects}
 use Rattle.laws.specs.Edits.{born}
 use Rattle.laws.proofs.Basics.{put_after, put_same, put_other}
-use Rattle.refinement.specs.Worlds.{world_of, object_at, bit_at, barrier_in}
+use Rattle.model.specs.Bits.{bit_at}
+use Rattle.refinement.specs.Worlds.{world_of, object_at, barrier_in}
 use Rattle.refinement.specs.Claims.{IsLaid, AreRows, AreApart, Claim, OfObject, OfBuffer, OfPlan, OfEnd, Extent}
 use Rattle.refinement.specs.Claims.{extent, object_size, size_at, sized_extent, planned_extent, buffer_extent}
 use Rattle.refinement.specs.Roots.{HoldsWords}

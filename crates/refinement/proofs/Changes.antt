@@ -13,7 +13,7 @@ use Rattle.model.specs.Heaps.{changed, changed_at, blank_row, put_bit}
 use Rattle.model.proofs.Lists.{get_set_same, get_set_other, get_within, each_changed}
 use Rattle.laws.specs.AddressHeap.{put}
 use Rattle.laws.proofs.Basics.{put_all, put_same, put_other, put_id}
-use Rattle.refinement.specs.Worlds.{of_page, bit_at}
+use Rattle.model.specs.Bits.{of_page, bit_at}
 use Rattle.refinement.specs.Claims.{AreRows}
 
 -- what is read of a list with one element changed

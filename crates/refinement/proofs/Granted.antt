@@ -16,7 +16,8 @@ use Rattle.model.proofs.Lists.{get_set_same, get_set_other, each_changed, each_s
 use Rattle.page.proofs.Keeping.{page_at_record, page_at_zero}
 use Rattle.laws.specs.AddressHeap.{put}
 use Rattle.laws.proofs.Basics.{put_all, put_same, put_other}
-use Rattle.refinement.specs.Worlds.{world_of, object_at, object_in, bit_at, as_word, barrier_in}
+use Rattle.model.specs.Bits.{bit_at}
+use Rattle.refinement.specs.Worlds.{world_of, object_at, object_in, as_word, barrier_in}
 use Rattle.refinement.specs.Claims.{IsLaid, AreRows, Claim, OfObject, OfBuffer, OfPlan, OfEnd, Extent, extent}
 use Rattle.refinement.specs.Claims.{object_size, sized_extent, planned_extent, buffer_extent, end_extent, size_at}
 use Rattle.refinement.specs.Claims.{HasGiven}

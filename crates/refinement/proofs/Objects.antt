@@ -9,7 +9,8 @@ use Rattle.model.specs.Heaps.{HeapState}
 use Rattle.model.proofs.Memory.{words_changed, words_kept}
 use Rattle.laws.specs.AddressHeap.{HeapObject, put}
 use Rattle.laws.proofs.Basics.{put_all}
-use Rattle.refinement.specs.Worlds.{object_at, object_in, bit_at}
+use Rattle.model.specs.Bits.{bit_at}
+use Rattle.refinement.specs.Worlds.{object_at, object_in}
 use Rattle.refinement.specs.Claims.{object_size}
 use Rattle.refinement.proofs.Runs.{Agree}
 use Rattle.refinement.proofs.Reading.{IsRead, read_is, is_read, read_same}

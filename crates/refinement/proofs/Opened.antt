@@ -23,7 +23,8 @@ use Rattle.laws.specs.AddressHeap.{HeapObject, SideEntry, NoEntry, Planned, Copi
 use Rattle.laws.specs.Invariant.{SoundObjects, SoundMarks}
 use Rattle.laws.specs.Edits.{open_page}
 use Rattle.laws.proofs.Basics.{put_same, put_other}
-use Rattle.refinement.specs.Worlds.{world_of, object_at, object_in, bit_at}
+use Rattle.model.specs.Bits.{bit_at}
+use Rattle.refinement.specs.Worlds.{world_of, object_at, object_in}
 use Rattle.refinement.specs.Claims.{IsLaid, AreRows, Apart, AreApart, Claim, OfObject, OfBuffer, OfPlan, OfEnd}
 use Rattle.refinement.specs.Claims.{Extent, extent, object_size, sized_extent, planned_extent, buffer_extent}
 use Rattle.refinement.specs.Claims.{end_extent, size_at}

@@ -18,7 +18,8 @@ use Rattle.laws.specs.AddressHeap.{HeapObject, Planned, put}
 use Rattle.laws.specs.Edits.{set_object}
 use Rattle.laws.specs.Effects.{with_datum, with_field}
 use Rattle.laws.proofs.Basics.{put_all, put_after, put_same, put_other}
-use Rattle.refinement.specs.Worlds.{world_of, object_at, bit_at, word_in_memory, as_word, as_read}
+use Rattle.model.specs.Bits.{bit_at}
+use Rattle.refinement.specs.Worlds.{world_of, object_at, word_in_memory, as_word, as_read}
 use Rattle.refinement.specs.Claims.{IsLaid, Claim, OfObject, OfBuffer, OfPlan, OfEnd, extent, object_size, size_at}
 use Rattle.refinement.specs.Claims.{sized_extent, planned_extent}
 use Rattle.refinement.proofs.Runs.{Agree}

@@ -9,7 +9,8 @@ use Rattle.model.specs.Stores.{StoreState, page_at, is_open, has_memory}
 use Rattle.model.specs.Owning.{Each}
 use Rattle.model.specs.Heaps.{HeapState, buffer_of_thread}
 use Rattle.laws.specs.AddressHeap.{HeapObject, SideEntry, Planned}
-use Rattle.refinement.specs.Worlds.{world_of, object_at, bit_at}
+use Rattle.model.specs.Bits.{bit_at}
+use Rattle.refinement.specs.Worlds.{world_of, object_at}
 
 -- who has words of memory
 pub data Claim : Type 0 where

@@ -11,6 +11,7 @@ use Rattle.model.specs.declared.records.Global.{Global}
 use Rattle.model.specs.declared.records.Place.{Place}
 use Rattle.model.specs.declared.records.Place.TheVariants as places
 use Rattle.model.specs.Stores.{state_at, words_at}
+use Rattle.model.specs.Bits.{of_page, bit_at}
 use Rattle.model.specs.Heaps.{HeapState, ThreadState, Reference, register_of}
 use Rattle.model.specs.Outcome.{has_crossed, is_parked_in}
 use Rattle.laws.specs.AddressHeap.{AddressHeap, HeapObject, Word, Null, To, SideEntry, NoEntry, Planned, Copied, LoadPlace, AtField, AtGlobal, OpenBarrier, WorkerScan}
@@ -62,16 +63,7 @@ abbrev pub object_in : List Layout → Bool → Option (List ℕ) → ℕ → Op
 object_in ls true (Some words) offset = object_headed ls words offset (slice_get words offset)
 object_in ls _ _ offset = None
 
--- rows and side arrays
-
--- what page n has in a list of something for each record
-abbrev pub of_page : {X : Type 0} → List (List X) → ℕ → List X
-of_page xs zero = []
-of_page xs (suc i) = get_or xs i []
-
--- the bit of an address in rows of pages of so many words
-abbrev pub bit_at : List (List Bool) → ℕ → ℕ → Bool
-bit_at rows words a = get_or (of_page rows (a / words)) (a % words) false
+-- side arrays
 
 -- the entry of an object that goes to an address: copied, or planned
 abbrev pub forwarded : Bool → ℕ → SideEntry

@@ -40,11 +40,8 @@ impl Heap {
     pub fn let_through(&self, thread: u32, address: Addr) -> Result<(), Refusal>
         ensures { result ≡ let_through self.now thread address }
     {
-        let page = address.number() / u64::from(self.store.page_words());
-        if !matches!(
-            self.store.state(page as u32),
-            PageState::From | PageState::Gone
-        ) {
+        let page = self.store.page_of(address);
+        if !matches!(self.store.state(page), PageState::From | PageState::Gone) {
             return Ok(());
         }
         match self.phase {
