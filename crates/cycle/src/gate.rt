@@ -1,7 +1,7 @@
 //! The tests that come before those of a step's own row.
 
 ghost use Rattle.std.specs.Prelude.{◌≡◌, length, nat_le, slice_get};
-ghost use Rattle.model.specs.Outcome.{no_register, no_global, has_bad_index, is_for_threads, is_for_parked, is_for_loading, is_loading_in, thread_gate};
+ghost use Rattle.model.specs.Outcome.{no_register, no_global, has_bad_index, is_for_workers, is_for_parked, is_for_loading, is_loading_in, thread_gate};
 
 use heap::Heap;
 use model::{Refusal, Step};
@@ -58,32 +58,21 @@ fn has_bad_index(heap: &Heap, step: &Step) -> bool
     }
 }
 
-/// Whether a thread does such a step.
-fn is_for_threads(step: &Step) -> bool
-    ensures { result ≡ is_for_threads step.now }
+/// Whether a worker does such a step; threads do all others.
+fn is_for_workers(step: &Step) -> bool
+    ensures { result ≡ is_for_workers step.now }
 {
     matches!(
         step,
-        Step::Take(_)
-            | Step::GiveBack
-            | Step::New { .. }
-            | Step::Load { .. }
-            | Step::LoadGlobal { .. }
-            | Step::Trap
-            | Step::Heal
-            | Step::Finish
-            | Step::Store { .. }
-            | Step::StoreGlobal { .. }
-            | Step::Datum { .. }
-            | Step::SetDatum { .. }
-            | Step::Same { .. }
-            | Step::IsNull(_)
-            | Step::CopyReg { .. }
-            | Step::ClearReg(_)
-            | Step::Cross
-            | Step::Scrub(_)
-            | Step::Park
-            | Step::Unpark
+        Step::StartMark
+            | Step::Pick { .. }
+            | Step::ScanField
+            | Step::ScanGlobal(_)
+            | Step::EndMark
+            | Step::Protect(_)
+            | Step::Copy { .. }
+            | Step::Release(_)
+            | Step::CrossFor(_)
     )
 }
 
@@ -114,7 +103,7 @@ fn is_loading(heap: &Heap, thread: u32) -> bool
 pub fn thread_gate(heap: &Heap, thread: u32, step: &Step) -> Result<(), Refusal>
     ensures { result ≡ thread_gate heap.now thread step.now }
 {
-    if thread as usize >= heap.threads().len() || !is_for_threads(step) {
+    if thread as usize >= heap.threads().len() || is_for_workers(step) {
         return Err(Refusal::NoActor);
     }
     if has_bad_index(heap, step) {

@@ -317,29 +317,18 @@ unpark_outcome h t =
 
 -- the tests before a row
 
--- a thread does such a step
-abbrev pub is_for_threads : Step → Bool
-is_for_threads (steps.Take n) = true
-is_for_threads steps.GiveBack = true
-is_for_threads (steps.New target layout) = true
-is_for_threads (steps.Load target object field) = true
-is_for_threads (steps.LoadGlobal target global) = true
-is_for_threads steps.Trap = true
-is_for_threads steps.Heal = true
-is_for_threads steps.Finish = true
-is_for_threads (steps.Store object field source) = true
-is_for_threads (steps.StoreGlobal global source) = true
-is_for_threads (steps.Datum object index) = true
-is_for_threads (steps.SetDatum object index value) = true
-is_for_threads (steps.Same left right) = true
-is_for_threads (steps.IsNull r) = true
-is_for_threads (steps.CopyReg target source) = true
-is_for_threads (steps.ClearReg r) = true
-is_for_threads steps.Cross = true
-is_for_threads (steps.Scrub r) = true
-is_for_threads steps.Park = true
-is_for_threads steps.Unpark = true
-is_for_threads _ = false
+-- a worker does such a step; threads do all others
+abbrev pub is_for_workers : Step → Bool
+is_for_workers steps.StartMark = true
+is_for_workers (steps.Pick page offset) = true
+is_for_workers steps.ScanField = true
+is_for_workers (steps.ScanGlobal global) = true
+is_for_workers steps.EndMark = true
+is_for_workers (steps.Protect pages) = true
+is_for_workers (steps.Copy page entry) = true
+is_for_workers (steps.Release page) = true
+is_for_workers (steps.CrossFor thread) = true
+is_for_workers _ = false
 
 -- a parked thread may do such a step
 abbrev pub is_for_parked : Step → Bool
@@ -386,7 +375,7 @@ is_loading_in (Some t) = is_some t.barrier
 -- the tests that come before those of a step's own row
 unfoldable pub thread_gate : HeapState → ℕ → Step → Result Unit Refusal
 thread_gate h t s =
-    if nat_le (length h.threads) t || not (is_for_threads s) then Err refusals.NoActor else
+    if nat_le (length h.threads) t || is_for_workers s then Err refusals.NoActor else
     (if has_bad_index h s then Err refusals.BadIndex else
     (if is_parked_in (slice_get h.threads t) && not (is_for_parked s) then Err refusals.Parked else
     (if is_loading_in (slice_get h.threads t) && not (is_for_loading s) then Err refusals.Busy else Ok tt)))

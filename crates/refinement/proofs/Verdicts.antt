@@ -11,7 +11,7 @@ use Rattle.model.specs.declared.records.Phase.TheVariants.{Idle, MarkCrossing, S
 use Rattle.model.specs.Stores.{state_at, is_protected}
 use Rattle.model.specs.Heaps.{HeapState, ThreadState, Reference, register_of, layout_at, layout_in, header_layout}
 use Rattle.model.specs.Heaps.{field_address, datum_address}
-use Rattle.model.specs.Outcome.{thread_gate, has_bad_index, is_for_threads, no_register, no_global, is_for_parked}
+use Rattle.model.specs.Outcome.{thread_gate, has_bad_index, is_for_workers, no_register, no_global, is_for_parked}
 use Rattle.model.specs.Outcome.{is_for_loading, is_parked_in, is_loading_in, usable, use_word, usable_or_null}
 use Rattle.model.specs.Outcome.{use_or_null, let_through, held_back, has_crossed, field_at, field_place, datum_at}
 use Rattle.model.specs.Outcome.{datum_place}
@@ -47,12 +47,12 @@ unless true false e f = absurd (cc)
 
 pub passed : (h : HeapState) (t : ℕ) (s : Step) → OnAccepted (λ (u : Unit {0}). Passed h t s) (thread_gate h t s)
 unfolding thread_gate
-passed h t s = on_test (nat_le (length h.threads) t || not (is_for_threads s)) _ _ _ (λ a.
+passed h t s = on_test (nat_le (length h.threads) t || is_for_workers s) _ _ _ (λ a.
     on_test (has_bad_index h s) _ _ _ (λ b.
     on_test (is_parked_in (slice_get h.threads t) && not (is_for_parked s)) _ _ _ (λ c.
     on_test (is_loading_in (slice_get h.threads t) && not (is_for_loading s)) _ _ _ (λ d.
     let (y, at) = get_within h.threads t
-    (leb-false (length h.threads) t (first_false (nat_le (length h.threads) t) (not (is_for_threads s)) a)) in
+    (leb-false (length h.threads) t (first_false (nat_le (length h.threads) t) (is_for_workers s) a)) in
     record {
       thread = y;
       there = at;
