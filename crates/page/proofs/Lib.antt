@@ -3,3 +3,4 @@ pub mod Indexes
 pub mod Keeping
 pub mod Lying
 pub mod Trees
+pub mod Masks

@@ -40,6 +40,7 @@ store_of s = record {
 
 -- the store is one, and the number of its free frames and three indexes are kept beside it
 pub record IsStoreInside (s : Inside) : Type 0 where
+  pub size : s.size ≡ s.words
   pub store : IsStore (store_of s)
   pub free : s.free ≡ count_by is_none s.owners.items
   pub rooms : s.rooms ≡ map (left_in s.words) s.pages.items

@@ -4,6 +4,7 @@
 mod copies;
 mod frame;
 mod index;
+mod size;
 mod store;
 
 pub use copies::many;

@@ -4,6 +4,7 @@ ghost use Rattle.std.specs.Prelude.{◌≡◌, ◌≤◌, ◌<◌, ◌+◌, ◌-
 ghost use Rattle.std.specs.Option.{option_map};
 ghost use Rattle.std.specs.Borrow.{sem};
 ghost use Rattle.model.specs.Stores.{first_store, page_at, state_at, state_in, spot_of, word_at, with_word, words_at, taken, Takes, given, opened, top_in, is_open, page_with_room, free_frame, unused_page, frame_in, record_count};
+ghost use Rattle.model.specs.Configs.{is_page_size};
 ghost use Rattle.model.specs.Owning.{IsStore, LiesIn, TakesWell};
 ghost use Rattle.page.specs.Lending.{LendsPart};
 ghost use Rattle.page.specs.Records.{is_unused_in};
@@ -11,6 +12,7 @@ ghost use Rattle.page.specs.Records.{is_unused_in};
 use crate::copies::many;
 use crate::frame::Frame;
 use crate::index::Tournament;
+use crate::size::PageSize;
 use model::{Buffer, Page, PageState, Room};
 use refword::Addr;
 use std::alloc::{AllocError, Global};
@@ -27,6 +29,7 @@ use std::marker::Model;
 #[derive(Drop)]
 pub struct Store {
     words: u32,
+    size: PageSize,
     count: u32,
     pages: Vec<Page, Global>,
     frames: Vec<Frame, Global>,
@@ -74,9 +77,11 @@ pub fn record_count(frames: u32, pages: u32) -> u32
 
 impl Store {
     /// A store of so many frames and page numbers: all pages unused, all frames free. A page has
-    /// 1 to 4,096 words, and there are at most 4,096 frames and 65,535 pages. Fails only by memory.
+    /// 16 to 4,096 words, a power of two, and there are at most 4,096 frames and 65,535 pages. Fails
+    /// only by memory.
     #[tactic(auto, unfolding(model::specs::Stores::first_store))]
     pub fn new(alloc: Global, words: u32, frames: u32, pages: u32) -> Result<Store, AllocError>
+        requires page_size { is_page_size words ≡ true }
         requires words_low { 0 < words }
         requires words_high { words ≤ 4096 }
         requires frames_high { frames ≤ 4096 }
@@ -91,6 +96,7 @@ impl Store {
         let records = record_count(frames, pages);
         Ok(Store {
             words,
+            size: PageSize::of(words),
             count: pages,
             pages: many(alloc, records, blank)?,
             frames: blank_frames(alloc, frames, words)?,
@@ -189,7 +195,7 @@ impl Store {
     pub fn page_of(&self, address: Addr) -> u32
         ensures { result ≡ address / self.now.words }
     {
-        (address.number() / u64::from(self.words)) as u32
+        self.size.page_of(address.number()) as u32
     }
 
     /// The frame and the offset behind an address, if its page has memory.
@@ -197,13 +203,12 @@ impl Store {
     fn spot(&self, address: u64) -> Option<(u32, usize)>
         ensures { result ≡ spot_of self.now address }
     {
-        let words = u64::from(self.words);
-        let page = address / words;
+        let page = self.size.page_of(address);
         if page > u64::from(u32::MAX) {
             return None;
         }
         let frame = self.frame(page as u32)?;
-        Some((frame, (address % words) as usize))
+        Some((frame, self.size.offset_of(address) as usize))
     }
 
     /// The word at an address, if its page has memory.

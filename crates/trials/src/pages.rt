@@ -101,9 +101,9 @@ fn takes_in_each(rt: &impl Abort, store: &mut Store, n: u32, next: u32) -> Resul
 /// that were left are given out from the lowest page on.
 #[test]
 fn fills_many_pages(rt: HostRuntime) -> Result<(), Fail> {
-    let mut store = Store::new(rt.alloc(), 4, 300, 700)?;
-    takes_in_each(&rt, &mut store, 3, 0)?;
-    takes_in_each(&rt, &mut store, 1, 3)?;
+    let mut store = Store::new(rt.alloc(), 16, 300, 700)?;
+    takes_in_each(&rt, &mut store, 15, 0)?;
+    takes_in_each(&rt, &mut store, 1, 15)?;
     is_full(&rt, &mut store, Room::NoFrames, 0);
     Ok(())
 }

@@ -24,6 +24,7 @@ invariant_of-self c =
     let left : s.words - (p.top + c.args.n) ≡ left_in s.words q =
     rw (sym (ap (λ o. is_open (state_in o)) at) ∙ is_so) refl in
     record {
+      size = old.size;
       store = raise_keeps s i p _ old.store at (top_there s.pages i c.args.n s.words _ at room);
       free = old.free;
       rooms = c.set.ensures ∙ ap (λ ns. set ns i (s.words - (p.top + c.args.n))) old.rooms

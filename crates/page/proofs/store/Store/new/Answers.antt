@@ -10,6 +10,7 @@ pub invariant_of-result : goal.invariant_of-result
 invariant_of-result c =
     let records = c.record_count-records in
     record {
+      size = c.of.ensures;
       store = first_inside c.args.words c.args.frames c.args.pages _ _ _ c.requires.words_low c.requires.words_high
           c.requires.frames_high c.requires.pages_high
           (c.in_ok-many.ensures ∙ ap (λ n. replicate n blank_page) records.ensures) c.in_ok-blank_frames.ensures

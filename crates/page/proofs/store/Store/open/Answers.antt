@@ -31,6 +31,7 @@ invariant_of-self c =
     let zeros : c.clear.new.self ≡ replicate s.words 0 =
     c.clear.ensures ∙ ap (λ n. replicate n 0) (c.self.invariant.store.sized.frames c.args.frame _ words) in
     record {
+      size = c.self.invariant.size;
       store = opened_with s c.args.index c.args.frame c.clear.new.self c.self.invariant.store page unused free zeros;
       free = omega (
         arith,

@@ -13,6 +13,7 @@ invariant_of-self-lent c = λ w.
     c.open_frame-frame.ensures.there c.index_mut-words.ensures.value in
     let sized = c.self.invariant.store.sized.frames c.open_frame-frame.result _ words in
     record {
+      size = c.self.invariant.size;
       store = frame_keeps s c.open_frame-frame.result _ c.self.invariant.store
           (length_overlaid c.index_mut-words.result.now c.args.buffer.now.next w ∙ sized);
       free = c.self.invariant.free;

@@ -1,0 +1,58 @@
+//! How many words a page has.
+
+ghost use Rattle.std.specs.Prelude.{◌≡◌, ◌/◌, ◌%◌, true};
+ghost use Rattle.model.specs.Configs.{is_page_size};
+
+use std::marker::Model;
+
+/// The words of a page, a power of two, as its exponent: so an address is parted into page and
+/// offset by a shift and a mask, without a division. A contract sees the number of words.
+#[derive(Debug, Drop)]
+pub struct PageSize {
+    shift: u32,
+}
+
+impl Model for PageSize {
+    ghost use Rattle.std.specs.Prelude.{ℕ, ◌^◌, ◌≤◌};
+
+    ghost Value = { ℕ };
+
+    ghost view = { λ p. 2 ^ p.shift };
+
+    ghost invariant = { λ p. p.shift ≤ 12 };
+}
+
+impl PageSize {
+    /// The size of so many words: 16 to 4,096, a power of two.
+    pub fn of(words: u32) -> PageSize
+        requires { is_page_size words ≡ true }
+        ensures { result ≡ words }
+    {
+        let shift = match words {
+            16 => 4,
+            32 => 5,
+            64 => 6,
+            128 => 7,
+            256 => 8,
+            512 => 9,
+            1024 => 10,
+            2048 => 11,
+            _ => 12,
+        };
+        PageSize { shift }
+    }
+
+    /// The number of the page that an address is in.
+    pub fn page_of(&self, address: u64) -> u64
+        ensures { result ≡ address / self.now }
+    {
+        address >> self.shift
+    }
+
+    /// The offset of an address in its page.
+    pub fn offset_of(&self, address: u64) -> u64
+        ensures { result ≡ address % self.now }
+    {
+        address & ((1 << self.shift) - 1)
+    }
+}
