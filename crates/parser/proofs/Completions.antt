@@ -28,7 +28,7 @@ use Rattle.parser.proofs.Lists.{HasNoNewlines, all_push, all_from, lines_from}
 use Rattle.parser.proofs.Parts.{HasTurns, say_end, more_commands, all_both, all_repeated}
 use Rattle.parser.proofs.ReadIsSpelled.{IsBehind, IsBefore, Said, line_ok, all_said, some_layouts, commands_with}
 use Rattle.parser.proofs.ReadIsSpelled.{finished_ok}
-use Rattle.parser.proofs.SpelledIsRead.{layout_taken, heap_taken}
+use Rattle.parser.proofs.TakenLines.{layout_taken, heap_taken}
 
 -- ---- lines that spell a script
 
