@@ -29,7 +29,7 @@ use Rattle.parser.specs.Spelling.{SpellsHeap, says_something, IsLayout, IsComman
 use Rattle.parser.proofs.Splitting.{split_cons}
 use Rattle.parser.proofs.Places.{words_from, word_is, no_word_is, words_whole}
 use Rattle.parser.proofs.Pieces.{bind_ok, test_ok, number_ok, end_ok, one_of}
-use Rattle.parser.proofs.Operands.{AreFew, order_ok, actor_ok, line_is}
+use Rattle.parser.proofs.ActorsAndOrders.{AreFew, order_ok, actor_ok, line_is}
 use Rattle.parser.proofs.HeapLines.{IsSizes, heap_ok, layout_ok}
 use Rattle.parser.proofs.Parts.{open_lines, HasTurns, say_one, say_inside, say_times, say_end}
 use Rattle.parser.proofs.Parts.{more_commands, all_both, all_repeated, repeated_length}

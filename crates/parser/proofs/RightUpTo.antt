@@ -31,7 +31,7 @@ use Rattle.parser.specs.Faults.{IsNameOf, HaveNoFault, HasOtherStart, IsRightUpT
 use Rattle.parser.proofs.Splitting.{split_cons}
 use Rattle.parser.proofs.Places.{space, words_from, words_inside}
 use Rattle.parser.proofs.Pieces.{one_of, number_ok}
-use Rattle.parser.proofs.Operands.{actor_ok, line_is, first_is}
+use Rattle.parser.proofs.ActorsAndOrders.{actor_ok, line_is, first_is}
 use Rattle.parser.proofs.Lists.{all_from, HasNoNewlines, all_push, told, filter_told}
 use Rattle.parser.proofs.ReadIsSpelled.{Said, line_ok, first_words, few_actors, some_layouts}
 use Rattle.parser.proofs.TakenLines.{IsReady, heap_taken, times_taken, end_taken, command_taken}

@@ -26,7 +26,7 @@ use Rattle.parser.specs.Spelling.{SpellsHeap, times_line_of, IsLayout, IsActor, 
 use Rattle.parser.proofs.Numbers.{decimal_digits}
 use Rattle.parser.proofs.Places.{words_from, words_whole, space, cons_is}
 use Rattle.parser.proofs.Pieces.{number_again, end_again}
-use Rattle.parser.proofs.Operands.{AreFew, order_again, actor_again}
+use Rattle.parser.proofs.ActorsAndOrders.{AreFew, order_again, actor_again}
 use Rattle.parser.proofs.HeapLines.{IsSizes, heap_again, layout_again}
 use Rattle.parser.proofs.ReadIsSpelled.{first_words, few_actors}
 use Rattle.parser.proofs.Plain.{IsPlain, words_split, small_plain, actor_plain, order_plain, heap_plain}
