@@ -26,9 +26,9 @@ use Rattle.parser.proofs.Numbers.{decimal_digits}
 use Rattle.parser.proofs.Ranges.{AreLayouts, config_in_range}
 use Rattle.parser.proofs.Lists.{HasNoNewlines, all_push, all_from, lines_from}
 use Rattle.parser.proofs.Parts.{HasTurns, say_end, more_commands, all_both, all_repeated}
-use Rattle.parser.proofs.ReadIsSpelled.{IsBehind, IsBefore, Said, line_ok, all_said, some_layouts, commands_with}
-use Rattle.parser.proofs.ReadIsSpelled.{finished_ok}
-use Rattle.parser.proofs.SpelledIsRead.{layout_taken, heap_taken}
+use Rattle.parser.proofs.ReadIsSpelled.{IsBehind, IsBefore, Said, line_ok, some_layouts}
+use Rattle.parser.proofs.ScriptIsSpelled.{all_said, commands_with, finished_ok}
+use Rattle.parser.proofs.TakenLines.{layout_taken, heap_taken}
 
 -- ---- lines that spell a script
 

@@ -14,7 +14,7 @@ use Rattle.parser.specs.Faults.{text_of, BeginsScript, IsWordEnd, byte_behind}
 use Rattle.parser.proofs.Splitting.{split_cons}
 use Rattle.parser.proofs.Lists.{HasNoNewlines, all_front, all_push}
 use Rattle.parser.proofs.Plain.{none_ends}
-use Rattle.parser.proofs.ReadIsSpelled.{never, pick_false}
+use Rattle.parser.proofs.ScriptIsSpelled.{never, pick_false}
 use Rattle.parser.proofs.Alike.{IsLate, alike_spaced}
 use Rattle.parser.proofs.AlikeLines.{line_taken}
 use Rattle.parser.proofs.SpelledIsRead.{spelled_is_read}

@@ -27,7 +27,8 @@ use Rattle.parser.specs.Spelling.{register_word, order_words, IsOrder}
 use Rattle.parser.proofs.Places.{words_from}
 use Rattle.parser.proofs.Pieces.{or_flaw_ok, word_ok, small_ok}
 use Rattle.parser.proofs.Operands.{slot_ok, keyword_text, keyword_of, operand_words}
-use Rattle.parser.proofs.Operands.{words_are, operands_ok, thread_key_ok}
+use Rattle.parser.proofs.Operands.{words_are, operands_ok}
+use Rattle.parser.proofs.ActorsAndOrders.{thread_key_ok}
 use Rattle.parser.proofs.AlikeOrders.{bind_ok_is}
 use Rattle.parser.proofs.Breaks.{bind_err, same_flaw, no_err, BreaksBehind, Breaks, here, later, more_behind}
 use Rattle.parser.proofs.Breaks.{at_place, word_break, number_break, small_break, register_break, end_break}

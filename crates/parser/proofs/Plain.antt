@@ -20,7 +20,7 @@ use Rattle.parser.specs.Spelling.{size_words, SpellsLimit, ended, IsActor, IsOrd
 use Rattle.parser.proofs.Lists.{HasNoNewlines}
 use Rattle.parser.proofs.Numbers.{decimal_digits}
 use Rattle.parser.proofs.Places.{space}
-use Rattle.parser.proofs.Operands.{AreFew}
+use Rattle.parser.proofs.ActorsAndOrders.{AreFew}
 use Rattle.parser.proofs.HeapLines.{IsSizes}
 
 -- no space stands in a word

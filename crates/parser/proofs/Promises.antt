@@ -6,7 +6,7 @@ use Rattle.parser.specs.declared.fault.ParseFault.{ParseFault}
 use Rattle.parser.specs.Reading.{ScriptValue, script_in}
 use Rattle.parser.specs.Scripts.{IsReadOf}
 use Rattle.parser.specs.Spelling.{IsScript, Spells}
-use Rattle.parser.proofs.ReadIsSpelled.{read_is_spelled}
+use Rattle.parser.proofs.ScriptIsSpelled.{read_is_spelled}
 use Rattle.parser.proofs.SpelledIsRead.{spelled_is_read}
 
 -- what is read keeps to all limits

@@ -1,46 +1,39 @@
--- What is read is a script that all limits allow, and is spelled by the bytes.
-use Rattle.std.proofs.Common.{◌≡◌, ℕ, ◌+◌, ◌<◌, ◌≤◌, Bool, true, false, cond, nat_lt, ◌*◌, List}
-use Rattle.std.proofs.Common.{[], ◌∷◌, ◌++◌, length, Option, Some, None, refl, sym, ap, subst}
-use Rattle.std.proofs.Common.{◌∙◌, arith, inl, inr, lit<, append-nil, append_assoc, length-append}
-use Rattle.std.specs.Prelude.{Result, Ok, Err, ◌==◌, ◌&&◌, not, codes, ◌⊎◌, map, filter}
+-- What was read so far is spelled by the lines that said something, and all limits allow it.
+use Rattle.std.proofs.Common.{◌≡◌, ℕ, ◌+◌, ◌<◌, ◌≤◌, true, false, nat_lt, ◌*◌, List}
+use Rattle.std.proofs.Common.{[], ◌∷◌, ◌++◌, length, Option, Some, None, refl, ap, subst}
+use Rattle.std.proofs.Common.{◌∙◌, arith, inl, inr, lit<, append-nil, length-append}
+use Rattle.std.specs.Prelude.{Ok, ◌==◌, ◌&&◌, not, codes, ◌⊎◌, map}
 use Rattle.std.specs.Str.{bytes_eq}
 use Rattle.std.specs.Fmt.{decimal}
-use Rattle.std.specs.List.{AllByRecursion, list_all, slice_split, join_with_byte, flat_map, repeat}
+use Rattle.std.specs.List.{AllByRecursion, list_all, flat_map, repeat}
 use Rattle.std.proofs.lemmas.List.{map-append}
 use Rattle.std.proofs.lemmas.List.Folds.{list_all-append}
-use Rattle.std.proofs.lemmas.List.Splits.{join_with_byte-slice_split}
 use Rattle.std.proofs.lemmas.Slice.Eq.{bytes_eq-Decides}
 use Rattle.std.proofs.lemmas.Bool.{ltb-true, ltb-false, and_parts, not-true}
 use Rattle.std.proofs.lemmas.Bool.Decides.{nat_tests}
 use Rattle.layout.specs.declared.shape.Layout.{Layout}
 use Rattle.model.specs.Configs.{fits_page}
 use Rattle.model.proofs.Results.{same_result, not_refused}
-use Rattle.parser.specs.declared.fault.FaultKind.TheVariants as kinds
-use Rattle.parser.specs.declared.fault.Flaw.{Flaw}
-use Rattle.parser.specs.declared.fault.LineFault.{LineFault}
 use Rattle.parser.specs.declared.heading.Sizes.{Sizes}
 use Rattle.parser.specs.declared.order.Command.{Command}
 use Rattle.parser.specs.declared.reading.TheConstants.{MOST_COMMANDS, MOST_LAYOUTS, MOST_TURNS}
 use Rattle.parser.specs.Words.{word_at, number_at, end_at}
 use Rattle.parser.specs.Headings.{config_of, heap_in, layout_in}
 use Rattle.parser.specs.Orders.{actor_at, order_at}
-use Rattle.parser.specs.Reading.{ScriptValue, script_of, ReadSoFar, nothing, newline, is_idle, first_word_in}
+use Rattle.parser.specs.Reading.{ReadSoFar, nothing, is_idle, first_word_in}
 use Rattle.parser.specs.Reading.{first_word, heap_line, layout_line, is_full, with_command, command_line, times_in}
-use Rattle.parser.specs.Reading.{times_line, end_in, end_line, part_line, later_line, line_after, line_in, in_line}
-use Rattle.parser.specs.Reading.{goes_on, fault_at_start, closed, whole, finished, last_line, lines_in, script_in}
+use Rattle.parser.specs.Reading.{times_line, end_in, end_line, part_line, later_line, line_after, line_in}
 use Rattle.parser.specs.Spelling.{line_of, actor_word, order_words, command_line_of, layout_line_of}
 use Rattle.parser.specs.Spelling.{Part, One, Times, times_line_of, part_lines, part_commands, IsPart}
-use Rattle.parser.specs.Spelling.{SpellsHeap, says_something, Spells, IsLayout, IsCommand, IsScript}
+use Rattle.parser.specs.Spelling.{SpellsHeap, says_something, IsLayout, IsCommand}
 use Rattle.parser.proofs.Splitting.{split_cons}
 use Rattle.parser.proofs.Places.{words_from, word_is, no_word_is, words_whole}
 use Rattle.parser.proofs.Pieces.{bind_ok, test_ok, number_ok, end_ok, one_of}
-use Rattle.parser.proofs.Operands.{AreFew, order_ok, actor_ok, line_is}
+use Rattle.parser.proofs.ActorsAndOrders.{AreFew, order_ok, actor_ok, line_is}
 use Rattle.parser.proofs.HeapLines.{IsSizes, heap_ok, layout_ok}
-use Rattle.parser.proofs.Ranges.{AreLayouts, config_in_range}
 use Rattle.parser.proofs.Parts.{open_lines, HasTurns, say_one, say_inside, say_times, say_end}
 use Rattle.parser.proofs.Parts.{more_commands, all_both, all_repeated, repeated_length}
-use Rattle.parser.proofs.Lists.{all_push, all_front, told, filter_told, joined_lines}
-use Rattle.parser.proofs.Lists.{split_lines, all_from, lines_from, HasNoNewlines}
+use Rattle.parser.proofs.Lists.{all_push, told}
 
 -- ---- the first word
 
@@ -197,8 +190,8 @@ layout_step said r t b line first not_begun few h =
 -- ---- commands and blocks
 
 command_behind : (said : List (List ℕ)) (r : ReadSoFar) (b : IsBehind said r) (c : Command) (line : List ℕ)
-    → 1 ≤ length r.layouts → line ≡ command_line_of c → IsCommand (config_of b.sizes []) c → (o : Option ℕ) → r.turns ≡ o
-    → is_full o r.commands ≡ false → IsBehind (said ++ line ∷ []) (with_command r o c)
+    → 1 ≤ length r.layouts → line ≡ command_line_of c → IsCommand (config_of b.sizes []) c → (o : Option ℕ)
+    → r.turns ≡ o → is_full o r.commands ≡ false → IsBehind (said ++ line ∷ []) (with_command r o c)
 command_behind said r b c line some_layout is own None none room =
     let fits : length r.commands < MOST_COMMANDS = grind (arith, nat_tests) in
     record {
@@ -383,7 +376,7 @@ later_step said r t b line h =
           part_step said r t b line (some_layouts r.layouts g.0) g.1
     ]
 
--- ---- a line, and the lines
+-- ---- a line
 
 line_step : (said : List (List ℕ)) (r t : ReadSoFar) (line : List ℕ) → Said said r → is_idle line ≡ false
     → line_after r r.sizes line ≡ Ok t → Said (said ++ line ∷ []) t
@@ -404,146 +397,3 @@ line_ok said r t line so_far h =
       | inl p ↦ rw (p.0, append-nil said, ← same_result r t p.1) so_far
       | inr p ↦ rw p.0 (line_step said r t line so_far p.0 p.1)
     ]
-
--- a script and the lines that spell it
-pub record IsTold (said : List (List ℕ)) (s : ScriptValue) : Type 0 where
-  pub script : IsScript s
-  pub heap : List ℕ
-  pub heap_spelled : SpellsHeap heap s.config
-  pub parts : List Part
-  pub turns : AllByRecursion IsPart parts
-  pub commands_are : s.commands ≡ flat_map part_commands parts
-  pub said_is : said ≡ heap ∷ map layout_line_of s.config.layouts ++ flat_map part_lines parts
-
-pub commands_with : (s : Sizes) (ls : List Layout) (cs : List Command) → AllByRecursion (IsCommand (config_of s [])) cs →
-    AllByRecursion (IsCommand (config_of s ls)) cs
-commands_with s ls [] h = tt
-commands_with s ls (c ∷ cs) h =
-    (record { actor = h.0.actor; own = h.0.own; order = h.0.order }, commands_with s ls cs h.1)
-
-pub guard_line : {A : Type 0} (b : Bool) (d : LineFault) (x : Result A LineFault) (y : A) → cond b (Err d) x ≡ Ok y
-    → (b ≡ false) × (x ≡ Ok y)
-guard_line true d x y e = absurd cc
-guard_line false d x y e = (refl, e)
-
-closed_ok : (n : ℕ) (r : ReadSoFar) (z : Sizes) (o : Option ℕ) (s : ScriptValue) → closed n r z o ≡ Ok s →
-    (o ≡ None) × (script_of (config_of z r.layouts) r.commands ≡ s)
-closed_ok n r z None s h = (refl, cc)
-closed_ok n r z (Some turns) s h = absurd cc
-
-pub all_said : (front lines said : List (List ℕ)) (o : Option ℕ) (body : List Command) → o ≡ None
-    → said ≡ front ++ (lines ++ open_lines o body) → said ≡ front ++ lines
-all_said front lines said o body none h = h ∙ ap (λ (x : List (List ℕ)). front ++ x) (rw none (append-nil lines))
-
-pub finished_ok : (n : ℕ) (said : List (List ℕ)) (r : ReadSoFar) (s : ScriptValue) → Said said r → finished n r ≡ Ok s
-    → IsTold said s
-unfolding finished
-finished_ok n said r s (inl before) h =
-    let e : whole n nothing None ≡ Ok s = subst (λ (x : ReadSoFar). whole n x x.sizes ≡ Ok s) before.is h in absurd cc
-finished_ok n said r s (inr b) h =
-    let e : whole n r (Some b.sizes) ≡ Ok s = subst (λ (o : Option Sizes). whole n r o ≡ Ok s) b.sizes_is h in
-    let g = guard_line (length r.layouts == 0) (fault_at_start n kinds.LayoutLineExpected)
-    (closed n r b.sizes r.turns) s e in
-    let c = closed_ok n r b.sizes r.turns s g.1 in
-    let layouts : AreLayouts b.sizes.words r.layouts =
-    record { some = some_layouts r.layouts g.0; few = b.few; room = b.room } in
-    subst (λ (x : ScriptValue). IsTold said x) c.1 (record {
-      script = record {
-        config = config_in_range b.sizes r.layouts b.range layouts;
-        layouts = all_from IsLayout r.layouts b.layouts;
-        commands = all_from (IsCommand (config_of b.sizes r.layouts)) r.commands
-            (commands_with b.sizes r.layouts r.commands b.commands);
-        count = b.count;
-      };
-      heap = b.heap;
-      heap_spelled = record {
-        births = b.heap_spelled.births;
-        history = b.heap_spelled.history;
-        births_spelled = b.heap_spelled.births_spelled;
-        history_spelled = b.heap_spelled.history_spelled;
-        line_is = b.heap_spelled.line_is;
-      };
-      parts = b.parts;
-      turns = b.turns;
-      commands_are = b.commands_are;
-      said_is = all_said (b.heap ∷ map layout_line_of r.layouts)
-          (flat_map part_lines b.parts) said r.turns r.body c.0 b.said_is;
-    })
-
--- the lines of what is left, and what they say behind what was said
-record IsReadFrom (said : List (List ℕ)) (parts : List (List ℕ)) (s : ScriptValue) : Type 0 where
-  lines : List (List ℕ)
-  parts_are : parts ≡ lines ++ [] ∷ []
-  all_told : IsTold (said ++ filter says_something lines) s
-
-pub never : {A B : Type 0} (x : Result A LineFault) (f : A → LineFault) (y : B) → goes_on x (λ t. Err (f t)) ≡ Ok y → ⊥
-never (Ok x) f y e = absurd cc
-never (Err d) f y e = absurd cc
-
-pub pick_false : {A : Type 0} (c : Bool) (x y z : A) → c ≡ false → cond c x y ≡ z → y ≡ z
-pick_false true x y z e h = absurd cc
-pick_false false x y z e h = h
-
-last_ok : (n : ℕ) (said : List (List ℕ)) (r : ReadSoFar) (rest : List ℕ) (s : ScriptValue) → Said said r
-    → last_line n r rest ≡ Ok s → IsReadFrom said (rest ∷ []) s
-unfolding last_line
-last_ok n said r [] s so_far h =
-    record { lines = []; parts_are = refl; all_told = rw (append-nil said) (finished_ok n said r s so_far h) }
-last_ok n said r (b ∷ bs) s so_far h =
-    let some : (length (b ∷ bs) == 0) ≡ false = grind (arith, nat_tests) in
-    absurd (never (in_line n (line_in r (b ∷ bs))) _ s (pick_false (length (b ∷ bs) == 0) _ _ (Ok s) some h))
-
-pub on_ok : {A B : Type 0} (n : ℕ) (x : Result A Flaw) (f : A → Result B LineFault) (y : B)
-    → goes_on (in_line n x) f ≡ Ok y → (t : A) × (x ≡ Ok t) × (f t ≡ Ok y)
-on_ok n (Ok t) f y e = (t, refl, e)
-on_ok n (Err d) f y e = absurd cc
-
-lines_ok : (n : ℕ) (said : List (List ℕ)) (r : ReadSoFar) (line : List ℕ) (more : List (List ℕ)) (s : ScriptValue)
-    → Said said r → lines_in n r (line ∷ more) ≡ Ok s → IsReadFrom said (line ∷ more) s
-unfolding lines_in
-lines_ok n said r line [] s so_far h = last_ok n said r line s so_far h
-lines_ok n said r line (next ∷ more) s so_far h =
-    let t = on_ok n (line_in r line) _ s h in
-    let rest =
-    lines_ok (n + 1) (said ++ told says_something line) t.0 next more s (line_ok said r t.0 line so_far t.1) t.2 in
-    record {
-      lines = line ∷ rest.lines;
-      parts_are = ap (λ (x : List (List ℕ)). line ∷ x) rest.parts_are;
-      all_told = subst (λ (x : List (List ℕ)). IsTold x s)
-          (append_assoc said (told says_something line) (filter says_something rest.lines) ∙ ap
-          (λ (x : List (List ℕ)). said ++ x) (sym (filter_told says_something line rest.lines))) rest.all_told;
-    }
-
--- what is read of bytes is a script that all limits allow, and the bytes spell it
-pub record IsSpelled (bytes : List ℕ) (s : ScriptValue) : Type 0 where
-  pub script : IsScript s
-  pub spelled : Spells bytes s
-
-parts_ok : (bytes : List ℕ) (parts : List (List ℕ)) (s : ScriptValue) → slice_split newline bytes ≡ parts
-    → IsReadFrom [] parts s → IsSpelled bytes s
-parts_ok bytes parts s e h =
-    let whole_split : slice_split newline bytes ≡ h.lines ++ [] ∷ [] = e ∙ h.parts_are in
-    record {
-      script = h.all_told.script;
-      spelled = record {
-        lines = h.lines;
-        each = lines_from h.lines (all_front HasNoNewlines h.lines ([] ∷ [])
-            (subst (λ (x : List (List ℕ)). AllByRecursion HasNoNewlines x) whole_split (split_lines bytes)));
-        bytes_are = sym (join_with_byte-slice_split 10 bytes) ∙ ap (join_with_byte 10) whole_split
-            ∙ joined_lines h.lines;
-        heap = h.all_told.heap;
-        heap_spelled = h.all_told.heap_spelled;
-        parts = h.all_told.parts;
-        turns = all_from IsPart h.all_told.parts h.all_told.turns;
-        commands_are = h.all_told.commands_are;
-        said = h.all_told.said_is;
-      };
-    }
-
-pub read_is_spelled : (bytes : List ℕ) (s : ScriptValue) → script_in bytes ≡ Ok s → IsSpelled bytes s
-unfolding script_in
-read_is_spelled bytes s h =
-    let cut = split_cons newline bytes in
-    let start : Said [] nothing = inl (record { said_is = refl; is = refl }) in
-    let all : lines_in 1 nothing (cut.first ∷ cut.others) ≡ Ok s = rw cut.is at h in
-    parts_ok bytes (cut.first ∷ cut.others) s cut.is (lines_ok 1 [] nothing cut.first cut.others s start all)

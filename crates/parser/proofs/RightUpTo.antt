@@ -31,10 +31,10 @@ use Rattle.parser.specs.Faults.{IsNameOf, HaveNoFault, HasOtherStart, IsRightUpT
 use Rattle.parser.proofs.Splitting.{split_cons}
 use Rattle.parser.proofs.Places.{space, words_from, words_inside}
 use Rattle.parser.proofs.Pieces.{one_of, number_ok}
-use Rattle.parser.proofs.Operands.{actor_ok, line_is, first_is}
+use Rattle.parser.proofs.ActorsAndOrders.{actor_ok, line_is, first_is}
 use Rattle.parser.proofs.Lists.{all_from, HasNoNewlines, all_push, told, filter_told}
 use Rattle.parser.proofs.ReadIsSpelled.{Said, line_ok, first_words, few_actors, some_layouts}
-use Rattle.parser.proofs.SpelledIsRead.{IsReady, heap_taken, times_taken, end_taken, command_taken}
+use Rattle.parser.proofs.TakenLines.{IsReady, heap_taken, times_taken, end_taken, command_taken}
 use Rattle.parser.proofs.Alike.{IsFaultAt, IsJudged, no_bytes, bind_assoc, word_or_some}
 use Rattle.parser.proofs.WordPlaces.{finds_word}
 use Rattle.parser.proofs.AlikeOrders.{judge_name}

@@ -11,7 +11,8 @@ use Rattle.parser.specs.Spelling.{says_something}
 use Rattle.parser.proofs.Splitting.{IsCons}
 use Rattle.parser.proofs.Lines.{lines_cons}
 use Rattle.parser.proofs.Lists.{told, filter_told}
-use Rattle.parser.proofs.ReadIsSpelled.{Said, line_ok, pick_false}
+use Rattle.parser.proofs.ReadIsSpelled.{Said, line_ok}
+use Rattle.parser.proofs.ScriptIsSpelled.{pick_false}
 
 -- the lines are taken one after another, and lead from what was read to what is read then
 abbrev pub Leads : List (List ℕ) → ReadSoFar → ReadSoFar → Type 0
