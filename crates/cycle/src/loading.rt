@@ -1,4 +1,5 @@
 //! Whole loads: the steps of one load through the read barrier, up to its end or its first refusal.
+//! The barrier is the paper's (its section on the read barrier); that a load is one call is ours.
 
 ghost use Rattle.std.specs.Prelude.{◌≡◌, ◌++◌, ◌∷◌, [], false, IfOk, OnErr, OnOk};
 ghost use Rattle.cycle.specs.Books.{acted};

@@ -1,4 +1,4 @@
-//! How many words a page has.
+//! How many words a page has. All of it is ours.
 
 ghost use Rattle.std.specs.Prelude.{◌≡◌, ◌/◌, ◌%◌, true};
 ghost use Rattle.model.specs.Configs.{is_page_size};
