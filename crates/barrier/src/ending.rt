@@ -2,7 +2,7 @@
 
 ghost use Rattle.std.specs.Prelude.{◌≡◌};
 ghost use Rattle.model.specs.Refusing.{Does};
-ghost use Rattle.model.specs.Outcome.{are_bits_of, healed, heal_place, heal_outcome, may_finish, end_load, finish_outcome};
+ghost use Rattle.model.specs.Loads.{are_bits_of, healed, heal_place, heal_outcome, may_finish, end_load, finish_outcome};
 
 use crate::traps::trap_due;
 use heap::Heap;
@@ -32,7 +32,7 @@ fn healed(barrier: Barrier) -> Barrier
 }
 
 /// Writes the word of a barrier back, where its place still has what was loaded.
-#[tactic(auto, unfolding(model::specs::Outcome::heal_place))]
+#[tactic(auto, unfolding(model::specs::Loads::heal_place))]
 fn heal_place(heap: &mut Heap, thread: u32, barrier: Barrier) -> Answer
     ensures { heal_place heap.old thread barrier ≡ (heap.new, result) }
 {
@@ -51,7 +51,7 @@ fn heal_place(heap: &mut Heap, thread: u32, barrier: Barrier) -> Answer
 /// alone: `cycle` makes the tests before it.
 ///
 /// Refused where no barrier is open (`NotBusy`), and where a trap is due (`Busy`).
-#[tactic(auto, unfolding(model::specs::Outcome::heal_outcome))]
+#[tactic(auto, unfolding(model::specs::Loads::heal_outcome))]
 pub fn heal(heap: &mut Heap, thread: u32) -> Result<Answer, Refusal>
     ensures { Does heap.old result heap.new (heal_outcome heap.old thread) }
 {
@@ -72,7 +72,7 @@ fn may_finish(barrier: &Barrier) -> bool
 }
 
 /// Ends a load for whose word no trap is due.
-#[tactic(auto, unfolding(model::specs::Outcome::end_load))]
+#[tactic(auto, unfolding(model::specs::Loads::end_load))]
 fn end_load(heap: &mut Heap, thread: u32, barrier: Barrier) -> Result<Answer, Refusal>
     ensures { Does heap.old result heap.new (end_load heap.old thread barrier) }
 {
@@ -88,7 +88,7 @@ fn end_load(heap: &mut Heap, thread: u32, barrier: Barrier) -> Result<Answer, Re
 ///
 /// Refused where no barrier is open (`NotBusy`); `Busy` where a trap is due, or the word was
 /// corrected and its place isn't healed.
-#[tactic(auto, unfolding(model::specs::Outcome::finish_outcome))]
+#[tactic(auto, unfolding(model::specs::Loads::finish_outcome))]
 pub fn finish(heap: &mut Heap, thread: u32) -> Result<Answer, Refusal>
     ensures { Does heap.old result heap.new (finish_outcome heap.old thread) }
 {

@@ -2,7 +2,7 @@
 
 ghost use Rattle.std.specs.Prelude.{◌≡◌};
 ghost use Rattle.model.specs.Refusing.{Does};
-ghost use Rattle.model.specs.Outcome.{new_barrier, load_outcome, load_global_outcome};
+ghost use Rattle.model.specs.Loads.{new_barrier, load_outcome, load_global_outcome};
 
 use heap::{Heap, stored};
 use model::{Answer, Barrier, Place, Refusal};
@@ -26,7 +26,7 @@ fn new_barrier(target: u32, place: Place, word: Word) -> Barrier
 /// before it.
 ///
 /// Refused as `Heap::usable` is for the object; `BadIndex` where it has no such reference.
-#[tactic(auto, unfolding(model::specs::Outcome::load_outcome))]
+#[tactic(auto, unfolding(model::specs::Loads::load_outcome))]
 pub fn load(
     heap: &mut Heap,
     thread: u32,
@@ -54,7 +54,7 @@ pub fn load(
 /// A thread begins to load a global for a register (the paper's read barrier). Threads, registers
 /// and globals count from 0. Does the row alone, which refuses nothing: `cycle` makes the tests
 /// before it.
-#[tactic(auto, unfolding(model::specs::Outcome::load_global_outcome))]
+#[tactic(auto, unfolding(model::specs::Loads::load_global_outcome))]
 pub fn load_global(
     heap: &mut Heap,
     thread: u32,

@@ -2,7 +2,7 @@
 
 ghost use Rattle.std.specs.Prelude.{◌≡◌};
 ghost use Rattle.model.specs.Refusing.{Does};
-ghost use Rattle.model.specs.Outcome.{gc_trap_due, nmt_trap_due, trap_due, trap_outcome};
+ghost use Rattle.model.specs.Loads.{gc_trap_due, nmt_trap_due, trap_due, trap_outcome};
 
 use heap::Heap;
 use model::{Answer, Refusal};
@@ -31,7 +31,7 @@ fn nmt_trap_due(heap: &Heap, thread: u32, word: Word) -> bool
 
 /// Whether a trap is due for a word that a thread, by its number from 0, has loaded (the paper's
 /// read barrier).
-#[tactic(auto, unfolding(model::specs::Outcome::trap_due))]
+#[tactic(auto, unfolding(model::specs::Loads::trap_due))]
 pub fn trap_due(heap: &Heap, thread: u32, word: Word) -> bool
     ensures { result ≡ trap_due heap.now thread word }
 {
@@ -44,7 +44,7 @@ pub fn trap_due(heap: &Heap, thread: u32, word: Word) -> bool
 ///
 /// Refused where no barrier is open (`NotBusy`); `NoActor` where a trap is due, which no heap comes
 /// to before there are marks.
-#[tactic(auto, unfolding(model::specs::Outcome::trap_outcome))]
+#[tactic(auto, unfolding(model::specs::Loads::trap_outcome))]
 pub fn trap(heap: &mut Heap, thread: u32) -> Result<Answer, Refusal>
     ensures { Does heap.old result heap.new (trap_outcome heap.old thread) }
 {

@@ -6,7 +6,7 @@
 
 ghost use Rattle.std.specs.Prelude.{◌≡◌};
 ghost use Rattle.model.specs.Refusing.{Does};
-ghost use Rattle.model.specs.Outcome.{cross_outcome, scrub_outcome, park_outcome, unpark_outcome};
+ghost use Rattle.model.specs.Checkpoints.{cross_outcome, scrub_outcome, park_outcome, unpark_outcome};
 
 use heap::Heap;
 use model::{Answer, Refusal};
@@ -14,7 +14,7 @@ use model::{Answer, Refusal};
 /// A thread crosses the open checkpoint (the paper's checkpoints). No checkpoint opens yet, so it
 /// is always refused: `Phase`, and `NoActor` where one is open, which no heap comes to. Does the row
 /// alone: `cycle` makes the tests before it.
-#[tactic(auto, unfolding(model::specs::Outcome::cross_outcome))]
+#[tactic(auto, unfolding(model::specs::Checkpoints::cross_outcome))]
 pub fn cross(heap: &mut Heap) -> Result<Answer, Refusal>
     ensures { Does heap.old result heap.new (cross_outcome heap.old) }
 {
@@ -30,7 +30,7 @@ pub fn cross(heap: &mut Heap) -> Result<Answer, Refusal>
 /// makes the tests before it.
 ///
 /// Refused as `Heap::usable` is.
-#[tactic(auto, unfolding(model::specs::Outcome::scrub_outcome, model::specs::Outcome::usable))]
+#[tactic(auto, unfolding(model::specs::Checkpoints::scrub_outcome, model::specs::Registers::usable))]
 pub fn scrub(heap: &mut Heap, thread: u32, register: u32) -> Result<Answer, Refusal>
     ensures { Does heap.old result heap.new (scrub_outcome heap.old thread register) }
 {
@@ -41,7 +41,7 @@ pub fn scrub(heap: &mut Heap, thread: u32, register: u32) -> Result<Answer, Refu
 /// A thread is parked: it does nothing but `Unpark` (ours; the paper's checkpoints speak of blocked
 /// threads). Threads count from 0. Does the row alone, which refuses nothing: `cycle` makes the
 /// tests before it.
-#[tactic(auto, unfolding(model::specs::Outcome::park_outcome))]
+#[tactic(auto, unfolding(model::specs::Checkpoints::park_outcome))]
 pub fn park(heap: &mut Heap, thread: u32) -> Result<Answer, Refusal>
     ensures { Does heap.old result heap.new (park_outcome heap.old thread) }
 {
@@ -51,7 +51,7 @@ pub fn park(heap: &mut Heap, thread: u32) -> Result<Answer, Refusal>
 
 /// A thread runs again (ours). Threads count from 0. Refused where it isn't parked (`NotParked`).
 /// Does the row alone: `cycle` makes the tests before it.
-#[tactic(auto, unfolding(model::specs::Outcome::unpark_outcome))]
+#[tactic(auto, unfolding(model::specs::Checkpoints::unpark_outcome))]
 pub fn unpark(heap: &mut Heap, thread: u32) -> Result<Answer, Refusal>
     ensures { Does heap.old result heap.new (unpark_outcome heap.old thread) }
 {

@@ -12,7 +12,8 @@ use Rattle.model.specs.Owning.{IsStore}
 use Rattle.model.specs.Holding.{IsHeap}
 use Rattle.model.specs.Refusing.{Does}
 use Rattle.model.specs.Outcome.{outcome}
-use Rattle.model.specs.Heaps.{HeapState, first_heap}
+use Rattle.model.specs.States.{HeapState}
+use Rattle.model.specs.First.{first_heap}
 use Rattle.model.specs.Plain.{plain_answer}
 use Rattle.laws.proofs.Promises.{stands, usable_has_memory}
 use Rattle.refinement.specs.Worlds.{world_of}

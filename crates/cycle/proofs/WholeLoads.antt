@@ -11,9 +11,10 @@ use Rattle.model.specs.declared.steps.Answer.{Answer}
 use Rattle.model.specs.declared.steps.Answer.TheVariants as answers
 use Rattle.model.specs.declared.steps.Refusal.{Refusal}
 use Rattle.model.specs.declared.steps.Refusal.TheVariants as refusals
-use Rattle.model.specs.Heaps.{HeapState, barrier_of_thread}
+use Rattle.model.specs.States.{HeapState}
+use Rattle.model.specs.Loads.{barrier_of_thread, trap_outcome, trap_due}
 use Rattle.model.specs.Refusing.{◌>>=◌, or_refuse, Outcome}
-use Rattle.model.specs.Outcome.{outcome, thread_gate, thread_row, trap_outcome, trap_due}
+use Rattle.model.specs.Outcome.{outcome, thread_gate, thread_row}
 use Rattle.cycle.specs.Books.{BookState, BookOutcome, Reply, acted, entered, is_full}
 use Rattle.cycle.specs.Loads.{Told, told, step_then, finish_load, heal_load, is_clear, trap_load, Says}
 use Rattle.cycle.specs.Loads.{behind}

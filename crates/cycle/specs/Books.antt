@@ -7,7 +7,8 @@ use Rattle.model.specs.declared.steps.Answer.{Answer}
 use Rattle.model.specs.declared.steps.Refusal.{Refusal}
 use Rattle.model.specs.declared.steps.Refusal.TheVariants as refusals
 use Rattle.model.specs.Configs.{first_fault}
-use Rattle.model.specs.Heaps.{HeapState, first_heap}
+use Rattle.model.specs.States.{HeapState}
+use Rattle.model.specs.First.{first_heap}
 use Rattle.model.specs.Refusing.{Outcome}
 use Rattle.model.specs.Outcome.{outcome}
 use Rattle.heap.specs.declared.fault.NewFault.{NewFault}

@@ -7,7 +7,8 @@ use Rattle.model.specs.declared.records.Buffer.{Buffer}
 use Rattle.model.specs.Stores.{StoreState}
 use Rattle.model.specs.Owning.{Each, LiesIn, AreSized}
 use Rattle.model.specs.Holding.{IsHeap, HasSizes, FillsIn}
-use Rattle.model.specs.Heaps.{HeapState, ThreadState, blank_thread}
+use Rattle.model.specs.States.{HeapState, ThreadState}
+use Rattle.model.specs.First.{blank_thread}
 use Rattle.model.proofs.Lists.{each_set, each_replicate}
 
 -- threads of a new heap have no buffers

@@ -2,7 +2,8 @@
 use Rattle.std.specs.Prelude.{◌≡◌, Result, Ok, Err, Some, None}
 use Rattle.model.specs.declared.config.Config.{Config}
 use Rattle.model.specs.Configs.{first_fault}
-use Rattle.model.specs.Heaps.{HeapState, first_heap}
+use Rattle.model.specs.States.{HeapState}
+use Rattle.model.specs.First.{first_heap}
 use Rattle.heap.specs.declared.fault.NewFault.{NewFault}
 use Rattle.heap.specs.declared.fault.NewFault.TheVariants as faults
 

@@ -1,5 +1,6 @@
 -- A heap as contracts see it.
-use Rattle.model.specs.Heaps.{HeapState, no_sides}
+use Rattle.model.specs.States.{HeapState}
+use Rattle.model.specs.First.{no_sides}
 use Rattle.model.specs.Holding.{IsHeap}
 use Rattle.heap.specs.declared.heap.Heap.TheInside.{Inside}
 

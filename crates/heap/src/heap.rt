@@ -47,7 +47,7 @@ pub struct Heap {
 }
 
 impl Model for Heap {
-    ghost use Rattle.model.specs.Heaps.{HeapState};
+    ghost use Rattle.model.specs.States.{HeapState};
 
     ghost Value = { HeapState };
 

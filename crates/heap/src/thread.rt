@@ -1,7 +1,9 @@
 //! The record of a mutator thread.
 
 ghost use Rattle.std.specs.Prelude.{◌≡◌, ◌<◌, length, slice_get, slice_set, IfOk};
-ghost use Rattle.model.specs.Heaps.{blank_thread, set_register_of, set_buffer_of, set_barrier_of, set_loaded_of, set_parked_of, flat};
+ghost use Rattle.model.specs.States.{flat};
+ghost use Rattle.model.specs.Threads.{set_register_of, set_buffer_of, set_barrier_of, set_loaded_of, set_parked_of};
+ghost use Rattle.model.specs.First.{blank_thread};
 
 use model::{Barrier, Buffer};
 use page::many;
@@ -20,7 +22,7 @@ pub struct Thread {
 }
 
 impl Model for Thread {
-    ghost use Rattle.model.specs.Heaps.{ThreadState};
+    ghost use Rattle.model.specs.States.{ThreadState};
 
     ghost Value = { ThreadState };
 

@@ -2,7 +2,9 @@
 
 ghost use Rattle.std.specs.Prelude.{◌≡◌, ◌<◌, length, replicate, slice_get, false, IfOk, count_by};
 ghost use Rattle.std.specs.Option.{option_copied};
-ghost use Rattle.model.specs.Heaps.{changed, blank_row, put_bit};
+ghost use Rattle.model.specs.States.{changed};
+ghost use Rattle.model.specs.Buffers.{blank_row};
+ghost use Rattle.model.specs.Births.{put_bit};
 
 use std::alloc::{AllocError, Global};
 use std::marker::Model;

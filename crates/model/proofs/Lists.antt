@@ -9,7 +9,7 @@ use Rattle.std.proofs.lemmas.List.Folds.{sum_by-replicate}
 use Rattle.std.proofs.lemmas.List.Quantifiers.{position-Some}
 use Rattle.std.proofs.lemmas.Bool.Decides.{nat_tests}
 use Rattle.model.specs.Owning.{Each}
-use Rattle.model.specs.Heaps.{changed, changed_at}
+use Rattle.model.specs.States.{changed, changed_at}
 
 pub get_set_same : {X : Type 0} (xs : List X) (i : ℕ) (x v : X) → slice_get xs i ≡ Some x
     → slice_get (set xs i v) i ≡ Some v

@@ -3,7 +3,7 @@ use Rattle.std.specs.Prelude.{◌≡◌, ◌≤◌, length, IfSome}
 use Rattle.model.specs.Configs.{IsRanged}
 use Rattle.model.specs.Owning.{Each, LiesIn}
 use Rattle.model.specs.Stores.{StoreState}
-use Rattle.model.specs.Heaps.{HeapState, ThreadState}
+use Rattle.model.specs.States.{HeapState, ThreadState}
 
 -- the buffer of a thread lies in an open page
 abbrev pub FillsIn : StoreState → ThreadState → Type 0

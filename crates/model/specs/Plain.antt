@@ -8,7 +8,7 @@ use Rattle.model.specs.declared.steps.Step.{Step}
 use Rattle.model.specs.declared.steps.Step.TheVariants as steps
 use Rattle.model.specs.declared.steps.Answer.{Answer}
 use Rattle.model.specs.declared.steps.Answer.TheVariants as answers
-use Rattle.model.specs.Heaps.{flat, changed}
+use Rattle.model.specs.States.{flat, changed}
 
 -- an object: the number of its layout, its references, each a birth or none, and its data
 pub record Object : Type 0 where

@@ -2,7 +2,7 @@
 use Rattle.std.specs.Prelude.{◌≡◌, Result, Ok, Err, Option, Some, None}
 use Rattle.model.specs.declared.steps.Refusal.{Refusal}
 use Rattle.model.specs.declared.steps.Answer.{Answer}
-use Rattle.model.specs.Heaps.{HeapState}
+use Rattle.model.specs.States.{HeapState}
 
 -- the first refusal is the outcome; else what was found goes on
 infixl 10 ◌>>=◌

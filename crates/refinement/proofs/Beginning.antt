@@ -12,12 +12,13 @@ use Rattle.model.specs.declared.records.Global.{Global}
 use Rattle.model.specs.declared.records.PageState.TheVariants.{Unused}
 use Rattle.model.specs.declared.records.Forwarding.{Forwarding}
 use Rattle.model.specs.Stores.{first_store, record_count, blank_page, page_at, state_at, state_in, words_at}
-use Rattle.model.specs.Heaps.{HeapState, Reference, first_heap, blank_rows}
-use Rattle.model.specs.Heaps.{blank_thread, register_of, register_in, buffer_in, flat}
+use Rattle.model.specs.States.{HeapState, Reference, flat}
+use Rattle.model.specs.First.{first_heap, blank_rows, blank_thread}
+use Rattle.model.specs.Threads.{register_in, buffer_in, has_crossed, is_parked_in}
+use Rattle.model.specs.Registers.{register_of}
 use Rattle.model.specs.Plain.{PlainThread, plain_start, name_of, name_in, pending_in}
 use Rattle.model.proofs.Lists.{each_replicate}
 use Rattle.page.proofs.Keeping.{page_at_record, page_at_zero}
-use Rattle.model.specs.Outcome.{has_crossed, is_parked_in}
 use Rattle.laws.specs.AddressHeap.{Null, NoEntry}
 use Rattle.laws.specs.Invariant.{Invariant}
 use Rattle.laws.specs.First.{first, plain_first}

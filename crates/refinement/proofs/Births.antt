@@ -7,7 +7,7 @@ use Rattle.std.proofs.Math.ListN.{length-set}
 use Rattle.std.proofs.lemmas.Option.{slice_get_within}
 use mathlib.Core.Path.{fun_ext}
 use Rattle.layout.specs.declared.shape.Layout.{Layout}
-use Rattle.model.specs.Heaps.{HeapState, flat, changed, ThreadState}
+use Rattle.model.specs.States.{HeapState, flat, changed, ThreadState}
 use Rattle.model.specs.Plain.{PlainHeap, PlainThread, Object, name_of, name_in, naming, set_name, born, blank_object}
 use Rattle.model.specs.Plain.{storing, set_field, writing, set_datum, Pending, pending_in, loading, start_load}
 use Rattle.model.specs.Plain.{finishing, end_load}

@@ -17,8 +17,10 @@ use Rattle.model.specs.declared.records.Buffer.{Buffer}
 use Rattle.model.specs.Phases.{is_marking, is_mark_crossing}
 use Rattle.model.specs.Stores.{words_at, with_words, state_at, state_in, page_at, has_memory, is_open, overlaid}
 use Rattle.model.specs.Owning.{IsStore, LiesIn}
-use Rattle.model.specs.Heaps.{HeapState, ThreadState, register_of, buffer_in, changed, put_bit, fresh_object}
-use Rattle.model.specs.Outcome.{placed, handed, used_buffer, has_crossed, is_parked_in}
+use Rattle.model.specs.States.{HeapState, ThreadState, changed}
+use Rattle.model.specs.Threads.{buffer_in, has_crossed, is_parked_in}
+use Rattle.model.specs.Registers.{register_of}
+use Rattle.model.specs.Births.{put_bit, fresh_object, placed, handed, used_buffer}
 use Rattle.model.proofs.Lists.{get_within, each_changed}
 use Rattle.model.proofs.Memory.{open_state, words_sized, memory_words, page_there, length_overlaid, frames_stay}
 use Rattle.page.proofs.Lying.{buffer_address}

@@ -13,7 +13,7 @@ use Rattle.model.specs.declared.steps.Step.{Step}
 use Rattle.model.specs.declared.steps.Answer.{Answer}
 use Rattle.model.specs.Owning.{Each}
 use Rattle.model.specs.Holding.{HasSizes}
-use Rattle.model.specs.Heaps.{HeapState, ThreadState, changed}
+use Rattle.model.specs.States.{HeapState, ThreadState, changed}
 use Rattle.model.specs.Refusing.{Outcome}
 use Rattle.model.specs.Plain.{PlainHeap, plain_step, plain_answer}
 use Rattle.model.proofs.Lists.{each_changed}

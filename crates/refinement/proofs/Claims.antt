@@ -3,7 +3,7 @@ use Rattle.std.proofs.Common.{◌≡◌, ◌≢◌, ◌⊎◌, inl, inr, ℕ, �
 use Rattle.std.proofs.Common.{Option, Some, None, sym, ◌∙◌, ap, arith, div-add-mod'}
 use Rattle.std.specs.Option.{option_map}
 use Rattle.std.proofs.lemmas.Nat.{div-mul-add, mod-mul-add}
-use Rattle.model.specs.Heaps.{HeapState}
+use Rattle.model.specs.States.{HeapState}
 use Rattle.laws.specs.AddressHeap.{HeapObject}
 use Rattle.refinement.specs.Worlds.{object_at}
 use Rattle.refinement.specs.Claims.{Claim, OfObject, Extent, AreApart, Apart, extent, object_size, sized_extent}

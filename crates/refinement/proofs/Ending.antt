@@ -16,10 +16,10 @@ use Rattle.model.specs.declared.records.Place.TheVariants as places
 use Rattle.model.specs.Stores.{word_at}
 use Rattle.model.specs.Owning.{IsStore}
 use Rattle.model.specs.Holding.{IsHeap}
-use Rattle.model.specs.Heaps.{HeapState, ThreadState, Reference, barrier_of, barrier_of_thread, with_barrier}
-use Rattle.model.specs.Heaps.{with_loaded, with_global, with_place, field_address, global_of, stored}
-use Rattle.model.specs.Outcome.{trap_outcome, heal_outcome, heal_place, end_load, finish_outcome, trap_due}
-use Rattle.model.specs.Outcome.{gc_trap_due, nmt_trap_due, may_finish, bits_at, are_bits_of, healed}
+use Rattle.model.specs.States.{HeapState, ThreadState, Reference}
+use Rattle.model.specs.Threads.{barrier_of}
+use Rattle.model.specs.Loads.{barrier_of_thread, with_barrier, with_loaded, trap_outcome, heal_outcome, heal_place, end_load, finish_outcome, trap_due, gc_trap_due, nmt_trap_due, may_finish, bits_at, are_bits_of, healed}
+use Rattle.model.specs.References.{with_global, with_place, field_address, global_of, stored}
 use Rattle.model.specs.Plain.{PlainHeap, Pending, plain_step, plain_answer, pending_in}
 use Rattle.refword.proofs.Reading.{reads_back}
 use Rattle.laws.specs.AddressHeap.{field}

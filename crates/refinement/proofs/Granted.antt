@@ -10,8 +10,9 @@ use mathlib.Core.Path.{fun_ext}
 use Rattle.model.specs.declared.records.Page.{Page}
 use Rattle.model.specs.Stores.{StoreState, words_at, state_at, state_in, frame_in, page_at, has_memory, is_open}
 use Rattle.model.specs.Stores.{buffer_of}
-use Rattle.model.specs.Heaps.{HeapState, ThreadState, register_of, register_in, buffer_in, changed, set_buffer_of}
-use Rattle.model.specs.Outcome.{has_crossed, is_parked_in}
+use Rattle.model.specs.States.{HeapState, ThreadState, changed}
+use Rattle.model.specs.Threads.{register_in, buffer_in, set_buffer_of, has_crossed, is_parked_in}
+use Rattle.model.specs.Registers.{register_of}
 use Rattle.model.proofs.Lists.{get_set_same, get_set_other, each_changed, each_set}
 use Rattle.page.proofs.Keeping.{page_at_record, page_at_zero}
 use Rattle.laws.specs.AddressHeap.{put}

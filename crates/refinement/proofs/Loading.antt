@@ -12,9 +12,11 @@ use Rattle.model.specs.declared.records.Place.TheVariants as places
 use Rattle.model.specs.Stores.{word_at}
 use Rattle.model.specs.Owning.{IsStore}
 use Rattle.model.specs.Holding.{IsHeap}
-use Rattle.model.specs.Heaps.{HeapState, ThreadState, with_barrier, Reference, stored, flat, global_of}
-use Rattle.model.specs.Heaps.{word_of_global}
-use Rattle.model.specs.Outcome.{load_outcome, load_global_outcome, new_barrier, no_register, no_global, is_parked_in}
+use Rattle.model.specs.States.{HeapState, ThreadState, Reference, flat}
+use Rattle.model.specs.References.{stored, global_of, word_of_global}
+use Rattle.model.specs.Loads.{with_barrier, load_outcome, load_global_outcome, new_barrier}
+use Rattle.model.specs.Threads.{is_parked_in}
+use Rattle.model.specs.Outcome.{no_register, no_global}
 use Rattle.model.specs.Plain.{PlainHeap, Object, plain_step, plain_answer, name_of, object_of, field_of}
 use Rattle.model.specs.declared.records.Place.{Place}
 use Rattle.model.proofs.Lists.{get_within}

@@ -5,7 +5,7 @@ use Rattle.std.proofs.lemmas.Bool.{cases_eq}
 use Rattle.std.proofs.lemmas.Option.{same_Some}
 use Rattle.model.specs.Stores.{words_at, with_words}
 use Rattle.model.specs.Owning.{IsStore}
-use Rattle.model.specs.Heaps.{HeapState}
+use Rattle.model.specs.States.{HeapState}
 use Rattle.model.proofs.Memory.{words_changed, words_kept}
 use Rattle.laws.specs.AddressHeap.{HeapObject, put}
 use Rattle.laws.proofs.Basics.{put_all}

@@ -16,7 +16,10 @@ use Rattle.model.specs.Stores.{words_at, state_at, state_in, frame_in, page_at, 
 use Rattle.model.specs.Stores.{opened, fresh_page}
 use Rattle.model.specs.Owning.{IsStore, LiesIn}
 use Rattle.model.specs.Holding.{IsHeap}
-use Rattle.model.specs.Heaps.{HeapState, ThreadState, register_of, buffer_in, changed, blank_row}
+use Rattle.model.specs.States.{HeapState, ThreadState, changed}
+use Rattle.model.specs.Threads.{buffer_in}
+use Rattle.model.specs.Registers.{register_of}
+use Rattle.model.specs.Buffers.{blank_row}
 use Rattle.model.proofs.Lists.{get_set_other, get_within, no_some}
 use Rattle.model.proofs.Memory.{open_state, unused_state, words_in, page_record, words_sized, words_memory}
 use Rattle.laws.specs.AddressHeap.{HeapObject, SideEntry, NoEntry, Planned, Copied, put}

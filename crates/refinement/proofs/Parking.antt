@@ -5,8 +5,10 @@ use Rattle.model.specs.declared.steps.Actor.TheVariants.{Thread}
 use Rattle.model.specs.declared.steps.Step.TheVariants as steps
 use Rattle.model.specs.Owning.{IsStore}
 use Rattle.model.specs.Holding.{IsHeap}
-use Rattle.model.specs.Heaps.{HeapState}
-use Rattle.model.specs.Outcome.{park_outcome, unpark_outcome, scrub_outcome, is_parked_in, usable}
+use Rattle.model.specs.States.{HeapState}
+use Rattle.model.specs.Threads.{is_parked_in}
+use Rattle.model.specs.Registers.{usable}
+use Rattle.model.specs.Checkpoints.{park_outcome, unpark_outcome, scrub_outcome}
 use Rattle.model.specs.Plain.{PlainHeap, plain_step, plain_answer}
 use Rattle.laws.specs.Transitions.{Park}
 use Rattle.refinement.specs.Standing.{Holds}

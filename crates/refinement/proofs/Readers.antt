@@ -11,10 +11,11 @@ use Rattle.model.specs.declared.steps.Answer.TheVariants as answers
 use Rattle.model.specs.Stores.{word_at}
 use Rattle.model.specs.Owning.{IsStore}
 use Rattle.model.specs.Holding.{IsHeap}
-use Rattle.model.specs.Heaps.{HeapState, Reference, register_of}
+use Rattle.model.specs.States.{HeapState, Reference}
+use Rattle.model.specs.Registers.{register_of, same_outcome, is_null_outcome, usable, usable_or_null, same_address}
 use Rattle.model.specs.Refusing.{◌>>=◌, or_refuse}
-use Rattle.model.specs.Outcome.{datum_outcome, same_outcome, is_null_outcome, usable, usable_or_null, field_at}
-use Rattle.model.specs.Outcome.{datum_at, same_address}
+use Rattle.model.specs.Data.{datum_outcome, datum_at}
+use Rattle.model.specs.References.{field_at}
 use Rattle.model.specs.Plain.{PlainHeap, Object, plain_step, plain_answer, name_of, object_of, datum_of, as_datum}
 use Rattle.model.specs.Plain.{same_name}
 use Rattle.model.specs.declared.steps.Refusal.{Refusal}

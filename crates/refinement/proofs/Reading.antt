@@ -12,7 +12,7 @@ use Rattle.std.proofs.lemmas.Bool.{le-leb}
 use Rattle.layout.specs.declared.shape.Layout.{Layout}
 use Rattle.layout.specs.Objects.{size_of}
 use Rattle.model.specs.Stores.{overlaid}
-use Rattle.model.specs.Heaps.{fresh_object}
+use Rattle.model.specs.Births.{fresh_object}
 use Rattle.model.proofs.Lists.{get_set_other}
 use Rattle.model.proofs.Memory.{length_overlaid}
 use Rattle.laws.specs.AddressHeap.{HeapObject, Word, Null}

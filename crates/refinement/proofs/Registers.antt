@@ -2,7 +2,8 @@
 use Rattle.std.proofs.Common.{◌≡◌, ℕ, ◌<◌, List, length, set, Some, sym, ◌∙◌, ap}
 use Rattle.std.specs.List.{slice_get}
 use Rattle.std.specs.Option.{option_map}
-use Rattle.model.specs.Heaps.{ThreadState, Reference, flat, register_in, changed}
+use Rattle.model.specs.States.{ThreadState, Reference, flat, changed}
+use Rattle.model.specs.Threads.{register_in}
 use Rattle.model.proofs.Lists.{get_set_same, get_set_other, get_within}
 use Rattle.laws.specs.AddressHeap.{put, put_at}
 use Rattle.laws.proofs.Basics.{put_all, put_same, put_other}

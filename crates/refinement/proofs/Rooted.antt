@@ -9,10 +9,11 @@ use Rattle.model.specs.declared.records.Barrier.{Barrier}
 use Rattle.model.specs.declared.records.Buffer.{Buffer}
 use Rattle.model.specs.declared.records.Global.{Global}
 use Rattle.model.specs.Owning.{Each}
-use Rattle.model.specs.Heaps.{HeapState, ThreadState, Reference, flat, register_of}
-use Rattle.model.specs.Heaps.{register_in, global_of, word_of_global, stored, set_register_of}
-use Rattle.model.specs.Heaps.{set_buffer_of, set_barrier_of, set_loaded_of, set_parked_of}
-use Rattle.model.specs.Outcome.{handed}
+use Rattle.model.specs.States.{HeapState, ThreadState, Reference, flat}
+use Rattle.model.specs.Registers.{register_of}
+use Rattle.model.specs.Threads.{register_in, set_register_of, set_buffer_of, set_barrier_of, set_loaded_of, set_parked_of}
+use Rattle.model.specs.References.{global_of, word_of_global, stored}
+use Rattle.model.specs.Births.{handed}
 use Rattle.model.proofs.Lists.{each_set}
 use Rattle.refinement.specs.Roots.{IsLoad, HoldsWords, HasWords}
 

@@ -7,8 +7,9 @@ use Rattle.model.specs.declared.steps.Step.TheVariants as steps
 use Rattle.model.specs.declared.steps.Answer.{Answer}
 use Rattle.model.specs.Owning.{IsStore}
 use Rattle.model.specs.Holding.{IsHeap}
-use Rattle.model.specs.Heaps.{HeapState}
-use Rattle.model.specs.Outcome.{outcome, thread_gate, thread_row, cross_outcome}
+use Rattle.model.specs.States.{HeapState}
+use Rattle.model.specs.Checkpoints.{cross_outcome}
+use Rattle.model.specs.Outcome.{outcome, thread_gate, thread_row}
 use Rattle.model.specs.Plain.{PlainHeap}
 use Rattle.refinement.specs.Standing.{Holds, StepHolds}
 use Rattle.refinement.proofs.Accepted.{accepted, of_accepted, on_has}

@@ -5,8 +5,10 @@ use Rattle.model.specs.declared.steps.Actor.TheVariants.{Thread}
 use Rattle.model.specs.declared.steps.Step.TheVariants as steps
 use Rattle.model.specs.Owning.{IsStore}
 use Rattle.model.specs.Holding.{IsHeap}
-use Rattle.model.specs.Heaps.{HeapState, register_of}
-use Rattle.model.specs.Outcome.{store_outcome, store_global_outcome, no_register, no_global, usable_or_null}
+use Rattle.model.specs.States.{HeapState}
+use Rattle.model.specs.Registers.{register_of, usable_or_null}
+use Rattle.model.specs.References.{store_outcome, store_global_outcome}
+use Rattle.model.specs.Outcome.{no_register, no_global}
 use Rattle.model.specs.Plain.{PlainHeap, plain_step, plain_answer, name_of}
 use Rattle.laws.specs.Transitions.{Store, StoreGlobal}
 use Rattle.refinement.specs.Standing.{Holds}

@@ -16,8 +16,9 @@ use Rattle.model.specs.declared.records.Room.TheVariants.{NoFrames, NoPages}
 use Rattle.model.specs.Stores.{StoreState, taken, opened, fresh_page, buffer_of}
 use Rattle.model.specs.Owning.{Each, IsStore}
 use Rattle.model.specs.Holding.{IsHeap}
-use Rattle.model.specs.Heaps.{HeapState, ThreadState, buffer_of_thread, buffer_in, changed, opened_rows, blank_row}
-use Rattle.model.specs.Outcome.{take_outcome, took, lent}
+use Rattle.model.specs.States.{HeapState, ThreadState, changed}
+use Rattle.model.specs.Threads.{buffer_in}
+use Rattle.model.specs.Buffers.{buffer_of_thread, opened_rows, blank_row, take_outcome, took, lent}
 use Rattle.model.specs.Plain.{PlainHeap, plain_step, plain_answer}
 use Rattle.model.proofs.Lists.{get_set, get_set_other, no_some}
 use Rattle.page.proofs.Keeping.{given_at, opened_at}

@@ -9,10 +9,13 @@ use Rattle.refword.specs.Words.{IsWord}
 use Rattle.model.specs.declared.records.Barrier.{Barrier}
 use Rattle.model.specs.declared.records.Global.{Global}
 use Rattle.model.specs.declared.records.Buffer.{Buffer}
-use Rattle.model.specs.Heaps.{with_buffer, set_buffer_of, HeapState, ThreadState, Reference, register_of, register_in}
-use Rattle.model.specs.Heaps.{with_register, set_register_of, with_barrier, set_barrier_of, with_loaded}
-use Rattle.model.specs.Heaps.{set_loaded_of, with_parked, set_parked_of, with_global, set_word_of, changed, buffer_in}
-use Rattle.model.specs.Outcome.{has_crossed, is_parked_in}
+use Rattle.model.specs.States.{HeapState, ThreadState, Reference, changed}
+use Rattle.model.specs.Threads.{set_buffer_of, register_in, set_register_of, set_barrier_of, set_loaded_of, set_parked_of, buffer_in, has_crossed, is_parked_in}
+use Rattle.model.specs.Registers.{register_of, with_register}
+use Rattle.model.specs.Buffers.{with_buffer}
+use Rattle.model.specs.Loads.{with_barrier, with_loaded}
+use Rattle.model.specs.References.{with_global, set_word_of}
+use Rattle.model.specs.Checkpoints.{with_parked}
 use Rattle.model.proofs.Lists.{get_within, each_changed}
 use Rattle.laws.specs.Edits.{set_barrier, end_load, set_global, set_parked}
 use Rattle.laws.specs.Effects.{set_register}

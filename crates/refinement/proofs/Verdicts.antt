@@ -9,12 +9,12 @@ use Rattle.model.specs.declared.steps.Step.{Step}
 use Rattle.model.specs.declared.records.Phase.{Phase}
 use Rattle.model.specs.declared.records.Phase.TheVariants.{Idle, MarkCrossing, Scanning, ProtectCrossing, Relocating}
 use Rattle.model.specs.Stores.{state_at, is_protected}
-use Rattle.model.specs.Heaps.{HeapState, ThreadState, Reference, register_of, layout_at, layout_in, header_layout}
-use Rattle.model.specs.Heaps.{field_address, datum_address}
-use Rattle.model.specs.Outcome.{thread_gate, has_bad_index, is_for_workers, no_register, no_global, is_for_parked}
-use Rattle.model.specs.Outcome.{is_for_loading, is_parked_in, is_loading_in, usable, use_word, usable_or_null}
-use Rattle.model.specs.Outcome.{use_or_null, let_through, held_back, has_crossed, field_at, field_place, datum_at}
-use Rattle.model.specs.Outcome.{datum_place}
+use Rattle.model.specs.States.{HeapState, ThreadState, Reference}
+use Rattle.model.specs.Registers.{register_of, usable, use_word, usable_or_null, use_or_null, let_through, held_back}
+use Rattle.model.specs.Data.{layout_at, layout_in, header_layout, datum_address, datum_at, datum_place}
+use Rattle.model.specs.References.{field_address, field_at, field_place}
+use Rattle.model.specs.Outcome.{thread_gate, has_bad_index, is_for_workers, no_register, no_global, is_for_parked, is_for_loading, is_loading_in}
+use Rattle.model.specs.Threads.{is_parked_in, has_crossed}
 use Rattle.model.proofs.Lists.{get_within, no_some}
 use Rattle.model.proofs.Memory.{word_on_page}
 use Rattle.laws.specs.AddressHeap.{HeapObject}

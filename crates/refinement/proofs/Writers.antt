@@ -15,9 +15,13 @@ use Rattle.model.specs.declared.records.Buffer.{Buffer}
 use Rattle.model.specs.declared.records.PageState.TheVariants.{Open, From}
 use Rattle.model.specs.Owning.{IsStore, LiesIn}
 use Rattle.model.specs.Holding.{IsHeap}
-use Rattle.model.specs.Heaps.{HeapState, register_of, buffer_of_thread, buffer_in}
-use Rattle.model.specs.Outcome.{set_datum_outcome, copy_register_outcome, clear_register_outcome, give_back_outcome}
-use Rattle.model.specs.Outcome.{new_outcome, no_register}
+use Rattle.model.specs.States.{HeapState}
+use Rattle.model.specs.Threads.{buffer_in}
+use Rattle.model.specs.Registers.{register_of, copy_register_outcome, clear_register_outcome}
+use Rattle.model.specs.Buffers.{buffer_of_thread, give_back_outcome}
+use Rattle.model.specs.Data.{set_datum_outcome}
+use Rattle.model.specs.Births.{new_outcome}
+use Rattle.model.specs.Outcome.{no_register}
 use Rattle.model.specs.Plain.{PlainHeap, plain_step, plain_answer, name_of}
 use Rattle.model.specs.Stores.{StoreState}
 use Rattle.laws.specs.AddressHeap.{Word, Null}

@@ -10,7 +10,8 @@ use mathlib.Core.Path.{fun_ext}
 use Rattle.refword.specs.Words.{IsWord, bits_of}
 use Rattle.model.specs.Stores.{words_at, word_at, with_words, with_word, state_at, page_at, has_memory}
 use Rattle.model.specs.Owning.{IsStore}
-use Rattle.model.specs.Heaps.{HeapState, register_of, Reference}
+use Rattle.model.specs.States.{HeapState, Reference}
+use Rattle.model.specs.Registers.{register_of}
 use Rattle.refword.proofs.Reading.{reads_back}
 use Rattle.model.proofs.Lists.{get_set_other}
 use Rattle.model.proofs.Memory.{words_sized, words_memory, word_on_page, frames_stay}

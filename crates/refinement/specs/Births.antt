@@ -1,6 +1,6 @@
 -- The plain heap of the model, as functions of births and numbers.
 use Rattle.std.specs.Prelude.{◌≡◌, ℕ, List, [], length, Option, Some, None, option_map, slice_get}
-use Rattle.model.specs.Heaps.{flat, HeapState}
+use Rattle.model.specs.States.{flat, HeapState}
 use Rattle.model.specs.Owning.{Each}
 use Rattle.model.specs.Plain.{PlainHeap, Object, Pending, name_of, pending_in}
 use Rattle.laws.specs.BirthHeap.{BirthHeap}

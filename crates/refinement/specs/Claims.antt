@@ -7,7 +7,8 @@ use Rattle.model.specs.declared.records.PageState.TheVariants.{Unused}
 use Rattle.model.specs.declared.records.Buffer.{Buffer}
 use Rattle.model.specs.Stores.{StoreState, page_at, is_open, has_memory}
 use Rattle.model.specs.Owning.{Each}
-use Rattle.model.specs.Heaps.{HeapState, buffer_of_thread}
+use Rattle.model.specs.States.{HeapState}
+use Rattle.model.specs.Buffers.{buffer_of_thread}
 use Rattle.laws.specs.AddressHeap.{HeapObject, SideEntry, Planned}
 use Rattle.model.specs.Bits.{bit_at}
 use Rattle.refinement.specs.Worlds.{world_of, object_at}

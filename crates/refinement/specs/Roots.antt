@@ -3,7 +3,7 @@ use Rattle.std.specs.Prelude.{ℕ, ◌<◌, IfSome}
 use Rattle.refword.specs.Words.{IsWord}
 use Rattle.model.specs.declared.records.Barrier.{Barrier}
 use Rattle.model.specs.Owning.{Each}
-use Rattle.model.specs.Heaps.{HeapState, ThreadState}
+use Rattle.model.specs.States.{HeapState, ThreadState}
 
 -- a load is for a register that is there, and has words
 pub record IsLoad (registers : ℕ) (b : Barrier) : Type 0 where

@@ -8,7 +8,8 @@ use Rattle.model.specs.declared.steps.Refusal.{Refusal}
 use Rattle.model.specs.declared.config.Config.{Config}
 use Rattle.model.specs.Owning.{Each, IsStore}
 use Rattle.model.specs.Holding.{HasSizes, IsHeap}
-use Rattle.model.specs.Heaps.{HeapState, first_heap}
+use Rattle.model.specs.States.{HeapState}
+use Rattle.model.specs.First.{first_heap}
 use Rattle.model.specs.Outcome.{outcome}
 use Rattle.model.specs.Plain.{PlainHeap, plain_step, plain_answer, plain_start}
 use Rattle.laws.specs.Invariant.{Invariant}

@@ -12,8 +12,9 @@ use Rattle.model.specs.declared.records.Place.{Place}
 use Rattle.model.specs.declared.records.Place.TheVariants as places
 use Rattle.model.specs.Stores.{state_at, words_at}
 use Rattle.model.specs.Bits.{of_page, bit_at}
-use Rattle.model.specs.Heaps.{HeapState, ThreadState, Reference, register_of}
-use Rattle.model.specs.Outcome.{has_crossed, is_parked_in}
+use Rattle.model.specs.States.{HeapState, ThreadState, Reference}
+use Rattle.model.specs.Registers.{register_of}
+use Rattle.model.specs.Threads.{has_crossed, is_parked_in}
 use Rattle.laws.specs.AddressHeap.{AddressHeap, HeapObject, Word, Null, To, SideEntry, NoEntry, Planned, Copied, LoadPlace, AtField, AtGlobal, OpenBarrier, WorkerScan}
 
 -- words

@@ -5,7 +5,7 @@ use Rattle.model.specs.declared.steps.Answer.{Answer}
 use Rattle.model.specs.declared.steps.Answer.TheVariants as answers
 use Rattle.model.specs.declared.records.Global.{Global}
 use Rattle.model.specs.declared.records.Page.{Page}
-use Rattle.model.specs.Heaps.{HeapState, ThreadState, Reference}
+use Rattle.model.specs.States.{HeapState, ThreadState, Reference}
 use Rattle.model.specs.Stores.{is_unused}
 use Rattle.cycle.specs.declared.book.Entry.{Entry}
 use Rattle.cycle.specs.Books.{BookState, first_book}

@@ -5,9 +5,9 @@ ghost use Rattle.layout.specs.Objects.{size_of};
 ghost use Rattle.model.specs.Stores.{overlaid, with_words};
 ghost use Rattle.model.specs.Owning.{LiesIn};
 ghost use Rattle.model.specs.Refusing.{Does};
-ghost use Rattle.model.specs.Heaps.{changed, put_bit};
+ghost use Rattle.model.specs.States.{changed};
+ghost use Rattle.model.specs.Births.{put_bit, placed, new_outcome, handed};
 ghost use Rattle.model.specs.Phases.{is_marking, is_mark_crossing};
-ghost use Rattle.model.specs.Outcome.{placed, new_outcome, handed};
 
 use crate::heap::Heap;
 use layout::{Header, Layout};
@@ -58,7 +58,7 @@ impl Heap {
     ///
     /// Refused where there is no buffer, or it has fewer words left than the object
     /// (`NoRoom`); `BadIndex` where there is no such layout; `Births` where no more may be born.
-    #[tactic(auto, unfolding(model::specs::Outcome::new_outcome))]
+    #[tactic(auto, unfolding(model::specs::Births::new_outcome))]
     pub fn new_object(&mut self, thread: u32, target: u32, number: u32) -> Result<Answer, Refusal>
         ensures { Does self.old result self.new (new_outcome self.old thread target number) }
     {
@@ -80,7 +80,7 @@ impl Heap {
     }
 
     /// Makes an object in a buffer that has room for it.
-    #[tactic(auto, unfolding(model::specs::Outcome::placed))]
+    #[tactic(auto, unfolding(model::specs::Births::placed))]
     fn place(&mut self, thread: u32, target: u32, number: u32, layout: Layout, buffer: Buffer)
         requires there { slice_get self.old.config.layouts number ≡ Some layout }
         requires lies { LiesIn self.old.store buffer }

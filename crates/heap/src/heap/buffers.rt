@@ -2,9 +2,8 @@
 
 ghost use Rattle.std.specs.Prelude.{◌≡◌, ◌≤◌, ◌<◌, slice_get, Some, None, IfSome};
 ghost use Rattle.model.specs.Owning.{LiesIn};
-ghost use Rattle.model.specs.Heaps.{buffer_of_thread, opened_rows, with_buffer};
+ghost use Rattle.model.specs.Buffers.{buffer_of_thread, opened_rows, with_buffer, lent, take_outcome, give_back_outcome};
 ghost use Rattle.model.specs.Refusing.{Does};
-ghost use Rattle.model.specs.Outcome.{lent, take_outcome, give_back_outcome};
 
 use crate::heap::Heap;
 use markbits::Rows;
@@ -32,7 +31,7 @@ impl Heap {
     }
 
     /// Gives a thread a buffer that was taken of the store.
-    #[tactic(auto, unfolding(model::specs::Outcome::lent))]
+    #[tactic(auto, unfolding(model::specs::Buffers::lent))]
     fn lend(&mut self, thread: u32, buffer: Buffer)
         requires { LiesIn self.old.store buffer }
         ensures { self.new ≡ lent self.old thread self.old.store buffer }
@@ -52,7 +51,7 @@ impl Heap {
     ///
     /// Refused where it has one (`HasBuffer`); where no page has room and no frame is free
     /// (`NoFrames`); where no page number is unused (`NoPages`).
-    #[tactic(auto, unfolding(model::specs::Outcome::take_outcome, model::specs::Outcome::lent))]
+    #[tactic(auto, unfolding(model::specs::Buffers::take_outcome, model::specs::Buffers::lent))]
     pub fn take(&mut self, thread: u32, words: u32) -> Result<Answer, Refusal>
         requires low { 0 < words }
         requires high { words ≤ self.old.store.words }
@@ -76,7 +75,7 @@ impl Heap {
 
     /// A thread gives its buffer back, whose rest is lost. Refused where it has none (`NoRoom`).
     /// Does the row alone: `cycle` makes the tests before it.
-    #[tactic(auto, unfolding(model::specs::Outcome::give_back_outcome, model::specs::Heaps::with_buffer))]
+    #[tactic(auto, unfolding(model::specs::Buffers::give_back_outcome, model::specs::Buffers::with_buffer))]
     pub fn give_back(&mut self, thread: u32) -> Result<Answer, Refusal>
         ensures { Does self.old result self.new (give_back_outcome self.old thread) }
     {

@@ -2,9 +2,8 @@
 
 ghost use Rattle.std.specs.Prelude.{◌≡◌};
 ghost use Rattle.model.specs.Stores.{with_word};
-ghost use Rattle.model.specs.Heaps.{layout_at};
+ghost use Rattle.model.specs.Data.{layout_at, datum_at, datum_outcome, set_datum_outcome};
 ghost use Rattle.model.specs.Refusing.{Does};
-ghost use Rattle.model.specs.Outcome.{datum_at, datum_outcome, set_datum_outcome};
 
 use crate::heap::Heap;
 use layout::Layout;
@@ -13,7 +12,7 @@ use refword::Addr;
 
 impl Heap {
     /// The layout of the object at an address, if a header of a layout in the table is there.
-    #[tactic(auto, unfolding(model::specs::Heaps::layout_at))]
+    #[tactic(auto, unfolding(model::specs::Data::layout_at))]
     pub fn layout_at(&self, address: Addr) -> Option<Layout>
         ensures { result ≡ layout_at self.now address }
     {
@@ -23,7 +22,7 @@ impl Heap {
     }
 
     /// Where a data word of the object at an address stands.
-    #[tactic(auto, unfolding(model::specs::Outcome::datum_at))]
+    #[tactic(auto, unfolding(model::specs::Data::datum_at))]
     fn datum_at(&self, address: Addr, index: u32) -> Option<u64>
         ensures { result ≡ datum_at self.now address index }
     {
@@ -43,7 +42,7 @@ impl Heap {
 
     /// Reads a data word, by its number from 0. Refused as `usable` is, then `BadIndex` where the
     /// object has no such word. Does the row alone: `cycle` makes the tests before it.
-    #[tactic(auto, unfolding(model::specs::Outcome::datum_outcome))]
+    #[tactic(auto, unfolding(model::specs::Data::datum_outcome))]
     pub fn datum(&self, thread: u32, object: u32, index: u32) -> Result<Answer, Refusal>
         ensures { Does self.now result self.now (datum_outcome self.now thread object index) }
     {
@@ -59,7 +58,7 @@ impl Heap {
 
     /// Writes a data word, by its number from 0. Refused as `datum` is. Does the row alone: `cycle`
     /// makes the tests before it.
-    #[tactic(auto, unfolding(model::specs::Outcome::set_datum_outcome))]
+    #[tactic(auto, unfolding(model::specs::Data::set_datum_outcome))]
     pub fn set_datum(
         &mut self,
         thread: u32,

@@ -2,7 +2,7 @@
 
 ghost use Rattle.std.specs.Prelude.{◌≡◌, false, None, replicate, IfOk};
 ghost use Rattle.model.specs.Configs.{IsRanged};
-ghost use Rattle.model.specs.Heaps.{first_heap, blank_thread};
+ghost use Rattle.model.specs.First.{first_heap, blank_thread};
 ghost use Rattle.heap.specs.Making.{Makes};
 
 use crate::fault::NewFault;
@@ -98,7 +98,7 @@ impl Heap {
         }
     }
 
-    #[tactic(auto, unfolding(model::specs::Heaps::first_heap))]
+    #[tactic(auto, unfolding(model::specs::First::first_heap))]
     fn first(alloc: Memory, config: Config) -> Result<Heap, AllocError>
         requires { IsRanged config }
         ensures { IfOk result (λ h. h ≡ first_heap config) }

@@ -1,9 +1,9 @@
 //! References of objects, and globals.
 
 ghost use Rattle.std.specs.Prelude.{◌≡◌};
-ghost use Rattle.model.specs.Heaps.{stored, global_of, with_global, with_place};
+ghost use Rattle.model.specs.References.{stored, global_of, with_global, with_place, field_at, store_outcome, store_global_outcome};
 ghost use Rattle.model.specs.Refusing.{Does};
-ghost use Rattle.model.specs.Outcome.{field_at, bits_at, store_outcome, store_global_outcome};
+ghost use Rattle.model.specs.Loads.{bits_at};
 
 use crate::heap::Heap;
 use model::{Answer, Place, Refusal};
@@ -22,7 +22,7 @@ pub fn stored(bits: u64) -> Word
 impl Heap {
     /// Where a reference of the object at an address stands, by the reference's number from 0;
     /// none where the object has no such reference.
-    #[tactic(auto, unfolding(model::specs::Outcome::field_at))]
+    #[tactic(auto, unfolding(model::specs::References::field_at))]
     pub fn field_at(&self, address: Addr, index: u32) -> Option<u64>
         ensures { result ≡ field_at self.now address index }
     {
@@ -34,7 +34,7 @@ impl Heap {
     }
 
     /// The word in a global, by its number from 0; null where there is no such global.
-    #[tactic(auto, unfolding(model::specs::Heaps::global_of))]
+    #[tactic(auto, unfolding(model::specs::References::global_of))]
     pub fn global(&self, number: u32) -> Word
         ensures { result ≡ global_of self.now number }
     {
@@ -45,7 +45,7 @@ impl Heap {
     }
 
     /// Writes a global, by its number from 0, if it is there.
-    #[tactic(auto, unfolding(model::specs::Heaps::with_global))]
+    #[tactic(auto, unfolding(model::specs::References::with_global))]
     pub fn set_global(&mut self, number: u32, word: Word)
         ensures { self.new ≡ with_global self.old number word }
     {
@@ -85,7 +85,7 @@ impl Heap {
     ///
     /// Refused as `usable` is for the object; `BadIndex` where it has no such reference; as
     /// `usable_or_null` is for the source.
-    #[tactic(auto, unfolding(model::specs::Outcome::store_outcome))]
+    #[tactic(auto, unfolding(model::specs::References::store_outcome))]
     pub fn store_reference(
         &mut self,
         thread: u32,
@@ -107,7 +107,7 @@ impl Heap {
 
     /// Stores a register's word in a global, by the global's number from 0. Refused as
     /// `usable_or_null` is. Does the row alone: `cycle` makes the tests before it.
-    #[tactic(auto, unfolding(model::specs::Outcome::store_global_outcome))]
+    #[tactic(auto, unfolding(model::specs::References::store_global_outcome))]
     pub fn store_global(
         &mut self,
         thread: u32,

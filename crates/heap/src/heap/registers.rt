@@ -1,9 +1,8 @@
 //! Registers, and the steps on them alone.
 
 ghost use Rattle.std.specs.Prelude.{◌≡◌, is_none};
-ghost use Rattle.model.specs.Heaps.{register_of, with_register};
+ghost use Rattle.model.specs.Registers.{register_of, with_register, let_through, usable, usable_or_null, same_outcome, is_null_outcome, copy_register_outcome, clear_register_outcome};
 ghost use Rattle.model.specs.Refusing.{Does};
-ghost use Rattle.model.specs.Outcome.{let_through, usable, usable_or_null, same_outcome, is_null_outcome, copy_register_outcome, clear_register_outcome};
 
 use crate::heap::Heap;
 use model::{Answer, PageState, Phase, Refusal};
@@ -12,7 +11,7 @@ use refword::{Addr, Word};
 impl Heap {
     /// The word in a register, null where there is no such register. Threads and registers count
     /// from 0.
-    #[tactic(auto, unfolding(model::specs::Heaps::register_of))]
+    #[tactic(auto, unfolding(model::specs::Registers::register_of))]
     pub fn register(&self, thread: u32, register: u32) -> Word
         ensures { result ≡ register_of self.now thread register }
     {
@@ -23,7 +22,7 @@ impl Heap {
     }
 
     /// Writes a register, if it is there.
-    #[tactic(auto, unfolding(model::specs::Heaps::with_register))]
+    #[tactic(auto, unfolding(model::specs::Registers::with_register))]
     fn set_register(&mut self, thread: u32, register: u32, word: Word)
         ensures { self.new ≡ with_register self.old thread register word }
     {
@@ -36,7 +35,7 @@ impl Heap {
     /// Whether a thread, by its number from 0, may use an address: not on a protected page, unless
     /// the thread has still to cross the checkpoint at which pages are being protected (ours).
     /// Refused as `Stall` where it has crossed that checkpoint, and in other phases as `Stale`.
-    #[tactic(auto, unfolding(model::specs::Outcome::let_through))]
+    #[tactic(auto, unfolding(model::specs::Registers::let_through))]
     pub fn let_through(&self, thread: u32, address: Addr) -> Result<(), Refusal>
         ensures { result ≡ let_through self.now thread address }
     {
@@ -61,7 +60,7 @@ impl Heap {
     ///
     /// Refused where it is null (`Null`); on a protected page `Stall`, where pages are being
     /// protected and the thread has crossed, and in other phases `Stale` (ours).
-    #[tactic(auto, unfolding(model::specs::Outcome::usable))]
+    #[tactic(auto, unfolding(model::specs::Registers::usable))]
     pub fn usable(&self, thread: u32, register: u32) -> Result<Addr, Refusal>
         ensures { result ≡ usable self.now thread register }
     {
@@ -74,7 +73,7 @@ impl Heap {
 
     /// The address in a register that may be used, or none where it is null. Else refused as
     /// `usable` is.
-    #[tactic(auto, unfolding(model::specs::Outcome::usable_or_null))]
+    #[tactic(auto, unfolding(model::specs::Registers::usable_or_null))]
     pub fn usable_or_null(&self, thread: u32, register: u32) -> Result<Option<Addr>, Refusal>
         ensures { result ≡ usable_or_null self.now thread register }
     {
@@ -87,7 +86,7 @@ impl Heap {
 
     /// Whether two registers name the same object, or both none; their NMT bits don't count.
     /// Refused as `usable_or_null` is. Does the row alone: `cycle` makes the tests before it.
-    #[tactic(auto, unfolding(model::specs::Outcome::same_outcome))]
+    #[tactic(auto, unfolding(model::specs::Registers::same_outcome))]
     pub fn same(&self, thread: u32, left: u32, right: u32) -> Result<Answer, Refusal>
         ensures { Does self.now result self.now (same_outcome self.now thread left right) }
     {
@@ -98,7 +97,7 @@ impl Heap {
 
     /// Whether a register is null. Does the row alone, which refuses nothing: `cycle` makes the
     /// tests before it.
-    #[tactic(auto, unfolding(model::specs::Outcome::is_null_outcome))]
+    #[tactic(auto, unfolding(model::specs::Registers::is_null_outcome))]
     pub fn is_null(&self, thread: u32, register: u32) -> Result<Answer, Refusal>
         ensures { Does self.now result self.now (is_null_outcome self.now thread register) }
     {
@@ -107,7 +106,7 @@ impl Heap {
 
     /// A register gets another one's word. Does the row alone, which refuses nothing: `cycle` makes
     /// the tests before it.
-    #[tactic(auto, unfolding(model::specs::Outcome::copy_register_outcome))]
+    #[tactic(auto, unfolding(model::specs::Registers::copy_register_outcome))]
     pub fn copy_register(
         &mut self,
         thread: u32,
@@ -123,7 +122,7 @@ impl Heap {
 
     /// A register becomes null. Does the row alone, which refuses nothing: `cycle` makes the tests
     /// before it.
-    #[tactic(auto, unfolding(model::specs::Outcome::clear_register_outcome))]
+    #[tactic(auto, unfolding(model::specs::Registers::clear_register_outcome))]
     pub fn clear_register(&mut self, thread: u32, target: u32) -> Result<Answer, Refusal>
         ensures { Does self.old result self.new (clear_register_outcome self.old thread target) }
     {

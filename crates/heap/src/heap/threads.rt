@@ -1,8 +1,9 @@
 //! What threads take part in: loads that aren't finished, checkpoints, and being parked.
 
 ghost use Rattle.std.specs.Prelude.{◌≡◌, slice_get};
-ghost use Rattle.model.specs.Heaps.{barrier_of_thread, with_barrier, with_loaded, with_parked};
-ghost use Rattle.model.specs.Outcome.{has_crossed, is_parked_in};
+ghost use Rattle.model.specs.Loads.{barrier_of_thread, with_barrier, with_loaded};
+ghost use Rattle.model.specs.Checkpoints.{with_parked};
+ghost use Rattle.model.specs.Threads.{has_crossed, is_parked_in};
 
 use crate::heap::Heap;
 use model::Barrier;
@@ -42,7 +43,7 @@ impl Heap {
     }
 
     /// Opens or changes the barrier of a thread, if the thread is there (the paper's read barrier).
-    #[tactic(auto, unfolding(model::specs::Heaps::with_barrier))]
+    #[tactic(auto, unfolding(model::specs::Loads::with_barrier))]
     pub fn set_barrier(&mut self, thread: u32, barrier: Barrier)
         ensures { self.new ≡ with_barrier self.old thread barrier }
     {
@@ -54,7 +55,7 @@ impl Heap {
 
     /// Ends the load of a thread, if the thread is there: a register, by its number from 0, gets
     /// the word, and the barrier closes (the paper's read barrier).
-    #[tactic(auto, unfolding(model::specs::Heaps::with_loaded))]
+    #[tactic(auto, unfolding(model::specs::Loads::with_loaded))]
     pub fn set_loaded(&mut self, thread: u32, register: u32, word: Word)
         ensures { self.new ≡ with_loaded self.old thread register word }
     {
@@ -65,7 +66,7 @@ impl Heap {
     }
 
     /// Parks a thread or lets it run, if it is there.
-    #[tactic(auto, unfolding(model::specs::Heaps::with_parked))]
+    #[tactic(auto, unfolding(model::specs::Checkpoints::with_parked))]
     pub fn set_parked(&mut self, thread: u32, parked: bool)
         ensures { self.new ≡ with_parked self.old thread parked }
     {

@@ -1,6 +1,6 @@
 use Rattle.std.proofs.Common.{◌+◌, ◌*◌, sym, subst, ap, ◌∙◌}
 use Rattle.refword.specs.Words.{IsAddress}
-use Rattle.model.specs.Heaps.{HeapState}
+use Rattle.model.specs.States.{HeapState}
 use Rattle.model.specs.Owning.{LiesIn}
 use Rattle.page.proofs.Lying.{buffer_address}
 use Rattle.heap.proofs.Writing.{address_found}

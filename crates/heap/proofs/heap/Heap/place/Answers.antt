@@ -1,6 +1,6 @@
 use Rattle.std.proofs.Common.{◌+◌, ◌-◌, ◌≤◌, ◌<◌, sym, subst}
 use Rattle.model.specs.Owning.{LiesIn, AreSized}
-use Rattle.model.specs.Heaps.{HeapState}
+use Rattle.model.specs.States.{HeapState}
 use Rattle.model.specs.Stores.{StoreState}
 use Rattle.page.proofs.Lying.{words_lie, words_sized_alike}
 use Rattle.heap.specs.Views.{heap_of}

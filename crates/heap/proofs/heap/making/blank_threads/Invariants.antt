@@ -1,5 +1,5 @@
 use Rattle.std.proofs.Common.{◌≡◌, replicate}
-use Rattle.model.specs.Heaps.{blank_thread}
+use Rattle.model.specs.First.{blank_thread}
 use Rattle.heap.proofs.heap.making.blank_threads.Given as goal
 
 abbrev pub invariant-loop-thread : goal.invariant-loop-thread

@@ -1,0 +1,50 @@
+-- New objects.
+use Rattle.std.specs.Prelude.{ℕ, ◌+◌, ◌-◌, Bool, true, List, ◌∷◌, replicate, Some, slice_get, slice_set, if◌then◌else◌, ◌*◌, Ok, Err, nat_lt, nat_le}
+use Rattle.layout.specs.declared.shape.Layout.{Layout}
+use Rattle.layout.specs.Objects.{header_bits, size_of}
+use Rattle.model.specs.declared.records.Buffer.{Buffer}
+use Rattle.model.specs.declared.steps.Answer.TheVariants as answers
+use Rattle.model.specs.declared.steps.Refusal.TheVariants as refusals
+use Rattle.model.specs.Phases.{is_marking, is_mark_crossing}
+use Rattle.model.specs.Stores.{with_words, overlaid}
+use Rattle.model.specs.Refusing.{◌>>=◌, or_refuse, Outcome}
+use Rattle.model.specs.States.{Reference, ThreadState, HeapState, changed}
+use Rattle.model.specs.Threads.{set_register_of, set_buffer_of}
+use Rattle.model.specs.Buffers.{buffer_of_thread}
+
+-- a row with the bit of offset o set or cleared
+abbrev pub put_bit : ℕ → Bool → List Bool → List Bool
+put_bit o bit row = slice_set row o bit
+
+-- the words of a new object: its header, then zeros
+abbrev pub fresh_object : ℕ → ℕ → Layout → List ℕ
+fresh_object birth number l = header_bits (record { birth = birth; layout = number }) ∷ replicate (l.refs + l.nums) 0
+
+-- what is left of a buffer after n of its words
+abbrev pub used_buffer : Buffer → ℕ → Buffer
+used_buffer b n = record b { next = b.next + n }
+
+-- a thread's register gets a new object's word, and its buffer is what is left of it
+abbrev pub handed : ℕ → Reference → Buffer → ThreadState → ThreadState
+handed target w rest t = set_register_of target w (set_buffer_of (Some rest) t)
+
+-- the heap after an object was made in a buffer; while a mark runs it is born marked, and before all have crossed it is
+-- still to be scanned (ours)
+unfoldable pub placed : HeapState → ℕ → ℕ → ℕ → Layout → Buffer → HeapState
+placed h t target number l b = record h {
+  store = with_words h.store b.page (λ ws. overlaid ws b.next (fresh_object h.births number l));
+  starts = changed h.starts (b.page - 1) (put_bit b.next true);
+  mark = changed h.mark (b.page - 1) (put_bit b.next (is_marking h.phase));
+  todo = changed h.todo (b.page - 1) (put_bit b.next (is_mark_crossing h.phase));
+  threads = changed h.threads t (handed target (Some (b.page * h.store.words + b.next, h.nmt)) (used_buffer b (size_of l)));
+  births = h.births + 1;
+}
+
+-- the row of New
+unfoldable pub new_outcome : HeapState → ℕ → ℕ → ℕ → Outcome
+new_outcome h t target number = do
+  b ← or_refuse (buffer_of_thread h t) refusals.NoRoom
+  l ← or_refuse (slice_get h.config.layouts number) refusals.BadIndex
+  if nat_lt (b.end - b.next) (size_of l) then Err refusals.NoRoom else
+      (if nat_le h.config.births h.births then Err refusals.Births
+      else Ok (placed h t target number l b, answers.Birth h.births))

@@ -1,0 +1,113 @@
+-- Loads: the read barrier, from a load's begin to its end.
+use Rattle.std.specs.Prelude.{ℕ, ◌==◌, Bool, true, false, Option, Some, None, slice_get, if◌then◌else◌, ◌||◌, not, Result, Ok, Err}
+use Rattle.refword.specs.Words.{bits_of}
+use Rattle.model.specs.declared.records.Barrier.{Barrier}
+use Rattle.model.specs.declared.records.Place.{Place}
+use Rattle.model.specs.declared.records.Place.TheVariants as places
+use Rattle.model.specs.Stores.{word_at}
+use Rattle.model.specs.declared.steps.Answer.{Answer}
+use Rattle.model.specs.declared.steps.Answer.TheVariants as answers
+use Rattle.model.specs.declared.steps.Refusal.{Refusal}
+use Rattle.model.specs.declared.steps.Refusal.TheVariants as refusals
+use Rattle.model.specs.Phases.{may_nmt_trap, same_bit}
+use Rattle.model.specs.Refusing.{◌>>=◌, or_refuse, Outcome}
+use Rattle.model.specs.States.{Reference, HeapState, changed}
+use Rattle.model.specs.Threads.{set_barrier_of, barrier_of, set_loaded_of, has_crossed}
+use Rattle.model.specs.Registers.{let_through, usable}
+use Rattle.model.specs.References.{global_of, stored, field_address, with_place, field_at}
+
+-- the heap with another barrier of a thread
+unfoldable pub with_barrier : HeapState → ℕ → Barrier → HeapState
+with_barrier h t b = record h { threads = changed h.threads t (set_barrier_of (Some b)) }
+
+-- the barrier of a thread
+abbrev pub barrier_of_thread : HeapState → ℕ → Option Barrier
+barrier_of_thread h t = barrier_of (slice_get h.threads t)
+
+-- the heap after a thread's load for register r has ended
+unfoldable pub with_loaded : HeapState → ℕ → ℕ → Reference → HeapState
+with_loaded h t r w = record h { threads = changed h.threads t (set_loaded_of r w) }
+
+-- the barrier of a load for a register, which has just read a word at a place
+abbrev pub new_barrier : ℕ → Place → Reference → Barrier
+new_barrier target place w = record { target = target; place = place; raw = w; now = w; healed = false }
+
+-- the row of Load
+unfoldable pub load_outcome : HeapState → ℕ → ℕ → ℕ → ℕ → Outcome
+load_outcome h t target object i = do
+  address ← usable h t object
+  place ← or_refuse (field_at h address i) refusals.BadIndex
+  bits ← or_refuse (word_at h.store place) refusals.BadIndex
+  Ok (with_barrier h t (new_barrier target (places.Field address i) (stored bits)), answers.Loaded)
+
+-- the row of LoadGlobal
+unfoldable pub load_global_outcome : HeapState → ℕ → ℕ → ℕ → Outcome
+load_global_outcome h t target global =
+    Ok (with_barrier h t (new_barrier target (places.Global global) (global_of h global)), answers.Loaded)
+
+-- whether something is refused
+abbrev pub is_refused : Result Unit Refusal → Bool
+is_refused (Ok u) = false
+is_refused (Err e) = true
+
+-- a GC trap is due: the word names a page that the thread may not use (the paper's read barrier)
+abbrev pub gc_trap_due : HeapState → ℕ → Reference → Bool
+gc_trap_due h t None = false
+gc_trap_due h t (Some w) = is_refused (let_through h t w.0)
+
+-- an NMT trap is due: the word has still to be marked (the paper's read barrier)
+abbrev pub nmt_trap_due : HeapState → ℕ → Reference → Bool
+nmt_trap_due h t None = false
+nmt_trap_due h t (Some w) =
+    if may_nmt_trap h.phase (has_crossed (slice_get h.threads t)) then not (same_bit w.1 h.nmt) else false
+
+-- a trap is due for a word
+unfoldable pub trap_due : HeapState → ℕ → Reference → Bool
+trap_due h t w = gc_trap_due h t w || nmt_trap_due h t w
+
+-- The row of Trap. No heap comes to a trap that is due before there are marks, and what it does comes with them.
+unfoldable pub trap_outcome : HeapState → ℕ → Outcome
+trap_outcome h t = do
+  b ← or_refuse (barrier_of_thread h t) refusals.NotBusy
+  if trap_due h t b.now then Err refusals.NoActor else Ok (h, answers.Clear)
+
+-- the bits at the place of a load
+abbrev pub bits_at : HeapState → Place → Option ℕ
+bits_at h (places.Field address i) = word_at h.store (field_address address i)
+bits_at h (places.Global g) = Some (bits_of (global_of h g))
+
+-- bits that may be missing are those of a word
+abbrev pub are_bits_of : Option ℕ → Reference → Bool
+are_bits_of None w = false
+are_bits_of (Some bits) w = bits == bits_of w
+
+-- a barrier whose place is healed
+abbrev pub healed : Barrier → Barrier
+healed b = record b { healed = true }
+
+-- a place is healed where it still has what was loaded
+unfoldable pub heal_place : HeapState → ℕ → Barrier → HeapState × Answer
+heal_place h t b =
+    if are_bits_of (bits_at h b.place) b.raw
+    then (with_barrier (with_place h b.place b.now) t (healed b), answers.Healed)
+    else (with_barrier h t (healed b), answers.Changed)
+
+-- the row of Heal
+unfoldable pub heal_outcome : HeapState → ℕ → Outcome
+heal_outcome h t = do
+  b ← or_refuse (barrier_of_thread h t) refusals.NotBusy
+  if trap_due h t b.now then Err refusals.Busy else Ok (heal_place h t b)
+
+-- a load may end: its word is the one that was loaded, or its place is healed
+abbrev pub may_finish : Barrier → Bool
+may_finish b = b.healed || (bits_of b.now == bits_of b.raw)
+
+-- a load ends, whose word has no trap due
+unfoldable pub end_load : HeapState → ℕ → Barrier → Outcome
+end_load h t b = if may_finish b then Ok (with_loaded h t b.target b.now, answers.Done) else Err refusals.Busy
+
+-- the row of Finish
+unfoldable pub finish_outcome : HeapState → ℕ → Outcome
+finish_outcome h t = do
+  b ← or_refuse (barrier_of_thread h t) refusals.NotBusy
+  if trap_due h t b.now then Err refusals.Busy else end_load h t b

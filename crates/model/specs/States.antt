@@ -1,0 +1,53 @@
+-- The state of a heap, as plain data.
+use Rattle.std.specs.Prelude.{ℕ, Bool, List, Option, Some, None, slice_get, slice_set}
+use Rattle.model.specs.declared.config.Config.{Config}
+use Rattle.model.specs.declared.records.Buffer.{Buffer}
+use Rattle.model.specs.declared.records.Barrier.{Barrier}
+use Rattle.model.specs.declared.records.Scan.{Scan}
+use Rattle.model.specs.declared.records.Forwarding.{Forwarding}
+use Rattle.model.specs.declared.records.Global.{Global}
+use Rattle.model.specs.declared.records.Phase.{Phase}
+use Rattle.model.specs.Stores.{StoreState}
+
+-- null, or an address with its not-marked-through bit
+abbrev pub Reference : Type 0
+Reference = Option (ℕ × Bool)
+
+-- a thread: its registers, its buffer, whether it has crossed and is parked, and its load that isn't finished
+pub record ThreadState : Type 0 where
+  pub registers : List Reference
+  pub buffer : Option Buffer
+  pub crossed : Bool
+  pub parked : Bool
+  pub barrier : Option Barrier
+
+-- A heap: all that it keeps, and how many objects were born.
+-- Rows have a bit for each word of a page; a page's row stands where its record does in the store.
+pub record HeapState : Type 0 where
+  pub config : Config
+  pub store : StoreState
+  pub starts : List (List Bool)
+  pub live : List (List Bool)
+  pub mark : List (List Bool)
+  pub todo : List (List Bool)
+  pub sides : List (List Forwarding)
+  pub threads : List ThreadState
+  pub workers : List (Option Scan)
+  pub globals : List Global
+  pub phase : Phase
+  pub nmt : Bool
+  pub births : ℕ
+
+-- what an option in an option holds
+abbrev pub flat : {X : Type 0} → Option (Option X) → Option X
+flat None = None
+flat (Some o) = o
+
+-- a list with the element of index i changed, which may be missing
+abbrev pub changed_at : {X : Type 0} → List X → ℕ → Option X → (X → X) → List X
+changed_at xs i None change = xs
+changed_at xs i (Some x) change = slice_set xs i (change x)
+
+-- a list with the element of an index changed, if it is there
+abbrev pub changed : {X : Type 0} → List X → ℕ → (X → X) → List X
+changed xs i change = changed_at xs i (slice_get xs i) change

@@ -1,0 +1,50 @@
+-- The record of a thread: what is read of it, and its edits.
+use Rattle.std.specs.Prelude.{ℕ, Bool, true, false, Option, Some, None, slice_get, slice_set}
+use Rattle.model.specs.declared.records.Buffer.{Buffer}
+use Rattle.model.specs.declared.records.Barrier.{Barrier}
+use Rattle.model.specs.States.{Reference, ThreadState, flat}
+
+-- a thread that may be missing has crossed the open checkpoint
+abbrev pub has_crossed : Option ThreadState → Bool
+has_crossed None = true
+has_crossed (Some t) = t.crossed
+
+-- a thread that may be missing is parked
+abbrev pub is_parked_in : Option ThreadState → Bool
+is_parked_in None = false
+is_parked_in (Some t) = t.parked
+
+-- the word in register r of a thread that may be missing
+abbrev pub register_in : Option ThreadState → ℕ → Reference
+register_in None r = None
+register_in (Some t) r = flat (slice_get t.registers r)
+
+-- a thread with another word in register r
+abbrev pub set_register_of : ℕ → Reference → ThreadState → ThreadState
+set_register_of r w t = record t { registers = slice_set t.registers r w }
+
+-- a thread with another buffer, or none
+abbrev pub set_buffer_of : Option Buffer → ThreadState → ThreadState
+set_buffer_of b t = record t { buffer = b }
+
+-- the buffer of a thread that may be missing
+abbrev pub buffer_in : Option ThreadState → Option Buffer
+buffer_in None = None
+buffer_in (Some t) = t.buffer
+
+-- a thread with another barrier, or none
+abbrev pub set_barrier_of : Option Barrier → ThreadState → ThreadState
+set_barrier_of b t = record t { barrier = b }
+
+-- the barrier of a thread that may be missing
+abbrev pub barrier_of : Option ThreadState → Option Barrier
+barrier_of None = None
+barrier_of (Some t) = t.barrier
+
+-- a thread whose barrier is closed, and whose register r has the word that was loaded
+abbrev pub set_loaded_of : ℕ → Reference → ThreadState → ThreadState
+set_loaded_of r w t = record t { registers = slice_set t.registers r w; barrier = None }
+
+-- a thread that is parked or runs
+abbrev pub set_parked_of : Bool → ThreadState → ThreadState
+set_parked_of b t = record t { parked = b }
