@@ -17,7 +17,7 @@ use Rattle.model.specs.First.{first_heap}
 use Rattle.model.specs.Plain.{plain_answer}
 use Rattle.laws.proofs.Promises.{stands, usable_has_memory}
 use Rattle.refinement.specs.Worlds.{world_of}
-use Rattle.refinement.specs.Births.{births_of}
+use Rattle.refinement.specs.PlainHeaps.{births_of}
 use Rattle.refinement.specs.Standing.{Holds, StepHolds, AnswersPlain, FirstHolds, StepsHold, KeepsStanding}
 use Rattle.cycle.specs.declared.book.Entry.{Entry}
 use Rattle.cycle.specs.Books.{BookState, first_book, is_full}

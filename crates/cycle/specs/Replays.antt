@@ -5,7 +5,7 @@ use Rattle.model.specs.declared.config.Config.{Config}
 use Rattle.model.specs.Plain.{PlainHeap, plain_start, plain_step, plain_answer}
 use Rattle.laws.specs.Promises.{StandsForPlain, UsableHasMemory}
 use Rattle.refinement.specs.Worlds.{world_of}
-use Rattle.refinement.specs.Births.{births_of}
+use Rattle.refinement.specs.PlainHeaps.{births_of}
 use Rattle.refinement.specs.Standing.{Holds, AnswersPlain, kept_at_mark}
 use Rattle.cycle.specs.declared.book.Entry.{Entry}
 use Rattle.cycle.specs.Books.{BookState}

@@ -26,7 +26,7 @@ use Rattle.laws.proofs.First.{first_holds}
 use Rattle.model.specs.Bits.{of_page, bit_at}
 use Rattle.refinement.specs.Worlds.{world_of, as_word, object_at, object_in}
 use Rattle.refinement.specs.Worlds.{entry_at, barrier_in, scan_in, global_in, todo_in}
-use Rattle.refinement.specs.Births.{births_of, as_pair}
+use Rattle.refinement.specs.PlainHeaps.{births_of, as_pair}
 use Rattle.refinement.specs.Claims.{AreRising, IsLaid, AreRows, HasGiven, Claim, OfObject}
 use Rattle.refinement.specs.Claims.{OfBuffer, OfPlan, OfEnd, extent, end_extent, sized_extent}
 use Rattle.refinement.specs.Claims.{planned_extent, size_at, buffer_extent, object_size}

@@ -33,14 +33,14 @@ use Rattle.refinement.specs.Worlds.{world_of, object_at, barrier_in}
 use Rattle.refinement.specs.Claims.{IsLaid, AreRows, AreApart, Claim, OfObject, OfBuffer, OfPlan, OfEnd, Extent}
 use Rattle.refinement.specs.Claims.{extent, object_size, size_at, sized_extent, planned_extent, buffer_extent}
 use Rattle.refinement.specs.Roots.{HoldsWords}
-use Rattle.refinement.proofs.Runs.{Agree, overlaid_before, overlaid_behind}
-use Rattle.refinement.proofs.Reading.{IsRead, read_fits, read_fresh, new_object}
+use Rattle.refinement.proofs.Slices.{Agree, overlaid_before, overlaid_behind}
+use Rattle.refinement.proofs.ObjectWords.{IsRead, read_fits, read_fresh, new_object}
 use Rattle.refinement.proofs.Objects.{Rewrites, there, rewritten}
 use Rattle.refinement.proofs.Claims.{object_extent, Splits, split_apart}
 use Rattle.refinement.proofs.Changes.{read_changed, kept_of, rows_changed, length_put, bit_put, length_changed}
 use Rattle.refinement.proofs.Carrying.{Carries, alike}
 use Rattle.refinement.proofs.Rooted.{handed_holds_words}
-use Rattle.refinement.proofs.Registers.{register_changed}
+use Rattle.refinement.proofs.Changes.{register_changed}
 
 -- a buffer's page is open
 pub open_at : (h : HeapState) (b : Buffer) → LiesIn h.store b → b.next < h.store.words

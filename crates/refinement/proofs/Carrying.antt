@@ -23,7 +23,7 @@ use Rattle.laws.specs.Invariant.{Invariant}
 use Rattle.laws.specs.Transitions.{Transition}
 use Rattle.laws.proofs.Runs.{transition_keeps}
 use Rattle.refinement.specs.Worlds.{world_of}
-use Rattle.refinement.specs.Births.{births_of, HasRootsOf}
+use Rattle.refinement.specs.PlainHeaps.{births_of, HasRootsOf}
 use Rattle.refinement.specs.Claims.{IsLaid, HasGiven}
 use Rattle.refinement.specs.Roots.{HoldsWords, HasWords}
 use Rattle.refinement.specs.Standing.{Holds, StepHolds, AnswersPlain, kept_at_mark}

@@ -1,7 +1,7 @@
 -- One element of a list is changed: threads, and the bits of rows.
-use Rattle.std.proofs.Common.{◌≡◌, ◌≢◌, ◌⊎◌, inl, inr, ℕ, zero, suc, ◌+◌, ◌*◌, ◌/◌, ◌%◌, ◌<◌}
-use Rattle.std.proofs.Common.{◌≤◌, Bool, false, List, [], ◌∷◌, length, get_or, set, replicate}
-use Rattle.std.proofs.Common.{Option, Some, None, refl, sym, ◌∙◌, ap, ap₂, arith, div-add-mod'}
+use Rattle.std.proofs.Common.{◌≡◌, ◌≢◌, ◌⊎◌, inl, inr, ℕ, zero, suc, ◌+◌, ◌*◌, ◌/◌, ◌%◌, ◌<◌, ◌≤◌, Bool, false, List}
+use Rattle.std.proofs.Common.{[], ◌∷◌, length, get_or, set, replicate, Option, Some, None, refl, sym, ◌∙◌, ap, ap₂}
+use Rattle.std.proofs.Common.{arith, div-add-mod'}
 use Rattle.std.specs.List.{slice_get}
 use Rattle.std.specs.Option.{option_map}
 use Rattle.std.proofs.lemmas.Option.{get_or_from_slice_get}
@@ -9,14 +9,16 @@ use Rattle.std.proofs.lemmas.List.{get_or_past}
 use Rattle.std.proofs.Math.ListN.{length-set, length-replicate}
 use Rattle.std.proofs.lemmas.Bool.{cases_eq}
 use Rattle.model.specs.Stores.{StoreState}
-use Rattle.model.specs.States.{changed, changed_at}
+use Rattle.model.specs.States.{changed, changed_at, ThreadState, Reference, flat}
 use Rattle.model.specs.Buffers.{blank_row}
 use Rattle.model.specs.Births.{put_bit}
 use Rattle.model.proofs.Lists.{get_set_same, get_set_other, get_within, each_changed}
-use Rattle.laws.specs.AddressHeap.{put}
+use Rattle.laws.specs.AddressHeap.{put, put_at}
 use Rattle.laws.proofs.Basics.{put_all, put_same, put_other, put_id}
 use Rattle.model.specs.Bits.{of_page, bit_at}
 use Rattle.refinement.specs.Claims.{AreRows}
+use Rattle.model.specs.Threads.{register_in}
+use Rattle.refinement.specs.Worlds.{as_word}
 
 -- what is read of a list with one element changed
 pub get_changed : {X : Type 0} (xs : List X) (t : ℕ) (f : X → X) (u : ℕ)
@@ -177,3 +179,31 @@ pub blank_other : (w : ℕ) (rows : List (List Bool)) (i : ℕ) (row : List Bool
     → x / w ≢ suc i → bit_at (changed rows i blank_row) w x ≡ bit_at rows w x
 blank_other w rows i row x e q = ap (λ r. get_or r (x % w) false)
     (page_changed rows i blank_row row e (x / w) ∙ put_other (of_page rows) (suc i) (blank_row row) (x / w) q)
+
+-- the registers of threads, of which one has its register r changed
+pub register_changed :
+    (ts : List ThreadState) (t r : ℕ) (w : Reference) (f : ThreadState → ThreadState) (x : ThreadState)
+    → slice_get ts t ≡ Some x → r < length x.registers → (f x).registers ≡ set x.registers r w
+    → (u s : ℕ) → as_word (register_in (slice_get (changed ts t f) u) s)
+    ≡ put_at (λ v q. as_word (register_in (slice_get ts v) q)) t r (as_word w) u s
+register_changed ts t r w f x e h k u s =
+    ap (λ o. as_word (register_in o s)) (get_changed ts t f u) ∙ put_all
+    (λ v y. (q : ℕ) → as_word (register_in (put (slice_get ts) t (option_map f (slice_get ts t)) v) q) ≡ y q)
+    (λ v q. as_word (register_in (slice_get ts v) q)) t
+    (put (λ q. as_word (register_in (slice_get ts t) q)) r (as_word w)) here (λ v d q.
+    ap (λ o. as_word (register_in o q)) (put_other (slice_get ts) t (option_map f (slice_get ts t)) v d)) u s
+  where
+    in_thread : (q : ℕ) → as_word (flat (slice_get (set x.registers r w) q))
+        ≡ put (λ q. as_word (flat (slice_get x.registers q))) r (as_word w) q
+    in_thread = put_all (λ q y. as_word (flat (slice_get (set x.registers r w) q)) ≡ y)
+        (λ q. as_word (flat (slice_get x.registers q))) r (as_word w)
+        (let (y, there) = get_within x.registers r h in
+        ap (λ o. as_word (flat o)) (get_set_same x.registers r y w there))
+        (λ q d. ap (λ o. as_word (flat o)) (get_set_other x.registers r q w d))
+
+    here : (q : ℕ) → as_word (register_in (put (slice_get ts) t (option_map f (slice_get ts t)) t) q)
+        ≡ put (λ q. as_word (register_in (slice_get ts t) q)) r (as_word w) q
+    here q =
+        ap (λ o. as_word (register_in o q)) (put_same (slice_get ts) t (option_map f (slice_get ts t))
+        ∙ ap (option_map f) e) ∙ ap (λ l. as_word (flat (slice_get l q))) k ∙ in_thread q
+        ∙ ap (λ o. put (λ q. as_word (register_in o q)) r (as_word w) q) (sym e)

@@ -12,8 +12,8 @@ use Rattle.laws.proofs.Basics.{put_all}
 use Rattle.model.specs.Bits.{bit_at}
 use Rattle.refinement.specs.Worlds.{object_at, object_in}
 use Rattle.refinement.specs.Claims.{object_size}
-use Rattle.refinement.proofs.Runs.{Agree}
-use Rattle.refinement.proofs.Reading.{IsRead, read_is, is_read, read_same}
+use Rattle.refinement.proofs.Slices.{Agree}
+use Rattle.refinement.proofs.ObjectWords.{IsRead, read_is, is_read, read_same}
 
 -- an object that is there
 

@@ -31,7 +31,7 @@ use Rattle.refinement.specs.Worlds.{world_of, object_at, object_in}
 use Rattle.refinement.specs.Claims.{IsLaid, AreRows, Apart, AreApart, Claim, OfObject, OfBuffer, OfPlan, OfEnd}
 use Rattle.refinement.specs.Claims.{Extent, extent, object_size, sized_extent, planned_extent, buffer_extent}
 use Rattle.refinement.specs.Claims.{end_extent, size_at}
-use Rattle.refinement.proofs.Reading.{read_fits}
+use Rattle.refinement.proofs.ObjectWords.{read_fits}
 use Rattle.refinement.proofs.Objects.{there}
 use Rattle.refinement.proofs.Changes.{blank_here, blank_other, rows_changed, length_blank}
 use Rattle.refinement.proofs.Granted.{page_set, page_here}

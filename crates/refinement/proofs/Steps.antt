@@ -15,13 +15,17 @@ use Rattle.refinement.specs.Standing.{Holds, StepHolds}
 use Rattle.refinement.proofs.Accepted.{accepted, of_accepted, on_has}
 use Rattle.refinement.proofs.Carrying.{RowHolds}
 use Rattle.refinement.proofs.Verdicts.{Passed, passed}
-use Rattle.refinement.proofs.Readers.{is_null_holds, same_holds, datum_holds}
-use Rattle.refinement.proofs.Writers.{give_back_holds, copy_holds, clear_holds, set_datum_holds, new_holds}
-use Rattle.refinement.proofs.Takes.{take_holds}
-use Rattle.refinement.proofs.Storing.{store_holds, store_global_holds}
-use Rattle.refinement.proofs.Parking.{park_holds, unpark_holds, scrub_holds}
-use Rattle.refinement.proofs.Loading.{load_holds, load_global_holds}
-use Rattle.refinement.proofs.Ending.{trap_holds, heal_holds, finish_holds}
+use Rattle.refinement.proofs.Registers.{is_null_holds, same_holds}
+use Rattle.refinement.proofs.Data.{datum_holds}
+use Rattle.refinement.proofs.Buffers.{give_back_holds}
+use Rattle.refinement.proofs.Registers.{copy_holds, clear_holds}
+use Rattle.refinement.proofs.Data.{set_datum_holds}
+use Rattle.refinement.proofs.Births.{new_holds}
+use Rattle.refinement.proofs.Buffers.{take_holds}
+use Rattle.refinement.proofs.References.{store_holds, store_global_holds}
+use Rattle.refinement.proofs.Checkpoints.{park_holds, unpark_holds, scrub_holds}
+use Rattle.refinement.proofs.Loads.{load_holds, load_global_holds}
+use Rattle.refinement.proofs.Loads.{trap_holds, heal_holds, finish_holds}
 
 row_holds : (h : HeapState) (p p0 : PlainHeap) (t : ℕ) (step : Step) → IsStore h.store → IsHeap h → Holds h p p0
     → Passed h t step → RowHolds h p p0 (Thread t) step (thread_row h t step)

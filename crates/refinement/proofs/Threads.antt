@@ -27,7 +27,7 @@ use Rattle.refinement.proofs.Changes.{was_read, kept_of, read_changed, length_ch
 use Rattle.refinement.proofs.Carrying.{Carries, thread_carries, alike}
 use Rattle.refinement.proofs.Rooted.{buffer_holds_words, register_holds_words, barrier_holds_words}
 use Rattle.refinement.proofs.Rooted.{loaded_holds_words, parked_holds_words}
-use Rattle.refinement.proofs.Registers.{register_changed}
+use Rattle.refinement.proofs.Changes.{register_changed}
 
 -- a change that leaves how many registers a thread has, and its buffer, or lets it go
 record KeepsShape (f : ThreadState → ThreadState) : Type 0 where

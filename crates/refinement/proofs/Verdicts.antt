@@ -21,7 +21,7 @@ use Rattle.laws.specs.AddressHeap.{HeapObject}
 use Rattle.laws.specs.Transitions.{IsUsable}
 use Rattle.refinement.specs.Worlds.{world_of, object_at, as_barrier, barrier_in}
 use Rattle.refinement.proofs.Accepted.{OnAccepted, on_has, on_test}
-use Rattle.refinement.proofs.Reading.{read_refs, read_data}
+use Rattle.refinement.proofs.ObjectWords.{read_refs, read_data}
 use Rattle.refinement.proofs.Objects.{IsThere, there}
 
 -- the tests before a row

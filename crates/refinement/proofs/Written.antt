@@ -23,8 +23,8 @@ use Rattle.model.specs.Bits.{bit_at}
 use Rattle.refinement.specs.Worlds.{world_of, object_at, word_in_memory, as_word, as_read}
 use Rattle.refinement.specs.Claims.{IsLaid, Claim, OfObject, OfBuffer, OfPlan, OfEnd, extent, object_size, size_at}
 use Rattle.refinement.specs.Claims.{sized_extent, planned_extent}
-use Rattle.refinement.proofs.Runs.{Agree}
-use Rattle.refinement.proofs.Reading.{IsRead, read_refs, read_data, read_fits, read_datum, read_field}
+use Rattle.refinement.proofs.Slices.{Agree}
+use Rattle.refinement.proofs.ObjectWords.{IsRead, read_refs, read_data, read_fits, read_datum, read_field}
 use Rattle.refinement.proofs.Objects.{Rewrites, IsThere, there, rewritten}
 use Rattle.refinement.proofs.Claims.{within_page, objects_apart, extents_same}
 use Rattle.refinement.proofs.Carrying.{Carries, becomes, alike}

@@ -1,5 +1,5 @@
 pub mod Worlds
-pub mod Births
+pub mod PlainHeaps
 pub mod Claims
 pub mod Roots
 pub mod Standing

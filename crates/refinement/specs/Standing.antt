@@ -14,7 +14,7 @@ use Rattle.model.specs.Outcome.{outcome}
 use Rattle.model.specs.Plain.{PlainHeap, plain_step, plain_answer, plain_start}
 use Rattle.laws.specs.Invariant.{Invariant}
 use Rattle.refinement.specs.Worlds.{world_of}
-use Rattle.refinement.specs.Births.{births_of, HasRootsOf}
+use Rattle.refinement.specs.PlainHeaps.{births_of, HasRootsOf}
 use Rattle.refinement.specs.Claims.{IsLaid, HasGiven}
 use Rattle.refinement.specs.Roots.{HasWords}
 

@@ -17,9 +17,9 @@ use Rattle.refinement.proofs.Carrying.{RowHolds, row_by}
 use Rattle.refinement.proofs.Rooted.{register_word}
 use Rattle.refinement.proofs.Written.{field_carries}
 use Rattle.refinement.proofs.Threads.{global_carries}
-use Rattle.refinement.proofs.Births.{storing_follows, global_follows}
+use Rattle.refinement.proofs.PlainSteps.{storing_follows, global_follows}
 use Rattle.refinement.proofs.Verdicts.{Passed, first_false, is_global}
-use Rattle.refinement.proofs.Readers.{on_named, on_field}
+use Rattle.refinement.proofs.Naming.{on_named, on_field}
 
 pub less_is : (m n : ℕ) → m < n → nat_lt m n ≡ true
 less_is m n h = grind (arith, nat_tests)

@@ -1,4 +1,4 @@
--- A step that takes a buffer.
+-- Steps that take a buffer, or give it back.
 use Rattle.std.proofs.Common.{replicate, ◌≡◌, ◌≢◌, ◌⊎◌, inl, inr, ℕ, ◌-◌, ◌<◌, ◌≤◌, ◌==◌, Bool, false, cond, nat_eq}
 use Rattle.std.proofs.Common.{nat_lt, List, set, is_some, Some, None, refl, sym, ◌∙◌, ap, subst, arith, ne_eqb}
 use Rattle.std.specs.List.{slice_get}
@@ -18,7 +18,7 @@ use Rattle.model.specs.Owning.{Each, IsStore}
 use Rattle.model.specs.Holding.{IsHeap}
 use Rattle.model.specs.States.{HeapState, ThreadState, changed}
 use Rattle.model.specs.Threads.{buffer_in}
-use Rattle.model.specs.Buffers.{buffer_of_thread, opened_rows, blank_row, take_outcome, took, lent}
+use Rattle.model.specs.Buffers.{buffer_of_thread, opened_rows, blank_row, take_outcome, took, lent, give_back_outcome}
 use Rattle.model.specs.Plain.{PlainHeap, plain_step, plain_answer}
 use Rattle.model.proofs.Lists.{get_set, get_set_other, no_some}
 use Rattle.page.proofs.Keeping.{given_at, opened_at}
@@ -28,12 +28,13 @@ use Rattle.laws.specs.Edits.{open_page}
 use Rattle.refinement.specs.Worlds.{world_of}
 use Rattle.refinement.specs.Claims.{HasGiven, IsLaid}
 use Rattle.refinement.specs.Standing.{Holds}
-use Rattle.refinement.proofs.Accepted.{OnAccepted, on_test}
-use Rattle.refinement.proofs.Carrying.{Carries, RowHolds, step_by, stays, unseen, alike}
+use Rattle.refinement.proofs.Accepted.{OnAccepted, on_test, on_truth}
+use Rattle.refinement.proofs.Carrying.{Carries, RowHolds, step_by, stays, unseen, alike, unseen_by}
 use Rattle.refinement.proofs.Taken.{InOpenPage, InFreshPage, ways}
 use Rattle.refinement.proofs.Granted.{MayGrant, granted, granted_carries, with_more}
 use Rattle.refinement.proofs.Opened.{MayOpen, opened_heap, opened_world, opened_laid, on_page, was_unused}
 use Rattle.refinement.proofs.Verdicts.{Passed, first_false, second_false}
+use Rattle.refinement.proofs.Threads.{given_back_carries}
 
 -- what each element has, and the last of two that are put in one place
 each_set_again : {X : Type 0} (P : X → Type 0) (xs : List X) (i : ℕ) (v w : X) → Each xs P → P w
@@ -153,3 +154,10 @@ module _ {h : HeapState} {p p0 : PlainHeap} (s : IsStore h.store) (d : IsHeap h)
     where
       positive : (n : ℕ) → nat_eq n 0 ≡ false → 0 < n
       positive n e = grind arith
+
+module _ {h : HeapState} {p p0 : PlainHeap} (s : IsStore h.store) (d : IsHeap h) (k : Holds h p p0) (t : ℕ) where
+  -- a buffer is given back
+  pub give_back_holds : Passed h t steps.GiveBack → RowHolds h p p0 (Thread t) steps.GiveBack (give_back_outcome h t)
+  unfolding give_back_outcome plain_step plain_answer
+  give_back_holds g = on_truth (is_some (buffer_of_thread h t)) _ _ _
+      (λ e. unseen_by k (given_back_carries h t g.thread g.there) tt)

@@ -19,7 +19,7 @@ use Rattle.laws.specs.AddressHeap.{HeapObject, Word, Null}
 use Rattle.laws.specs.Effects.{with_datum, with_field}
 use Rattle.refinement.specs.Worlds.{run, object_of, object_laid, object_headed, word_in_memory}
 use Rattle.refinement.specs.Claims.{object_size}
-use Rattle.refinement.proofs.Runs.{Agree, run_same, run_all, get_run, length_run, overlaid_in}
+use Rattle.refinement.proofs.Slices.{Agree, run_same, run_all, get_run, length_run, overlaid_in}
 
 -- what an object that was read has to do with the words
 pub record IsRead (ls : List Layout) (ws : List ℕ) (o : ℕ) (q : HeapObject) : Type 0 where
