@@ -2,7 +2,7 @@
 
 ghost use Rattle.std.specs.Prelude.{◌≡◌};
 ghost use Rattle.model.specs.Refusing.{Does};
-ghost use Rattle.model.specs.Loads.{are_bits_of, healed, heal_place, heal_outcome, may_finish, end_load, finish_outcome};
+ghost use Rattle.model.specs.Loads.{are_bits_of, set_healed, heal_place, heal_outcome, may_finish, end_load, finish_outcome};
 
 use crate::traps::trap_due;
 use heap::Heap;
@@ -19,8 +19,8 @@ fn are_bits_of(bits: Option<u64>, word: Word) -> bool
     }
 }
 
-fn healed(barrier: Barrier) -> Barrier
-    ensures { result ≡ healed barrier }
+fn set_healed(barrier: Barrier) -> Barrier
+    ensures { result ≡ set_healed barrier }
 {
     Barrier {
         target: barrier.target,
@@ -38,10 +38,10 @@ fn heal_place(heap: &mut Heap, thread: u32, barrier: Barrier) -> Answer
 {
     if are_bits_of(heap.bits_at(barrier.place), barrier.raw) {
         heap.set_place(barrier.place, barrier.now);
-        heap.set_barrier(thread, healed(barrier));
+        heap.set_barrier(thread, set_healed(barrier));
         Answer::Healed
     } else {
-        heap.set_barrier(thread, healed(barrier));
+        heap.set_barrier(thread, set_healed(barrier));
         Answer::Changed
     }
 }

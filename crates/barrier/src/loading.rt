@@ -4,7 +4,7 @@ ghost use Rattle.std.specs.Prelude.{◌≡◌};
 ghost use Rattle.model.specs.Refusing.{Does};
 ghost use Rattle.model.specs.Loads.{new_barrier, load_outcome, load_global_outcome};
 
-use heap::{Heap, stored};
+use heap::{Heap, read_reference};
 use model::{Answer, Barrier, Place, Refusal};
 use refword::Word;
 
@@ -47,7 +47,7 @@ pub fn load(
         object: address,
         index: field,
     };
-    heap.set_barrier(thread, new_barrier(target, place, stored(bits)));
+    heap.set_barrier(thread, new_barrier(target, place, read_reference(bits)));
     Ok(Answer::Loaded)
 }
 

@@ -3,11 +3,11 @@ use Rattle.std.proofs.Common.{◌≡◌, List, [], ◌∷◌, ◌++◌, ◌+◌,
 use Rattle.std.proofs.Common.{append_assoc, refl, sym, ap, ◌∙◌, subst}
 use Rattle.model.specs.declared.steps.Actor.{Actor}
 use Rattle.model.specs.declared.steps.Step.{Step}
-use Rattle.cycle.specs.Books.{BookState, Reply, Acts, Ran, acted}
+use Rattle.cycle.specs.Books.{BookState, Reply, Acts, Ran, act_outcome}
 
 pub ran_more : (ss : List (Actor × Step)) (rs : List Reply) (b c d : BookState) (s : Actor × Step) (r : Reply)
-    → Ran b ss rs c → Acts c r d (acted c s.0 s.1) → Ran b (ss ++ s ∷ []) (rs ++ r ∷ []) d
-ran_more [] [] b c d s r h a = (d, subst (λ e. Acts e r d (acted e s.0 s.1)) h a, refl)
+    → Ran b ss rs c → Acts c r d (act_outcome c s.0 s.1) → Ran b (ss ++ s ∷ []) (rs ++ r ∷ []) d
+ran_more [] [] b c d s r h a = (d, subst (λ e. Acts e r d (act_outcome e s.0 s.1)) h a, refl)
 ran_more [] (q ∷ rs) b c d s r h a = absurd h
 ran_more (t ∷ ss) [] b c d s r h a = absurd h
 ran_more (t ∷ ss) (q ∷ rs) b c d s r (e, f, g) a = (e, f, ran_more ss rs e c d s r g a)

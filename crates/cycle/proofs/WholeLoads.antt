@@ -15,8 +15,8 @@ use Rattle.model.specs.States.{HeapState}
 use Rattle.model.specs.Loads.{barrier_of_thread, trap_outcome, trap_due}
 use Rattle.model.specs.Refusing.{◌>>=◌, or_refuse, Outcome}
 use Rattle.model.specs.Outcome.{outcome, thread_gate, thread_row}
-use Rattle.cycle.specs.Books.{BookState, BookOutcome, Reply, acted, entered, is_full}
-use Rattle.cycle.specs.Loads.{Told, told, step_then, finish_load, heal_load, is_clear, trap_load, Says}
+use Rattle.cycle.specs.Books.{BookState, BookOutcome, Reply, act_outcome, enter_accepted, is_full}
+use Rattle.cycle.specs.Loads.{Told, tell, step_then, finish_load, heal_load, is_clear, trap_load, Says}
 use Rattle.cycle.specs.Loads.{behind}
 use Rattle.cycle.specs.Loads.{ThreeTrapsServe}
 
@@ -29,8 +29,8 @@ refused : (b c : BookState) (o : BookOutcome) (reply : Reply) (e : Refusal) → 
 refused b c o reply e is h = subst (λ (x : Reply). Says b x c o) is h
 
 behind_more : (rs more : List Reply) (a : Answer) (t : Told) → more ≡ rs ++ Ok a ∷ []
-    → told t.book (rs ++ (Ok a ∷ t.replies)) ≡ behind more t
-behind_more rs more a t h = ap (λ (x : List Reply). told t.book x)
+    → tell t.book (rs ++ (Ok a ∷ t.replies)) ≡ behind more t
+behind_more rs more a t h = ap (λ (x : List Reply). tell t.book x)
     (sym (append_assoc rs (Ok a ∷ []) t.replies) ∙ ap (λ (x : List Reply). x ++ t.replies) (sym h))
 
 -- an accepted step leads on to what follows it
@@ -45,32 +45,32 @@ step_ok b c o reply a next rs more new is says put h =
 -- a refused step is the end
 pub step_err : (b c : BookState) (o : BookOutcome) (reply : Reply) (e : Refusal) (next : BookState → Answer → Told)
     (rs more : List Reply) → reply ≡ Err e → Says b reply c o → more ≡ rs ++ reply ∷ []
-    → behind rs (step_then b o next) ≡ told c more
+    → behind rs (step_then b o next) ≡ tell c more
 unfolding step_then
 step_err b c o reply e next rs more is says put =
     let h = refused b c o reply e is says in
     let more_is : more ≡ rs ++ Err e ∷ [] = put ∙ ap (λ (x : Reply). rs ++ x ∷ []) is in
     rw (h.0, h.1, more_is) refl
 
-nothing_more : (c : BookState) (rs : List Reply) → behind rs (told c []) ≡ told c rs
-nothing_more c rs = ap (told c) (append-nil rs)
+nothing_more : (c : BookState) (rs : List Reply) → behind rs (tell c []) ≡ tell c rs
+nothing_more c rs = ap (tell c) (append-nil rs)
 
 -- a step that nothing follows
 pub last_step : (b c : BookState) (o : BookOutcome) (reply : Reply) (rs more : List Reply) → Says b reply c o
-    → more ≡ rs ++ reply ∷ [] → behind rs (step_then b o (λ d answer. told d [])) ≡ told c more
+    → more ≡ rs ++ reply ∷ [] → behind rs (step_then b o (λ d answer. tell d [])) ≡ tell c more
 last_step b c o (Ok a) rs more says put =
-    step_ok b c o (Ok a) a (λ d answer. told d []) rs more (told c more) refl says put (nothing_more c more)
-last_step b c o (Err e) rs more says put = step_err b c o (Err e) e (λ d answer. told d []) rs more refl says put
+    step_ok b c o (Ok a) a (λ d answer. tell d []) rs more (tell c more) refl says put (nothing_more c more)
+last_step b c o (Err e) rs more says put = step_err b c o (Err e) e (λ d answer. tell d []) rs more refl says put
 
 -- a call that did the last step
 pub last_done : {E : Type 0} (b c : BookState) (o : BookOutcome) (r : Result Reply E) (rs more : List Reply)
     → IfOk r (λ reply. Says b reply c o) → IfOk r (λ reply. more ≡ rs ++ reply ∷ [])
-    → OnOk r (behind rs (step_then b o (λ d answer. told d [])) ≡ told c more)
+    → OnOk r (behind rs (step_then b o (λ d answer. tell d [])) ≡ tell c more)
 last_done b c o (Ok reply) rs more says put = last_step b c o reply rs more says put
 last_done b c o (Err e) rs more says put = search rules
 
 pub healed_due : (due : Bool) (b : BookState) (actor : Actor) (rs : List Reply) (t : Told)
-    → due ≡ true → behind rs (step_then b (acted b actor steps.Heal) (λ c answer. finish_load c actor)) ≡ t
+    → due ≡ true → behind rs (step_then b (act_outcome b actor steps.Heal) (λ c answer. finish_load c actor)) ≡ t
     → behind rs (heal_load due b actor) ≡ t
 healed_due due b actor rs t e h = subst (λ (x : Bool). behind rs (heal_load x b actor) ≡ t) (sym e) h
 
@@ -81,25 +81,25 @@ abbrev pub after_trap : ℕ → Bool → Actor → BookState → Answer → Told
 after_trap n due actor c answer = if is_clear answer then heal_load due c actor else trap_load n true c actor
 
 trapped_next : (k n : ℕ) (due : Bool) (b : BookState) (actor : Actor) → k ≡ suc n →
-    trap_load k due b actor ≡ step_then b (acted b actor steps.Trap) (after_trap n due actor)
+    trap_load k due b actor ≡ step_then b (act_outcome b actor steps.Trap) (after_trap n due actor)
 unfolding trap_load
 trapped_next k n due b actor e = rw e refl
 
 pub trap_err :
     (k n : ℕ) (due : Bool) (b c : BookState) (actor : Actor) (reply : Reply) (e : Refusal) (rs more : List Reply)
-    → k ≡ suc n → reply ≡ Err e → Says b reply c (acted b actor steps.Trap) → more ≡ rs ++ reply ∷ []
-    → behind rs (trap_load k due b actor) ≡ told c more
+    → k ≡ suc n → reply ≡ Err e → Says b reply c (act_outcome b actor steps.Trap) → more ≡ rs ++ reply ∷ []
+    → behind rs (trap_load k due b actor) ≡ tell c more
 trap_err k n due b c actor reply e rs more left is says put =
     ap (behind rs) (trapped_next k n due b actor left)
-    ∙ step_err b c (acted b actor steps.Trap) reply e (after_trap n due actor) rs more is says put
+    ∙ step_err b c (act_outcome b actor steps.Trap) reply e (after_trap n due actor) rs more is says put
 
 pub trap_ok : (k n : ℕ) (due : Bool) (b c : BookState) (actor : Actor) (reply : Reply)
     (a : Answer) (rs more : List Reply) (rest : Told) → k ≡ suc n → reply ≡ Ok a
-    → Says b reply c (acted b actor steps.Trap) → more ≡ rs ++ reply ∷ [] → after_trap n due actor c a ≡ rest
+    → Says b reply c (act_outcome b actor steps.Trap) → more ≡ rs ++ reply ∷ [] → after_trap n due actor c a ≡ rest
     → behind rs (trap_load k due b actor) ≡ behind more rest
 trap_ok k n due b c actor reply a rs more rest left is says put h =
     ap (behind rs) (trapped_next k n due b actor left)
-    ∙ step_ok b c (acted b actor steps.Trap) reply a (after_trap n due actor) rs more
+    ∙ step_ok b c (act_outcome b actor steps.Trap) reply a (after_trap n due actor) rs more
     (behind more (after_trap n due actor c a)) is says put refl
     ∙ ap (behind more) h
 
@@ -152,17 +152,17 @@ same_answer x y e = ap (λ (z : BookState × Answer). z.1) (same_pair e)
 
 entered_clear : (b : BookState) (actor : Actor) (o : Outcome) (c : BookState) (a : Answer)
     → ((x : HeapState × Answer) → o ≡ Ok x → x.1 ≡ answers.Clear)
-    → entered b actor steps.Trap o ≡ Ok (c, a) → a ≡ answers.Clear
+    → enter_accepted b actor steps.Trap o ≡ Ok (c, a) → a ≡ answers.Clear
 entered_clear b actor (Ok x) c a clear e = sym (same_answer _ _ e) ∙ clear x refl
 entered_clear b actor (Err n) c a clear e = absurd cc
 
-acted_clear : (b c : BookState) (actor : Actor) (a : Answer) → acted b actor steps.Trap ≡ Ok (c, a)
+acted_clear : (b c : BookState) (actor : Actor) (a : Answer) → act_outcome b actor steps.Trap ≡ Ok (c, a)
     → a ≡ answers.Clear
-unfolding acted
+unfolding act_outcome
 acted_clear b c actor a e = by_full (is_full b) e
   where
     by_full : (full : Bool)
-        → (if full then Err refusals.HistoryFull else entered b actor steps.Trap (outcome b.heap actor steps.Trap))
+        → (if full then Err refusals.HistoryFull else enter_accepted b actor steps.Trap (outcome b.heap actor steps.Trap))
         ≡ Ok (c, a) → a ≡ answers.Clear
     by_full true f = absurd cc
     by_full false f =
@@ -172,7 +172,7 @@ stepped_same : (b : BookState) (o : BookOutcome) (f g : BookState → Answer →
     → ((c : BookState) (a : Answer) → o ≡ Ok (c, a) → f c a ≡ g c a) → step_then b o f ≡ step_then b o g
 unfolding step_then
 stepped_same b (Ok x) f g same =
-    ap (λ (t : Told). told t.book (Ok x.1 ∷ t.replies)) (same x.0 x.1 refl)
+    ap (λ (t : Told). tell t.book (Ok x.1 ∷ t.replies)) (same x.0 x.1 refl)
 stepped_same b (Err e) f g same = refl
 
 after_clear : (n m : ℕ) (due : Bool) (actor : Actor) (c : BookState) (a : Answer) → a ≡ answers.Clear
@@ -183,6 +183,6 @@ pub three_traps_serve : ThreeTrapsServe
 three_traps_serve b k actor more =
     let left : 3 + more ≡ suc (2 + more) = omega arith in
     trapped_next (3 + more) (2 + more) false b actor left
-    ∙ stepped_same b (acted b actor steps.Trap) (after_trap (2 + more) false actor) (after_trap 2 false actor)
+    ∙ stepped_same b (act_outcome b actor steps.Trap) (after_trap (2 + more) false actor) (after_trap 2 false actor)
     (λ c a e. after_clear (2 + more) 2 false actor c a (acted_clear b c actor a e))
     ∙ sym (trapped_next 3 2 false b actor refl)

@@ -43,14 +43,14 @@ abbrev pub BookOutcome : Type 0
 BookOutcome = Result (BookState × Answer) Refusal
 
 -- the book after the heap's outcome: an accepted step is entered with its answer
-abbrev pub entered : BookState → Actor → Step → Outcome → BookOutcome
-entered b actor step (Err e) = Err e
-entered b actor step (Ok x) =
+abbrev pub enter_accepted : BookState → Actor → Step → Outcome → BookOutcome
+enter_accepted b actor step (Err e) = Err e
+enter_accepted b actor step (Ok x) =
     Ok (record { heap = x.0; history = b.history ++ record { actor = actor; step = step; answer = x.1 } ∷ [] }, x.1)
 
 -- a full history refuses; else the heap's outcome, an accepted step entering the history with its answer
-unfoldable pub acted : BookState → Actor → Step → BookOutcome
-acted b actor step = if is_full b then Err refusals.HistoryFull else entered b actor step (outcome b.heap actor step)
+unfoldable pub act_outcome : BookState → Actor → Step → BookOutcome
+act_outcome b actor step = if is_full b then Err refusals.HistoryFull else enter_accepted b actor step (outcome b.heap actor step)
 
 -- a call did what the outcome says, or, where the history is not full, memory ran out; a refused one changed nothing
 abbrev pub Acts : BookState → Reply → BookState → BookOutcome → Type 0
@@ -60,5 +60,5 @@ Acts old (Err e) new outcome = (((is_full old ≡ false) × (e ≡ refusals.Memo
 -- one reply for each step, in order, each step done on the book that the one before left
 abbrev pub Ran : BookState → List (Actor × Step) → List Reply → BookState → Type 0
 Ran b [] [] c = c ≡ b
-Ran b (s ∷ ss) (r ∷ rs) c = (d : BookState) × Acts b r d (acted b s.0 s.1) × Ran d ss rs c
+Ran b (s ∷ ss) (r ∷ rs) c = (d : BookState) × Acts b r d (act_outcome b s.0 s.1) × Ran d ss rs c
 Ran b _ _ c = ⊥

@@ -7,7 +7,7 @@ use Rattle.model.specs.declared.steps.Answer.{Answer}
 use Rattle.model.specs.declared.steps.Answer.TheVariants as answers
 use Rattle.model.specs.declared.steps.Refusal.{Refusal}
 use Rattle.model.specs.declared.steps.Refusal.TheVariants as refusals
-use Rattle.cycle.specs.Books.{BookState, BookOutcome, Reply, acted}
+use Rattle.cycle.specs.Books.{BookState, BookOutcome, Reply, act_outcome}
 use Rattle.cycle.specs.Replays.{IsBook}
 
 -- what steps did: the book after them, and their replies in order
@@ -16,17 +16,17 @@ pub record Told : Type 0 where
   pub replies : List Reply
 
 -- a book and replies
-abbrev pub told : BookState → List Reply → Told
-told b replies = record { book = b; replies = replies }
+abbrev pub tell : BookState → List Reply → Told
+tell b replies = record { book = b; replies = replies }
 
 -- a step of this outcome, and what follows where it is accepted; a refusal is the end
 unfoldable pub step_then : BookState → BookOutcome → (BookState → Answer → Told) → Told
-step_then b (Ok x) next = told (next x.0 x.1).book (Ok x.1 ∷ (next x.0 x.1).replies)
-step_then b (Err e) next = told b (Err e ∷ [])
+step_then b (Ok x) next = tell (next x.0 x.1).book (Ok x.1 ∷ (next x.0 x.1).replies)
+step_then b (Err e) next = tell b (Err e ∷ [])
 
 -- one step
 abbrev pub one_step : BookState → Actor → Step → Told
-one_step b actor step = step_then b (acted b actor step) (λ c answer. told c [])
+one_step b actor step = step_then b (act_outcome b actor step) (λ c answer. tell c [])
 
 -- the load ends
 abbrev pub finish_load : BookState → Actor → Told
@@ -35,7 +35,7 @@ finish_load b actor = one_step b actor steps.Finish
 -- where a trap was due, the place of the load is healed before
 abbrev pub heal_load : Bool → BookState → Actor → Told
 heal_load false b actor = finish_load b actor
-heal_load true b actor = step_then b (acted b actor steps.Heal) (λ c answer. finish_load c actor)
+heal_load true b actor = step_then b (act_outcome b actor steps.Heal) (λ c answer. finish_load c actor)
 
 -- no trap was due
 abbrev pub is_clear : Answer → Bool
@@ -45,7 +45,7 @@ is_clear other = false
 -- Trap until it answers Clear, but at most so many times: then heal, where one was due, and finish.
 unfoldable pub trap_load : ℕ → Bool → BookState → Actor → Told
 trap_load zero due b actor = heal_load due b actor
-trap_load (suc n) due b actor = step_then b (acted b actor steps.Trap) (λ c answer.
+trap_load (suc n) due b actor = step_then b (act_outcome b actor steps.Trap) (λ c answer.
     if is_clear answer then heal_load due c actor else trap_load n true c actor)
 
 -- What follows the step that begins a load. Three traps are enough: behind one that forwards and one that marks none is
@@ -55,7 +55,7 @@ end_load b actor = trap_load 3 false b actor
 
 -- a whole load, from the step that begins it
 abbrev pub whole_load : BookState → Actor → Step → Told
-whole_load b actor load = step_then b (acted b actor load) (λ c answer. end_load c actor)
+whole_load b actor load = step_then b (act_outcome b actor load) (λ c answer. end_load c actor)
 
 -- of a book, no more than three traps are ever asked for: to allow more changes nothing
 abbrev pub ThreeTrapsServe : Type 0
@@ -69,11 +69,11 @@ Says old (Err e) new outcome = (outcome ≡ Err e) × (new ≡ old)
 
 -- replies before those of steps
 abbrev pub behind : List Reply → Told → Told
-behind replies t = told t.book (replies ++ t.replies)
+behind replies t = tell t.book (replies ++ t.replies)
 
 -- steps, behind other replies, leave this book and all these replies
 abbrev pub Leaves : Told → List Reply → BookState → List Reply → Type 0
-Leaves steps before book all = behind before steps ≡ told book all
+Leaves steps before book all = behind before steps ≡ tell book all
 
 -- a list ends in a reply
 abbrev pub EndsIn : List Reply → Reply → Type 0

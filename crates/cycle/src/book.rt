@@ -1,7 +1,7 @@
 //! A heap and its history.
 
 ghost use Rattle.std.specs.Prelude.{◌≡◌, ◌<◌, ◌++◌, ◌∷◌, [], vec_len, vec_capacity};
-ghost use Rattle.cycle.specs.Books.{Acts, MakesBook, acted, is_full, first_book};
+ghost use Rattle.cycle.specs.Books.{Acts, MakesBook, act_outcome, is_full, first_book};
 ghost use Rattle.cycle.specs.Replays.{IsBook, KeepsPromises};
 
 use crate::stepping::Stepping;
@@ -99,7 +99,7 @@ impl Book {
     /// where it is refused. A step that is refused for any cause leaves heap and history as
     /// they were.
     pub fn act(&mut self, actor: Actor, step: Step) -> Result<Answer, Refusal>
-        ensures acts { Acts self.old result self.new (acted self.old actor step) }
+        ensures acts { Acts self.old result self.new (act_outcome self.old actor step) }
         ensures book { IsBook self.new }
         ensures promises { KeepsPromises self.new }
     {
@@ -109,9 +109,9 @@ impl Book {
     }
 
     /// What `act` does.
-    #[tactic(auto, unfolding(crate::specs::Books::acted))]
+    #[tactic(auto, unfolding(crate::specs::Books::act_outcome))]
     fn step_and_enter(&mut self, actor: Actor, step: Step) -> Result<Answer, Refusal>
-        ensures { Acts self.old result self.new (acted self.old actor step) }
+        ensures { Acts self.old result self.new (act_outcome self.old actor step) }
     {
         if self.is_full() {
             return Err(Refusal::HistoryFull);

@@ -2,7 +2,7 @@
 //! The barrier is the paper's (its section on the read barrier); that a load is one call is ours.
 
 ghost use Rattle.std.specs.Prelude.{◌≡◌, ◌++◌, ◌∷◌, [], false, IfOk, OnErr, OnOk};
-ghost use Rattle.cycle.specs.Books.{acted};
+ghost use Rattle.cycle.specs.Books.{act_outcome};
 ghost use Rattle.cycle.specs.Loads.{EndsIn, Leaves, LoadsWhole, Says, ThreeTrapsServe};
 ghost use Rattle.cycle.specs.Loads.{finish_load, heal_load, is_clear, trap_load, end_load, whole_load};
 
@@ -35,7 +35,7 @@ impl Book {
         step: Step,
         replies: &mut Vec<Result<Answer, Refusal>>,
     ) -> Result<Result<Answer, Refusal>, AllocError>
-        ensures says { IfOk result (λ reply. Says self.old reply self.new (acted self.old actor step)) }
+        ensures says { IfOk result (λ reply. Says self.old reply self.new (act_outcome self.old actor step)) }
         ensures replies { IfOk result (λ reply. replies.new.items ≡ replies.old.items ++ reply ∷ []) }
         ensures same_book { OnErr result (self.new ≡ self.old) }
         ensures same_replies { OnErr result (replies.new.items ≡ replies.old.items) }

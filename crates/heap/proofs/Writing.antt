@@ -8,7 +8,7 @@ use Rattle.std.specs.Option.{IfSome, IsSome}
 use Rattle.std.proofs.lemmas.List.{length-take-le, drop-take, drop-drop, take-append-drop}
 use Rattle.refword.specs.Words.{IsAddress}
 use Rattle.model.specs.declared.records.Buffer.{Buffer}
-use Rattle.model.specs.Stores.{StoreState, overlaid, with_words, words_at, page_at, frame_in, changed_in, changed_frame}
+use Rattle.model.specs.Stores.{StoreState, overlay, with_words, words_at, page_at, frame_in, changed_in, changed_frame}
 use Rattle.model.specs.Owning.{IsStore, LiesIn}
 use Rattle.model.proofs.Memory.{words_in, words_sized}
 
@@ -46,7 +46,7 @@ rest_behind xs rest m j e h =
 
 -- what was written at the head of a lent part is written over the words
 overlaid_part : (ws xs : List ℕ) (o end : ℕ) → o + length xs ≤ end → end ≤ length ws
-    → overlaid ws o (xs ++ drop (length xs) (slice_range ws o end)) ≡ overlaid ws o xs
+    → overlay ws o (xs ++ drop (length xs) (slice_range ws o end)) ≡ overlay ws o xs
 overlaid_part ws xs o end low high =
     let m = length xs in
     let j = end - o - m in
@@ -60,28 +60,28 @@ overlaid_part ws xs o end low high =
 -- a part that was lent, with others written at its head
 pub written : (s : StoreState) (b : Buffer) (part xs : List ℕ) → IsStore s → LiesIn s b → length xs ≤ b.end - b.next
     → IfSome (words_at s b.page) (λ ws. part ≡ slice_range ws b.next b.end) → with_words s b.page
-    (λ ws. overlaid ws b.next (xs ++ drop (length xs) part)) ≡ with_words s b.page (λ ws. overlaid ws b.next xs)
+    (λ ws. overlay ws b.next (xs ++ drop (length xs) part)) ≡ with_words s b.page (λ ws. overlay ws b.next xs)
 written s b part xs h l room e = same_words s b.page _ _ (by_words (words_at s b.page) refl e)
   where
     by_words : (o : Option (List ℕ)) → words_at s b.page ≡ o → IfSome o (λ ws. part ≡ slice_range ws b.next b.end)
-        → IfSome o (λ ws. overlaid ws b.next (xs ++ drop (length xs) part) ≡ overlaid ws b.next xs)
+        → IfSome o (λ ws. overlay ws b.next (xs ++ drop (length xs) part) ≡ overlay ws b.next xs)
     by_words None a k = search rules
     by_words (Some ws) a k =
         let size = words_sized s b.page ws h a in
-        ap (λ p. overlaid ws b.next (xs ++ drop (length xs) p)) k
+        ap (λ p. overlay ws b.next (xs ++ drop (length xs) p)) k
         ∙ overlaid_part ws xs b.next b.end (omega (arith, room, l.order)) (omega (arith, l.end, size))
 
 -- a new object's words, written at the head of the part
 pub written_object : (s : StoreState) (b : Buffer) (part final : List ℕ) (header others : ℕ) → IsStore s → LiesIn s b
     → others < b.end - b.next → IfSome (words_at s b.page) (λ ws. part ≡ slice_range ws b.next b.end)
     → final ≡ (header ∷ replicate others 0) ++ drop (1 + others) part → with_words s b.page
-    (λ ws. overlaid ws b.next final) ≡ with_words s b.page (λ ws. overlaid ws b.next (header ∷ replicate others 0))
+    (λ ws. overlay ws b.next final) ≡ with_words s b.page (λ ws. overlay ws b.next (header ∷ replicate others 0))
 written_object s b part final header others h l room e k =
     let xs : List ℕ = header ∷ replicate others 0 in
     let zeros : length (replicate {A = ℕ} others 0) ≡ others = length-replicate others 0 in
     let size : length xs ≡ 1 + others = ap suc zeros ∙ one others in
     let final_is : final ≡ xs ++ drop (length xs) part = k ∙ ap (λ n. xs ++ drop n part) (sym size) in
-    ap (λ p. with_words s b.page (λ ws. overlaid ws b.next p)) final_is
+    ap (λ p. with_words s b.page (λ ws. overlay ws b.next p)) final_is
     ∙ written s b part xs h l (omega (arith, size, room)) e
   where
     one : (n : ℕ) → suc n ≡ 1 + n

@@ -61,14 +61,14 @@ impl Thread {
 
     /// Whether it has crossed the open checkpoint (the paper's checkpoints); true where none is
     /// open.
-    pub fn crossed(&self) -> bool
+    pub fn has_crossed(&self) -> bool
         ensures { result ≡ self.now.crossed }
     {
         self.crossed
     }
 
     /// Whether it is blocked.
-    pub fn parked(&self) -> bool
+    pub fn is_parked(&self) -> bool
         ensures { result ≡ self.now.parked }
     {
         self.parked

@@ -126,8 +126,8 @@ abbrev pub set_parked : ℕ → Bool → AddressHeap → AddressHeap
 set_parked t b w = record w { parked = put w.parked t b }
 
 -- object o is born at a, named by register r of thread t; while a mark runs it is born marked (ours)
-abbrev pub born : ℕ → HeapObject → ℕ → ℕ → AddressHeap → AddressHeap
-born a o t r w = record w {
+abbrev pub add_object : ℕ → HeapObject → ℕ → ℕ → AddressHeap → AddressHeap
+add_object a o t r w = record w {
   object_at = put w.object_at a (Some o);
   births = suc w.births;
   register = put_at w.register t r (To a w.nmt);

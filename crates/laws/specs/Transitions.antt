@@ -10,7 +10,7 @@ use Rattle.model.specs.Stores.{is_protected}
 use Rattle.model.specs.Phases.{is_marking}
 use Rattle.laws.specs.AddressHeap.{AddressHeap, HeapObject, Null, To, SideEntry, Planned, Copied, OpenBarrier, AtField, AtGlobal, WorkerScan, field}
 use Rattle.laws.specs.BirthHeap.{BirthHeap}
-use Rattle.laws.specs.Edits.{set_object, set_barrier, plain_set_pending, end_load, set_global, plain_set_global, copy_object, mark_word, marked_word, end_global_scan, set_scan, end_scan, start_mark, cross_checkpoint, release_page, protect_pages, open_page, set_parked, born, plain_born, end_mark}
+use Rattle.laws.specs.Edits.{set_object, set_barrier, plain_set_pending, end_load, set_global, plain_set_global, copy_object, mark_word, marked_word, end_global_scan, set_scan, end_scan, start_mark, cross_checkpoint, release_page, protect_pages, open_page, set_parked, add_object, plain_born, end_mark}
 use Rattle.laws.specs.Effects.{plain_store, plain_datum, plain_load_field, plain_finish, plain_set_register, set_register, with_field, with_datum, new_barrier, nmt_trap_due, mark_registers, scan_field}
 
 -- the address of a usable register: its page isn't protected, or the thread has still to cross (ours)
@@ -99,7 +99,7 @@ pub data Transition (w : AddressHeap) (p p0 : BirthHeap) : AddressHeap → Birth
       → Transition w p p0 (open_page inside w) p p0
   -- thread t makes an object
   New : (a : ℕ) (o : HeapObject) (t r l : ℕ) (xs : List (Option ℕ)) (ds : List ℕ) → MayBeBorn w a o t l xs ds
-      → Transition w p p0 (born a o t r w) (plain_born l xs ds t r p) p0
+      → Transition w p p0 (add_object a o t r w) (plain_born l xs ds t r p) p0
   -- thread t begins to load field j of the object in register r, for register d
   Load : (t d r a : ℕ) (o : HeapObject) (j : ℕ) → Uses w t r a o → j < length o.refs → w.parked t ≡ false
       → Transition w p p0 (set_barrier t (new_barrier d (AtField a j) (field o j)) w) (plain_load_field t d r j p) p0

@@ -2,7 +2,7 @@
 
 ghost use Rattle.std.specs.Prelude.{◌≡◌, ◌<◌, length, replicate, slice_get, false, IfOk, count_by};
 ghost use Rattle.std.specs.Option.{option_copied};
-ghost use Rattle.model.specs.States.{changed};
+ghost use Rattle.model.specs.States.{change_at};
 ghost use Rattle.model.specs.Buffers.{blank_row};
 ghost use Rattle.model.specs.Births.{put_bit};
 
@@ -93,7 +93,7 @@ impl Rows {
 
     /// Sets or clears a bit of a row, if it is there.
     pub fn put(&mut self, index: usize, offset: usize, bit: bool)
-        ensures { self.new ≡ changed self.old index (put_bit offset bit) }
+        ensures { self.new ≡ change_at self.old index (put_bit offset bit) }
     {
         if index < self.rows.len() {
             let row = &mut self.rows[index];
@@ -103,7 +103,7 @@ impl Rows {
 
     /// Clears a row, if it is there.
     pub fn clear(&mut self, index: usize)
-        ensures { self.new ≡ changed self.old index blank_row }
+        ensures { self.new ≡ change_at self.old index blank_row }
     {
         if index < self.rows.len() {
             let row = &mut self.rows[index];

@@ -9,7 +9,7 @@ use Rattle.std.proofs.lemmas.List.Folds.{sum_by-replicate}
 use Rattle.std.proofs.lemmas.List.Quantifiers.{position-Some}
 use Rattle.std.proofs.lemmas.Bool.Decides.{nat_tests}
 use Rattle.model.specs.Owning.{Each}
-use Rattle.model.specs.States.{changed, changed_at}
+use Rattle.model.specs.States.{change_at, change_found}
 
 pub get_set_same : {X : Type 0} (xs : List X) (i : ℕ) (x v : X) → slice_get xs i ≡ Some x
     → slice_get (set xs i v) i ≡ Some v
@@ -46,10 +46,10 @@ each_set P xs i v h p j y e = go (get_set xs i j v y e)
     go (inr a) = h j y a.1
 
 pub each_changed : {X : Type 0} (P : X → Type 0) (xs : List X) (i : ℕ) (change : X → X) → Each xs P
-    → ((x : X) → P x → P (change x)) → Each (changed xs i change) P
+    → ((x : X) → P x → P (change x)) → Each (change_at xs i change) P
 each_changed {X} P xs i change h k = by_element (slice_get xs i) refl
   where
-    by_element : (o : Option X) → slice_get xs i ≡ o → Each (changed_at xs i o change) P
+    by_element : (o : Option X) → slice_get xs i ≡ o → Each (change_found xs i o change) P
     by_element None e = h
     by_element (Some x) e = each_set P xs i (change x) h (k x (h i x e))
 

@@ -12,7 +12,7 @@ use Rattle.model.specs.declared.records.PageState.{PageState}
 use Rattle.model.specs.declared.records.PageState.TheVariants.{Unused, Open, Closed, From, Gone}
 use Rattle.model.specs.Stores.{StoreState, page_at, frame_in, state_at, state_in, has_memory}
 use Rattle.model.specs.Stores.{is_open, is_unused, word_at, word_in, spot_of, at_offset}
-use Rattle.model.specs.Stores.{words_at, with_words, changed_in, changed_frame, overlaid}
+use Rattle.model.specs.Stores.{words_at, with_words, changed_in, changed_frame, overlay}
 use Rattle.model.specs.Owning.{IsStore}
 use Rattle.model.proofs.Lists.{get_set_same, get_set_other, get_within}
 
@@ -163,7 +163,7 @@ unused_state From e = absurd (cc)
 unused_state Gone e = absurd (cc)
 
 -- words laid over others leave their number
-pub length_overlaid : (ws : List ℕ) (o : ℕ) (xs : List ℕ) → length (overlaid ws o xs) ≡ length ws
+pub length_overlaid : (ws : List ℕ) (o : ℕ) (xs : List ℕ) → length (overlay ws o xs) ≡ length ws
 length_overlaid ws o xs = whole (take o ws) (drop o ws) (omega (arith, length-take o ws, length-drop o ws))
   where
     whole : (front back : List ℕ) → length ws ≤ length front + length back →

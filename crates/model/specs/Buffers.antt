@@ -1,18 +1,18 @@
 -- Buffers that are taken and given back.
 use Rattle.std.specs.Prelude.{ℕ, ◌-◌, ◌==◌, Bool, false, List, length, replicate, Option, Some, None, slice_get, if◌then◌else◌, is_some, Result, Ok, Err}
 use Rattle.model.specs.declared.records.Buffer.{Buffer}
-use Rattle.model.specs.Stores.{StoreState, taken}
+use Rattle.model.specs.Stores.{StoreState, take_buffer}
 use Rattle.model.specs.declared.steps.Answer.TheVariants as answers
 use Rattle.model.specs.declared.steps.Refusal.TheVariants as refusals
 use Rattle.model.specs.declared.records.Room.{Room}
 use Rattle.model.specs.declared.records.Room.TheVariants.{NoFrames, NoPages}
 use Rattle.model.specs.Refusing.{Outcome}
-use Rattle.model.specs.States.{HeapState, changed}
+use Rattle.model.specs.States.{HeapState, change_at}
 use Rattle.model.specs.Threads.{set_buffer_of, buffer_in}
 
 -- the heap with another buffer of a thread
 unfoldable pub with_buffer : HeapState → ℕ → Option Buffer → HeapState
-with_buffer h t b = record h { threads = changed h.threads t (set_buffer_of b) }
+with_buffer h t b = record h { threads = change_at h.threads t (set_buffer_of b) }
 
 -- the buffer of a thread
 abbrev pub buffer_of_thread : HeapState → ℕ → Option Buffer
@@ -24,28 +24,28 @@ blank_row row = replicate (length row) false
 
 -- the rows of a page that a buffer is the first of are blank
 abbrev pub opened_rows : Buffer → List (List Bool) → List (List Bool)
-opened_rows b rows = if b.next == 0 then changed rows (b.page - 1) blank_row else rows
+opened_rows b rows = if b.next == 0 then change_at rows (b.page - 1) blank_row else rows
 
 -- the heap after a thread took a buffer of the store
-unfoldable pub lent : HeapState → ℕ → StoreState → Buffer → HeapState
-lent h t s b = record h {
+unfoldable pub lend_buffer : HeapState → ℕ → StoreState → Buffer → HeapState
+lend_buffer h t s b = record h {
   store = s;
   starts = opened_rows b h.starts;
   live = opened_rows b h.live;
   mark = opened_rows b h.mark;
   todo = opened_rows b h.todo;
-  threads = changed h.threads t (set_buffer_of (Some b));
+  threads = change_at h.threads t (set_buffer_of (Some b));
 }
 
 -- thread t gets what the store gave, or is refused as the store refuses
-abbrev pub took : HeapState → ℕ → Result (StoreState × Buffer) Room → Outcome
-took h t (Ok x) = Ok (lent h t x.0 x.1, answers.Lent x.1.page x.1.next)
-took h t (Err NoFrames) = Err (refusals.NoFrames 1 0)
-took h t (Err NoPages) = Err refusals.NoPages
+abbrev pub take_result : HeapState → ℕ → Result (StoreState × Buffer) Room → Outcome
+take_result h t (Ok x) = Ok (lend_buffer h t x.0 x.1, answers.Lent x.1.page x.1.next)
+take_result h t (Err NoFrames) = Err (refusals.NoFrames 1 0)
+take_result h t (Err NoPages) = Err refusals.NoPages
 
 -- the row of Take
 unfoldable pub take_outcome : HeapState → ℕ → ℕ → Outcome
-take_outcome h t n = if is_some (buffer_of_thread h t) then Err refusals.HasBuffer else took h t (taken h.store n)
+take_outcome h t n = if is_some (buffer_of_thread h t) then Err refusals.HasBuffer else take_result h t (take_buffer h.store n)
 
 -- the row of GiveBack
 unfoldable pub give_back_outcome : HeapState → ℕ → Outcome

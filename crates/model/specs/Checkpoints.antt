@@ -4,13 +4,13 @@ use Rattle.model.specs.declared.steps.Answer.TheVariants as answers
 use Rattle.model.specs.declared.steps.Refusal.TheVariants as refusals
 use Rattle.model.specs.Phases.{is_crossing}
 use Rattle.model.specs.Refusing.{◌>>=◌, Outcome}
-use Rattle.model.specs.States.{HeapState, changed}
+use Rattle.model.specs.States.{HeapState, change_at}
 use Rattle.model.specs.Threads.{set_parked_of, is_parked_in}
 use Rattle.model.specs.Registers.{usable}
 
 -- the heap with a thread parked or running
 unfoldable pub with_parked : HeapState → ℕ → Bool → HeapState
-with_parked h t b = record h { threads = changed h.threads t (set_parked_of b) }
+with_parked h t b = record h { threads = change_at h.threads t (set_parked_of b) }
 
 -- The row of Cross. No checkpoint opens before there are marks, and what a crossing does comes with them.
 unfoldable pub cross_outcome : HeapState → Outcome

@@ -11,14 +11,14 @@ use Rattle.model.specs.declared.steps.Refusal.{Refusal}
 use Rattle.model.specs.declared.steps.Refusal.TheVariants as refusals
 use Rattle.model.specs.Phases.{may_nmt_trap, same_bit}
 use Rattle.model.specs.Refusing.{◌>>=◌, or_refuse, Outcome}
-use Rattle.model.specs.States.{Reference, HeapState, changed}
+use Rattle.model.specs.States.{Reference, HeapState, change_at}
 use Rattle.model.specs.Threads.{set_barrier_of, barrier_of, set_loaded_of, has_crossed}
 use Rattle.model.specs.Registers.{let_through, usable}
-use Rattle.model.specs.References.{global_of, stored, field_address, with_place, field_at}
+use Rattle.model.specs.References.{global_of, read_reference, field_address, with_place, field_at}
 
 -- the heap with another barrier of a thread
 unfoldable pub with_barrier : HeapState → ℕ → Barrier → HeapState
-with_barrier h t b = record h { threads = changed h.threads t (set_barrier_of (Some b)) }
+with_barrier h t b = record h { threads = change_at h.threads t (set_barrier_of (Some b)) }
 
 -- the barrier of a thread
 abbrev pub barrier_of_thread : HeapState → ℕ → Option Barrier
@@ -26,7 +26,7 @@ barrier_of_thread h t = barrier_of (slice_get h.threads t)
 
 -- the heap after a thread's load for register r has ended
 unfoldable pub with_loaded : HeapState → ℕ → ℕ → Reference → HeapState
-with_loaded h t r w = record h { threads = changed h.threads t (set_loaded_of r w) }
+with_loaded h t r w = record h { threads = change_at h.threads t (set_loaded_of r w) }
 
 -- the barrier of a load for a register, which has just read a word at a place
 abbrev pub new_barrier : ℕ → Place → Reference → Barrier
@@ -38,7 +38,7 @@ load_outcome h t target object i = do
   address ← usable h t object
   place ← or_refuse (field_at h address i) refusals.BadIndex
   bits ← or_refuse (word_at h.store place) refusals.BadIndex
-  Ok (with_barrier h t (new_barrier target (places.Field address i) (stored bits)), answers.Loaded)
+  Ok (with_barrier h t (new_barrier target (places.Field address i) (read_reference bits)), answers.Loaded)
 
 -- the row of LoadGlobal
 unfoldable pub load_global_outcome : HeapState → ℕ → ℕ → ℕ → Outcome
@@ -82,15 +82,15 @@ are_bits_of None w = false
 are_bits_of (Some bits) w = bits == bits_of w
 
 -- a barrier whose place is healed
-abbrev pub healed : Barrier → Barrier
-healed b = record b { healed = true }
+abbrev pub set_healed : Barrier → Barrier
+set_healed b = record b { healed = true }
 
 -- a place is healed where it still has what was loaded
 unfoldable pub heal_place : HeapState → ℕ → Barrier → HeapState × Answer
 heal_place h t b =
     if are_bits_of (bits_at h b.place) b.raw
-    then (with_barrier (with_place h b.place b.now) t (healed b), answers.Healed)
-    else (with_barrier h t (healed b), answers.Changed)
+    then (with_barrier (with_place h b.place b.now) t (set_healed b), answers.Healed)
+    else (with_barrier h t (set_healed b), answers.Changed)
 
 -- the row of Heal
 unfoldable pub heal_outcome : HeapState → ℕ → Outcome

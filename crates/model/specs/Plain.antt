@@ -8,7 +8,7 @@ use Rattle.model.specs.declared.steps.Step.{Step}
 use Rattle.model.specs.declared.steps.Step.TheVariants as steps
 use Rattle.model.specs.declared.steps.Answer.{Answer}
 use Rattle.model.specs.declared.steps.Answer.TheVariants as answers
-use Rattle.model.specs.States.{flat, changed}
+use Rattle.model.specs.States.{flat, change_at}
 
 -- an object: the number of its layout, its references, each a birth or none, and its data
 pub record Object : Type 0 where
@@ -70,68 +70,68 @@ abbrev pub set_name : ℕ → Option ℕ → PlainThread → PlainThread
 set_name r b t = record t { registers = slice_set t.registers r b }
 
 -- the plain heap with another birth in a register
-unfoldable pub naming : PlainHeap → ℕ → ℕ → Option ℕ → PlainHeap
-naming p t r b = record p { threads = changed p.threads t (set_name r b) }
+unfoldable pub name_register : PlainHeap → ℕ → ℕ → Option ℕ → PlainHeap
+name_register p t r b = record p { threads = change_at p.threads t (set_name r b) }
 
 -- a new object of a layout: its references are none, its data 0
 abbrev pub blank_object : ℕ → Layout → Object
 blank_object number l = record { layout = number; refs = replicate l.refs None; data_words = replicate l.nums 0 }
 
 -- one more birth, named by a register
-abbrev pub born : PlainHeap → ℕ → ℕ → ℕ → Option Layout → PlainHeap
-born p t r number None = p
-born p t r number (Some l) =
-    naming (record p { objects = p.objects ++ blank_object number l ∷ [] }) t r (Some (length p.objects))
+abbrev pub add_birth : PlainHeap → ℕ → ℕ → ℕ → Option Layout → PlainHeap
+add_birth p t r number None = p
+add_birth p t r number (Some l) =
+    name_register (record p { objects = p.objects ++ blank_object number l ∷ [] }) t r (Some (length p.objects))
 
 -- a thread with a load for register r, which found b
 abbrev pub start_load : ℕ → Option ℕ → PlainThread → PlainThread
 start_load r b t = record t { pending = Some (record { target = r; found = b }) }
 
 -- what a load finds becomes pending; nothing, where there is no such place
-abbrev pub loading : PlainHeap → ℕ → ℕ → Option (Option ℕ) → PlainHeap
-loading p t r None = p
-loading p t r (Some b) = record p { threads = changed p.threads t (start_load r b) }
+abbrev pub begin_load : PlainHeap → ℕ → ℕ → Option (Option ℕ) → PlainHeap
+begin_load p t r None = p
+begin_load p t r (Some b) = record p { threads = change_at p.threads t (start_load r b) }
 
 -- a thread whose load is done: its register has what the load found
 abbrev pub end_load : Pending → PlainThread → PlainThread
 end_load l t = record t { registers = slice_set t.registers l.target l.found; pending = None }
 
 -- the load of a thread is done; nothing, where there is none
-abbrev pub finishing : PlainHeap → ℕ → Option Pending → PlainHeap
-finishing p t None = p
-finishing p t (Some l) = record p { threads = changed p.threads t (end_load l) }
+abbrev pub finish_pending : PlainHeap → ℕ → Option Pending → PlainHeap
+finish_pending p t None = p
+finish_pending p t (Some l) = record p { threads = change_at p.threads t (end_load l) }
 
 -- an object with another reference i
 abbrev pub set_field : ℕ → Option ℕ → Object → Object
 set_field i b o = record o { refs = slice_set o.refs i b }
 
 -- a birth gets another reference i; nothing, where there is no birth
-abbrev pub storing : PlainHeap → Option ℕ → ℕ → Option ℕ → PlainHeap
-storing p None i b = p
-storing p (Some a) i b = record p { objects = changed p.objects a (set_field i b) }
+abbrev pub store_field : PlainHeap → Option ℕ → ℕ → Option ℕ → PlainHeap
+store_field p None i b = p
+store_field p (Some a) i b = record p { objects = change_at p.objects a (set_field i b) }
 
 -- an object with another datum j
 abbrev pub set_datum : ℕ → ℕ → Object → Object
 set_datum j v o = record o { data_words = slice_set o.data_words j v }
 
 -- a birth gets another datum j; nothing, where there is no birth
-abbrev pub writing : PlainHeap → Option ℕ → ℕ → ℕ → PlainHeap
-writing p None j v = p
-writing p (Some a) j v = record p { objects = changed p.objects a (set_datum j v) }
+abbrev pub write_datum : PlainHeap → Option ℕ → ℕ → ℕ → PlainHeap
+write_datum p None j v = p
+write_datum p (Some a) j v = record p { objects = change_at p.objects a (set_datum j v) }
 
 -- what a step of thread t does to the plain heap
 abbrev pub thread_plain : List Layout → PlainHeap → ℕ → Step → PlainHeap
-thread_plain ls p t (steps.New target layout) = born p t target layout (slice_get ls layout)
+thread_plain ls p t (steps.New target layout) = add_birth p t target layout (slice_get ls layout)
 thread_plain ls p t (steps.Load target object field) =
-    loading p t target (field_of (object_of p (name_of p t object)) field)
-thread_plain ls p t (steps.LoadGlobal target global) = loading p t target (slice_get p.globals global)
-thread_plain ls p t steps.Finish = finishing p t (pending_in (slice_get p.threads t))
-thread_plain ls p t (steps.Store object field source) = storing p (name_of p t object) field (name_of p t source)
+    begin_load p t target (field_of (object_of p (name_of p t object)) field)
+thread_plain ls p t (steps.LoadGlobal target global) = begin_load p t target (slice_get p.globals global)
+thread_plain ls p t steps.Finish = finish_pending p t (pending_in (slice_get p.threads t))
+thread_plain ls p t (steps.Store object field source) = store_field p (name_of p t object) field (name_of p t source)
 thread_plain ls p t (steps.StoreGlobal global source) =
     record p { globals = slice_set p.globals global (name_of p t source) }
-thread_plain ls p t (steps.SetDatum object index value) = writing p (name_of p t object) index value
-thread_plain ls p t (steps.CopyReg target source) = naming p t target (name_of p t source)
-thread_plain ls p t (steps.ClearReg target) = naming p t target None
+thread_plain ls p t (steps.SetDatum object index value) = write_datum p (name_of p t object) index value
+thread_plain ls p t (steps.CopyReg target source) = name_register p t target (name_of p t source)
+thread_plain ls p t (steps.ClearReg target) = name_register p t target None
 thread_plain ls p t _ = p
 
 -- what a step does to the plain heap: that of a worker nothing

@@ -9,13 +9,13 @@ use Rattle.model.specs.Stores.{with_word}
 use Rattle.model.specs.declared.steps.Answer.TheVariants as answers
 use Rattle.model.specs.declared.steps.Refusal.TheVariants as refusals
 use Rattle.model.specs.Refusing.{◌>>=◌, or_refuse, Outcome}
-use Rattle.model.specs.States.{Reference, HeapState, flat, changed}
+use Rattle.model.specs.States.{Reference, HeapState, flat, change_at}
 use Rattle.model.specs.Registers.{register_of, usable, usable_or_null}
 use Rattle.model.specs.Data.{layout_at}
 
 -- the reference that a number in memory is; one that is no word counts as null (ours)
-abbrev pub stored : ℕ → Reference
-stored bits = flat (read_word bits)
+abbrev pub read_reference : ℕ → Reference
+read_reference bits = flat (read_word bits)
 
 -- the address of reference i of an object
 abbrev pub field_address : ℕ → ℕ → ℕ
@@ -45,7 +45,7 @@ set_word_of w g = record g { word = w }
 
 -- the heap with another word in a global
 unfoldable pub with_global : HeapState → ℕ → Reference → HeapState
-with_global h g w = record h { globals = changed h.globals g (set_word_of w) }
+with_global h g w = record h { globals = change_at h.globals g (set_word_of w) }
 
 -- the heap with another word at the place of a load
 abbrev pub with_place : HeapState → Place → Reference → HeapState

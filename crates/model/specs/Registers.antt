@@ -7,7 +7,7 @@ use Rattle.model.specs.declared.steps.Refusal.TheVariants as refusals
 use Rattle.model.specs.declared.records.Phase.TheVariants.{ProtectCrossing}
 use Rattle.model.specs.Stores.{state_at, is_protected}
 use Rattle.model.specs.Refusing.{◌>>=◌, Outcome}
-use Rattle.model.specs.States.{Reference, HeapState, changed}
+use Rattle.model.specs.States.{Reference, HeapState, change_at}
 use Rattle.model.specs.Threads.{register_in, set_register_of, has_crossed}
 
 -- the word in a register, null where there is none
@@ -16,7 +16,7 @@ register_of h t r = register_in (slice_get h.threads t) r
 
 -- the heap with another word in a register
 unfoldable pub with_register : HeapState → ℕ → ℕ → Reference → HeapState
-with_register h t r w = record h { threads = changed h.threads t (set_register_of r w) }
+with_register h t r w = record h { threads = change_at h.threads t (set_register_of r w) }
 
 -- what keeps a thread from a protected page: nothing before it crosses the page's checkpoint
 abbrev pub held_back : Phase → Bool → Result Unit Refusal

@@ -44,10 +44,10 @@ flat None = None
 flat (Some o) = o
 
 -- a list with the element of index i changed, which may be missing
-abbrev pub changed_at : {X : Type 0} → List X → ℕ → Option X → (X → X) → List X
-changed_at xs i None change = xs
-changed_at xs i (Some x) change = slice_set xs i (change x)
+abbrev pub change_found : {X : Type 0} → List X → ℕ → Option X → (X → X) → List X
+change_found xs i None change = xs
+change_found xs i (Some x) change = slice_set xs i (change x)
 
 -- a list with the element of an index changed, if it is there
-abbrev pub changed : {X : Type 0} → List X → ℕ → (X → X) → List X
-changed xs i change = changed_at xs i (slice_get xs i) change
+abbrev pub change_at : {X : Type 0} → List X → ℕ → (X → X) → List X
+change_at xs i change = change_found xs i (slice_get xs i) change

@@ -102,8 +102,8 @@ unfoldable pub words_at : StoreState → ℕ → Option (List ℕ)
 words_at s n = option_and_then (slice_get s.frames) (frame_in (page_at s n))
 
 -- words with others written over them from an offset on; what would go past their end is cut off
-abbrev pub overlaid : List ℕ → ℕ → List ℕ → List ℕ
-overlaid ws o xs = take (length ws) (take o ws ++ (xs ++ drop (length xs) (drop o ws)))
+abbrev pub overlay : List ℕ → ℕ → List ℕ → List ℕ
+overlay ws o xs = take (length ws) (take o ws ++ (xs ++ drop (length xs) (drop o ws)))
 
 -- buffers
 
@@ -133,8 +133,8 @@ abbrev pub fresh_page : ℕ → Page
 fresh_page f = record { state = Open; frame = Some f; top = 0 }
 
 -- the page of an index opened on a frame of zeros
-unfoldable pub opened : StoreState → ℕ → ℕ → StoreState
-opened s i f = record s {
+unfoldable pub open_fresh : StoreState → ℕ → ℕ → StoreState
+open_fresh s i f = record s {
   pages = slice_set s.pages i (fresh_page f);
   frames = slice_set s.frames f (replicate s.words 0);
   owners = slice_set s.owners f (Some (i + 1));
@@ -146,33 +146,33 @@ top_in None = 0
 top_in (Some p) = p.top
 
 -- records with n more words given out of the page of index i, which may be missing
-abbrev pub raised : List Page → ℕ → Option Page → ℕ → List Page
-raised pages i None n = pages
-raised pages i (Some p) n = slice_set pages i (record p { top = p.top + n })
+abbrev pub raise_top : List Page → ℕ → Option Page → ℕ → List Page
+raise_top pages i None n = pages
+raise_top pages i (Some p) n = slice_set pages i (record p { top = p.top + n })
 
 -- n words from top on of the page of index i
 abbrev pub buffer_of : ℕ → ℕ → ℕ → Buffer
 buffer_of i top n = record { page = i + 1; next = top; end = top + n }
 
 -- n words of the page of an index are given out
-unfoldable pub given : StoreState → ℕ → ℕ → StoreState × Buffer
-given s i n =
-    (record s { pages = raised s.pages i (slice_get s.pages i) n }, buffer_of i (top_in (slice_get s.pages i)) n)
+unfoldable pub give_words : StoreState → ℕ → ℕ → StoreState × Buffer
+give_words s i n =
+    (record s { pages = raise_top s.pages i (slice_get s.pages i) n }, buffer_of i (top_in (slice_get s.pages i)) n)
 
 -- n words of a fresh page, of this index and on this frame, where there are both
-abbrev pub taken_fresh : StoreState → ℕ → Option ℕ → Option ℕ → Result (StoreState × Buffer) Room
-taken_fresh s n None i = Err NoFrames
-taken_fresh s n (Some f) None = Err NoPages
-taken_fresh s n (Some f) (Some i) = Ok (given (opened s i f) i n)
+abbrev pub take_fresh : StoreState → ℕ → Option ℕ → Option ℕ → Result (StoreState × Buffer) Room
+take_fresh s n None i = Err NoFrames
+take_fresh s n (Some f) None = Err NoPages
+take_fresh s n (Some f) (Some i) = Ok (give_words (open_fresh s i f) i n)
 
 -- n words of the open page of this index, else of a fresh page
-abbrev pub taken_at : StoreState → ℕ → Option ℕ → Result (StoreState × Buffer) Room
-taken_at s n (Some i) = Ok (given s i n)
-taken_at s n None = taken_fresh s n (free_frame s.owners) (unused_page s.count s.pages)
+abbrev pub take_at : StoreState → ℕ → Option ℕ → Result (StoreState × Buffer) Room
+take_at s n (Some i) = Ok (give_words s i n)
+take_at s n None = take_fresh s n (free_frame s.owners) (unused_page s.count s.pages)
 
 -- a buffer of n words: in the lowest open page with room, else in the lowest unused page, opened on the lowest free frame
-unfoldable pub taken : StoreState → ℕ → Result (StoreState × Buffer) Room
-taken s n = taken_at s n (page_with_room s.words n s.pages)
+unfoldable pub take_buffer : StoreState → ℕ → Result (StoreState × Buffer) Room
+take_buffer s n = take_at s n (page_with_room s.words n s.pages)
 
 -- a call that took a buffer, or changed nothing
 abbrev pub Takes : StoreState → Result Buffer Room → StoreState → Result (StoreState × Buffer) Room → Type 0

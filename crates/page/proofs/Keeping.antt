@@ -13,8 +13,8 @@ use Rattle.model.specs.declared.records.Page.{Page}
 use Rattle.model.specs.declared.records.PageState.{PageState}
 use Rattle.model.specs.declared.records.PageState.TheVariants.{Unused, Open, Closed, From, Gone}
 use Rattle.model.specs.Stores.{StoreState, has_memory, is_protected, is_open, is_unused, page_at, state_in}
-use Rattle.model.specs.Stores.{frame_in, record_count, fresh_page, opened, first_store, blank_page}
-use Rattle.model.specs.Stores.{unused_page, unused_in, given, buffer_of, with_words, top_in, words_at}
+use Rattle.model.specs.Stores.{frame_in, record_count, fresh_page, open_fresh, first_store, blank_page}
+use Rattle.model.specs.Stores.{unused_page, unused_in, give_words, buffer_of, with_words, top_in, words_at}
 use Rattle.model.specs.Owning.{IsPage, IsStore}
 use Rattle.model.proofs.Lists.{get_set, get_set_same, get_set_other, each_set}
 use Rattle.model.proofs.Lists.{each_replicate, get_replicate, count_set, count_replicate}
@@ -107,8 +107,8 @@ raise_keeps s i p top h e le =
 
 -- an unused page is opened on a free frame
 pub open_keeps : (s : StoreState) (i f : ℕ) (p : Page) → IsStore s → slice_get s.pages i ≡ Some p
-    → is_unused p.state ≡ true → slice_get s.owners f ≡ Some None → IsStore (opened s i f)
-unfolding opened
+    → is_unused p.state ≡ true → slice_get s.owners f ≡ Some None → IsStore (open_fresh s i f)
+unfolding open_fresh
 open_keeps s i f p h e u g =
     let pages_same : length (set s.pages i (fresh_page f)) ≡ length s.pages = simp length-set in
     let owners_same : length (set s.owners f (Some (i + 1))) ≡ length s.owners = simp length-set in
@@ -226,7 +226,7 @@ all_have_records s h free none =
     ap (unused_in s.count s.pages) none ∙ none_below (length s.pages) s.count all
 
 pub open_inside : (s : StoreState) (i f : ℕ) → IsStore s → i < length s.pages
-    → is_unused_in (slice_get s.pages i) ≡ true → slice_get s.owners f ≡ Some None → IsStore (opened s i f)
+    → is_unused_in (slice_get s.pages i) ≡ true → slice_get s.owners f ≡ Some None → IsStore (open_fresh s i f)
 open_inside s i f h within u g = let p = get_within s.pages i within in open_keeps s i f p.0 h p.1 (rw p.1 at u) g
 
 -- an open page has a frame of the store
@@ -276,8 +276,8 @@ open_has_frame s n h e = by_number (cases_eq n 0)
 
 -- n words given out of a page that is there
 pub given_at : (s : StoreState) (i n : ℕ) (p : Page) → slice_get s.pages i ≡ Some p
-    → given s i n ≡ (record s { pages = set s.pages i (record p { top = p.top + n }) }, buffer_of i p.top n)
-unfolding given
+    → give_words s i n ≡ (record s { pages = set s.pages i (record p { top = p.top + n }) }, buffer_of i p.top n)
+unfolding give_words
 given_at s i n p e = rw e refl
 
 -- words changed in a frame that is there
@@ -299,37 +299,37 @@ pub opened_with : (s : StoreState) (i f : ℕ) (ws : List ℕ) → IsStore s →
       frames = set s.frames f ws;
       owners = set s.owners f (Some (i + 1));
     })
-unfolding opened
+unfolding open_fresh
 opened_with s i f ws h within u g e = rw e (open_inside s i f h within u g)
 
 pub opened_as : (s : StoreState) (i f : ℕ) (ws : List ℕ) → ws ≡ replicate s.words 0 → record s {
   pages = set s.pages i (fresh_page f);
   frames = set s.frames f ws;
   owners = set s.owners f (Some (i + 1));
-} ≡ opened s i f
-unfolding opened
+} ≡ open_fresh s i f
+unfolding open_fresh
 opened_as s i f ws e = rw e refl
 
-pub opened_pages : (s : StoreState) (i f : ℕ) → length (opened s i f).pages ≡ length s.pages
-unfolding opened
+pub opened_pages : (s : StoreState) (i f : ℕ) → length (open_fresh s i f).pages ≡ length s.pages
+unfolding open_fresh
 opened_pages s i f = simp length-set
 
 pub opened_at : (s : StoreState) (i f : ℕ) (p : Page) → slice_get s.pages i ≡ Some p
-    → slice_get (opened s i f).pages i ≡ Some (fresh_page f)
-unfolding opened
+    → slice_get (open_fresh s i f).pages i ≡ Some (fresh_page f)
+unfolding open_fresh
 opened_at s i f p e = get_set_same s.pages i p (fresh_page f) e
 
-pub opened_top : (s : StoreState) (i f : ℕ) → i < length s.pages → top_in (slice_get (opened s i f).pages i) ≡ zero
-unfolding opened
+pub opened_top : (s : StoreState) (i f : ℕ) → i < length s.pages → top_in (slice_get (open_fresh s i f).pages i) ≡ zero
+unfolding open_fresh
 opened_top s i f h = let p = get_within s.pages i h in rw (get_set_same s.pages i p.0 (fresh_page f) p.1) refl
 
 pub opened_open : (s : StoreState) (i f : ℕ) → i < length s.pages
-    → is_open (state_in (slice_get (opened s i f).pages i)) ≡ true
-unfolding opened
+    → is_open (state_in (slice_get (open_fresh s i f).pages i)) ≡ true
+unfolding open_fresh
 opened_open s i f h = let p = get_within s.pages i h in rw (get_set_same s.pages i p.0 (fresh_page f) p.1) refl
 
-pub opened_words : (s : StoreState) (i f : ℕ) → (opened s i f).words ≡ s.words
-unfolding opened
+pub opened_words : (s : StoreState) (i f : ℕ) → (open_fresh s i f).words ≡ s.words
+unfolding open_fresh
 opened_words s i f = refl
 
 -- where a frame is free, the lowest unused page has a record

@@ -15,8 +15,8 @@ use Rattle.model.specs.declared.records.Page.{Page}
 use Rattle.model.specs.declared.records.Room.{Room}
 use Rattle.model.specs.declared.records.Room.TheVariants.{NoFrames, NoPages}
 use Rattle.model.specs.declared.records.Buffer.{Buffer}
-use Rattle.model.specs.Stores.{StoreState, is_open, is_unused, state_in, opened, given, buffer_of}
-use Rattle.model.specs.Stores.{Takes, with_words, with_word, fresh_page, frame_in, page_at, taken}
+use Rattle.model.specs.Stores.{StoreState, is_open, is_unused, state_in, open_fresh, give_words, buffer_of}
+use Rattle.model.specs.Stores.{Takes, with_words, with_word, fresh_page, frame_in, page_at, take_buffer}
 use Rattle.model.specs.Stores.{page_with_room, free_frame, unused_page, record_count}
 use Rattle.model.specs.Owning.{IsStore, LiesIn, AreSized, TakesWell}
 use Rattle.model.proofs.Memory.{frames_stay}
@@ -68,7 +68,7 @@ lies_set s t i p q b e w at o h =
 
 -- words given out of an open page
 given_lies : (s : StoreState) (i n : ℕ) (p : Page) → slice_get s.pages i ≡ Some p → is_open p.state ≡ true
-    → p.top + n ≤ s.words → LiesIn (given s i n).0 (given s i n).1
+    → p.top + n ≤ s.words → LiesIn (give_words s i n).0 (give_words s i n).1
 given_lies s i n p e o room =
     let q : Page = record p { top = p.top + n } in
     let back : i + 1 - 1 ≡ i = omega arith in
@@ -76,28 +76,28 @@ given_lies s i n p e o room =
     (ap (slice_get (set s.pages i q)) back ∙ get_set_same s.pages i p q e) o (omega arith) room)
 
 given_stays : (s : StoreState) (i n : ℕ) (p : Page) (c : Buffer) → slice_get s.pages i ≡ Some p
-    → is_open p.state ≡ true → LiesIn s c → LiesIn (given s i n).0 c
+    → is_open p.state ≡ true → LiesIn s c → LiesIn (give_words s i n).0 c
 given_stays s i n p c e o h = rw (given_at s i n p e) (lies_set s (record s {
   pages = set s.pages i (record p { top = p.top + n });
 }) i p (record p { top = p.top + n }) c refl refl e o h)
 
 opened_stays : (s : StoreState) (i f : ℕ) (p : Page) (c : Buffer) → slice_get s.pages i ≡ Some p → LiesIn s c
-    → LiesIn (opened s i f) c
-unfolding opened
-opened_stays s i f p c e h = lies_set s (opened s i f) i p (fresh_page f) c refl refl e refl h
+    → LiesIn (open_fresh s i f) c
+unfolding open_fresh
+opened_stays s i f p c e h = lies_set s (open_fresh s i f) i p (fresh_page f) c refl refl e refl h
 
 -- the sizes stay
-given_sized : (s : StoreState) (i n : ℕ) → AreSized s (given s i n).0
-unfolding given
+given_sized : (s : StoreState) (i n : ℕ) → AreSized s (give_words s i n).0
+unfolding give_words
 given_sized s i n = record { words = refl; count = refl; frames = refl }
 
-opened_sized : (s : StoreState) (i f n : ℕ) → AreSized s (given (opened s i f) i n).0
-unfolding given opened
+opened_sized : (s : StoreState) (i f n : ℕ) → AreSized s (give_words (open_fresh s i f) i n).0
+unfolding give_words open_fresh
 opened_sized s i f n =
     record { words = refl; count = refl; frames = length-set s.frames f (replicate s.words 0) }
 
 well_given : (s : StoreState) (i n : ℕ) (p : Page) → slice_get s.pages i ≡ Some p → is_open p.state ≡ true
-    → p.top + n ≤ s.words → TakesWell s (given s i n).0 (given s i n).1
+    → p.top + n ≤ s.words → TakesWell s (give_words s i n).0 (give_words s i n).1
 well_given s i n p e o room = record {
   sized = given_sized s i n;
   lies = given_lies s i n p e o room;
@@ -105,14 +105,14 @@ well_given s i n p e o room = record {
 }
 
 well_opened : (s : StoreState) (i f n : ℕ) (p : Page) → slice_get s.pages i ≡ Some p → n ≤ s.words
-    → TakesWell s (given (opened s i f) i n).0 (given (opened s i f) i n).1
+    → TakesWell s (give_words (open_fresh s i f) i n).0 (give_words (open_fresh s i f) i n).1
 well_opened s i f n p e room =
     let at = opened_at s i f p e in
     let words = opened_words s i f in
     record {
       sized = opened_sized s i f n;
-      lies = given_lies (opened s i f) i n (fresh_page f) at refl (rw words (omega arith));
-      stays = λ c h. given_stays (opened s i f) i n (fresh_page f) c at refl (opened_stays s i f p c e h);
+      lies = given_lies (open_fresh s i f) i n (fresh_page f) at refl (rw words (omega arith));
+      stays = λ c h. given_stays (open_fresh s i f) i n (fresh_page f) c at refl (opened_stays s i f p c e h);
     }
 
 abbrev Taken : Type 0
@@ -124,30 +124,30 @@ same_ok x y e = cc
 err_ok : (r : Room) (y : StoreState × Buffer) → ◌≡◌ {A = Taken} (Err r) (Ok y) → ⊥
 err_ok r y e = cc
 
-taken_given : (s : StoreState) (n i : ℕ) → page_with_room s.words n s.pages ≡ Some i → taken s n ≡ Ok (given s i n)
-unfolding taken
+taken_given : (s : StoreState) (n i : ℕ) → page_with_room s.words n s.pages ≡ Some i → take_buffer s n ≡ Ok (give_words s i n)
+unfolding take_buffer
 taken_given s n i a = rw a refl
 
 taken_no_frame : (s : StoreState) (n : ℕ) → page_with_room s.words n s.pages ≡ None → free_frame s.owners ≡ None
-    → taken s n ≡ Err NoFrames
-unfolding taken
+    → take_buffer s n ≡ Err NoFrames
+unfolding take_buffer
 taken_no_frame s n r a = rw (r, a) refl
 
 taken_no_page : (s : StoreState) (n f : ℕ) → page_with_room s.words n s.pages ≡ None → free_frame s.owners ≡ Some f
-    → unused_page s.count s.pages ≡ None → taken s n ≡ Err NoPages
-unfolding taken
+    → unused_page s.count s.pages ≡ None → take_buffer s n ≡ Err NoPages
+unfolding take_buffer
 taken_no_page s n f r a c = rw (r, a, c) refl
 
 taken_opened : (s : StoreState) (n f i : ℕ) → page_with_room s.words n s.pages ≡ None → free_frame s.owners ≡ Some f
-    → unused_page s.count s.pages ≡ Some i → taken s n ≡ Ok (given (opened s i f) i n)
-unfolding taken
+    → unused_page s.count s.pages ≡ Some i → take_buffer s n ≡ Ok (give_words (open_fresh s i f) i n)
+unfolding take_buffer
 taken_opened s n f i r a c = rw (r, a, c) refl
 
-pub takes_well : (s t : StoreState) (n : ℕ) (b : Buffer) → IsStore s → 0 < n → n ≤ s.words → taken s n ≡ Ok (t, b)
+pub takes_well : (s t : StoreState) (n : ℕ) (b : Buffer) → IsStore s → 0 < n → n ≤ s.words → take_buffer s n ≡ Ok (t, b)
     → TakesWell s t b
 takes_well s t n b h low high e = by_room (page_with_room s.words n s.pages) refl
   where
-    as_taken : (x : StoreState × Buffer) → taken s n ≡ Ok x → TakesWell s x.0 x.1 → TakesWell s t b
+    as_taken : (x : StoreState × Buffer) → take_buffer s n ≡ Ok x → TakesWell s x.0 x.1 → TakesWell s t b
     as_taken x k w = let same : x ≡ (t, b) = same_ok x (t, b) (sym k ∙ e) in
         subst (λ (y : StoreState × Buffer). TakesWell s y.0 y.1) same w
 
@@ -160,7 +160,7 @@ takes_well s t n b h low high e = by_room (page_with_room s.words n s.pages) ref
         let counts = free_counts s.owners f frame a in
         let at = unused_as s h counts (position (λ (p : Page). is_unused p.state) s.pages) refl ∙ c in
         let p = get_within s.pages i (position_within (λ (p : Page). is_unused p.state) s.pages i at (fresh_page f)) in
-        as_taken (given (opened s i f) i n) (taken_opened s n f i r a c) (well_opened s i f n p.0 p.1 high)
+        as_taken (give_words (open_fresh s i f) i n) (taken_opened s n f i r a c) (well_opened s i f n p.0 p.1 high)
 
     by_room : (o : Option ℕ) → page_with_room s.words n s.pages ≡ o → TakesWell s t b
     by_room None a = by_fresh a (free_frame s.owners) refl (unused_page s.count s.pages) refl
@@ -168,12 +168,12 @@ takes_well s t n b h low high e = by_room (page_with_room s.words n s.pages) ref
         let within = room_within s.words n s.pages i a (fresh_page 0) in
         let p = get_within s.pages i within in
         let passes = room_passes s.words n s.pages i a p.0 p.1 in
-        as_taken (given s i n) (taken_given s n i a) (well_given s i n p.0 p.1
+        as_taken (give_words s i n) (taken_given s n i a) (well_given s i n p.0 p.1
         (and_parts (is_open p.0.state) _ passes).0 (room_left s.words n p.0.top (is_open p.0.state) low passes))
 
 -- the same, of a call that took a buffer or failed
 pub takes_by : (s t : StoreState) (n : ℕ) (r : Result Buffer Room) → IsStore s → 0 < n → n ≤ s.words
-    → Takes s r t (taken s n) → IfOk r (TakesWell s t)
+    → Takes s r t (take_buffer s n) → IfOk r (TakesWell s t)
 takes_by s t n (Ok b) h low high e = takes_well s t n b h low high e
 takes_by s t n (Err x) h low high e = search rules
 

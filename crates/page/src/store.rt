@@ -3,7 +3,7 @@
 ghost use Rattle.std.specs.Prelude.{◌≡◌, ◌≤◌, ◌<◌, ◌+◌, ◌-◌, ◌/◌, ◌^◌, length, slice_get, slice_set, slice_range, replicate, IfOk, IfSome, count_by, is_some, is_none, Some, None, true};
 ghost use Rattle.std.specs.Option.{option_map};
 ghost use Rattle.std.specs.Borrow.{sem};
-ghost use Rattle.model.specs.Stores.{first_store, page_at, state_at, state_in, spot_of, word_at, with_word, words_at, taken, Takes, given, opened, top_in, is_open, page_with_room, free_frame, unused_page, frame_in, record_count};
+ghost use Rattle.model.specs.Stores.{first_store, page_at, state_at, state_in, spot_of, word_at, with_word, words_at, take_buffer, Takes, give_words, open_fresh, top_in, is_open, page_with_room, free_frame, unused_page, frame_in, record_count};
 ghost use Rattle.model.specs.Configs.{is_page_size};
 ghost use Rattle.model.specs.Owning.{IsStore, LiesIn, TakesWell};
 ghost use Rattle.page.specs.Lending.{LendsPart};
@@ -257,12 +257,12 @@ impl Store {
     }
 
     /// Gives out `n` words of the open page of an index.
-    #[tactic(auto, unfolding(model::specs::Stores::given))]
+    #[tactic(auto, unfolding(model::specs::Stores::give_words))]
     fn give(&mut self, index: usize, n: u32) -> Buffer
         requires there { index < length self.old.pages }
         requires open { is_open (state_in (slice_get self.old.pages index)) ≡ true }
         requires room { top_in (slice_get self.old.pages index) + n ≤ self.old.words }
-        ensures { given self.old index n ≡ (self.new, result) }
+        ensures { give_words self.old index n ≡ (self.new, result) }
     {
         let page = &mut self.pages[index];
         let top = page.top;
@@ -276,13 +276,13 @@ impl Store {
     }
 
     /// Opens the page of an index on a frame, and makes its words zero.
-    #[tactic(auto, unfolding(model::specs::Stores::opened))]
+    #[tactic(auto, unfolding(model::specs::Stores::open_fresh))]
     fn open(&mut self, index: usize, frame: usize)
         requires unused { is_unused_in (slice_get self.old.pages index) ≡ true }
         requires page_there { index < length self.old.pages }
         requires free { slice_get self.old.owners frame ≡ Some None }
         requires frame_there { frame < length self.old.owners }
-        ensures { self.new ≡ opened self.old index frame }
+        ensures { self.new ≡ open_fresh self.old index frame }
     {
         self.free -= 1;
         self.pages[index] = Page {
@@ -339,7 +339,7 @@ impl Store {
     pub fn take(&mut self, n: u32) -> Result<Buffer, Room>
         requires low { 0 < n }
         requires high { n ≤ self.old.words }
-        ensures takes { Takes self.old result self.new (taken self.old n) }
+        ensures takes { Takes self.old result self.new (take_buffer self.old n) }
         ensures buffers { IfOk result (TakesWell self.old self.new) }
     {
         self.law();
@@ -347,11 +347,11 @@ impl Store {
     }
 
     /// What `take` does.
-    #[tactic(auto, unfolding(model::specs::Stores::taken))]
+    #[tactic(auto, unfolding(model::specs::Stores::take_buffer))]
     fn take_lowest(&mut self, n: u32) -> Result<Buffer, Room>
         requires low { 0 < n }
         requires high { n ≤ self.old.words }
-        ensures { Takes self.old result self.new (taken self.old n) }
+        ensures { Takes self.old result self.new (take_buffer self.old n) }
     {
         if let Some(index) = self.page_with_room(n) {
             return Ok(self.give(index, n));

@@ -15,18 +15,18 @@ use Rattle.model.specs.declared.records.Page.{Page}
 use Rattle.model.specs.declared.records.PageState.TheVariants.{Open}
 use Rattle.model.specs.declared.records.Buffer.{Buffer}
 use Rattle.model.specs.Phases.{is_marking, is_mark_crossing}
-use Rattle.model.specs.Stores.{words_at, with_words, state_at, state_in, page_at, has_memory, is_open, overlaid}
+use Rattle.model.specs.Stores.{words_at, with_words, state_at, state_in, page_at, has_memory, is_open, overlay}
 use Rattle.model.specs.Owning.{IsStore, LiesIn}
-use Rattle.model.specs.States.{HeapState, ThreadState, changed}
+use Rattle.model.specs.States.{HeapState, ThreadState, change_at}
 use Rattle.model.specs.Threads.{buffer_in, has_crossed, is_parked_in}
 use Rattle.model.specs.Registers.{register_of}
-use Rattle.model.specs.Births.{put_bit, fresh_object, placed, handed, used_buffer}
+use Rattle.model.specs.Births.{put_bit, fresh_object, place_object, hand_object, used_buffer}
 use Rattle.model.proofs.Lists.{get_within, each_changed}
 use Rattle.model.proofs.Memory.{open_state, words_sized, memory_words, page_there, length_overlaid, frames_stay}
 use Rattle.page.proofs.Lying.{buffer_address}
 use Rattle.laws.specs.AddressHeap.{HeapObject, Word, Null, SideEntry, NoEntry, Planned, Copied, put}
 use Rattle.laws.specs.Invariant.{SoundObjects}
-use Rattle.laws.specs.Edits.{born}
+use Rattle.laws.specs.Edits.{add_object}
 use Rattle.laws.proofs.Basics.{put_after, put_same, put_other}
 use Rattle.model.specs.Bits.{bit_at}
 use Rattle.refinement.specs.Worlds.{world_of, object_at, barrier_in}
@@ -68,7 +68,7 @@ module _ {h : HeapState} (s : IsStore h.store) (l : IsLaid h) {t target number :
 
   -- the heap with it
   abbrev pub after : HeapState
-  after = placed h t target number shape b
+  after = place_object h t target number shape b
 
   -- the object
   abbrev pub fresh : HeapObject
@@ -116,10 +116,10 @@ module _ {h : HeapState} (s : IsStore h.store) (l : IsLaid h) {t target number :
       (y, e, omega (arith, next_in, r.words (b.page - 1) y e))
 
   put_at_address : (rows : List (List Bool)) → AreRows h.store rows → (bit : Bool) (y : ℕ) → bit_at
-      (changed rows (b.page - 1) (put_bit b.next bit)) h.store.words y ≡ put (bit_at rows h.store.words) address bit y
+      (change_at rows (b.page - 1) (put_bit b.next bit)) h.store.words y ≡ put (bit_at rows h.store.words) address bit y
   put_at_address rows r bit y =
       let (z, e, k) = row rows r in
-      subst (λ o. bit_at (changed rows (b.page - 1) (put_bit o bit)) h.store.words y
+      subst (λ o. bit_at (change_at rows (b.page - 1) (put_bit o bit)) h.store.words y
       ≡ put (bit_at rows h.store.words) address bit y) address_offset
       (bit_put h.store.words rows (b.page - 1) address bit z page_is e (omega (arith, k, address_offset)) y)
 
@@ -155,7 +155,7 @@ module _ {h : HeapState} (s : IsStore h.store) (l : IsLaid h) {t target number :
       ]
 
   abbrev change : List ℕ → List ℕ
-  change words = overlaid words b.next (fresh_object h.births number shape)
+  change words = overlay words b.next (fresh_object h.births number shape)
 
   long : length (fresh_object h.births number shape) ≡ size_of shape
   long = omega (arith, one (length zeros), length-replicate {A = ℕ} (shape.refs + shape.nums) 0)
@@ -195,7 +195,7 @@ module _ {h : HeapState} (s : IsStore h.store) (l : IsLaid h) {t target number :
           (omega (arith, k, base, div-add-mod' y h.store.words, low, long, m.room)) (omega (arith, high, end))
 
   abbrev starts : List (List Bool)
-  starts = changed h.starts (b.page - 1) (put_bit b.next true)
+  starts = change_at h.starts (b.page - 1) (put_bit b.next true)
 
   rewrites : Rewrites h starts b.page address change fresh
   rewrites = record {
@@ -211,25 +211,25 @@ module _ {h : HeapState} (s : IsStore h.store) (l : IsLaid h) {t target number :
   }
 
   pub born_objects : (y : ℕ) → object_at after y ≡ put (object_at h) address (Some fresh) y
-  unfolding placed with_words
+  unfolding place_object with_words
   born_objects y = rewritten h starts b.page address change fresh s rewrites y
 
   -- the heap by addresses has one more birth
-  born_world : world_of after ≡ born address fresh t target (world_of h)
-  unfolding placed with_words state_at page_at register_of
+  born_world : world_of after ≡ add_object address fresh t target (world_of h)
+  unfolding place_object with_words state_at page_at register_of
   born_world = λ z. record (world_of h) {
     object_at = fun_ext born_objects z;
     births = one h.births z;
     register = fun_ext (λ u. fun_ext (register_changed h.threads t target (Some (address, h.nmt))
-        (handed target (Some (address, h.nmt)) (used_buffer b (size_of shape))) x m.thread m.register refl u)) z;
+        (hand_object target (Some (address, h.nmt)) (used_buffer b (size_of shape))) x m.thread m.register refl u)) z;
     marked = fun_ext (put_at_address h.mark l.mark (is_marking h.phase)) z;
     todo = fun_ext (put_at_address h.todo l.todo (is_mark_crossing h.phase)) z;
     crossed = fun_ext (kept_of has_crossed h.threads t
-        (handed target (Some (address, h.nmt)) (used_buffer b (size_of shape))) (λ y. refl)) z;
+        (hand_object target (Some (address, h.nmt)) (used_buffer b (size_of shape))) (λ y. refl)) z;
     parked = fun_ext (kept_of is_parked_in h.threads t
-        (handed target (Some (address, h.nmt)) (used_buffer b (size_of shape))) (λ y. refl)) z;
+        (hand_object target (Some (address, h.nmt)) (used_buffer b (size_of shape))) (λ y. refl)) z;
     barrier = fun_ext (kept_of barrier_in h.threads t
-        (handed target (Some (address, h.nmt)) (used_buffer b (size_of shape))) (λ y. refl)) z;
+        (hand_object target (Some (address, h.nmt)) (used_buffer b (size_of shape))) (λ y. refl)) z;
   }
     where
       one : (n : ℕ) → n + 1 ≡ suc n
@@ -251,9 +251,9 @@ module _ {h : HeapState} (s : IsStore h.store) (l : IsLaid h) {t target number :
 
   buffers : (u : ℕ)
       → extent after (OfBuffer u) ≡ put (λ v. extent h (OfBuffer v)) t (Some (buffer_extent h.store.words rest)) u
-  unfolding placed with_words
+  unfolding place_object with_words
   buffers u = read_changed (λ o. option_map (buffer_extent h.store.words) (buffer_in o)) h.threads t
-      (handed target (Some (address, h.nmt)) rest) x (Some (buffer_extent h.store.words rest)) m.thread refl u
+      (hand_object target (Some (address, h.nmt)) rest) x (Some (buffer_extent h.store.words rest)) m.thread refl u
 
   plan_of : SideEntry → Option ℕ → Option Extent
   plan_of = planned_extent
@@ -265,7 +265,7 @@ module _ {h : HeapState} (s : IsStore h.store) (l : IsLaid h) {t target number :
   unplanned_extent (Planned n) o p d = absurd (d n refl)
 
   others : (c : Claim) → (c ≡ OfBuffer t) ⊎ (c ≡ OfObject address) ⊎ (extent after c ≡ extent h c)
-  unfolding placed with_words page_at
+  unfolding place_object with_words page_at
   others (OfObject y) = go (cases_eq y address)
     where
       go : (y ≡ address) ⊎ (y ≢ address) → (OfObject y ≡ OfBuffer t) ⊎ (OfObject y ≡ OfObject address)
@@ -350,7 +350,7 @@ module _ {h : HeapState} (s : IsStore h.store) (l : IsLaid h) {t target number :
 
   -- and memory is in order
   born_laid : IsLaid after
-  unfolding placed with_words state_at page_at register_of
+  unfolding place_object with_words state_at page_at register_of
   born_laid = record {
     starts = rows h.starts l.starts true;
     live = record { pages = l.live.pages; words = l.live.words };
@@ -358,7 +358,7 @@ module _ {h : HeapState} (s : IsStore h.store) (l : IsLaid h) {t target number :
     todo = rows h.todo l.todo (is_mark_crossing h.phase);
     sides = record { pages = l.sides.pages; rising = l.sides.rising };
     registers = each_changed (λ y. length y.registers ≡ h.config.registers) h.threads t
-        (handed target (Some (address, h.nmt)) rest) l.registers
+        (hand_object target (Some (address, h.nmt)) rest) l.registers
         (λ y e. length-set y.registers target (Some (address, h.nmt)) ∙ e);
     objects = objects;
     apart = split_apart (extent h) (extent after) l.apart (OfBuffer t) (OfObject address) splits;
@@ -368,19 +368,19 @@ module _ {h : HeapState} (s : IsStore h.store) (l : IsLaid h) {t target number :
   }
     where
       rows : (xs : List (List Bool)) → AreRows h.store xs → (bit : Bool)
-          → AreRows after.store (changed xs (b.page - 1) (put_bit b.next bit))
+          → AreRows after.store (change_at xs (b.page - 1) (put_bit b.next bit))
       rows xs r bit = let k = rows_changed h.store xs (b.page - 1) (put_bit b.next bit) r (length_put b.next bit) in
           record { pages = k.pages; words = k.words }
 
-  pub born_carries : Carries h after (born address fresh t target)
-  unfolding placed with_words
+  pub born_carries : Carries h after (add_object address fresh t target)
+  unfolding place_object with_words
   born_carries = record {
     size = alike h after refl refl (frames_stay h.store _ _) refl
-        (length_changed h.threads t (handed target (Some (address, h.nmt)) rest)) refl refl;
+        (length_changed h.threads t (hand_object target (Some (address, h.nmt)) rest)) refl refl;
     laid = λ z. born_laid;
     given = λ z. z;
     words = λ w. record {
-      threads = each_changed (HoldsWords h.config.registers) h.threads t (handed target (Some (address, h.nmt)) rest)
+      threads = each_changed (HoldsWords h.config.registers) h.threads t (hand_object target (Some (address, h.nmt)) rest)
           w.threads (λ y. handed_holds_words h.config.registers target (Some (address, h.nmt)) rest y
           (buffer_address h.store b s m.lies (omega (arith, m.room))));
       globals = w.globals;

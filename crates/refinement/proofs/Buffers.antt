@@ -13,12 +13,12 @@ use Rattle.model.specs.declared.records.Page.{Page}
 use Rattle.model.specs.declared.records.Buffer.{Buffer}
 use Rattle.model.specs.declared.records.Room.{Room}
 use Rattle.model.specs.declared.records.Room.TheVariants.{NoFrames, NoPages}
-use Rattle.model.specs.Stores.{StoreState, taken, opened, fresh_page, buffer_of}
+use Rattle.model.specs.Stores.{StoreState, take_buffer, open_fresh, fresh_page, buffer_of}
 use Rattle.model.specs.Owning.{Each, IsStore}
 use Rattle.model.specs.Holding.{IsHeap}
-use Rattle.model.specs.States.{HeapState, ThreadState, changed}
+use Rattle.model.specs.States.{HeapState, ThreadState, change_at}
 use Rattle.model.specs.Threads.{buffer_in}
-use Rattle.model.specs.Buffers.{buffer_of_thread, opened_rows, blank_row, take_outcome, took, lent, give_back_outcome}
+use Rattle.model.specs.Buffers.{buffer_of_thread, opened_rows, blank_row, take_outcome, take_result, lend_buffer, give_back_outcome}
 use Rattle.model.specs.Plain.{PlainHeap, plain_step, plain_answer}
 use Rattle.model.proofs.Lists.{get_set, get_set_other, no_some}
 use Rattle.page.proofs.Keeping.{given_at, opened_at}
@@ -48,11 +48,11 @@ each_set_again P xs i v w h q j y e = go (get_set (set xs i v) i j w y e)
 -- rows stay where the buffer isn't the first of its page
 same_rows : (b : Buffer) (rows : List (List Bool)) → 0 < b.next → opened_rows b rows ≡ rows
 same_rows b rows low =
-    ap (λ c. cond c (changed rows (b.page - 1) blank_row) rows) (ne_eqb b.next 0 (λ e. absurd (omega (arith, e, low))))
+    ap (λ c. cond c (change_at rows (b.page - 1) blank_row) rows) (ne_eqb b.next 0 (λ e. absurd (omega (arith, e, low))))
 
-lent_open : (h : HeapState) (t i : ℕ) (p : Page) (n : ℕ) → 0 < p.top → lent h t
+lent_open : (h : HeapState) (t i : ℕ) (p : Page) (n : ℕ) → 0 < p.top → lend_buffer h t
     (record h.store { pages = set h.store.pages i (with_more p n) }) (buffer_of i p.top n) ≡ granted h t i p n
-unfolding lent
+unfolding lend_buffer
 lent_open h t i p n low = λ z. record (granted h t i p n) {
   starts = same_rows (buffer_of i p.top n) h.starts low z;
   live = same_rows (buffer_of i p.top n) h.live low z;
@@ -60,13 +60,13 @@ lent_open h t i p n low = λ z. record (granted h t i p n) {
   todo = same_rows (buffer_of i p.top n) h.todo low z;
 }
 
-blank_rows : (i n : ℕ) (rows : List (List Bool)) → opened_rows (buffer_of i 0 n) rows ≡ changed rows i blank_row
-blank_rows i n rows = ap (λ j. changed rows j blank_row) (omega arith)
+blank_rows : (i n : ℕ) (rows : List (List Bool)) → opened_rows (buffer_of i 0 n) rows ≡ change_at rows i blank_row
+blank_rows i n rows = ap (λ j. change_at rows j blank_row) (omega arith)
 
 lent_fresh : (h : HeapState) (t i f n : ℕ)
-    → lent h t (record (opened h.store i f) { pages = set (opened h.store i f).pages i (with_more (fresh_page f) n) })
+    → lend_buffer h t (record (open_fresh h.store i f) { pages = set (open_fresh h.store i f).pages i (with_more (fresh_page f) n) })
     (buffer_of i 0 n) ≡ granted (opened_heap h i f) t i (fresh_page f) n
-unfolding lent
+unfolding lend_buffer
 lent_fresh h t i f n = λ z. record (granted (opened_heap h i f) t i (fresh_page f) n) {
   starts = blank_rows i n h.starts z;
   live = blank_rows i n h.live z;
@@ -79,7 +79,7 @@ fresh_carries : {h : HeapState} (s : IsStore h.store) (d : IsHeap h) (l : IsLaid
     (m : SoundMarks (world_of h)) {i f : ℕ} {q : Page} (w : MayOpen h i f q) (t n : ℕ) (x : ThreadState)
     → slice_get h.threads t ≡ Some x → x.buffer ≡ None → 0 < n → n ≤ h.store.words
     → Carries h (granted (opened_heap h i f) t i (fresh_page f) n) (open_page (on_page h i))
-unfolding opened
+unfolding open_fresh
 fresh_carries {h = h} s d l o m {i = i} {f = f} {q = q} w t n x at had low room =
     let laid = opened_laid s d l o m w in
     let may : MayGrant (opened_heap h i f) t i (fresh_page f) n x = record {
@@ -103,8 +103,8 @@ fresh_carries {h = h} s d l o m {i = i} {f = f} {q = q} w t n x at had low room 
 
 -- what the store gave out goes to the thread
 on_took : (h : HeapState) (t : ℕ) (r : Result (StoreState × Buffer) Room) (P : HeapState × Answer → Type 0)
-    → ((z : StoreState × Buffer) → r ≡ Ok z → P (lent h t z.0 z.1, answers.Lent z.1.page z.1.next))
-    → OnAccepted P (took h t r)
+    → ((z : StoreState × Buffer) → r ≡ Ok z → P (lend_buffer h t z.0 z.1, answers.Lent z.1.page z.1.next))
+    → OnAccepted P (take_result h t r)
 on_took h t (Ok z) P f = f z refl
 on_took h t (Err NoFrames) P f = tt
 on_took h t (Err NoPages) P f = tt
@@ -112,14 +112,14 @@ on_took h t (Err NoPages) P f = tt
 module _ {h : HeapState} {p p0 : PlainHeap} (s : IsStore h.store) (d : IsHeap h) (k : Holds h p p0) (t : ℕ) where
   lent_holds : (n : ℕ) (x : ThreadState) → slice_get h.threads t ≡ Some x → x.buffer ≡ None → 0 < n
       → n ≤ h.store.words → (z : StoreState × Buffer) → InOpenPage h.store n z ⊎ InFreshPage h.store n z
-      → Holds (lent h t z.0 z.1) p p0
+      → Holds (lend_buffer h t z.0 z.1) p p0
   lent_holds n x at had low high z (inl w) =
       let may : MayGrant h t w.index w.page n x =
       record { at = w.at; is_so = w.is_so; room = w.room; thread = at; had = had; low = low } in
       let same :
       (record h.store { pages = set h.store.pages w.index (with_more w.page n) }, buffer_of w.index w.page.top n)
       ≡ z = sym (given_at h.store w.index n w.page w.at) ∙ w.is in
-      subst (λ (z : StoreState × Buffer). Holds (lent h t z.0 z.1) p p0) same
+      subst (λ (z : StoreState × Buffer). Holds (lend_buffer h t z.0 z.1) p p0) same
       (subst (λ g. Holds g p p0) (sym (lent_open h t w.index w.page n (k.given w.index w.page w.at w.is_so)))
       (unseen (granted_carries k.laid may) k))
   lent_holds n x at had low high z (inr w) =
@@ -128,21 +128,21 @@ module _ {h : HeapState} {p p0 : PlainHeap} (s : IsStore h.store) (d : IsHeap h)
       let m = k.invariant.marks in
       let may : MayOpen h w.index w.frame w.page = record { at = w.at; unused = w.unused; free = w.free } in
       let same : (
-        record (opened h.store w.index w.frame) {
-          pages = set (opened h.store w.index w.frame).pages w.index (with_more (fresh_page w.frame) n);
+        record (open_fresh h.store w.index w.frame) {
+          pages = set (open_fresh h.store w.index w.frame).pages w.index (with_more (fresh_page w.frame) n);
         },
         buffer_of w.index 0 n,
-      ) ≡ z = sym (given_at (opened h.store w.index w.frame) w.index n (fresh_page w.frame) there) ∙ w.is in
-      subst (λ (z : StoreState × Buffer). Holds (lent h t z.0 z.1) p p0) same
+      ) ≡ z = sym (given_at (open_fresh h.store w.index w.frame) w.index n (fresh_page w.frame) there) ∙ w.is in
+      subst (λ (z : StoreState × Buffer). Holds (lend_buffer h t z.0 z.1) p p0) same
       (subst (λ g. Holds g p p0) (sym (lent_fresh h t w.index w.frame n)) (step_by k
       (fresh_carries s d k.laid o m may t n x at had low high) (stays h p)
       (TakeFresh (on_page h w.index) (was_unused s d k.laid o m may))))
 
   -- a buffer is taken
   pub take_holds : (n : ℕ) → Passed h t (steps.Take n) → RowHolds h p p0 (Thread t) (steps.Take n) (take_outcome h t n)
-  unfolding take_outcome plain_step plain_answer lent
+  unfolding take_outcome plain_step plain_answer lend_buffer
   take_holds n g = on_test (is_some (buffer_of_thread h t)) _ _ _ (λ none.
-      on_took h t (taken h.store n) _ (λ z ok.
+      on_took h t (take_buffer h.store n) _ (λ z ok.
       let had = no_some g.thread.buffer (ap (λ o. is_some (buffer_in o)) (sym g.there) ∙ none) in
       let low = positive n (first_false (n == 0) (nat_lt h.store.words n) g.indices) in
       let high = ltb-false h.store.words n (second_false (n == 0) (nat_lt h.store.words n) g.indices) in

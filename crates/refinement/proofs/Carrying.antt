@@ -13,7 +13,7 @@ use Rattle.model.specs.declared.steps.Step.{Step}
 use Rattle.model.specs.declared.steps.Answer.{Answer}
 use Rattle.model.specs.Owning.{Each}
 use Rattle.model.specs.Holding.{HasSizes}
-use Rattle.model.specs.States.{HeapState, ThreadState, changed}
+use Rattle.model.specs.States.{HeapState, ThreadState, change_at}
 use Rattle.model.specs.Refusing.{Outcome}
 use Rattle.model.specs.Plain.{PlainHeap, plain_step, plain_answer}
 use Rattle.model.proofs.Lists.{each_changed}
@@ -112,12 +112,12 @@ and_then {f = f} c d = record {
 
 -- an edit of one thread, said of its record
 pub thread_carries : (h : HeapState) (t : ℕ) (f : ThreadState → ThreadState) (e : AddressHeap → AddressHeap)
-    → (IsLaid h → IsLaid (record h { threads = changed h.threads t f }))
+    → (IsLaid h → IsLaid (record h { threads = change_at h.threads t f }))
     → ((y : ThreadState) → HoldsWords h.config.registers y → HoldsWords h.config.registers (f y))
-    → world_of (record h { threads = changed h.threads t f }) ≡ e (world_of h)
-    → Carries h (record h { threads = changed h.threads t f }) e
+    → world_of (record h { threads = change_at h.threads t f }) ≡ e (world_of h)
+    → Carries h (record h { threads = change_at h.threads t f }) e
 thread_carries h t f e laid words world = record {
-  size = alike h (record h { threads = changed h.threads t f }) refl refl refl refl (length_changed h.threads t f) refl
+  size = alike h (record h { threads = change_at h.threads t f }) refl refl refl refl (length_changed h.threads t f) refl
       refl;
   laid = laid;
   given = λ z. z;

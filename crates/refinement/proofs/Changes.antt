@@ -9,7 +9,7 @@ use Rattle.std.proofs.lemmas.List.{get_or_past}
 use Rattle.std.proofs.Math.ListN.{length-set, length-replicate}
 use Rattle.std.proofs.lemmas.Bool.{cases_eq}
 use Rattle.model.specs.Stores.{StoreState}
-use Rattle.model.specs.States.{changed, changed_at, ThreadState, Reference, flat}
+use Rattle.model.specs.States.{change_at, change_found, ThreadState, Reference, flat}
 use Rattle.model.specs.Buffers.{blank_row}
 use Rattle.model.specs.Births.{put_bit}
 use Rattle.model.proofs.Lists.{get_set_same, get_set_other, get_within, each_changed}
@@ -22,18 +22,18 @@ use Rattle.refinement.specs.Worlds.{as_word}
 
 -- what is read of a list with one element changed
 pub get_changed : {X : Type 0} (xs : List X) (t : ℕ) (f : X → X) (u : ℕ)
-    → slice_get (changed xs t f) u ≡ put (slice_get xs) t (option_map f (slice_get xs t)) u
+    → slice_get (change_at xs t f) u ≡ put (slice_get xs) t (option_map f (slice_get xs t)) u
 get_changed {X} xs t f u = go (slice_get xs t) refl
   where
     go : (o : Option X) → slice_get xs t ≡ o
-        → slice_get (changed_at xs t o f) u ≡ put (slice_get xs) t (option_map f o) u
+        → slice_get (change_found xs t o f) u ≡ put (slice_get xs) t (option_map f o) u
     go None e = sym (ap (λ g. g u) (put_id (slice_get xs) t None e))
     go (Some x) e = put_all (λ v y. slice_get (set xs t (f x)) v ≡ y) (slice_get xs) t (Some (f x))
         (get_set_same xs t x (f x) e) (λ v d. get_set_other xs t v (f x) d) u
 
 -- what a change leaves of every element
 pub kept_of : {X B : Type 0} (P : Option X → B) (xs : List X) (t : ℕ) (f : X → X)
-    → ((x : X) → P (Some (f x)) ≡ P (Some x)) → (u : ℕ) → P (slice_get (changed xs t f) u) ≡ P (slice_get xs u)
+    → ((x : X) → P (Some (f x)) ≡ P (Some x)) → (u : ℕ) → P (slice_get (change_at xs t f) u) ≡ P (slice_get xs u)
 kept_of {X} P xs t f h u = ap P (get_changed xs t f u) ∙ put_all (λ v y. P y ≡ P (slice_get xs v)) (slice_get xs) t
     (option_map f (slice_get xs t)) (here (slice_get xs t)) (λ v d. refl) u
   where
@@ -44,7 +44,7 @@ kept_of {X} P xs t f h u = ap P (get_changed xs t f u) ∙ put_all (λ v y. P y 
 -- what is read of the changed element, and of the others
 pub read_changed : {X B : Type 0} (P : Option X → B) (xs : List X) (t : ℕ) (f : X → X) (x : X) (v : B)
     → slice_get xs t ≡ Some x → P (Some (f x)) ≡ v → (u : ℕ)
-    → P (slice_get (changed xs t f) u) ≡ put (λ w. P (slice_get xs w)) t v u
+    → P (slice_get (change_at xs t f) u) ≡ put (λ w. P (slice_get xs w)) t v u
 read_changed {X} P xs t f x v e k u = ap P (get_changed xs t f u) ∙ put_all (λ w y. P (put (slice_get xs) t now w) ≡ y)
     (λ w. P (slice_get xs w)) t v (ap P (put_same (slice_get xs) t now ∙ ap (option_map f) e) ∙ k)
     (λ w d. ap P (put_other (slice_get xs) t now w d)) u
@@ -55,7 +55,7 @@ read_changed {X} P xs t f x v e k u = ap P (get_changed xs t f u) ∙ put_all (�
 -- what is read of a changed element was there
 pub was_read : {X B : Type 0} (P : Option X → Option B) (xs : List X) (t : ℕ) (f : X → X)
     → ((x : X) (y : B) → P (Some (f x)) ≡ Some y → P (Some x) ≡ Some y) → (u : ℕ) (y : B)
-    → P (slice_get (changed xs t f) u) ≡ Some y → P (slice_get xs u) ≡ Some y
+    → P (slice_get (change_at xs t f) u) ≡ Some y → P (slice_get xs u) ≡ Some y
 was_read {X} P xs t f h u y e = put_all (λ v o. P o ≡ Some y → P (slice_get xs v) ≡ Some y) (slice_get xs) t
     (option_map f (slice_get xs t)) (here (slice_get xs t)) (λ v d k. k) u (sym (ap P (get_changed xs t f u)) ∙ e)
   where
@@ -63,17 +63,17 @@ was_read {X} P xs t f h u y e = put_all (λ v o. P o ≡ Some y → P (slice_get
     here None k = k
     here (Some x) k = h x y k
 
-pub length_changed : {X : Type 0} (xs : List X) (t : ℕ) (f : X → X) → length (changed xs t f) ≡ length xs
+pub length_changed : {X : Type 0} (xs : List X) (t : ℕ) (f : X → X) → length (change_at xs t f) ≡ length xs
 length_changed {X} xs t f = go (slice_get xs t)
   where
-    go : (o : Option X) → length (changed_at xs t o f) ≡ length xs
+    go : (o : Option X) → length (change_found xs t o f) ≡ length xs
     go None = refl
     go (Some x) = length-set xs t (f x)
 
 -- rows
 
 pub rows_changed : (s : StoreState) (rows : List (List Bool)) (i : ℕ) (f : List Bool → List Bool) → AreRows s rows
-    → ((row : List Bool) → length (f row) ≡ length row) → AreRows s (changed rows i f)
+    → ((row : List Bool) → length (f row) ≡ length row) → AreRows s (change_at rows i f)
 rows_changed s rows i f r h = record {
   pages = length_changed rows i f ∙ r.pages;
   words = each_changed (λ row. length row ≡ s.words) rows i f r.words (λ row e. h row ∙ e);
@@ -91,17 +91,17 @@ row_read (x ∷ xs) (suc i) = row_read xs i
 
 -- the rows of the pages with the row of one changed
 pub page_changed : (rows : List (List Bool)) (i : ℕ) (f : List Bool → List Bool) (row : List Bool)
-    → slice_get rows i ≡ Some row → (m : ℕ) → of_page (changed rows i f) m ≡ put (of_page rows) (suc i) (f row) m
+    → slice_get rows i ≡ Some row → (m : ℕ) → of_page (change_at rows i f) m ≡ put (of_page rows) (suc i) (f row) m
 page_changed rows i f row e =
-    put_all (λ m y. of_page (changed rows i f) m ≡ y) (of_page rows) (suc i) (f row) here elsewhere
+    put_all (λ m y. of_page (change_at rows i f) m ≡ y) (of_page rows) (suc i) (f row) here elsewhere
   where
-    here : get_or (changed rows i f) i [] ≡ f row
-    here = row_read (changed rows i f) i ∙ ap row_of
+    here : get_or (change_at rows i f) i [] ≡ f row
+    here = row_read (change_at rows i f) i ∙ ap row_of
         (get_changed rows i f i ∙ put_same (slice_get rows) i (option_map f (slice_get rows i)) ∙ ap (option_map f) e)
 
-    elsewhere : (m : ℕ) → m ≢ suc i → of_page (changed rows i f) m ≡ of_page rows m
+    elsewhere : (m : ℕ) → m ≢ suc i → of_page (change_at rows i f) m ≡ of_page rows m
     elsewhere zero d = refl
-    elsewhere (suc m) d = row_read (changed rows i f) m ∙ ap row_of (get_changed rows i f m
+    elsewhere (suc m) d = row_read (change_at rows i f) m ∙ ap row_of (get_changed rows i f m
         ∙ put_other (slice_get rows) i (option_map f (slice_get rows i)) m (λ k. d (ap suc k))) ∙ sym (row_read rows m)
 
 bit_read : (row : List Bool) (o : ℕ) (b : Bool) → slice_get row o ≡ Some b → get_or row o false ≡ b
@@ -145,18 +145,18 @@ row_there rows i row e = row_read rows i ∙ ap row_of e
 -- a bit is set or cleared
 pub bit_put : (w : ℕ) (rows : List (List Bool)) (i a : ℕ) (b : Bool) (row : List Bool)
     → a / w ≡ suc i → slice_get rows i ≡ Some row → a % w < length row → (x : ℕ)
-    → bit_at (changed rows i (put_bit (a % w) b)) w x ≡ put (bit_at rows w) a b x
-bit_put w rows i a b row p e h = put_all (λ x y. bit_at (changed rows i (put_bit (a % w) b)) w x ≡ y) (bit_at rows w) a
+    → bit_at (change_at rows i (put_bit (a % w) b)) w x ≡ put (bit_at rows w) a b x
+bit_put w rows i a b row p e h = put_all (λ x y. bit_at (change_at rows i (put_bit (a % w) b)) w x ≡ y) (bit_at rows w) a
     b (on_page a p ∙ put_same (λ j. get_or row j false) (a % w) b) (λ x d. elsewhere x d (cases_eq (x / w) (suc i)))
   where
     on_page : (x : ℕ) → x / w ≡ suc i
-        → bit_at (changed rows i (put_bit (a % w) b)) w x ≡ put (λ j. get_or row j false) (a % w) b (x % w)
+        → bit_at (change_at rows i (put_bit (a % w) b)) w x ≡ put (λ j. get_or row j false) (a % w) b (x % w)
     on_page x q = ap (λ r. get_or r (x % w) false) (page_changed rows i (put_bit (a % w) b) row e (x / w)
         ∙ ap (put (of_page rows) (suc i) (put_bit (a % w) b row)) q
         ∙ put_same (of_page rows) (suc i) (put_bit (a % w) b row)) ∙ put_in_row row (a % w) b h (x % w)
 
     elsewhere : (x : ℕ) → x ≢ a → (x / w ≡ suc i) ⊎ (x / w ≢ suc i)
-        → bit_at (changed rows i (put_bit (a % w) b)) w x ≡ bit_at rows w x
+        → bit_at (change_at rows i (put_bit (a % w) b)) w x ≡ bit_at rows w x
     elsewhere x d (inl q) =
         on_page x q ∙ put_other (λ j. get_or row j false) (a % w) b (x % w) (λ k. d (same_place w x a (q ∙ sym p) k))
         ∙ ap (λ r. get_or r (x % w) false) (sym (ap (of_page rows) q ∙ row_there rows i row e))
@@ -170,13 +170,13 @@ blank_bit (suc n) (suc i) = blank_bit n i
 
 -- a row is cleared
 pub blank_here : (w : ℕ) (rows : List (List Bool)) (i : ℕ) (row : List Bool) (x : ℕ) → slice_get rows i ≡ Some row
-    → x / w ≡ suc i → bit_at (changed rows i blank_row) w x ≡ false
+    → x / w ≡ suc i → bit_at (change_at rows i blank_row) w x ≡ false
 blank_here w rows i row x e q = ap (λ r. get_or r (x % w) false) (page_changed rows i blank_row row e (x / w)
     ∙ ap (put (of_page rows) (suc i) (blank_row row)) q ∙ put_same (of_page rows) (suc i) (blank_row row))
     ∙ blank_bit (length row) (x % w)
 
 pub blank_other : (w : ℕ) (rows : List (List Bool)) (i : ℕ) (row : List Bool) (x : ℕ) → slice_get rows i ≡ Some row
-    → x / w ≢ suc i → bit_at (changed rows i blank_row) w x ≡ bit_at rows w x
+    → x / w ≢ suc i → bit_at (change_at rows i blank_row) w x ≡ bit_at rows w x
 blank_other w rows i row x e q = ap (λ r. get_or r (x % w) false)
     (page_changed rows i blank_row row e (x / w) ∙ put_other (of_page rows) (suc i) (blank_row row) (x / w) q)
 
@@ -184,7 +184,7 @@ blank_other w rows i row x e q = ap (λ r. get_or r (x % w) false)
 pub register_changed :
     (ts : List ThreadState) (t r : ℕ) (w : Reference) (f : ThreadState → ThreadState) (x : ThreadState)
     → slice_get ts t ≡ Some x → r < length x.registers → (f x).registers ≡ set x.registers r w
-    → (u s : ℕ) → as_word (register_in (slice_get (changed ts t f) u) s)
+    → (u s : ℕ) → as_word (register_in (slice_get (change_at ts t f) u) s)
     ≡ put_at (λ v q. as_word (register_in (slice_get ts v) q)) t r (as_word w) u s
 register_changed ts t r w f x e h k u s =
     ap (λ o. as_word (register_in o s)) (get_changed ts t f u) ∙ put_all

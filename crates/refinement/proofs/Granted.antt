@@ -10,7 +10,7 @@ use mathlib.Core.Path.{fun_ext}
 use Rattle.model.specs.declared.records.Page.{Page}
 use Rattle.model.specs.Stores.{StoreState, words_at, state_at, state_in, frame_in, page_at, has_memory, is_open}
 use Rattle.model.specs.Stores.{buffer_of}
-use Rattle.model.specs.States.{HeapState, ThreadState, changed}
+use Rattle.model.specs.States.{HeapState, ThreadState, change_at}
 use Rattle.model.specs.Threads.{register_in, buffer_in, set_buffer_of, has_crossed, is_parked_in}
 use Rattle.model.specs.Registers.{register_of}
 use Rattle.model.proofs.Lists.{get_set_same, get_set_other, each_changed, each_set}
@@ -61,7 +61,7 @@ with_more p n = record p { top = p.top + n }
 abbrev pub granted : HeapState → ℕ → ℕ → Page → ℕ → HeapState
 granted h t i p n = record h {
   store = record h.store { pages = set h.store.pages i (with_more p n) };
-  threads = changed h.threads t (set_buffer_of (Some (buffer_of i p.top n)));
+  threads = change_at h.threads t (set_buffer_of (Some (buffer_of i p.top n)));
 }
 
 -- page i + 1 is open with room for n more words, and thread t has no buffer

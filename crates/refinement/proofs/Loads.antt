@@ -13,10 +13,10 @@ use Rattle.model.specs.Stores.{word_at}
 use Rattle.model.specs.Owning.{IsStore}
 use Rattle.model.specs.Holding.{IsHeap}
 use Rattle.model.specs.States.{HeapState, ThreadState, Reference, flat}
-use Rattle.model.specs.References.{stored, global_of, word_of_global, with_global, with_place, field_address}
+use Rattle.model.specs.References.{read_reference, global_of, word_of_global, with_global, with_place, field_address}
 use Rattle.model.specs.Loads.{with_barrier, load_outcome, load_global_outcome, new_barrier, barrier_of_thread}
 use Rattle.model.specs.Loads.{with_loaded, trap_outcome, heal_outcome, heal_place, end_load, finish_outcome, trap_due}
-use Rattle.model.specs.Loads.{gc_trap_due, nmt_trap_due, may_finish, bits_at, are_bits_of, healed}
+use Rattle.model.specs.Loads.{gc_trap_due, nmt_trap_due, may_finish, bits_at, are_bits_of, set_healed}
 use Rattle.model.specs.Threads.{is_parked_in, barrier_of}
 use Rattle.model.specs.Outcome.{no_register, no_global}
 use Rattle.model.specs.Plain.{PlainHeap, Object, plain_step, plain_answer, name_of, object_of, field_of, Pending}
@@ -62,7 +62,7 @@ none_at_zero h = rw (zero-div h.store.words, zero-div h.store.words) refl
 
 -- a number in memory that names something is a word
 pub read_named : (h : HeapState) (bits : ℕ) (x : Option ℕ) → names_of (world_of h) (word_in_memory bits) ≡ Some x
-    → word_in_memory bits ≡ as_word (stored bits)
+    → word_in_memory bits ≡ as_word (read_reference bits)
 read_named h bits x e = by_word (read_word bits) e
   where
     by_word : (r : Option Reference) → names_of (world_of h) (as_read r) ≡ Some x → as_read r ≡ as_word (flat r)
@@ -111,12 +111,12 @@ module _ {h : HeapState} {p p0 : PlainHeap} (s : IsStore h.store) (d : IsHeap h)
       let found : Option ℕ = ref (births_of p) q.birth i in
       let read : field q i ≡ word_in_memory v =
       field_is h s k.laid a q names.uses.here i v low (ap (word_at h.store) spot ∙ third) in
-      let same : as_word (stored v) ≡ field q i =
+      let same : as_word (read_reference v) ≡ field q i =
       sym (read ∙ read_named h v found (ap (names_of (world_of h)) (sym read) ∙ (names.holds.refs i).names)) in
       let plain : field_of (object_of p (name_of p t o)) i ≡ Some found =
       ap (λ b. field_of (object_of p b) i) names.reads.birth
       ∙ plain_field (slice_get p.objects q.birth) i (omega (arith, low, names.holds.refs_length)) in
-      row_by k (load_carries h t g.thread g.there r (places.Field a i) (stored v) (field q i) same (stored_word v)
+      row_by k (load_carries h t g.thread g.there r (places.Field a i) (read_reference v) (field q i) same (stored_word v)
       (is_register h r (first_false (no_register h r) (no_register h o) g.indices)))
       (agrees (loading_follows k t g.thread g.there r _ found plain)
       (ap (λ b. load_at t r b i (births_of p)) (sym names.reads.birth)))
@@ -154,7 +154,7 @@ are_bits (Some n) w e = ap Some (eqb-true n (bits_of w) e)
 
 -- words with the same bits are one
 same_word : (v w : Reference) → IsWord v → IsWord w → bits_of v ≡ bits_of w → v ≡ w
-same_word v w j k e = sym (stored_again v j) ∙ ap stored e ∙ stored_again w k
+same_word v w j k e = sym (stored_again v j) ∙ ap read_reference e ∙ stored_again w k
 
 module _ {h : HeapState} {p p0 : PlainHeap} (s : IsStore h.store) (d : IsHeap h) (k : Holds h p p0) (t : ℕ)
     (x : ThreadState) (at : slice_get h.threads t ≡ Some x) where
@@ -178,20 +178,20 @@ module _ {h : HeapState} {p p0 : PlainHeap} (s : IsStore h.store) (d : IsHeap h)
     unfolding trap_due
     unmarked e = trap_same h t b.now ∙ second_false (gc_trap_due h t b.now) (nmt_trap_due h t b.now) e
 
-    still_load : IsLoad h.config.registers (healed b)
+    still_load : IsLoad h.config.registers (set_healed b)
     still_load = record { target = load.target; raw = load.raw; now = load.now }
 
     -- the place has another word by now
-    other_word : StepHolds h p p0 (Thread t) steps.Heal (with_barrier h t (healed b)) answers.Changed
+    other_word : StepHolds h p p0 (Thread t) steps.Heal (with_barrier h t (set_healed b)) answers.Changed
     unfolding plain_step plain_answer
-    other_word = row_by k (barrier_carries h t x at (healed b) still_load) (stays h p)
+    other_word = row_by k (barrier_carries h t x at (set_healed b) still_load) (stays h p)
         (HealChanged t (as_barrier b) in_world) tt
 
     -- a field is healed
     field_healed : (a i : ℕ) → b.place ≡ places.Field a i
         → trap_due h t b.now ≡ false → word_at h.store (field_address a i) ≡ Some (bits_of b.raw)
         → StepHolds h p p0 (Thread t) steps.Heal
-        (with_barrier (with_place h (places.Field a i) b.now) t (healed b)) answers.Healed
+        (with_barrier (with_place h (places.Field a i) b.now) t (set_healed b)) answers.Healed
     unfolding plain_step plain_answer
     field_healed a i place clear bits =
         let there = subst (λ z. IsPlace (world_of h) (births_of p) t (as_place z)) place opened.barrier.place in
@@ -202,20 +202,20 @@ module _ {h : HeapState} {p p0 : PlainHeap} (s : IsStore h.store) (d : IsHeap h)
         field_is h s k.laid a q here i (bits_of b.raw) there.within (ap (word_at h.store) spot ∙ bits)
         ∙ ap as_read (reads_back b.raw load.raw) in
         row_by k (and_then (field_carries h s k.laid a q here i (field_address a i) b.now load.now there.within spot)
-        (barrier_carries (with_place h (places.Field a i) b.now) t x at (healed b) still_load)) (stays h p)
+        (barrier_carries (with_place h (places.Field a i) b.now) t x at (set_healed b) still_load)) (stays h p)
         (HealField t (as_barrier b) a i q in_world (ap as_place place) here same (unmarked clear)) tt
 
     -- a global is healed
     global_healed : (n : ℕ) → b.place ≡ places.Global n → trap_due h t b.now ≡ false
         → bits_of (global_of h n) ≡ bits_of b.raw → StepHolds h p p0 (Thread t) steps.Heal
-        (with_barrier (with_place h (places.Global n) b.now) t (healed b)) answers.Healed
+        (with_barrier (with_place h (places.Global n) b.now) t (set_healed b)) answers.Healed
     unfolding plain_step plain_answer with_global global_of
     global_healed n place clear bits =
         let there = subst (λ z. IsPlace (world_of h) (births_of p) t (as_place z)) place opened.barrier.place in
         let same : (world_of h).global n ≡ as_word b.raw = global_same (slice_get h.globals n)
         ∙ ap as_word (same_word (global_of h n) b.raw (global_word h n k.words) load.raw bits) in
         row_by k (and_then (global_carries h n b.now load.now (ltb-true n (length h.globals) there))
-        (barrier_carries (with_global h n b.now) t x at (healed b) still_load)) (stays h p)
+        (barrier_carries (with_global h n b.now) t x at (set_healed b) still_load)) (stays h p)
         (HealGlobal t (as_barrier b) n in_world (ap as_place place) same (unmarked clear)) tt
 
     -- a place is healed where it still has what was loaded
@@ -225,14 +225,14 @@ module _ {h : HeapState} {p p0 : PlainHeap} (s : IsStore h.store) (d : IsHeap h)
     place_healed clear = by_bits (are_bits_of (bits_at h b.place) b.raw) refl
       where
         by_place : (z : Place) → b.place ≡ z → bits_at h z ≡ Some (bits_of b.raw) → StepHolds h p p0
-            (Thread t) steps.Heal (with_barrier (with_place h z b.now) t (healed b)) answers.Healed
+            (Thread t) steps.Heal (with_barrier (with_place h z b.now) t (set_healed b)) answers.Healed
         by_place (places.Field a i) q e = field_healed a i q clear e
         by_place (places.Global n) q e = global_healed n q clear (same_Some _ _ e)
 
         by_bits : (c : Bool) → are_bits_of (bits_at h b.place) b.raw ≡ c
             → RowHolds h p p0 (Thread t) steps.Heal (Ok (cond c
-            (with_barrier (with_place h b.place b.now) t (healed b), answers.Healed)
-            (with_barrier h t (healed b), answers.Changed)))
+            (with_barrier (with_place h b.place b.now) t (set_healed b), answers.Healed)
+            (with_barrier h t (set_healed b), answers.Changed)))
         by_bits false f = other_word
         by_bits true f = by_place b.place refl (are_bits (bits_at h b.place) b.raw f)
 

@@ -11,7 +11,7 @@ use Rattle.std.proofs.lemmas.Option.{same_Some}
 use Rattle.std.proofs.lemmas.Bool.{le-leb}
 use Rattle.layout.specs.declared.shape.Layout.{Layout}
 use Rattle.layout.specs.Objects.{size_of}
-use Rattle.model.specs.Stores.{overlaid}
+use Rattle.model.specs.Stores.{overlay}
 use Rattle.model.specs.Births.{fresh_object}
 use Rattle.model.proofs.Lists.{get_set_other}
 use Rattle.model.proofs.Memory.{length_overlaid}
@@ -187,32 +187,32 @@ zeros_at (suc n) (suc i) h = zeros_at n i (omega (arith, h))
 -- its words are written
 pub read_fresh : (ls : List Layout) (ws : List ℕ) (o birth number : ℕ) (l : Layout)
     → slice_get ls number ≡ Some l → birth < 2 ^ 32 → o + size_of l ≤ length ws
-    → IsRead ls (overlaid ws o (fresh_object birth number l)) o (new_object birth number l)
+    → IsRead ls (overlay ws o (fresh_object birth number l)) o (new_object birth number l)
 read_fresh ls ws o birth number l known low room = made (birth + number * 2 ^ 32) refl
   where
     made : (header : ℕ) → birth + number * 2 ^ 32 ≡ header
-        → IsRead ls (overlaid ws o (fresh_object birth number l)) o (new_object birth number l)
+        → IsRead ls (overlay ws o (fresh_object birth number l)) o (new_object birth number l)
     made header e =
         let xs : List ℕ = fresh_object birth number l in
         let zeros : length (replicate {A = ℕ} (l.refs + l.nums) 0) ≡ l.refs + l.nums =
         length-replicate (l.refs + l.nums) 0 in
         let long : length xs ≡ size_of l = ap suc zeros ∙ one (l.refs + l.nums) ∙ omega arith in
         let inside : o + length xs ≤ length ws = omega (arith, long, room) in
-        let size : length (overlaid ws o xs) ≡ length ws = length_overlaid ws o xs in
+        let size : length (overlay ws o xs) ≡ length ws = length_overlaid ws o xs in
         let birth_is : header % 2 ^ 32 ≡ birth = omega (arith, e, low) in
         let number_is : header / 2 ^ 32 ≡ number = omega (arith, e, low) in
-        let body : (i : ℕ) → i < l.refs + l.nums → slice_get (overlaid ws o xs) (o + 1 + i) ≡ Some 0 =
-        λ i h. ap (slice_get (overlaid ws o xs)) (omega arith)
+        let body : (i : ℕ) → i < l.refs + l.nums → slice_get (overlay ws o xs) (o + 1 + i) ≡ Some 0 =
+        λ i h. ap (slice_get (overlay ws o xs)) (omega arith)
         ∙ overlaid_in ws xs o (suc i) inside (omega (arith, long, h)) ∙ zeros_at (l.refs + l.nums) i h in
-        let refs : run (overlaid ws o xs) (o + 1) l.refs ≡ replicate l.refs 0 = run_all (overlaid ws o xs)
+        let refs : run (overlay ws o xs) (o + 1) l.refs ≡ replicate l.refs 0 = run_all (overlay ws o xs)
         (o + 1) l.refs 0 (omega (arith, size, room)) (λ i h. body i (omega (arith, h))) in
-        let nums : run (overlaid ws o xs) (o + 1 + l.refs) l.nums ≡ replicate l.nums 0 =
-        run_all (overlaid ws o xs) (o + 1 + l.refs) l.nums 0 (omega (arith, size, room))
-        (λ i h. ap (slice_get (overlaid ws o xs)) (omega arith) ∙ body (l.refs + i) (omega (arith, h))) in
+        let nums : run (overlay ws o xs) (o + 1 + l.refs) l.nums ≡ replicate l.nums 0 =
+        run_all (overlay ws o xs) (o + 1 + l.refs) l.nums 0 (omega (arith, size, room))
+        (λ i h. ap (slice_get (overlay ws o xs)) (omega arith) ∙ body (l.refs + i) (omega (arith, h))) in
         record {
           header = header;
           shape = l;
-          at = ap (slice_get (overlaid ws o xs)) (omega arith) ∙ overlaid_in ws xs o 0 inside (omega (arith, long))
+          at = ap (slice_get (overlay ws o xs)) (omega arith) ∙ overlaid_in ws xs o 0 inside (omega (arith, long))
               ∙ ap Some e;
           known = ap (slice_get ls) number_is ∙ known;
           fits = omega (arith, size, room);

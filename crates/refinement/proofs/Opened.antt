@@ -13,10 +13,10 @@ use Rattle.model.specs.declared.records.Page.{Page}
 use Rattle.model.specs.declared.records.PageState.TheVariants.{Unused, Open}
 use Rattle.model.specs.declared.records.Buffer.{Buffer}
 use Rattle.model.specs.Stores.{words_at, state_at, state_in, frame_in, page_at, has_memory, is_open, is_unused}
-use Rattle.model.specs.Stores.{opened, fresh_page}
+use Rattle.model.specs.Stores.{open_fresh, fresh_page}
 use Rattle.model.specs.Owning.{IsStore, LiesIn}
 use Rattle.model.specs.Holding.{IsHeap}
-use Rattle.model.specs.States.{HeapState, ThreadState, changed}
+use Rattle.model.specs.States.{HeapState, ThreadState, change_at}
 use Rattle.model.specs.Threads.{buffer_in}
 use Rattle.model.specs.Registers.{register_of}
 use Rattle.model.specs.Buffers.{blank_row}
@@ -135,11 +135,11 @@ module _ (h : HeapState) (s : IsStore h.store) (k : IsHeap h) (l : IsLaid h) (o 
 -- the heap with page i + 1 opened on frame f
 abbrev pub opened_heap : HeapState → ℕ → ℕ → HeapState
 opened_heap h i f = record h {
-  store = opened h.store i f;
-  starts = changed h.starts i blank_row;
-  live = changed h.live i blank_row;
-  mark = changed h.mark i blank_row;
-  todo = changed h.todo i blank_row;
+  store = open_fresh h.store i f;
+  starts = change_at h.starts i blank_row;
+  live = change_at h.live i blank_row;
+  mark = change_at h.mark i blank_row;
+  todo = change_at h.todo i blank_row;
 }
 
 -- the addresses of page i + 1
@@ -170,11 +170,11 @@ module _ {h : HeapState} (s : IsStore h.store) (k : IsHeap h) (l : IsLaid h) (o 
       ∙ ap (words_in h.store.frames) no_frame
 
   pages : (n : ℕ) → page_at after.store n ≡ put (page_at h.store) (i + 1) (Some (fresh_page f)) n
-  unfolding opened
+  unfolding open_fresh
   pages = page_set h.store after.store i p (fresh_page f) w.at refl
 
   words_other : (n : ℕ) → n ≢ i + 1 → words_at after.store n ≡ words_at h.store n
-  unfolding words_at opened
+  unfolding words_at open_fresh
   words_other n d = ap (λ y. words_in after.store.frames (frame_in y)) (pages n
       ∙ put_other (page_at h.store) (i + 1) (Some (fresh_page f)) n d) ∙ by_frame (frame_in (page_at h.store n)) refl
     where
@@ -197,11 +197,11 @@ module _ {h : HeapState} (s : IsStore h.store) (k : IsHeap h) (l : IsLaid h) (o 
   page_suc n e = omega (arith, e)
 
   blank : (xs : List (List Bool)) → AreRows h.store xs → (a : ℕ) → a / h.store.words ≡ i + 1
-      → bit_at (changed xs i blank_row) h.store.words a ≡ false
+      → bit_at (change_at xs i blank_row) h.store.words a ≡ false
   blank xs r a e = let (y, is) = row xs r in blank_here h.store.words xs i y a is (page_suc (a / h.store.words) e)
 
   other_bit : (xs : List (List Bool)) → AreRows h.store xs → (a : ℕ) → a / h.store.words ≢ i + 1
-      → bit_at (changed xs i blank_row) h.store.words a ≡ bit_at xs h.store.words a
+      → bit_at (change_at xs i blank_row) h.store.words a ≡ bit_at xs h.store.words a
   other_bit xs r a d = let (y, is) = row xs r in blank_other h.store.words xs i y a is (λ e. d (omega (arith, e)))
 
   -- there was no object on the page
@@ -214,7 +214,7 @@ module _ {h : HeapState} (s : IsStore h.store) (k : IsHeap h) (l : IsLaid h) (o 
       by_bit false = refl
 
   pub opened_objects : (a : ℕ) → object_at after a ≡ object_at h a
-  unfolding opened
+  unfolding open_fresh
   opened_objects a = by_page (cases_eq (a / h.store.words) (i + 1))
     where
       unset : (y : Option (List ℕ)) → object_in h.config.layouts false y (a % h.store.words) ≡ None
@@ -231,11 +231,11 @@ module _ {h : HeapState} (s : IsStore h.store) (k : IsHeap h) (l : IsLaid h) (o 
   -- a row that has no bit on the page stays
   stays : (xs : List (List Bool))
       → AreRows h.store xs → ((a : ℕ) → a / h.store.words ≡ i + 1 → bit_at xs h.store.words a ≡ false) → (a : ℕ)
-      → bit_at (changed xs i blank_row) h.store.words a ≡ bit_at xs h.store.words a
+      → bit_at (change_at xs i blank_row) h.store.words a ≡ bit_at xs h.store.words a
   stays xs r none a = by_page (cases_eq (a / h.store.words) (i + 1))
     where
       by_page : (a / h.store.words ≡ i + 1) ⊎ (a / h.store.words ≢ i + 1)
-          → bit_at (changed xs i blank_row) h.store.words a ≡ bit_at xs h.store.words a
+          → bit_at (change_at xs i blank_row) h.store.words a ≡ bit_at xs h.store.words a
       by_page (inl e) = blank xs r a e ∙ sym (none a e)
       by_page (inr d) = other_bit xs r a d
 
@@ -268,7 +268,7 @@ module _ {h : HeapState} (s : IsStore h.store) (k : IsHeap h) (l : IsLaid h) (o 
 
   -- the heap by addresses has the page open
   pub opened_world : world_of after ≡ open_page (on_page h i) (world_of h)
-  unfolding opened register_of
+  unfolding open_fresh register_of
   opened_world = λ z. record (world_of h) {
     page_state = fun_ext states z;
     object_at = fun_ext opened_objects z;
@@ -286,12 +286,12 @@ module _ {h : HeapState} (s : IsStore h.store) (k : IsHeap h) (l : IsLaid h) (o 
 
   ends : (n : ℕ)
       → extent after (OfEnd n) ≡ end_extent h.store.words n (put (page_at h.store) (i + 1) (Some (fresh_page f)) n)
-  unfolding opened
+  unfolding open_fresh
   ends n = ap (end_extent h.store.words n) (pages n)
 
   -- a claim of before, or the words of the page
   old_or_new : (c : Claim) → (c ≡ OfEnd (i + 1)) ⊎ (extent after c ≡ extent h c)
-  unfolding opened
+  unfolding open_fresh
   old_or_new (OfObject a) = inr (ap (option_map (sized_extent a)) (sizes a))
   old_or_new (OfBuffer u) = inr refl
   old_or_new (OfPlan a) = inr (ap (planned_extent ((world_of h).side_entry a)) (sizes a))
@@ -353,14 +353,14 @@ module _ {h : HeapState} (s : IsStore h.store) (k : IsHeap h) (l : IsLaid h) (o 
       ]
       go (inr a) (inr b) = l.apart c d x y (sym a ∙ e) (sym b ∙ g)
 
-  rows : (xs : List (List Bool)) → AreRows h.store xs → AreRows after.store (changed xs i blank_row)
-  unfolding opened
+  rows : (xs : List (List Bool)) → AreRows h.store xs → AreRows after.store (change_at xs i blank_row)
+  unfolding open_fresh
   rows xs r = let z = rows_changed h.store xs i blank_row r length_blank in
       record { pages = z.pages ∙ sym (length-set h.store.pages i (fresh_page f)); words = z.words }
 
   -- and memory is in order
   pub opened_laid : IsLaid after
-  unfolding opened
+  unfolding open_fresh
   opened_laid = record {
     starts = rows h.starts l.starts;
     live = rows h.live l.live;
@@ -392,7 +392,7 @@ module _ {h : HeapState} (s : IsStore h.store) (k : IsHeap h) (l : IsLaid h) (o 
           no z = cc
       by_page a (inr d) g = l.unused a (sym (old_state a d) ∙ g)
 
-      live : (a : ℕ) → bit_at (changed h.live i blank_row) h.store.words a ≡ true
+      live : (a : ℕ) → bit_at (change_at h.live i blank_row) h.store.words a ≡ true
           → has_memory (state_at after.store (a / h.store.words)) ≡ true
           → (q : HeapObject) × (object_at after a ≡ Some q)
       live a e g = go (cases_eq (a / h.store.words) (i + 1))
@@ -404,7 +404,7 @@ module _ {h : HeapState} (s : IsStore h.store) (k : IsHeap h) (l : IsLaid h) (o 
               l.live_objects a (sym (other_bit h.live l.live a d) ∙ e) (ap has_memory (sym (old_state a d)) ∙ g) in
               (q, opened_objects a ∙ is)
 
-      objects : (a : ℕ) → bit_at (changed h.starts i blank_row) h.store.words a ≡ true
+      objects : (a : ℕ) → bit_at (change_at h.starts i blank_row) h.store.words a ≡ true
           → has_memory (state_at after.store (a / h.store.words)) ≡ true
           → (q : HeapObject) × (object_at after a ≡ Some q)
       objects a e g = go (cases_eq (a / h.store.words) (i + 1))

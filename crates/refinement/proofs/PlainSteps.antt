@@ -7,10 +7,10 @@ use Rattle.std.proofs.Math.ListN.{length-set}
 use Rattle.std.proofs.lemmas.Option.{slice_get_within}
 use mathlib.Core.Path.{fun_ext}
 use Rattle.layout.specs.declared.shape.Layout.{Layout}
-use Rattle.model.specs.States.{HeapState, flat, changed, ThreadState}
-use Rattle.model.specs.Plain.{PlainHeap, PlainThread, Object, name_of, name_in, naming, set_name, born, blank_object}
-use Rattle.model.specs.Plain.{storing, set_field, writing, set_datum, Pending, pending_in, loading, start_load}
-use Rattle.model.specs.Plain.{finishing, end_load}
+use Rattle.model.specs.States.{HeapState, flat, change_at, ThreadState}
+use Rattle.model.specs.Plain.{PlainHeap, PlainThread, Object, name_of, name_in, name_register, set_name, add_birth, blank_object}
+use Rattle.model.specs.Plain.{store_field, set_field, write_datum, set_datum, Pending, pending_in, begin_load, start_load}
+use Rattle.model.specs.Plain.{finish_pending, end_load}
 use Rattle.model.specs.Owning.{Each}
 use Rattle.model.proofs.Lists.{get_set_same, get_set_other, get_within, each_changed}
 use Rattle.laws.specs.AddressHeap.{put, put_at}
@@ -28,7 +28,7 @@ use Rattle.refinement.proofs.Carrying.{Follows, stays}
 -- the registers of threads, of which one has its register r changed
 name_changed : (ts : List PlainThread) (t r : ℕ) (v : Option ℕ) (f : PlainThread → PlainThread) (y : PlainThread)
     → slice_get ts t ≡ Some y → r < length y.registers → (f y).registers ≡ set y.registers r v
-    → (u s : ℕ) → name_in (slice_get (changed ts t f) u) s ≡ put_at (λ u s. name_in (slice_get ts u) s) t r v u s
+    → (u s : ℕ) → name_in (slice_get (change_at ts t f) u) s ≡ put_at (λ u s. name_in (slice_get ts u) s) t r v u s
 name_changed ts t r v f y e k is u s =
     ap (λ o. name_in o s) (get_changed ts t f u)
     ∙ put_all (λ u z. (q : ℕ) → name_in (put (slice_get ts) t now u) q ≡ z q)
@@ -59,7 +59,7 @@ plain_thread {h = h} {p = p} k t x at =
 
 -- the roots of a plain heap with a thread changed
 changed_roots : (h : HeapState) (p q : PlainHeap) (t : ℕ) (f : PlainThread → PlainThread)
-    → q.threads ≡ changed p.threads t f → length q.globals ≡ length p.globals
+    → q.threads ≡ change_at p.threads t f → length q.globals ≡ length p.globals
     → ((y : PlainThread) → length (f y).registers ≡ length y.registers) → HasRootsOf h p → HasRootsOf h q
 changed_roots h p q t f e g size k = record {
   threads = ap length e ∙ length_changed p.threads t f ∙ k.threads;
@@ -70,8 +70,8 @@ changed_roots h p q t f e g size k = record {
 
 -- a register gets a birth
 naming_is : (p : PlainHeap) (t r : ℕ) (v : Option ℕ) (y : PlainThread) → slice_get p.threads t ≡ Some y
-    → r < length y.registers → births_of (naming p t r v) ≡ plain_set_register t r v (births_of p)
-unfolding naming name_of
+    → r < length y.registers → births_of (name_register p t r v) ≡ plain_set_register t r v (births_of p)
+unfolding name_register name_of
 naming_is p t r v y e k = λ z. record (births_of p) {
   register = fun_ext (λ u. fun_ext (name_changed p.threads t r v (set_name r v) y e k refl u)) z;
   pending = fun_ext (kept_of (λ o. option_map as_pair (pending_in o)) p.threads t (set_name r v) (λ x. refl)) z;
@@ -79,8 +79,8 @@ naming_is p t r v y e k = λ z. record (births_of p) {
 
 pub naming_follows : {h : HeapState} {p p0 : PlainHeap} → Holds h p p0 → (t : ℕ) (x : ThreadState)
     → slice_get h.threads t ≡ Some x → (r : ℕ) (v : Option ℕ) → r < h.config.registers
-    → Follows h p (naming p t r v) (plain_set_register t r v (births_of p))
-unfolding naming
+    → Follows h p (name_register p t r v) (plain_set_register t r v (births_of p))
+unfolding name_register
 naming_follows {h = h} {p = p} k t x at r v low =
     let (y, there, size) = plain_thread k t x at in
     record {
@@ -115,9 +115,9 @@ put_read P f a v = put_all (λ b y. P (put f a v b) ≡ y) (λ c. P (f c)) a (P 
 -- an object is born
 born_is : (p : PlainHeap) (t r number : ℕ) (l : Layout) (y : PlainThread) → slice_get p.threads t ≡ Some y
     → r < length y.registers
-    → births_of (born p t r number (Some l)) ≡ plain_born number (replicate l.refs None) (replicate l.nums 0) t r
+    → births_of (add_birth p t r number (Some l)) ≡ plain_born number (replicate l.refs None) (replicate l.nums 0) t r
     (births_of p)
-unfolding naming name_of
+unfolding name_register name_of
 born_is p t r number l y e k = λ z. record (births_of p) {
   births = count z;
   layout = fun_ext
@@ -142,12 +142,12 @@ born_is p t r number l y e k = λ z. record (births_of p) {
 
 pub born_follows : {h : HeapState} {p p0 : PlainHeap} → Holds h p p0 → (t : ℕ) (x : ThreadState)
     → slice_get h.threads t ≡ Some x → (r number : ℕ) (o : Option Layout) (l : Layout) → o ≡ Some l
-    → r < h.config.registers → Follows h p (born p t r number o)
+    → r < h.config.registers → Follows h p (add_birth p t r number o)
     (plain_born number (replicate l.refs None) (replicate l.nums 0) t r (births_of p))
-unfolding naming
+unfolding name_register
 born_follows {h = h} {p = p} k t x at r number o l is low =
     let (y, there, size) = plain_thread k t x at in
-    subst (λ z. Follows h p (born p t r number z) (plain_born number (replicate l.refs None) (replicate l.nums 0) t r
+    subst (λ z. Follows h p (add_birth p t r number z) (plain_born number (replicate l.refs None) (replicate l.nums 0) t r
     (births_of p))) (sym is) (record {
       roots = changed_roots h p _ t (set_name r (Some (length p.objects))) refl refl
           (λ y. length-set y.registers r (Some (length p.objects)));
@@ -155,7 +155,7 @@ born_follows {h = h} {p = p} k t x at r number o l is low =
     })
 
 -- a datum is written
-writing_is : (p : PlainHeap) (o : Option ℕ) (j v : ℕ) → births_of (writing p o j v) ≡ datum_at o j v (births_of p)
+writing_is : (p : PlainHeap) (o : Option ℕ) (j v : ℕ) → births_of (write_datum p o j v) ≡ datum_at o j v (births_of p)
 unfolding name_of
 writing_is p None j v = refl
 writing_is p (Some b) j v = λ z. record (births_of p) {
@@ -173,7 +173,7 @@ writing_is p (Some b) j v = λ z. record (births_of p) {
     set_in (Some o) = refl
 
 pub writing_follows : (h : HeapState) (p : PlainHeap) (o : Option ℕ) (j v : ℕ)
-    → Follows h p (writing p o j v) (datum_at o j v (births_of p))
+    → Follows h p (write_datum p o j v) (datum_at o j v (births_of p))
 writing_follows h p None j v = stays h p
 writing_follows h p (Some b) j v = record {
   roots = λ k. record { threads = k.threads; registers = k.registers; globals = k.globals };
@@ -182,7 +182,7 @@ writing_follows h p (Some b) j v = record {
 
 -- a reference is written
 storing_is : (p : PlainHeap) (o : Option ℕ) (i : ℕ) (v : Option ℕ)
-    → births_of (storing p o i v) ≡ store_at o i v (births_of p)
+    → births_of (store_field p o i v) ≡ store_at o i v (births_of p)
 unfolding name_of
 storing_is p None i v = refl
 storing_is p (Some b) i v = λ z. record (births_of p) {
@@ -200,7 +200,7 @@ storing_is p (Some b) i v = λ z. record (births_of p) {
     set_in (Some o) = refl
 
 pub storing_follows : (h : HeapState) (p : PlainHeap) (o : Option ℕ) (i : ℕ) (v : Option ℕ)
-    → Follows h p (storing p o i v) (store_at o i v (births_of p))
+    → Follows h p (store_field p o i v) (store_at o i v (births_of p))
 storing_follows h p None i v = stays h p
 storing_follows h p (Some b) i v = record {
   roots = λ k. record { threads = k.threads; registers = k.registers; globals = k.globals };
@@ -231,7 +231,7 @@ global_follows {h = h} {p = p} k g v low = record {
 
 -- a load begins
 loading_is : (p : PlainHeap) (t r : ℕ) (b : Option ℕ) (y : PlainThread) → slice_get p.threads t ≡ Some y
-    → births_of (loading p t r (Some b)) ≡ plain_set_pending t (r, b) (births_of p)
+    → births_of (begin_load p t r (Some b)) ≡ plain_set_pending t (r, b) (births_of p)
 unfolding name_of
 loading_is p t r b y e = λ z. record (births_of p) {
   register = fun_ext (λ u. fun_ext (λ s. kept_of (λ o. name_in o s) p.threads t (start_load r b) (λ x. refl) u)) z;
@@ -241,10 +241,10 @@ loading_is p t r b y e = λ z. record (births_of p) {
 
 pub loading_follows : {h : HeapState} {p p0 : PlainHeap} → Holds h p p0 → (t : ℕ) (x : ThreadState)
     → slice_get h.threads t ≡ Some x → (r : ℕ) (o : Option (Option ℕ)) (b : Option ℕ) → o ≡ Some b
-    → Follows h p (loading p t r o) (plain_set_pending t (r, b) (births_of p))
+    → Follows h p (begin_load p t r o) (plain_set_pending t (r, b) (births_of p))
 loading_follows {h = h} {p = p} k t x at r o b is =
     let (y, there, size) = plain_thread k t x at in
-    subst (λ z. Follows h p (loading p t r z) (plain_set_pending t (r, b) (births_of p))) (sym is) (record {
+    subst (λ z. Follows h p (begin_load p t r z) (plain_set_pending t (r, b) (births_of p))) (sym is) (record {
       roots = changed_roots h p _ t (start_load r b) refl refl (λ y. refl);
       births = loading_is p t r b y there;
     })
@@ -252,7 +252,7 @@ loading_follows {h = h} {p = p} k t x at r o b is =
 -- a load ends
 finishing_is : (p : PlainHeap) (t : ℕ) (l : Pending) (y : PlainThread)
     → slice_get p.threads t ≡ Some y → l.target < length y.registers
-    → births_of (finishing p t (Some l)) ≡ plain_end_load t l.target l.found (births_of p)
+    → births_of (finish_pending p t (Some l)) ≡ plain_end_load t l.target l.found (births_of p)
 unfolding name_of
 finishing_is p t l y e k = λ z. record (births_of p) {
   register = fun_ext (λ u. fun_ext (name_changed p.threads t l.target l.found (end_load l) y e k refl u)) z;
@@ -261,10 +261,10 @@ finishing_is p t l y e k = λ z. record (births_of p) {
 
 pub finishing_follows : {h : HeapState} {p p0 : PlainHeap} → Holds h p p0 → (t : ℕ) (x : ThreadState)
     → slice_get h.threads t ≡ Some x → (o : Option Pending) (l : Pending) → o ≡ Some l → l.target < h.config.registers
-    → Follows h p (finishing p t o) (plain_end_load t l.target l.found (births_of p))
+    → Follows h p (finish_pending p t o) (plain_end_load t l.target l.found (births_of p))
 finishing_follows {h = h} {p = p} k t x at o l is low =
     let (y, there, size) = plain_thread k t x at in
-    subst (λ z. Follows h p (finishing p t z) (plain_end_load t l.target l.found (births_of p))) (sym is) (record {
+    subst (λ z. Follows h p (finish_pending p t z) (plain_end_load t l.target l.found (births_of p))) (sym is) (record {
       roots = changed_roots h p _ t (end_load l) refl refl (λ y. length-set y.registers l.target l.found);
       births = finishing_is p t l y there (omega (arith, low, size));
     })

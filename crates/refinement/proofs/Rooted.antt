@@ -12,8 +12,8 @@ use Rattle.model.specs.Owning.{Each}
 use Rattle.model.specs.States.{HeapState, ThreadState, Reference, flat}
 use Rattle.model.specs.Registers.{register_of}
 use Rattle.model.specs.Threads.{register_in, set_register_of, set_buffer_of, set_barrier_of, set_loaded_of, set_parked_of}
-use Rattle.model.specs.References.{global_of, word_of_global, stored}
-use Rattle.model.specs.Births.{handed}
+use Rattle.model.specs.References.{global_of, word_of_global, read_reference}
+use Rattle.model.specs.Births.{hand_object}
 use Rattle.model.proofs.Lists.{each_set}
 use Rattle.refinement.specs.Roots.{IsLoad, HoldsWords, HasWords}
 
@@ -52,7 +52,7 @@ load_there h t x b k at e = go x.barrier e (k.threads t x at).barrier
     go (Some c) f l = subst (IsLoad h.config.registers) (same_Some _ _ f) l
 
 -- what is read from memory
-pub stored_word : (bits : ℕ) → IsWord (stored bits)
+pub stored_word : (bits : ℕ) → IsWord (read_reference bits)
 stored_word bits = go (read_word bits) refl
   where
     go : (o : Option Reference) → read_word bits ≡ o → IsWord (flat o)
@@ -60,7 +60,7 @@ stored_word bits = go (read_word bits) refl
     go (Some w) e = read_word-is_word bits w e
 
 -- a word that is written is read back
-pub stored_again : (w : Reference) → IsWord w → stored (bits_of w) ≡ w
+pub stored_again : (w : Reference) → IsWord w → read_reference (bits_of w) ≡ w
 stored_again w k = ap flat (reads_back w k)
 
 -- what changes of a thread keep
@@ -75,7 +75,7 @@ pub buffer_holds_words : (n : ℕ) (b : Option Buffer) (y : ThreadState) → Hol
 buffer_holds_words n b y l = record { registers_hold = l.registers_hold; barrier = l.barrier }
 
 pub handed_holds_words : (n r : ℕ) (w : Reference) (b : Buffer) (y : ThreadState) → IsWord w → HoldsWords n y
-    → HoldsWords n (handed r w b y)
+    → HoldsWords n (hand_object r w b y)
 handed_holds_words n r w b y k l =
     record { registers_hold = each_set IsWord y.registers r w l.registers_hold k; barrier = l.barrier }
 

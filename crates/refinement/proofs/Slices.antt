@@ -4,7 +4,7 @@ use Rattle.std.proofs.Common.{drop, Some, replicate, refl, sym, ◌∙◌, ap, a
 use Rattle.std.specs.List.{slice_get}
 use Rattle.std.proofs.lemmas.List.{length-take-le}
 use Rattle.std.proofs.lemmas.Option.{same_Some}
-use Rattle.model.specs.Stores.{overlaid}
+use Rattle.model.specs.Stores.{overlay}
 use Rattle.refinement.specs.Worlds.{run}
 
 pub get_take : {X : Type 0} (n : ℕ) (xs : List X) (i : ℕ) → i < n → slice_get (take n xs) i ≡ slice_get xs i
@@ -76,12 +76,12 @@ run_all ws o n v h k = all n (run ws o n) (length_run ws o n h) (λ i l. get_run
 -- words with others written over them
 
 overlaid_at : (ws xs : List ℕ) (o i : ℕ) → i < length ws
-    → slice_get (overlaid ws o xs) i ≡ slice_get (take o ws ++ (xs ++ drop (length xs) (drop o ws))) i
+    → slice_get (overlay ws o xs) i ≡ slice_get (take o ws ++ (xs ++ drop (length xs) (drop o ws))) i
 overlaid_at ws xs o i h = get_take (length ws) (take o ws ++ (xs ++ drop (length xs) (drop o ws))) i h
 
 -- within the others, theirs
 pub overlaid_in : (ws xs : List ℕ) (o i : ℕ) → o + length xs ≤ length ws → i < length xs
-    → slice_get (overlaid ws o xs) (o + i) ≡ slice_get xs i
+    → slice_get (overlay ws o xs) (o + i) ≡ slice_get xs i
 overlaid_in ws xs o i h l =
     let size : length (take o ws) ≡ o = length-take-le o ws (omega arith) in
     let place : o + i ≡ length (take o ws) + i = ap (λ n. n + i) (sym size) in
@@ -92,7 +92,7 @@ overlaid_in ws xs o i h l =
 
 -- before them, the old ones
 pub overlaid_before : (ws xs : List ℕ) (o i : ℕ) → o + length xs ≤ length ws → i < o
-    → slice_get (overlaid ws o xs) i ≡ slice_get ws i
+    → slice_get (overlay ws o xs) i ≡ slice_get ws i
 overlaid_before ws xs o i h l =
     let size : length (take o ws) ≡ o = length-take-le o ws (omega arith) in
     overlaid_at ws xs o i (omega arith)
@@ -100,7 +100,7 @@ overlaid_before ws xs o i h l =
 
 -- and behind them
 pub overlaid_behind : (ws xs : List ℕ) (o i : ℕ) → o + length xs ≤ length ws → o + length xs ≤ i → i < length ws
-    → slice_get (overlaid ws o xs) i ≡ slice_get ws i
+    → slice_get (overlay ws o xs) i ≡ slice_get ws i
 overlaid_behind ws xs o i h l m =
     let size : length (take o ws) ≡ o = length-take-le o ws (omega arith) in
     let rest : List ℕ = drop (length xs) (drop o ws) in

@@ -7,7 +7,7 @@ use Rattle.std.proofs.lemmas.Bool.{and_parts}
 use Rattle.model.specs.declared.records.Page.{Page}
 use Rattle.model.specs.declared.records.Buffer.{Buffer}
 use Rattle.model.specs.declared.records.Room.{Room}
-use Rattle.model.specs.Stores.{StoreState, taken, taken_at, taken_fresh, given, opened, page_with_room}
+use Rattle.model.specs.Stores.{StoreState, take_buffer, take_at, take_fresh, give_words, open_fresh, page_with_room}
 use Rattle.model.specs.Stores.{free_frame, unused_page, unused_in, is_open, is_unused, top_in, blank_page}
 use Rattle.model.specs.Owning.{IsStore}
 use Rattle.model.proofs.Lists.{get_within}
@@ -23,7 +23,7 @@ pub record InOpenPage (s : StoreState) (n : ℕ) (x : StoreState × Buffer) : Ty
   pub at : slice_get s.pages index ≡ Some page
   pub is_so : is_open page.state ≡ true
   pub room : page.top + n ≤ s.words
-  pub is : given s index n ≡ x
+  pub is : give_words s index n ≡ x
 
 -- n words of an unused page, opened on a free frame
 pub record InFreshPage (s : StoreState) (n : ℕ) (x : StoreState × Buffer) : Type 0 where
@@ -33,7 +33,7 @@ pub record InFreshPage (s : StoreState) (n : ℕ) (x : StoreState × Buffer) : T
   pub at : slice_get s.pages index ≡ Some page
   pub unused : is_unused page.state ≡ true
   pub free : slice_get s.owners frame ≡ Some None
-  pub is : given (opened s index frame) index n ≡ x
+  pub is : give_words (open_fresh s index frame) index n ≡ x
 
 abbrev lent : StoreState × Buffer → Result (StoreState × Buffer) Room
 lent x = Ok x
@@ -41,13 +41,13 @@ lent x = Ok x
 same_answer : {x y : StoreState × Buffer} → lent x ≡ lent y → x ≡ y
 same_answer e = cc
 
-pub ways : (s : StoreState) (n : ℕ) (x : StoreState × Buffer) → IsStore s → 0 < n → taken s n ≡ Ok x
+pub ways : (s : StoreState) (n : ℕ) (x : StoreState × Buffer) → IsStore s → 0 < n → take_buffer s n ≡ Ok x
     → InOpenPage s n x ⊎ InFreshPage s n x
-unfolding taken unused_page
+unfolding take_buffer unused_page
 ways s n x h low e = by_room (page_with_room s.words n s.pages) refl e
   where
     fresh : (i f : ℕ) → free_frame s.owners ≡ Some f → position (λ (p : Page). is_unused p.state) s.pages ≡ Some i
-        → taken_fresh s n (Some f) (Some i) ≡ Ok x → InFreshPage s n x
+        → take_fresh s n (Some f) (Some i) ≡ Ok x → InFreshPage s n x
     fresh i f b c k =
         let within = position_within (λ (p : Page). is_unused p.state) s.pages i c blank_page in
         let (p, at) = get_within s.pages i within in
@@ -63,22 +63,22 @@ ways s n x h low e = by_room (page_with_room s.words n s.pages) refl e
 
     by_unused : (f : ℕ)
         → free_frame s.owners ≡ Some f → (o : Option ℕ) → position (λ (p : Page). is_unused p.state) s.pages ≡ o
-        → taken_fresh s n (Some f) (unused_page s.count s.pages) ≡ Ok x → InFreshPage s n x
+        → take_fresh s n (Some f) (unused_page s.count s.pages) ≡ Ok x → InFreshPage s n x
     by_unused f b None c k =
         let none = all_have_records s h (free_counts s.owners f (free_within s.owners f b) b) c in
-        absurd (no (ap (taken_fresh s n (Some f)) (sym none) ∙ k))
+        absurd (no (ap (take_fresh s n (Some f)) (sym none) ∙ k))
       where
-        no : taken_fresh s n (Some f) None ≡ Ok x → ⊥
+        no : take_fresh s n (Some f) None ≡ Ok x → ⊥
         no k = cc
     by_unused f b (Some i) c k =
-        fresh i f b c (ap (λ o. taken_fresh s n (Some f) (unused_in s.count s.pages o)) (sym c) ∙ k)
+        fresh i f b c (ap (λ o. take_fresh s n (Some f) (unused_in s.count s.pages o)) (sym c) ∙ k)
 
-    by_frame : (o : Option ℕ) → free_frame s.owners ≡ o → taken_fresh s n o (unused_page s.count s.pages) ≡ Ok x
+    by_frame : (o : Option ℕ) → free_frame s.owners ≡ o → take_fresh s n o (unused_page s.count s.pages) ≡ Ok x
         → InFreshPage s n x
     by_frame None b k = absurd (cc)
     by_frame (Some f) b k = by_unused f b (position (λ (p : Page). is_unused p.state) s.pages) refl k
 
-    by_room : (o : Option ℕ) → page_with_room s.words n s.pages ≡ o → taken_at s n o ≡ Ok x
+    by_room : (o : Option ℕ) → page_with_room s.words n s.pages ≡ o → take_at s n o ≡ Ok x
         → InOpenPage s n x ⊎ InFreshPage s n x
     by_room None b k = inr (by_frame (free_frame s.owners) refl k)
     by_room (Some i) b k = inl (

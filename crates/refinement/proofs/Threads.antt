@@ -9,7 +9,7 @@ use Rattle.refword.specs.Words.{IsWord}
 use Rattle.model.specs.declared.records.Barrier.{Barrier}
 use Rattle.model.specs.declared.records.Global.{Global}
 use Rattle.model.specs.declared.records.Buffer.{Buffer}
-use Rattle.model.specs.States.{HeapState, ThreadState, Reference, changed}
+use Rattle.model.specs.States.{HeapState, ThreadState, Reference, change_at}
 use Rattle.model.specs.Threads.{set_buffer_of, register_in, set_register_of, set_barrier_of, set_loaded_of, set_parked_of, buffer_in, has_crossed, is_parked_in}
 use Rattle.model.specs.Registers.{register_of, with_register}
 use Rattle.model.specs.Buffers.{with_buffer}
@@ -35,7 +35,7 @@ record KeepsShape (f : ThreadState → ThreadState) : Type 0 where
   pub size : (y : ThreadState) → length (f y).registers ≡ length y.registers
 
 thread_laid : (h : HeapState) (t : ℕ) (f : ThreadState → ThreadState) → KeepsShape f → IsLaid h
-    → IsLaid (record h { threads = changed h.threads t f })
+    → IsLaid (record h { threads = change_at h.threads t f })
 unfolding register_of
 thread_laid h t f k l = record {
   starts = l.starts;
@@ -59,7 +59,7 @@ thread_laid h t f k l = record {
     by_buffer y z (Some b) e g = ap (option_map (buffer_extent h.store.words)) (k.buffer y b e) ∙ g
 
     -- what a claim has now, it had
-    had : (c : Claim) (x : Extent) → extent (record h { threads = changed h.threads t f }) c ≡ Some x
+    had : (c : Claim) (x : Extent) → extent (record h { threads = change_at h.threads t f }) c ≡ Some x
         → extent h c ≡ Some x
     had (OfObject a) x e = e
     had (OfBuffer u) x e = was_read (λ o. option_map (buffer_extent h.store.words) (buffer_in o)) h.threads t f
@@ -185,7 +185,7 @@ global_laid h g w l = record {
   unused = l.unused;
 }
   where
-    extents : (c : Claim) → extent (record h { globals = changed h.globals g (set_word_of w) }) c ≡ extent h c
+    extents : (c : Claim) → extent (record h { globals = change_at h.globals g (set_word_of w) }) c ≡ extent h c
     extents (OfObject a) = refl
     extents (OfBuffer u) = refl
     extents (OfPlan a) = refl
@@ -195,7 +195,7 @@ pub global_carries : (h : HeapState) (g : ℕ) (w : Reference) → IsWord w → 
     → Carries h (with_global h g w) (set_global g (as_word w))
 unfolding with_global
 global_carries h g w word low = record {
-  size = alike h (record h { globals = changed h.globals g (set_word_of w) }) refl refl refl refl refl refl
+  size = alike h (record h { globals = change_at h.globals g (set_word_of w) }) refl refl refl refl refl refl
       (length_changed h.globals g (set_word_of w));
   laid = global_laid h g w;
   given = λ z. z;

@@ -67,14 +67,14 @@ object_in ls _ _ offset = None
 -- side arrays
 
 -- the entry of an object that goes to an address: copied, or planned
-abbrev pub forwarded : Bool → ℕ → SideEntry
-forwarded true to = Copied to
-forwarded false to = Planned to
+abbrev pub entry_of : Bool → ℕ → SideEntry
+entry_of true to = Copied to
+entry_of false to = Planned to
 
 -- the entry of an offset in a side array
 abbrev pub entry_at : List Forwarding → ℕ → SideEntry
 entry_at [] offset = NoEntry
-entry_at (f ∷ fs) offset = if f.offset == offset then forwarded f.copied f.to else entry_at fs offset
+entry_at (f ∷ fs) offset = if f.offset == offset then entry_of f.copied f.to else entry_at fs offset
 
 -- threads, workers and globals
 

@@ -104,7 +104,7 @@ fn put_registers(text: &mut String, words: &[Word], page_words: u32) -> Result<(
 fn state_name(thread: &Thread) -> &'static str
     ensures { result.now ≡ state_text thread.now }
 {
-    if thread.parked() {
+    if thread.is_parked() {
         "parked"
     } else if thread.barrier().is_some() {
         "loading"

@@ -54,7 +54,7 @@ fn is_new(rt: &impl Abort, thread: &Thread) {
     assert_eq!(rt; thread.registers(), [Word::null(); 5].as_slice());
     assert!(rt; thread.buffer().is_none());
     assert!(rt; thread.barrier().is_none());
-    assert_eq!(rt; (thread.crossed(), thread.parked()), (true, false));
+    assert_eq!(rt; (thread.has_crossed(), thread.is_parked()), (true, false));
 }
 
 fn has_threads(rt: &impl Abort, threads: &[Thread]) {

@@ -2,11 +2,11 @@
 
 ghost use Rattle.std.specs.Prelude.{◌≡◌, ◌≤◌, ◌<◌, ◌+◌, ◌-◌, ◌*◌, ◌∷◌, ◌++◌, length, drop, replicate, slice_get, Some, true};
 ghost use Rattle.layout.specs.Objects.{size_of};
-ghost use Rattle.model.specs.Stores.{overlaid, with_words};
+ghost use Rattle.model.specs.Stores.{overlay, with_words};
 ghost use Rattle.model.specs.Owning.{LiesIn};
 ghost use Rattle.model.specs.Refusing.{Does};
-ghost use Rattle.model.specs.States.{changed};
-ghost use Rattle.model.specs.Births.{put_bit, placed, new_outcome, handed};
+ghost use Rattle.model.specs.States.{change_at};
+ghost use Rattle.model.specs.Births.{put_bit, place_object, new_outcome, hand_object};
 ghost use Rattle.model.specs.Phases.{is_marking, is_mark_crossing};
 
 use crate::heap::Heap;
@@ -30,7 +30,7 @@ fn write_object(part: &mut [u64], header: u64, others: usize)
 fn write_new(store: &mut Store, buffer: Buffer, header: u64, others: u32)
     requires lies { LiesIn store.old buffer }
     requires room { others < buffer.end - buffer.next }
-    ensures { store.new ≡ with_words store.old buffer.page (λ ws. overlaid ws buffer.next (header ∷ replicate others 0)) }
+    ensures { store.new ≡ with_words store.old buffer.page (λ ws. overlay ws buffer.next (header ∷ replicate others 0)) }
 {
     store.law();
     let part = store.part_mut(&buffer);
@@ -40,9 +40,9 @@ fn write_new(store: &mut Store, buffer: Buffer, header: u64, others: u32)
 /// Notes that an object starts at the head of a buffer. While a mark runs it is marked at once,
 /// and to be scanned while threads have still to cross (ours).
 fn note_start(starts: &mut Rows, mark: &mut Rows, todo: &mut Rows, phase: Phase, buffer: Buffer)
-    ensures starts { starts.new ≡ changed starts.old (buffer.page - 1) (put_bit buffer.next true) }
-    ensures mark { mark.new ≡ changed mark.old (buffer.page - 1) (put_bit buffer.next (is_marking phase)) }
-    ensures todo { todo.new ≡ changed todo.old (buffer.page - 1) (put_bit buffer.next (is_mark_crossing phase)) }
+    ensures starts { starts.new ≡ change_at starts.old (buffer.page - 1) (put_bit buffer.next true) }
+    ensures mark { mark.new ≡ change_at mark.old (buffer.page - 1) (put_bit buffer.next (is_marking phase)) }
+    ensures todo { todo.new ≡ change_at todo.old (buffer.page - 1) (put_bit buffer.next (is_mark_crossing phase)) }
 {
     let index = buffer.page.saturating_sub(1) as usize;
     let offset = buffer.next as usize;
@@ -80,13 +80,13 @@ impl Heap {
     }
 
     /// Makes an object in a buffer that has room for it.
-    #[tactic(auto, unfolding(model::specs::Births::placed))]
+    #[tactic(auto, unfolding(model::specs::Births::place_object))]
     fn place(&mut self, thread: u32, target: u32, number: u32, layout: Layout, buffer: Buffer)
         requires there { slice_get self.old.config.layouts number ≡ Some layout }
         requires lies { LiesIn self.old.store buffer }
         requires room { size_of layout ≤ buffer.end - buffer.next }
         requires births { self.old.births < self.old.config.births }
-        ensures { self.new ≡ placed self.old thread target number layout buffer }
+        ensures { self.new ≡ place_object self.old thread target number layout buffer }
     {
         let header = Header {
             birth: self.births as u32,
@@ -114,7 +114,7 @@ impl Heap {
     /// A thread's register gets a new object's word, and its buffer is what is left of it.
     fn hand_over(&mut self, thread: u32, target: u32, word: Word, rest: Buffer)
         requires { LiesIn self.old.store rest }
-        ensures { self.new ≡ record self.old { threads = changed self.old.threads thread (handed target word rest) } }
+        ensures { self.new ≡ record self.old { threads = change_at self.old.threads thread (hand_object target word rest) } }
     {
         if (thread as usize) < self.threads.len() {
             let record = &mut self.threads[thread as usize];

@@ -2,7 +2,7 @@
 
 ghost use Rattle.std.specs.Prelude.{◌≡◌, ◌≤◌, ◌<◌, slice_get, Some, None, IfSome};
 ghost use Rattle.model.specs.Owning.{LiesIn};
-ghost use Rattle.model.specs.Buffers.{buffer_of_thread, opened_rows, with_buffer, lent, take_outcome, give_back_outcome};
+ghost use Rattle.model.specs.Buffers.{buffer_of_thread, opened_rows, with_buffer, lend_buffer, take_outcome, give_back_outcome};
 ghost use Rattle.model.specs.Refusing.{Does};
 
 use crate::heap::Heap;
@@ -31,10 +31,10 @@ impl Heap {
     }
 
     /// Gives a thread a buffer that was taken of the store.
-    #[tactic(auto, unfolding(model::specs::Buffers::lent))]
+    #[tactic(auto, unfolding(model::specs::Buffers::lend_buffer))]
     fn lend(&mut self, thread: u32, buffer: Buffer)
         requires { LiesIn self.old.store buffer }
-        ensures { self.new ≡ lent self.old thread self.old.store buffer }
+        ensures { self.new ≡ lend_buffer self.old thread self.old.store buffer }
     {
         open_row(&mut self.starts, buffer);
         open_row(&mut self.live, buffer);
@@ -51,7 +51,7 @@ impl Heap {
     ///
     /// Refused where it has one (`HasBuffer`); where no page has room and no frame is free
     /// (`NoFrames`); where no page number is unused (`NoPages`).
-    #[tactic(auto, unfolding(model::specs::Buffers::take_outcome, model::specs::Buffers::lent))]
+    #[tactic(auto, unfolding(model::specs::Buffers::take_outcome, model::specs::Buffers::lend_buffer))]
     pub fn take(&mut self, thread: u32, words: u32) -> Result<Answer, Refusal>
         requires low { 0 < words }
         requires high { words ≤ self.old.store.words }

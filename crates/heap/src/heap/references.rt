@@ -1,7 +1,7 @@
 //! References of objects, and globals.
 
 ghost use Rattle.std.specs.Prelude.{◌≡◌};
-ghost use Rattle.model.specs.References.{stored, global_of, with_global, with_place, field_at, store_outcome, store_global_outcome};
+ghost use Rattle.model.specs.References.{read_reference, global_of, with_global, with_place, field_at, store_outcome, store_global_outcome};
 ghost use Rattle.model.specs.Refusing.{Does};
 ghost use Rattle.model.specs.Loads.{bits_at};
 
@@ -10,8 +10,8 @@ use model::{Answer, Place, Refusal};
 use refword::{Addr, Word};
 
 /// The reference that 64 bits in memory are; bits that are no word's count as null (ours).
-pub fn stored(bits: u64) -> Word
-    ensures { result ≡ stored bits }
+pub fn read_reference(bits: u64) -> Word
+    ensures { result ≡ read_reference bits }
 {
     match Word::read(bits) {
         None => Word::null(),

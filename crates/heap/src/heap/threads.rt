@@ -17,7 +17,7 @@ impl Heap {
     {
         match self.threads.get(thread as usize) {
             None => true,
-            Some(record) => record.crossed(),
+            Some(record) => record.has_crossed(),
         }
     }
 
@@ -27,7 +27,7 @@ impl Heap {
     {
         match self.threads.get(thread as usize) {
             None => false,
-            Some(record) => record.parked(),
+            Some(record) => record.is_parked(),
         }
     }
 

@@ -1,7 +1,7 @@
 use Rattle.std.proofs.Common.{◌≡◌, ◌≤◌, ◌<◌, ◌+◌, ◌-◌, true, length, set, refl, sym, subst, ap, ◌∙◌}
 use Rattle.std.specs.List.{slice_get}
 use Rattle.model.specs.declared.records.Page.{Page}
-use Rattle.model.specs.Stores.{StoreState, is_open, is_unused, state_in, top_in, given}
+use Rattle.model.specs.Stores.{StoreState, is_open, is_unused, state_in, top_in, give_words}
 use Rattle.model.proofs.Lists.{get_read}
 use Rattle.page.specs.Views.{store_of, left_in, mark}
 use Rattle.page.proofs.Indexes.{set_mapped, kept_mapped}
@@ -38,5 +38,5 @@ returns c =
     let s = store_of c.self.inside in
     let there = subst (λ (s : StoreState). c.args.index < length s.pages) (sym c.self.view_is) c.requires.there in
     let at = get_read s.pages c.args.index c.index_mut-page.result.now there c.index_mut-page.ensures.value in
-    ap (λ t. given t c.args.index c.args.n) (sym c.self.view_is)
+    ap (λ t. give_words t c.args.index c.args.n) (sym c.self.view_is)
     ∙ given_at s c.args.index c.args.n c.index_mut-page.result.now at

@@ -2,7 +2,7 @@ use Rattle.std.proofs.Common.{◌≡◌, ℕ, ◌<◌, ◌+◌, ◌∙◌, lengt
 use Rattle.std.proofs.Common.{None, Some, replicate, sym, subst, ap, refl, arith, true}
 use Rattle.std.specs.List.{slice_get}
 use Rattle.model.specs.declared.records.Page.{Page}
-use Rattle.model.specs.Stores.{StoreState, opened, is_unused, fresh_page}
+use Rattle.model.specs.Stores.{StoreState, open_fresh, is_unused, fresh_page}
 use Rattle.model.proofs.Lists.{get_read, count_positive, count_set}
 use Rattle.page.specs.Views.{store_of, left_in, mark}
 use Rattle.page.proofs.Indexes.{set_mapped}
@@ -56,4 +56,4 @@ returns c =
     let zeros : c.clear.new.self ≡ replicate s.words 0 =
     c.clear.ensures ∙ ap (λ n. replicate n 0) (c.self.invariant.store.sized.frames c.args.frame _ words) in
     opened_as s c.args.index c.args.frame c.clear.new.self zeros
-    ∙ ap (λ t. opened t c.args.index c.args.frame) c.self.view_is
+    ∙ ap (λ t. open_fresh t c.args.index c.args.frame) c.self.view_is

@@ -1,5 +1,5 @@
 use Rattle.std.proofs.Common.{◌≤◌, ◌∙◌, length, refl, sym, ap, subst}
-use Rattle.model.specs.Stores.{StoreState, overlaid, with_words, words_at}
+use Rattle.model.specs.Stores.{StoreState, overlay, with_words, words_at}
 use Rattle.model.proofs.Lists.{get_read}
 use Rattle.model.proofs.Memory.{length_overlaid}
 use Rattle.page.specs.Views.{store_of}
@@ -35,8 +35,8 @@ returns c =
       (
         refl,
         λ w. sym (words_changed s c.args.buffer.now.page c.open_frame-frame.result c.index_mut-words.result.now
-            (λ ws. overlaid ws c.args.buffer.now.next w) c.open_frame-frame.ensures.value words)
-            ∙ ap (λ t. with_words t c.args.buffer.now.page (λ ws. overlaid ws c.args.buffer.now.next w)) c.self.view_is,
+            (λ ws. overlay ws c.args.buffer.now.next w) c.open_frame-frame.ensures.value words)
+            ∙ ap (λ t. with_words t c.args.buffer.now.page (λ ws. overlay ws c.args.buffer.now.next w)) c.self.view_is,
       ),
       record {
         value = rw part c.run_mut.ensures.value;
