@@ -2,10 +2,12 @@
 
 ghost use Rattle.std.specs.Prelude.{◌≡◌};
 ghost use Rattle.model.specs.Refusing.{Does};
+ghost use Rattle.model.specs.Outcome.{Passes};
+ghost use Rattle.model.specs.declared.steps.Step.TheVariants as steps;
 ghost use Rattle.model.specs.Loads.{are_bits_of, set_healed, heal_place, heal_outcome, may_finish, end_load, finish_outcome};
 
 use crate::traps::trap_due;
-use heap::Heap;
+use heap::{Edits, Heap};
 use model::{Answer, Barrier, Refusal};
 use refword::Word;
 
@@ -47,12 +49,12 @@ fn heal_place(heap: &mut Heap, thread: u32, barrier: Barrier) -> Answer
 }
 
 /// The place of a thread's load gets the word in its barrier (the paper's read barrier), where it
-/// still has what was loaded (ours): `Healed`, else `Changed`. Threads count from 0. Does the row
-/// alone: `cycle` makes the tests before it.
+/// still has what was loaded (ours): `Healed`, else `Changed`. Threads count from 0.
 ///
 /// Refused where no barrier is open (`NotBusy`), and where a trap is due (`Busy`).
 #[tactic(auto, unfolding(model::specs::Loads::heal_outcome))]
 pub fn heal(heap: &mut Heap, thread: u32) -> Result<Answer, Refusal>
+    requires { Passes heap.old thread steps.Heal }
     ensures { Does heap.old result heap.new (heal_outcome heap.old thread) }
 {
     let Some(barrier) = heap.barrier(thread) else {
@@ -84,12 +86,13 @@ fn end_load(heap: &mut Heap, thread: u32, barrier: Barrier) -> Result<Answer, Re
 }
 
 /// A thread's load ends: its register gets the word in the barrier, which closes (the paper's read
-/// barrier). Threads count from 0. Does the row alone: `cycle` makes the tests before it.
+/// barrier). Threads count from 0.
 ///
 /// Refused where no barrier is open (`NotBusy`); `Busy` where a trap is due, or the word was
 /// corrected and its place isn't healed.
 #[tactic(auto, unfolding(model::specs::Loads::finish_outcome))]
 pub fn finish(heap: &mut Heap, thread: u32) -> Result<Answer, Refusal>
+    requires { Passes heap.old thread steps.Finish }
     ensures { Does heap.old result heap.new (finish_outcome heap.old thread) }
 {
     let Some(open) = heap.barrier(thread) else {

@@ -2,9 +2,11 @@
 
 ghost use Rattle.std.specs.Prelude.{◌≡◌};
 ghost use Rattle.model.specs.Refusing.{Does};
+ghost use Rattle.model.specs.Outcome.{Passes};
+ghost use Rattle.model.specs.declared.steps.Step.TheVariants as steps;
 ghost use Rattle.model.specs.Loads.{new_barrier, load_outcome, load_global_outcome};
 
-use heap::{Heap, read_reference};
+use heap::{Edits, Heap, read_reference};
 use model::{Answer, Barrier, Place, Refusal};
 use refword::Word;
 
@@ -22,8 +24,7 @@ fn new_barrier(target: u32, place: Place, word: Word) -> Barrier
 }
 
 /// A thread begins to load a reference of an object for a register (the paper's read barrier).
-/// Threads, registers and references count from 0. Does the row alone: `cycle` makes the tests
-/// before it.
+/// Threads, registers and references count from 0.
 ///
 /// Refused as `Heap::usable` is for the object; `BadIndex` where it has no such reference.
 #[tactic(auto, unfolding(model::specs::Loads::load_outcome))]
@@ -34,6 +35,7 @@ pub fn load(
     object: u32,
     field: u32,
 ) -> Result<Answer, Refusal>
+    requires { Passes heap.old thread (steps.Load target object field) }
     ensures { Does heap.old result heap.new (load_outcome heap.old thread target object field) }
 {
     let address = heap.usable(thread, object)?;
@@ -52,8 +54,7 @@ pub fn load(
 }
 
 /// A thread begins to load a global for a register (the paper's read barrier). Threads, registers
-/// and globals count from 0. Does the row alone, which refuses nothing: `cycle` makes the tests
-/// before it.
+/// and globals count from 0. Refuses nothing.
 #[tactic(auto, unfolding(model::specs::Loads::load_global_outcome))]
 pub fn load_global(
     heap: &mut Heap,
@@ -61,6 +62,7 @@ pub fn load_global(
     target: u32,
     global: u32,
 ) -> Result<Answer, Refusal>
+    requires { Passes heap.old thread (steps.LoadGlobal target global) }
     ensures { Does heap.old result heap.new (load_global_outcome heap.old thread target global) }
 {
     let word = heap.global(global);

@@ -2,6 +2,8 @@
 
 ghost use Rattle.std.specs.Prelude.{◌≡◌};
 ghost use Rattle.model.specs.Refusing.{Does};
+ghost use Rattle.model.specs.Outcome.{Passes};
+ghost use Rattle.model.specs.declared.steps.Step.TheVariants as steps;
 ghost use Rattle.model.specs.Loads.{gc_trap_due, nmt_trap_due, trap_due, trap_outcome};
 
 use heap::Heap;
@@ -40,12 +42,13 @@ pub fn trap_due(heap: &Heap, thread: u32, word: Word) -> bool
 
 /// A thread, by its number from 0, asks for the trap that is due for its word (the paper's read
 /// barrier). While no mark runs and no page is protected, as today always, none is due, and the
-/// answer is `Clear`. Does the row alone: `cycle` makes the tests before it.
+/// answer is `Clear`.
 ///
 /// Refused where no barrier is open (`NotBusy`); `NoActor` where a trap is due, which no heap comes
 /// to before there are marks.
 #[tactic(auto, unfolding(model::specs::Loads::trap_outcome))]
 pub fn trap(heap: &mut Heap, thread: u32) -> Result<Answer, Refusal>
+    requires { Passes heap.old thread steps.Trap }
     ensures { Does heap.old result heap.new (trap_outcome heap.old thread) }
 {
     let Some(barrier) = heap.barrier(thread) else {

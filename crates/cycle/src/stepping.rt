@@ -2,7 +2,7 @@
 
 ghost use Rattle.std.specs.Prelude.{◌≡◌, false};
 ghost use Rattle.model.specs.Refusing.{Does};
-ghost use Rattle.model.specs.Outcome.{has_bad_index, thread_row, outcome};
+ghost use Rattle.model.specs.Outcome.{Passes, thread_row, outcome};
 ghost use Rattle.refinement.specs.Standing.{KeepsStanding};
 
 use crate::gate::thread_gate;
@@ -47,7 +47,7 @@ fn actor_row(heap: &mut Heap, actor: Actor, step: &Step) -> Result<Answer, Refus
 
 /// The step of a thread whose leading tests were passed.
 fn thread_row(heap: &mut Heap, thread: u32, step: &Step) -> Result<Answer, Refusal>
-    requires { has_bad_index heap.old step.now ≡ false }
+    requires { Passes heap.old thread step.now }
     ensures { Does heap.old result heap.new (thread_row heap.old thread step.now) }
 {
     match step {
@@ -81,7 +81,7 @@ fn thread_row(heap: &mut Heap, thread: u32, step: &Step) -> Result<Answer, Refus
         Step::IsNull(register) => heap.is_null(thread, *register),
         Step::CopyReg { target, source } => heap.copy_register(thread, *target, *source),
         Step::ClearReg(register) => heap.clear_register(thread, *register),
-        Step::Cross => checkpoint::cross(heap),
+        Step::Cross => checkpoint::cross(heap, thread),
         Step::Scrub(register) => checkpoint::scrub(heap, thread, *register),
         Step::Park => checkpoint::park(heap, thread),
         Step::Unpark => checkpoint::unpark(heap, thread),

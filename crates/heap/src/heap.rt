@@ -2,6 +2,7 @@
 mod birth;
 mod buffers;
 mod data;
+pub mod edits;
 mod making;
 pub mod references;
 mod registers;
@@ -23,13 +24,13 @@ use std::marker::Model;
 /// sizes that it was made with, that each thread's buffer lies in an open page, and that births
 /// stay within their limit.
 ///
-/// `take`, `give_back`, `new_object`, `store_reference`, `store_global`, `datum`, `set_datum`,
-/// `same`, `is_null`, `copy_register` and `clear_register` do a step's row alone: the tests before
-/// each row (the thread is there, numbers are in range, it isn't parked and has no open barrier)
-/// are made by `cycle`, whose `Stepping` has the whole step. The rows of loads stand in `barrier`,
-/// those of parked threads in `checkpoint`; they are made of the readers here and of the edits
-/// `set_barrier`, `set_loaded`, `set_place`, `set_global` and `set_parked`, each of which does what
-/// it says and no more: who uses one has to know what he does. Threads and registers count from 0.
+/// A user makes one, reads it, and asks for steps by `Stepping` of `cycle`. For the crates that do
+/// steps there are rows besides: `take`, `give_back`, `new_object`, `store_reference`,
+/// `store_global`, `datum`, `set_datum`, `same`, `is_null`, `copy_register` and `clear_register`.
+/// A row asks that its step has passed the tests before it (the thread is there, numbers are in
+/// range, it isn't parked and has no open barrier), which are made by `cycle`. The rows of loads
+/// stand in `barrier`, those of checkpoints in `checkpoint`; they are made of the readers here and
+/// of `Edits`. Threads and registers count from 0.
 #[derive(Drop)]
 pub struct Heap {
     config: Config,

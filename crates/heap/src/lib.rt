@@ -10,6 +10,7 @@ mod thread;
 
 pub use fault::NewFault;
 pub use heap::Heap;
+pub use heap::edits::Edits;
 pub use heap::references::read_reference;
 pub use markbits::{Row, Rows};
 pub use model::{Config, ConfigFault, Refusal};

@@ -3,3 +3,4 @@ pub mod Ranges
 pub mod Memory
 pub mod Results
 pub mod Usual
+pub mod Passing

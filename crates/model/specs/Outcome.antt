@@ -1,5 +1,5 @@
 -- What each step does: the tests before its row, and its row.
-use Rattle.std.specs.Prelude.{ℕ, ◌==◌, Bool, true, false, length, Option, Some, None, slice_get, if◌then◌else◌, ◌&&◌, ◌||◌, not, is_some, Result, Ok, Err, nat_lt, nat_le}
+use Rattle.std.specs.Prelude.{◌≡◌, ℕ, ◌==◌, Bool, true, false, length, Option, Some, None, slice_get, if◌then◌else◌, ◌&&◌, ◌||◌, not, is_some, Result, Ok, Err, nat_lt, nat_le}
 use Rattle.model.specs.declared.steps.Actor.{Actor}
 use Rattle.model.specs.declared.steps.Actor.TheVariants.{Thread, Worker}
 use Rattle.model.specs.declared.steps.Step.{Step}
@@ -79,6 +79,10 @@ thread_gate h t s =
     (if has_bad_index h s then Err refusals.BadIndex else
     (if is_parked_in (slice_get h.threads t) && not (is_for_parked s) then Err refusals.Parked else
     (if is_loading_in (slice_get h.threads t) && not (is_for_loading s) then Err refusals.Busy else Ok tt)))
+
+-- a thread's step has passed the tests before its row
+abbrev pub Passes : HeapState → ℕ → Step → Type 0
+Passes h t s = thread_gate h t s ≡ Ok tt
 
 -- the row of a thread's step, without the tests before it
 abbrev pub thread_row : HeapState → ℕ → Step → Outcome

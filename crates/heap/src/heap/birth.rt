@@ -5,6 +5,8 @@ ghost use Rattle.layout.specs.Objects.{size_of};
 ghost use Rattle.model.specs.Stores.{overlay, with_words};
 ghost use Rattle.model.specs.Owning.{LiesIn};
 ghost use Rattle.model.specs.Refusing.{Does};
+ghost use Rattle.model.specs.Outcome.{Passes};
+ghost use Rattle.model.specs.declared.steps.Step.TheVariants as steps;
 ghost use Rattle.model.specs.States.{change_at};
 ghost use Rattle.model.specs.Births.{put_bit, place_object, new_outcome, hand_object};
 ghost use Rattle.model.specs.Phases.{is_marking, is_mark_crossing};
@@ -53,13 +55,13 @@ fn note_start(starts: &mut Rows, mark: &mut Rows, todo: &mut Rows, phase: Phase,
 
 impl Heap {
     /// A thread makes an object in its buffer, with null references and data of 0, and a
-    /// register gets its word, which is marked through. Does the row alone: `cycle` makes the
-    /// tests before it.
+    /// register gets its word, which is marked through.
     ///
     /// Refused where there is no buffer, or it has fewer words left than the object
     /// (`NoRoom`); `BadIndex` where there is no such layout; `Births` where no more may be born.
     #[tactic(auto, unfolding(model::specs::Births::new_outcome))]
     pub fn new_object(&mut self, thread: u32, target: u32, number: u32) -> Result<Answer, Refusal>
+        requires { Passes self.old thread (steps.New target number) }
         ensures { Does self.old result self.new (new_outcome self.old thread target number) }
     {
         let Some(buffer) = self.buffer(thread) else {

@@ -4,6 +4,8 @@ ghost use Rattle.std.specs.Prelude.{◌≡◌, ◌≤◌, ◌<◌, slice_get, So
 ghost use Rattle.model.specs.Owning.{LiesIn};
 ghost use Rattle.model.specs.Buffers.{buffer_of_thread, opened_rows, with_buffer, lend_buffer, take_outcome, give_back_outcome};
 ghost use Rattle.model.specs.Refusing.{Does};
+ghost use Rattle.model.specs.Outcome.{Passes};
+ghost use Rattle.model.specs.declared.steps.Step.TheVariants as steps;
 
 use crate::heap::Heap;
 use markbits::Rows;
@@ -47,14 +49,13 @@ impl Heap {
     }
 
     /// A thread takes a buffer of 1 to the words of a page, in the lowest open page with room,
-    /// else in a fresh page (ours). Does the row alone: `cycle` makes the tests before it.
+    /// else in a fresh page (ours).
     ///
     /// Refused where it has one (`HasBuffer`); where no page has room and no frame is free
     /// (`NoFrames`); where no page number is unused (`NoPages`).
-    #[tactic(auto, unfolding(model::specs::Buffers::take_outcome, model::specs::Buffers::lend_buffer))]
+    #[tactic(auto, unfolding(model::specs::Buffers::take_outcome, model::specs::Buffers::lend_buffer), using(model::proofs::Passing::take_low, model::proofs::Passing::take_high))]
     pub fn take(&mut self, thread: u32, words: u32) -> Result<Answer, Refusal>
-        requires low { 0 < words }
-        requires high { words ≤ self.old.store.words }
+        requires { Passes self.old thread (steps.Take words) }
         ensures { Does self.old result self.new (take_outcome self.old thread words) }
     {
         if self.buffer(thread).is_some() {
@@ -74,9 +75,10 @@ impl Heap {
     }
 
     /// A thread gives its buffer back, whose rest is lost. Refused where it has none (`NoRoom`).
-    /// Does the row alone: `cycle` makes the tests before it.
+    ///
     #[tactic(auto, unfolding(model::specs::Buffers::give_back_outcome, model::specs::Buffers::with_buffer))]
     pub fn give_back(&mut self, thread: u32) -> Result<Answer, Refusal>
+        requires { Passes self.old thread steps.GiveBack }
         ensures { Does self.old result self.new (give_back_outcome self.old thread) }
     {
         let Some(buffer) = self.buffer(thread) else {

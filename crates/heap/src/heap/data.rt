@@ -4,6 +4,8 @@ ghost use Rattle.std.specs.Prelude.{◌≡◌};
 ghost use Rattle.model.specs.Stores.{with_word};
 ghost use Rattle.model.specs.Data.{layout_at, datum_at, datum_outcome, set_datum_outcome};
 ghost use Rattle.model.specs.Refusing.{Does};
+ghost use Rattle.model.specs.Outcome.{Passes};
+ghost use Rattle.model.specs.declared.steps.Step.TheVariants as steps;
 
 use crate::heap::Heap;
 use layout::Layout;
@@ -41,9 +43,10 @@ impl Heap {
     }
 
     /// Reads a data word, by its number from 0. Refused as `usable` is, then `BadIndex` where the
-    /// object has no such word. Does the row alone: `cycle` makes the tests before it.
+    /// object has no such word.
     #[tactic(auto, unfolding(model::specs::Data::datum_outcome))]
     pub fn datum(&self, thread: u32, object: u32, index: u32) -> Result<Answer, Refusal>
+        requires { Passes self.now thread (steps.Datum object index) }
         ensures { Does self.now result self.now (datum_outcome self.now thread object index) }
     {
         let address = self.usable(thread, object)?;
@@ -56,8 +59,7 @@ impl Heap {
         Ok(Answer::Datum(value))
     }
 
-    /// Writes a data word, by its number from 0. Refused as `datum` is. Does the row alone: `cycle`
-    /// makes the tests before it.
+    /// Writes a data word, by its number from 0. Refused as `datum` is.
     #[tactic(auto, unfolding(model::specs::Data::set_datum_outcome))]
     pub fn set_datum(
         &mut self,
@@ -66,6 +68,7 @@ impl Heap {
         index: u32,
         value: u64,
     ) -> Result<Answer, Refusal>
+        requires { Passes self.old thread (steps.SetDatum object index value) }
         ensures { Does self.old result self.new (set_datum_outcome self.old thread object index value) }
     {
         let address = self.usable(thread, object)?;

@@ -1,11 +1,14 @@
 //! References of objects, and globals.
 
 ghost use Rattle.std.specs.Prelude.{◌≡◌};
-ghost use Rattle.model.specs.References.{read_reference, global_of, with_global, with_place, field_at, store_outcome, store_global_outcome};
+ghost use Rattle.model.specs.References.{read_reference, global_of, field_at, store_outcome, store_global_outcome};
 ghost use Rattle.model.specs.Refusing.{Does};
+ghost use Rattle.model.specs.Outcome.{Passes};
+ghost use Rattle.model.specs.declared.steps.Step.TheVariants as steps;
 ghost use Rattle.model.specs.Loads.{bits_at};
 
 use crate::heap::Heap;
+use crate::heap::edits::Edits;
 use model::{Answer, Place, Refusal};
 use refword::{Addr, Word};
 
@@ -44,17 +47,6 @@ impl Heap {
         }
     }
 
-    /// Writes a global, by its number from 0, if it is there.
-    #[tactic(auto, unfolding(model::specs::References::with_global))]
-    pub fn set_global(&mut self, number: u32, word: Word)
-        ensures { self.new ≡ with_global self.old number word }
-    {
-        if (number as usize) < self.globals.len() {
-            let global = &mut self.globals[number as usize];
-            global.word = word;
-        }
-    }
-
     /// The bits at the place of a load; none where its page has no memory.
     pub fn bits_at(&self, place: Place) -> Option<u64>
         ensures { result ≡ bits_at self.now place }
@@ -67,21 +59,7 @@ impl Heap {
         }
     }
 
-    /// Writes the place of a load, if it has memory.
-    pub fn set_place(&mut self, place: Place, word: Word)
-        ensures { self.new ≡ with_place self.old place word }
-    {
-        match place {
-            Place::Field { object, index } => {
-                let address = object.number() + 1 + u64::from(index);
-                self.set_word(address, word.bits());
-            }
-            Place::Global(number) => self.set_global(number, word),
-        }
-    }
-
     /// Stores a register's word in a reference of an object, by the reference's number from 0.
-    /// Does the row alone: `cycle` makes the tests before it.
     ///
     /// Refused as `usable` is for the object; `BadIndex` where it has no such reference; as
     /// `usable_or_null` is for the source.
@@ -93,6 +71,7 @@ impl Heap {
         field: u32,
         source: u32,
     ) -> Result<Answer, Refusal>
+        requires { Passes self.old thread (steps.Store object field source) }
         ensures { Does self.old result self.new (store_outcome self.old thread object field source) }
     {
         let address = self.usable(thread, object)?;
@@ -106,7 +85,7 @@ impl Heap {
     }
 
     /// Stores a register's word in a global, by the global's number from 0. Refused as
-    /// `usable_or_null` is. Does the row alone: `cycle` makes the tests before it.
+    /// `usable_or_null` is.
     #[tactic(auto, unfolding(model::specs::References::store_global_outcome))]
     pub fn store_global(
         &mut self,
@@ -114,6 +93,7 @@ impl Heap {
         global: u32,
         register: u32,
     ) -> Result<Answer, Refusal>
+        requires { Passes self.old thread (steps.StoreGlobal global register) }
         ensures { Does self.old result self.new (store_global_outcome self.old thread global register) }
     {
         self.usable_or_null(thread, register)?;

@@ -3,6 +3,8 @@
 ghost use Rattle.std.specs.Prelude.{◌≡◌, is_none};
 ghost use Rattle.model.specs.Registers.{register_of, with_register, let_through, usable, usable_or_null, same_outcome, is_null_outcome, copy_register_outcome, clear_register_outcome};
 ghost use Rattle.model.specs.Refusing.{Does};
+ghost use Rattle.model.specs.Outcome.{Passes};
+ghost use Rattle.model.specs.declared.steps.Step.TheVariants as steps;
 
 use crate::heap::Heap;
 use model::{Answer, PageState, Phase, Refusal};
@@ -85,9 +87,10 @@ impl Heap {
     }
 
     /// Whether two registers name the same object, or both none; their NMT bits don't count.
-    /// Refused as `usable_or_null` is. Does the row alone: `cycle` makes the tests before it.
+    /// Refused as `usable_or_null` is.
     #[tactic(auto, unfolding(model::specs::Registers::same_outcome))]
     pub fn same(&self, thread: u32, left: u32, right: u32) -> Result<Answer, Refusal>
+        requires { Passes self.now thread (steps.Same left right) }
         ensures { Does self.now result self.now (same_outcome self.now thread left right) }
     {
         let left = self.usable_or_null(thread, left)?;
@@ -95,17 +98,16 @@ impl Heap {
         Ok(Answer::Truth(left == right))
     }
 
-    /// Whether a register is null. Does the row alone, which refuses nothing: `cycle` makes the
-    /// tests before it.
+    /// Whether a register is null. Refuses nothing.
     #[tactic(auto, unfolding(model::specs::Registers::is_null_outcome))]
     pub fn is_null(&self, thread: u32, register: u32) -> Result<Answer, Refusal>
+        requires { Passes self.now thread (steps.IsNull register) }
         ensures { Does self.now result self.now (is_null_outcome self.now thread register) }
     {
         Ok(Answer::Truth(self.register(thread, register).is_null()))
     }
 
-    /// A register gets another one's word. Does the row alone, which refuses nothing: `cycle` makes
-    /// the tests before it.
+    /// A register gets another one's word. Refuses nothing.
     #[tactic(auto, unfolding(model::specs::Registers::copy_register_outcome))]
     pub fn copy_register(
         &mut self,
@@ -113,6 +115,7 @@ impl Heap {
         target: u32,
         source: u32,
     ) -> Result<Answer, Refusal>
+        requires { Passes self.old thread (steps.CopyReg target source) }
         ensures { Does self.old result self.new (copy_register_outcome self.old thread target source) }
     {
         let word = self.register(thread, source);
@@ -120,10 +123,10 @@ impl Heap {
         Ok(Answer::Done)
     }
 
-    /// A register becomes null. Does the row alone, which refuses nothing: `cycle` makes the tests
-    /// before it.
+    /// A register becomes null. Refuses nothing.
     #[tactic(auto, unfolding(model::specs::Registers::clear_register_outcome))]
     pub fn clear_register(&mut self, thread: u32, target: u32) -> Result<Answer, Refusal>
+        requires { Passes self.old thread (steps.ClearReg target) }
         ensures { Does self.old result self.new (clear_register_outcome self.old thread target) }
     {
         self.set_register(thread, target, Word::null());

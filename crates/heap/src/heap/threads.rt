@@ -1,13 +1,11 @@
 //! What threads take part in: loads that aren't finished, checkpoints, and being parked.
 
 ghost use Rattle.std.specs.Prelude.{◌≡◌, slice_get};
-ghost use Rattle.model.specs.Loads.{barrier_of_thread, with_barrier, with_loaded};
-ghost use Rattle.model.specs.Checkpoints.{with_parked};
+ghost use Rattle.model.specs.Loads.{barrier_of_thread};
 ghost use Rattle.model.specs.Threads.{has_crossed, is_parked_in};
 
 use crate::heap::Heap;
 use model::Barrier;
-use refword::Word;
 
 impl Heap {
     /// Whether a thread has crossed the open checkpoint (the paper's checkpoints), by its number
@@ -39,40 +37,6 @@ impl Heap {
         match self.threads.get(thread as usize) {
             None => None,
             Some(record) => record.barrier(),
-        }
-    }
-
-    /// Opens or changes the barrier of a thread, if the thread is there (the paper's read barrier).
-    #[tactic(auto, unfolding(model::specs::Loads::with_barrier))]
-    pub fn set_barrier(&mut self, thread: u32, barrier: Barrier)
-        ensures { self.new ≡ with_barrier self.old thread barrier }
-    {
-        if (thread as usize) < self.threads.len() {
-            let record = &mut self.threads[thread as usize];
-            record.set_barrier(Some(barrier));
-        }
-    }
-
-    /// Ends the load of a thread, if the thread is there: a register, by its number from 0, gets
-    /// the word, and the barrier closes (the paper's read barrier).
-    #[tactic(auto, unfolding(model::specs::Loads::with_loaded))]
-    pub fn set_loaded(&mut self, thread: u32, register: u32, word: Word)
-        ensures { self.new ≡ with_loaded self.old thread register word }
-    {
-        if (thread as usize) < self.threads.len() {
-            let record = &mut self.threads[thread as usize];
-            record.set_loaded(register, word);
-        }
-    }
-
-    /// Parks a thread or lets it run, if it is there.
-    #[tactic(auto, unfolding(model::specs::Checkpoints::with_parked))]
-    pub fn set_parked(&mut self, thread: u32, parked: bool)
-        ensures { self.new ≡ with_parked self.old thread parked }
-    {
-        if (thread as usize) < self.threads.len() {
-            let record = &mut self.threads[thread as usize];
-            record.set_parked(parked);
         }
     }
 }

@@ -1,0 +1,85 @@
+//! Raw edits of a heap.
+
+ghost use Rattle.std.specs.Prelude.{◌≡◌};
+ghost use Rattle.model.specs.References.{with_global, with_place};
+ghost use Rattle.model.specs.Loads.{with_barrier, with_loaded};
+ghost use Rattle.model.specs.Checkpoints.{with_parked};
+
+use crate::heap::Heap;
+use model::{Barrier, Place};
+use refword::Word;
+
+/// Edits for the crates that do rows of steps. Each does what it says and tests nothing, so it can
+/// make a heap stand for nothing: who uses the heap asks for steps instead, and has no need of this
+/// trait. Threads, registers and globals count from 0.
+pub trait Edits {
+    /// Writes a global, by its number from 0, if it is there.
+    fn set_global(&mut self, number: u32, word: Word);
+
+    /// Writes the place of a load, if it has memory.
+    fn set_place(&mut self, place: Place, word: Word);
+
+    /// Opens or changes the barrier of a thread, if the thread is there (the paper's read barrier).
+    fn set_barrier(&mut self, thread: u32, barrier: Barrier);
+
+    /// Ends the load of a thread, if the thread is there: a register, by its number from 0, gets
+    /// the word, and the barrier closes (the paper's read barrier).
+    fn set_loaded(&mut self, thread: u32, register: u32, word: Word);
+
+    /// Parks a thread or lets it run, if it is there.
+    fn set_parked(&mut self, thread: u32, parked: bool);
+}
+
+impl Edits for Heap {
+    #[tactic(auto, unfolding(model::specs::References::with_global))]
+    fn set_global(&mut self, number: u32, word: Word)
+        ensures { self.new ≡ with_global self.old number word }
+    {
+        if (number as usize) < self.globals.len() {
+            let global = &mut self.globals[number as usize];
+            global.word = word;
+        }
+    }
+
+    fn set_place(&mut self, place: Place, word: Word)
+        ensures { self.new ≡ with_place self.old place word }
+    {
+        match place {
+            Place::Field { object, index } => {
+                let address = object.number() + 1 + u64::from(index);
+                self.set_word(address, word.bits());
+            }
+            Place::Global(number) => self.set_global(number, word),
+        }
+    }
+
+    #[tactic(auto, unfolding(model::specs::Loads::with_barrier))]
+    fn set_barrier(&mut self, thread: u32, barrier: Barrier)
+        ensures { self.new ≡ with_barrier self.old thread barrier }
+    {
+        if (thread as usize) < self.threads.len() {
+            let record = &mut self.threads[thread as usize];
+            record.set_barrier(Some(barrier));
+        }
+    }
+
+    #[tactic(auto, unfolding(model::specs::Loads::with_loaded))]
+    fn set_loaded(&mut self, thread: u32, register: u32, word: Word)
+        ensures { self.new ≡ with_loaded self.old thread register word }
+    {
+        if (thread as usize) < self.threads.len() {
+            let record = &mut self.threads[thread as usize];
+            record.set_loaded(register, word);
+        }
+    }
+
+    #[tactic(auto, unfolding(model::specs::Checkpoints::with_parked))]
+    fn set_parked(&mut self, thread: u32, parked: bool)
+        ensures { self.new ≡ with_parked self.old thread parked }
+    {
+        if (thread as usize) < self.threads.len() {
+            let record = &mut self.threads[thread as usize];
+            record.set_parked(parked);
+        }
+    }
+}
