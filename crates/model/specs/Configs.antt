@@ -1,9 +1,11 @@
 -- The configurations that a heap may be made with.
-use Rattle.std.specs.Prelude.{◌≡◌, ◌⊎◌, ℕ, ◌*◌, ◌≤◌, ◌^◌, min, List, ◌==◌, ◌||◌, not, Bool, true, length, Option, Some, None, nat_le, nat_lt, if◌then◌else◌}
+use Rattle.std.specs.Prelude.{◌≡◌, ◌⊎◌, ℕ, ◌*◌, ◌≤◌, min, List, ◌==◌, ◌||◌, not, Bool, true, length, Option, Some, None, nat_le, nat_lt, if◌then◌else◌}
 use Rattle.std.specs.List.{list_all}
 use Rattle.layout.specs.declared.shape.Layout.{Layout}
 use Rattle.layout.specs.Objects.{size_of}
 use Rattle.model.specs.declared.config.Config.{Config}
+use Rattle.model.specs.declared.limits.TheConstants.{MOST_WORDS, MOST_FRAMES, MOST_PAGES, MOST_THREADS, MOST_WORKERS, MOST_REGISTERS}
+use Rattle.model.specs.declared.limits.TheConstants.{MOST_GLOBALS, MOST_LAYOUTS, MOST_BIRTHS, MOST_HISTORY}
 use Rattle.model.specs.declared.config.ConfigFault.{ConfigFault}
 use Rattle.model.specs.declared.config.ConfigFault.TheVariants as faults
 
@@ -25,29 +27,29 @@ fits_page words l = nat_le (size_of l) words
 unfoldable pub first_fault : Config → Option ConfigFault
 first_fault c =
     if not (is_page_size c.words) then Some faults.Words else
-    (if is_outside c.frames 1 4096 then Some faults.Frames else
-    (if is_outside c.pages c.frames 65535 then Some faults.Pages else
-    (if is_outside c.threads 1 64 then Some faults.Threads else
-    (if is_outside c.workers 1 16 then Some faults.Workers else
-    (if is_outside c.registers 1 16 then Some faults.Registers else
-    (if is_outside c.globals 0 64 then Some faults.Globals else
-    (if is_outside (length c.layouts) 1 64 || not (list_all (fits_page c.words) c.layouts) then Some faults.Layouts else
-    (if is_outside c.births 1 (2 ^ 32) then Some faults.Births else
-    (if is_outside c.history 1 1000000 then Some faults.History else None)))))))))
+    (if is_outside c.frames 1 MOST_FRAMES then Some faults.Frames else
+    (if is_outside c.pages c.frames MOST_PAGES then Some faults.Pages else
+    (if is_outside c.threads 1 MOST_THREADS then Some faults.Threads else
+    (if is_outside c.workers 1 MOST_WORKERS then Some faults.Workers else
+    (if is_outside c.registers 1 MOST_REGISTERS then Some faults.Registers else
+    (if is_outside c.globals 0 MOST_GLOBALS then Some faults.Globals else
+    (if is_outside (length c.layouts) 1 MOST_LAYOUTS || not (list_all (fits_page c.words) c.layouts) then Some faults.Layouts else
+    (if is_outside c.births 1 MOST_BIRTHS then Some faults.Births else
+    (if is_outside c.history 1 MOST_HISTORY then Some faults.History else None)))))))))
 
 -- a configuration of which the frames, their words and the layouts are given, and all else is what serves most heaps
 unfoldable pub usual_config : ℕ → ℕ → List Layout → Config
 usual_config words frames layouts = record {
   words = words;
   frames = frames;
-  pages = min (2 * frames) 65535;
+  pages = min (2 * frames) MOST_PAGES;
   threads = 1;
   workers = 1;
-  registers = 16;
-  globals = 64;
+  registers = MOST_REGISTERS;
+  globals = MOST_GLOBALS;
   layouts = layouts;
-  births = 2 ^ 32;
-  history = 1000000;
+  births = MOST_BIRTHS;
+  history = MOST_HISTORY;
 }
 
 -- the field is one that the caller of such a configuration gives
@@ -62,17 +64,17 @@ IsConfig c = first_fault c ≡ None
 pub record IsRanged (c : Config) : Type 0 where
   pub page_size : is_page_size c.words ≡ true
   pub words_low : 16 ≤ c.words
-  pub words_high : c.words ≤ 4096
+  pub words_high : c.words ≤ MOST_WORDS
   pub frames_low : 1 ≤ c.frames
-  pub frames_high : c.frames ≤ 4096
+  pub frames_high : c.frames ≤ MOST_FRAMES
   pub pages_low : c.frames ≤ c.pages
-  pub pages_high : c.pages ≤ 65535
+  pub pages_high : c.pages ≤ MOST_PAGES
   pub threads_low : 1 ≤ c.threads
-  pub threads : c.threads ≤ 64
-  pub workers : c.workers ≤ 16
-  pub registers : c.registers ≤ 16
-  pub globals : c.globals ≤ 64
-  pub layouts : length c.layouts ≤ 64
+  pub threads : c.threads ≤ MOST_THREADS
+  pub workers : c.workers ≤ MOST_WORKERS
+  pub registers : c.registers ≤ MOST_REGISTERS
+  pub globals : c.globals ≤ MOST_GLOBALS
+  pub layouts : length c.layouts ≤ MOST_LAYOUTS
   pub fitting : list_all (fits_page c.words) c.layouts ≡ true
-  pub births : c.births ≤ 2 ^ 32
-  pub history : c.history ≤ 1000000
+  pub births : c.births ≤ MOST_BIRTHS
+  pub history : c.history ≤ MOST_HISTORY

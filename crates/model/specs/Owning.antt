@@ -1,5 +1,6 @@
 -- What holds of every store: each frame is the memory of one page, or free.
 use Rattle.std.specs.Prelude.{◌≡◌, ℕ, ◌+◌, ◌≤◌, ◌<◌, true, List, length, count_by, is_some, is_none, Some, slice_get}
+use Rattle.model.specs.declared.limits.TheConstants.{MOST_WORDS, MOST_FRAMES, MOST_PAGES}
 use Rattle.model.specs.declared.records.Page.{Page}
 use Rattle.model.specs.declared.records.Buffer.{Buffer}
 use Rattle.model.specs.Stores.{StoreState, has_memory, is_protected, is_open, page_at, state_in, record_count}
@@ -28,9 +29,9 @@ pub record IsBalanced (s : StoreState) : Type 0 where
 -- sizes are within their limits, and each list has one element for each thing that it is of
 pub record IsStoreSized (s : StoreState) : Type 0 where
   pub words_low : 0 < s.words
-  pub words : s.words ≤ 4096
-  pub frame_count : length s.frames ≤ 4096
-  pub count : s.count ≤ 65535
+  pub words : s.words ≤ MOST_WORDS
+  pub frame_count : length s.frames ≤ MOST_FRAMES
+  pub count : s.count ≤ MOST_PAGES
   pub owners : length s.owners ≡ length s.frames
   pub pages : length s.pages ≡ record_count (length s.frames) s.count
   pub frames : Each s.frames (λ ws. length ws ≡ s.words)

@@ -4,6 +4,10 @@ ghost use Rattle.std.specs.Prelude.{◌≡◌, ◌==◌, IfOk, IfNone, IfSome};
 ghost use Rattle.std.specs.List.{list_all};
 ghost use Rattle.model.specs.Configs.{is_page_size, fits_page, first_fault, usual_config, IsOfCaller, IsRanged};
 
+use crate::limits::{
+    MOST_BIRTHS, MOST_FRAMES, MOST_GLOBALS, MOST_HISTORY, MOST_LAYOUTS, MOST_PAGES, MOST_REGISTERS,
+    MOST_THREADS, MOST_WORKERS,
+};
 use layout::{Layout, Layouts};
 use std::alloc::{AllocError, Global};
 use thiserror::Error;
@@ -89,14 +93,14 @@ impl Config {
         Config {
             words,
             frames,
-            pages: frames.saturating_mul(2).min(65_535),
+            pages: frames.saturating_mul(2).min(MOST_PAGES),
             threads: 1,
             workers: 1,
-            registers: 16,
-            globals: 64,
+            registers: MOST_REGISTERS,
+            globals: MOST_GLOBALS,
             layouts,
-            births: 1 << 32,
-            history: 1_000_000,
+            births: MOST_BIRTHS,
+            history: MOST_HISTORY,
         }
     }
 
@@ -117,23 +121,23 @@ impl Config {
         let layouts = self.layouts.as_slice();
         if !is_page_size(self.words) {
             Some(ConfigFault::Words)
-        } else if self.frames < 1 || self.frames > 4096 {
+        } else if self.frames < 1 || self.frames > MOST_FRAMES {
             Some(ConfigFault::Frames)
-        } else if self.pages < self.frames || self.pages > 65_535 {
+        } else if self.pages < self.frames || self.pages > MOST_PAGES {
             Some(ConfigFault::Pages)
-        } else if self.threads < 1 || self.threads > 64 {
+        } else if self.threads < 1 || self.threads > MOST_THREADS {
             Some(ConfigFault::Threads)
-        } else if self.workers < 1 || self.workers > 16 {
+        } else if self.workers < 1 || self.workers > MOST_WORKERS {
             Some(ConfigFault::Workers)
-        } else if self.registers < 1 || self.registers > 16 {
+        } else if self.registers < 1 || self.registers > MOST_REGISTERS {
             Some(ConfigFault::Registers)
-        } else if self.globals > 64 {
+        } else if self.globals > MOST_GLOBALS {
             Some(ConfigFault::Globals)
-        } else if layouts.is_empty() || layouts.len() > 64 || !all_fit(layouts, self.words) {
+        } else if layouts.is_empty() || layouts.len() > MOST_LAYOUTS || !all_fit(layouts, self.words) {
             Some(ConfigFault::Layouts)
-        } else if self.births < 1 || self.births > 1 << 32 {
+        } else if self.births < 1 || self.births > MOST_BIRTHS {
             Some(ConfigFault::Births)
-        } else if self.history < 1 || self.history > 1_000_000 {
+        } else if self.history < 1 || self.history > MOST_HISTORY {
             Some(ConfigFault::History)
         } else {
             None

@@ -9,6 +9,7 @@ use Rattle.std.proofs.lemmas.Bool.Decides.{nat_tests}
 use Rattle.std.proofs.lemmas.Option.{slice_get_within, same_Some, none-some}
 use Rattle.std.proofs.lemmas.List.{length-take-le}
 use Rattle.std.proofs.lemmas.Bool.{cases_eq, false≢true}
+use Rattle.model.specs.declared.limits.TheConstants.{MOST_FRAMES, MOST_PAGES, MOST_WORDS}
 use Rattle.model.specs.declared.records.Page.{Page}
 use Rattle.model.specs.declared.records.PageState.{PageState}
 use Rattle.model.specs.declared.records.PageState.TheVariants.{Unused, Open, Closed, From, Gone}
@@ -183,7 +184,7 @@ open_keeps s i f p h e u g =
         omega (arith, same, zero_before, h.balanced.leaving)
 
 -- the store that there is at first
-pub first_is_store : (words frames pages : ℕ) → 0 < words → words ≤ 4096 → frames ≤ 4096 → pages ≤ 65535
+pub first_is_store : (words frames pages : ℕ) → 0 < words → words ≤ MOST_WORDS → frames ≤ MOST_FRAMES → pages ≤ MOST_PAGES
     → IsStore (first_store words frames pages)
 unfolding first_store
 first_is_store words frames pages low high frames_high pages_high =
@@ -354,7 +355,7 @@ some_is (Some x) f e = search rules
 
 -- the parts of the store that there is at first
 pub first_inside : (words frames pages : ℕ) (ps : List Page) (fs : List (List ℕ)) (os : List (Option ℕ)) → 0 < words
-    → words ≤ 4096 → frames ≤ 4096 → pages ≤ 65535 → ps ≡ replicate (record_count frames pages) blank_page
+    → words ≤ MOST_WORDS → frames ≤ MOST_FRAMES → pages ≤ MOST_PAGES → ps ≡ replicate (record_count frames pages) blank_page
     → fs ≡ replicate frames (replicate words 0) → os ≡ replicate frames None
     → IsStore (record { words = words; count = pages; pages = ps; frames = fs; owners = os })
 unfolding first_store

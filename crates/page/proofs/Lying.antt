@@ -11,6 +11,7 @@ use Rattle.std.proofs.lemmas.Bool.Decides.{nat_tests}
 use Rattle.std.proofs.lemmas.Option.{slice_get_within}
 use Rattle.std.proofs.lemmas.Bool.{cases_eq, and_parts, false≢true}
 use Rattle.refword.specs.Words.{IsAddress}
+use Rattle.model.specs.declared.limits.TheConstants.{MOST_PAGES}
 use Rattle.model.specs.declared.records.Page.{Page}
 use Rattle.model.specs.declared.records.Room.{Room}
 use Rattle.model.specs.declared.records.Room.TheVariants.{NoFrames, NoPages}
@@ -196,10 +197,10 @@ unfolding with_word
 word_lies s address v b h = words_lie s (address / s.words) _ b h
 
 -- a store has few records
-pub records_few : (s : StoreState) → IsStore s → length s.pages ≤ 65535
+pub records_few : (s : StoreState) → IsStore s → length s.pages ≤ MOST_PAGES
 records_few s h = rw h.sized.pages (few (length s.frames) s.count h.sized.count)
   where
-    few : (frames count : ℕ) → count ≤ 65535 → record_count frames count ≤ 65535
+    few : (frames count : ℕ) → count ≤ MOST_PAGES → record_count frames count ≤ MOST_PAGES
     few frames count k = grind (arith, nat_tests)
 
 -- where a buffer's next object starts is an address

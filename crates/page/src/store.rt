@@ -5,6 +5,7 @@ ghost use Rattle.std.specs.Option.{option_map};
 ghost use Rattle.std.specs.Borrow.{sem};
 ghost use Rattle.model.specs.Stores.{first_store, page_at, state_at, state_in, spot_of, word_at, with_word, words_at, take_buffer, Takes, give_words, open_fresh, top_in, is_open, page_with_room, free_frame, unused_page, frame_in, record_count};
 ghost use Rattle.model.specs.Configs.{is_page_size};
+ghost use Rattle.model.specs.declared.limits.TheConstants.{MOST_WORDS, MOST_FRAMES, MOST_PAGES};
 ghost use Rattle.model.specs.Owning.{IsStore, LiesIn, TakesWell};
 ghost use Rattle.page.specs.Lending.{LendsPart};
 ghost use Rattle.page.specs.Records.{is_unused_in};
@@ -65,7 +66,7 @@ fn blank_frames(alloc: Global, count: u32, words: u32) -> Result<Vec<Frame, Glob
 /// How many pages of a store have records, of so many frames and page numbers: no more are ever
 /// in use at once (ours). There are at most 4,096 frames.
 pub fn record_count(frames: u32, pages: u32) -> u32
-    requires { frames ≤ 4096 }
+    requires { frames ≤ MOST_FRAMES }
     ensures { result ≡ record_count frames pages }
 {
     if pages <= 2 * frames {
@@ -83,9 +84,9 @@ impl Store {
     pub fn new(alloc: Global, words: u32, frames: u32, pages: u32) -> Result<Store, AllocError>
         requires page_size { is_page_size words ≡ true }
         requires words_low { 0 < words }
-        requires words_high { words ≤ 4096 }
-        requires frames_high { frames ≤ 4096 }
-        requires pages_high { pages ≤ 65535 }
+        requires words_high { words ≤ MOST_WORDS }
+        requires frames_high { frames ≤ MOST_FRAMES }
+        requires pages_high { pages ≤ MOST_PAGES }
         ensures { IfOk result (λ s. s ≡ first_store words frames pages) }
     {
         let blank = Page {
@@ -119,7 +120,7 @@ impl Store {
     pub fn page_words(&self) -> u32
         ensures value { result ≡ self.now.words }
         ensures positive { 0 < result }
-        ensures range { result ≤ 4096 }
+        ensures range { result ≤ MOST_WORDS }
     {
         self.words
     }
@@ -127,7 +128,7 @@ impl Store {
     /// The number of page numbers: pages count from 1 to it. At most 65,535.
     pub fn page_count(&self) -> u32
         ensures value { result ≡ self.now.count }
-        ensures range { result ≤ 65535 }
+        ensures range { result ≤ MOST_PAGES }
     {
         self.count
     }
