@@ -1,4 +1,5 @@
-//! Places are healed, and loads end.
+//! Places are healed, and loads end: the second half of the paper's read barrier. That `heal`
+//! compares before it writes is ours.
 
 ghost use Rattle.std.specs.Prelude.{◌≡◌};
 ghost use Rattle.model.specs.Refusing.{Does};
@@ -8,7 +9,7 @@ ghost use Rattle.model.specs.Loads.{are_bits_of, set_healed, heal_place, heal_ou
 
 use crate::traps::trap_due;
 use heap::{Edits, Heap};
-use model::{Answer, Barrier, Refusal};
+use model::{Answer, Barrier, Refusal, Reply};
 use refword::Word;
 
 /// Whether bits are there, and are those of a word.
@@ -48,12 +49,12 @@ fn heal_place(heap: &mut Heap, thread: u32, barrier: Barrier) -> Answer
     }
 }
 
-/// The place of a thread's load gets the word in its barrier (the paper's read barrier), where it
-/// still has what was loaded (ours): `Healed`, else `Changed`. Threads count from 0.
+/// The place of a thread's load gets the word in its barrier, where it still has what was loaded:
+/// `Healed`, else `Changed`. Threads count from 0.
 ///
 /// Refused where no barrier is open (`NotBusy`), and where a trap is due (`Busy`).
 #[tactic(auto, unfolding(model::specs::Loads::heal_outcome))]
-pub fn heal(heap: &mut Heap, thread: u32) -> Result<Answer, Refusal>
+pub fn heal(heap: &mut Heap, thread: u32) -> Reply
     requires { Passes heap.old thread steps.Heal }
     ensures { Does heap.old result heap.new (heal_outcome heap.old thread) }
 {
@@ -75,7 +76,7 @@ fn may_finish(barrier: &Barrier) -> bool
 
 /// Ends a load for whose word no trap is due.
 #[tactic(auto, unfolding(model::specs::Loads::end_load))]
-fn end_load(heap: &mut Heap, thread: u32, barrier: Barrier) -> Result<Answer, Refusal>
+fn end_load(heap: &mut Heap, thread: u32, barrier: Barrier) -> Reply
     ensures { Does heap.old result heap.new (end_load heap.old thread barrier) }
 {
     if !may_finish(&barrier) {
@@ -85,13 +86,13 @@ fn end_load(heap: &mut Heap, thread: u32, barrier: Barrier) -> Result<Answer, Re
     Ok(Answer::Done)
 }
 
-/// A thread's load ends: its register gets the word in the barrier, which closes (the paper's read
-/// barrier). Threads count from 0.
+/// A thread's load ends: its register gets the word in the barrier, which closes. Threads count
+/// from 0.
 ///
 /// Refused where no barrier is open (`NotBusy`); `Busy` where a trap is due, or the word was
 /// corrected and its place isn't healed.
 #[tactic(auto, unfolding(model::specs::Loads::finish_outcome))]
-pub fn finish(heap: &mut Heap, thread: u32) -> Result<Answer, Refusal>
+pub fn finish(heap: &mut Heap, thread: u32) -> Reply
     requires { Passes heap.old thread steps.Finish }
     ensures { Does heap.old result heap.new (finish_outcome heap.old thread) }
 {

@@ -1,4 +1,4 @@
-//! Loads begin.
+//! Loads begin: the first half of the paper's read barrier.
 
 ghost use Rattle.std.specs.Prelude.{◌≡◌};
 ghost use Rattle.model.specs.Refusing.{Does};
@@ -7,7 +7,7 @@ ghost use Rattle.model.specs.declared.steps.Step.TheVariants as steps;
 ghost use Rattle.model.specs.Loads.{new_barrier, load_outcome, load_global_outcome};
 
 use heap::{Edits, Heap, read_reference};
-use model::{Answer, Barrier, Place, Refusal};
+use model::{Answer, Barrier, Place, Refusal, Reply};
 use refword::Word;
 
 /// The barrier of a load that has just read a word.
@@ -23,8 +23,8 @@ fn new_barrier(target: u32, place: Place, word: Word) -> Barrier
     }
 }
 
-/// A thread begins to load a reference of an object for a register (the paper's read barrier).
-/// Threads, registers and references count from 0.
+/// A thread begins to load a reference of an object for a register. Threads, registers and
+/// references count from 0.
 ///
 /// Refused as `Heap::usable` is for the object; `BadIndex` where it has no such reference.
 #[tactic(auto, unfolding(model::specs::Loads::load_outcome))]
@@ -34,7 +34,7 @@ pub fn load(
     target: u32,
     object: u32,
     field: u32,
-) -> Result<Answer, Refusal>
+) -> Reply
     requires { Passes heap.old thread (steps.Load target object field) }
     ensures { Does heap.old result heap.new (load_outcome heap.old thread target object field) }
 {
@@ -53,15 +53,15 @@ pub fn load(
     Ok(Answer::Loaded)
 }
 
-/// A thread begins to load a global for a register (the paper's read barrier). Threads, registers
-/// and globals count from 0. Refuses nothing.
+/// A thread begins to load a global for a register. Threads, registers and globals count from 0.
+/// Refuses nothing.
 #[tactic(auto, unfolding(model::specs::Loads::load_global_outcome))]
 pub fn load_global(
     heap: &mut Heap,
     thread: u32,
     target: u32,
     global: u32,
-) -> Result<Answer, Refusal>
+) -> Reply
     requires { Passes heap.old thread (steps.LoadGlobal target global) }
     ensures { Does heap.old result heap.new (load_global_outcome heap.old thread target global) }
 {

@@ -11,12 +11,12 @@ ghost use Rattle.model.specs.declared.steps.Step.TheVariants as steps;
 ghost use Rattle.model.specs.Checkpoints.{cross_outcome, scrub_outcome, park_outcome, unpark_outcome};
 
 use heap::{Edits, Heap};
-use model::{Answer, Refusal};
+use model::{Answer, Refusal, Reply};
 
 /// A thread crosses the open checkpoint (the paper's checkpoints). No checkpoint opens yet, so it
 /// is always refused: `Phase`, and `NoActor` where one is open, which no heap comes to.
 #[tactic(auto, unfolding(model::specs::Checkpoints::cross_outcome))]
-pub fn cross(heap: &mut Heap, thread: u32) -> Result<Answer, Refusal>
+pub fn cross(heap: &mut Heap, thread: u32) -> Reply
     requires { Passes heap.old thread steps.Cross }
     ensures { Does heap.old result heap.new (cross_outcome heap.old) }
 {
@@ -32,7 +32,7 @@ pub fn cross(heap: &mut Heap, thread: u32) -> Result<Answer, Refusal>
 ///
 /// Refused as `Heap::usable` is.
 #[tactic(auto, unfolding(model::specs::Checkpoints::scrub_outcome, model::specs::Registers::usable))]
-pub fn scrub(heap: &mut Heap, thread: u32, register: u32) -> Result<Answer, Refusal>
+pub fn scrub(heap: &mut Heap, thread: u32, register: u32) -> Reply
     requires { Passes heap.old thread (steps.Scrub register) }
     ensures { Does heap.old result heap.new (scrub_outcome heap.old thread register) }
 {
@@ -43,7 +43,7 @@ pub fn scrub(heap: &mut Heap, thread: u32, register: u32) -> Result<Answer, Refu
 /// A thread is parked: it does nothing but `Unpark` (ours; the paper's checkpoints speak of blocked
 /// threads). Threads count from 0. Refuses nothing.
 #[tactic(auto, unfolding(model::specs::Checkpoints::park_outcome))]
-pub fn park(heap: &mut Heap, thread: u32) -> Result<Answer, Refusal>
+pub fn park(heap: &mut Heap, thread: u32) -> Reply
     requires { Passes heap.old thread steps.Park }
     ensures { Does heap.old result heap.new (park_outcome heap.old thread) }
 {
@@ -53,7 +53,7 @@ pub fn park(heap: &mut Heap, thread: u32) -> Result<Answer, Refusal>
 
 /// A thread runs again (ours). Threads count from 0. Refused where it isn't parked (`NotParked`).
 #[tactic(auto, unfolding(model::specs::Checkpoints::unpark_outcome))]
-pub fn unpark(heap: &mut Heap, thread: u32) -> Result<Answer, Refusal>
+pub fn unpark(heap: &mut Heap, thread: u32) -> Reply
     requires { Passes heap.old thread steps.Unpark }
     ensures { Does heap.old result heap.new (unpark_outcome heap.old thread) }
 {

@@ -6,7 +6,7 @@ ghost use Rattle.cycle.specs.Replays.{IsBook, KeepsPromises};
 
 use crate::stepping::Stepping;
 use heap::{Config, Heap, NewFault};
-use model::{Actor, Answer, Refusal, Step};
+use model::{Actor, Answer, Refusal, Reply, Step};
 use std::alloc::Global;
 use std::marker::Model;
 
@@ -98,7 +98,7 @@ impl Book {
     /// `HistoryFull` is tested first; then room for the entry is made, and `Memory` answered
     /// where it is refused. A step that is refused for any cause leaves heap and history as
     /// they were.
-    pub fn act(&mut self, actor: Actor, step: Step) -> Result<Answer, Refusal>
+    pub fn act(&mut self, actor: Actor, step: Step) -> Reply
         ensures acts { Acts self.old result self.new (act_outcome self.old actor step) }
         ensures book { IsBook self.new }
         ensures promises { KeepsPromises self.new }
@@ -110,7 +110,7 @@ impl Book {
 
     /// What `act` does.
     #[tactic(auto, unfolding(crate::specs::Books::act_outcome))]
-    fn step_and_enter(&mut self, actor: Actor, step: Step) -> Result<Answer, Refusal>
+    fn step_and_enter(&mut self, actor: Actor, step: Step) -> Reply
         ensures { Acts self.old result self.new (act_outcome self.old actor step) }
     {
         if self.is_full() {

@@ -8,7 +8,7 @@ ghost use Rattle.cycle.specs.Loads.{finish_load, heal_load, is_clear, trap_load,
 
 use crate::book::Book;
 use crate::running::add;
-use model::{Actor, Answer, Refusal, Step};
+use model::{Actor, Answer, Refusal, Reply, Step};
 use std::alloc::AllocError;
 
 /// The most traps of one load (ours). Behind one that forwards and one that marks none is due any
@@ -33,8 +33,8 @@ impl Book {
         &mut self,
         actor: Actor,
         step: Step,
-        replies: &mut Vec<Result<Answer, Refusal>>,
-    ) -> Result<Result<Answer, Refusal>, AllocError>
+        replies: &mut Vec<Reply>,
+    ) -> Result<Reply, AllocError>
         ensures says { IfOk result (λ reply. Says self.old reply self.new (act_outcome self.old actor step)) }
         ensures replies { IfOk result (λ reply. replies.new.items ≡ replies.old.items ++ reply ∷ []) }
         ensures same_book { OnErr result (self.new ≡ self.old) }
@@ -53,8 +53,8 @@ impl Book {
     fn finish_load(
         &mut self,
         actor: Actor,
-        replies: &mut Vec<Result<Answer, Refusal>>,
-    ) -> Result<Result<Answer, Refusal>, AllocError>
+        replies: &mut Vec<Reply>,
+    ) -> Result<Reply, AllocError>
         ensures steps { OnOk result (Leaves (finish_load self.old actor) replies.old.items self.new replies.new.items) }
         ensures last { IfOk result (EndsIn replies.new.items) }
     {
@@ -66,8 +66,8 @@ impl Book {
         &mut self,
         actor: Actor,
         due: bool,
-        replies: &mut Vec<Result<Answer, Refusal>>,
-    ) -> Result<Result<Answer, Refusal>, AllocError>
+        replies: &mut Vec<Reply>,
+    ) -> Result<Reply, AllocError>
         ensures steps { OnOk result (Leaves (heal_load due self.old actor) replies.old.items self.new replies.new.items) }
         ensures last { IfOk result (EndsIn replies.new.items) }
     {
@@ -89,8 +89,8 @@ impl Book {
     pub fn end_load(
         &mut self,
         actor: Actor,
-        replies: &mut Vec<Result<Answer, Refusal>>,
-    ) -> Result<Result<Answer, Refusal>, AllocError>
+        replies: &mut Vec<Reply>,
+    ) -> Result<Reply, AllocError>
         ensures steps { OnOk result (Leaves (end_load self.old actor) replies.old.items self.new replies.new.items) }
         ensures last { IfOk result (EndsIn replies.new.items) }
     {
@@ -113,8 +113,8 @@ impl Book {
         &mut self,
         actor: Actor,
         load: Step,
-        replies: &mut Vec<Result<Answer, Refusal>>,
-    ) -> Result<Result<Answer, Refusal>, AllocError>
+        replies: &mut Vec<Reply>,
+    ) -> Result<Reply, AllocError>
         ensures steps { OnOk result (Leaves (whole_load self.old actor load) replies.old.items self.new replies.new.items) }
         ensures last { IfOk result (EndsIn replies.new.items) }
     {
@@ -133,7 +133,7 @@ impl Book {
         &mut self,
         actor: Actor,
         load: Step,
-        replies: &mut Vec<Result<Answer, Refusal>>,
+        replies: &mut Vec<Reply>,
     ) -> Result<(), Refusal>
         ensures { LoadsWhole result replies.old.items self.new replies.new.items (whole_load self.old actor load) }
     {

@@ -5,7 +5,7 @@ ghost use Rattle.cycle.specs.Books.{Ran};
 ghost use Rattle.cycle.specs.Replays.{IsBook, KeepsPromises};
 
 use crate::book::Book;
-use model::{Actor, Answer, Refusal, Step};
+use model::{Actor, Reply, Step};
 use std::alloc::{AllocError, Global};
 
 /// Does each step in turn, and gives the reply to each, in order.
@@ -16,7 +16,7 @@ pub fn run(
     alloc: Global,
     book: &mut Book,
     steps: Vec<(Actor, Step)>,
-) -> Result<Vec<Result<Answer, Refusal>>, AllocError>
+) -> Result<Vec<Reply>, AllocError>
     ensures ran { IfOk result (λ replies. Ran book.old steps.items replies.items book.new) }
     ensures err { OnErr result (book.new ≡ book.old) }
     ensures book { IsBook book.new }
@@ -32,7 +32,7 @@ fn act_each(
     alloc: Global,
     book: &mut Book,
     steps: Vec<(Actor, Step)>,
-) -> Result<Vec<Result<Answer, Refusal>>, AllocError>
+) -> Result<Vec<Reply>, AllocError>
     ensures ran { IfOk result (λ replies. Ran book.old steps.items replies.items book.new) }
     ensures err { OnErr result (book.new ≡ book.old) }
 {
@@ -45,7 +45,7 @@ fn act_each(
 }
 
 /// Adds a reply for which there is room.
-pub(crate) fn add(replies: &mut Vec<Result<Answer, Refusal>>, reply: Result<Answer, Refusal>)
+pub(crate) fn add(replies: &mut Vec<Reply>, reply: Reply)
     requires { vec_len replies.old < vec_capacity replies.old }
     ensures added { replies.new.items ≡ replies.old.items ++ reply ∷ [] }
     ensures room { vec_capacity replies.old ≤ vec_capacity replies.new }

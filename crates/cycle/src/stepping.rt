@@ -7,12 +7,12 @@ ghost use Rattle.refinement.specs.Standing.{KeepsStanding};
 
 use crate::gate::thread_gate;
 use heap::Heap;
-use model::{Actor, Answer, Refusal, Step};
+use model::{Actor, Refusal, Reply, Step};
 
 /// What actors do to a heap, one step at a time.
 pub trait Stepping {
     /// One step of an actor, which is accepted or refused. A refused step changes nothing.
-    fn step(&mut self, actor: Actor, step: &Step) -> Result<Answer, Refusal>;
+    fn step(&mut self, actor: Actor, step: &Step) -> Reply;
 }
 
 impl Stepping for Heap {
@@ -21,7 +21,7 @@ impl Stepping for Heap {
     ///
     /// Where the heap stands for a plain heap, which never moves or frees an object, it does so
     /// after an accepted step, and the answer is the plain heap's.
-    fn step(&mut self, actor: Actor, step: &Step) -> Result<Answer, Refusal>
+    fn step(&mut self, actor: Actor, step: &Step) -> Reply
         ensures does { Does self.old result self.new (outcome self.old actor step.now) }
         ensures stands { KeepsStanding self.old actor step.now result self.new }
     {
@@ -33,7 +33,7 @@ impl Stepping for Heap {
 
 /// The step of an actor.
 #[tactic(auto, unfolding(model::specs::Outcome::outcome, model::specs::Outcome::thread_gate))]
-fn actor_row(heap: &mut Heap, actor: Actor, step: &Step) -> Result<Answer, Refusal>
+fn actor_row(heap: &mut Heap, actor: Actor, step: &Step) -> Reply
     ensures { Does heap.old result heap.new (outcome heap.old actor step.now) }
 {
     match actor {
@@ -46,7 +46,7 @@ fn actor_row(heap: &mut Heap, actor: Actor, step: &Step) -> Result<Answer, Refus
 }
 
 /// The step of a thread whose leading tests were passed.
-fn thread_row(heap: &mut Heap, thread: u32, step: &Step) -> Result<Answer, Refusal>
+fn thread_row(heap: &mut Heap, thread: u32, step: &Step) -> Reply
     requires { Passes heap.old thread step.now }
     ensures { Does heap.old result heap.new (thread_row heap.old thread step.now) }
 {

@@ -1,4 +1,5 @@
-//! The record of a mutator thread.
+//! The record of a mutator thread. Its barrier, and whether it has crossed, are of the paper's read
+//! barrier and checkpoints; the rest is ours.
 
 ghost use Rattle.std.specs.Prelude.{◌≡◌, ◌<◌, length, slice_get, slice_set, IfOk};
 ghost use Rattle.model.specs.States.{flat};
@@ -59,8 +60,7 @@ impl Thread {
         self.buffer
     }
 
-    /// Whether it has crossed the open checkpoint (the paper's checkpoints); true where none is
-    /// open.
+    /// Whether it has crossed the open checkpoint; true where none is open.
     pub fn has_crossed(&self) -> bool
         ensures { result ≡ self.now.crossed }
     {
@@ -74,7 +74,7 @@ impl Thread {
         self.parked
     }
 
-    /// Its load that isn't finished, if there is one (the paper's read barrier).
+    /// Its load that isn't finished, if there is one.
     pub fn barrier(&self) -> Option<Barrier>
         ensures { result ≡ self.now.barrier }
     {
@@ -107,7 +107,7 @@ impl Thread {
         self.buffer = buffer;
     }
 
-    /// Opens or changes its barrier, or closes it (the paper's read barrier).
+    /// Opens or changes its barrier, or closes it.
     pub(crate) fn set_barrier(&mut self, barrier: Option<Barrier>)
         ensures { self.new ≡ set_barrier_of barrier self.old }
     {
@@ -115,7 +115,7 @@ impl Thread {
     }
 
     /// Ends its load: a register, by its number from 0, gets the word, if it is there, and the
-    /// barrier closes (the paper's read barrier).
+    /// barrier closes.
     pub(crate) fn set_loaded(&mut self, number: u32, word: Word)
         ensures { self.new ≡ set_loaded_of number word self.old }
     {

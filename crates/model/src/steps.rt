@@ -306,3 +306,6 @@ impl fmt::Display for Refusal {
 }
 
 impl Error for Refusal {}
+
+/// What a step of an actor says: its answer, or why it isn't accepted.
+pub type Reply = Result<Answer, Refusal>;

@@ -3,12 +3,12 @@
 //!
 //! Make a `Config` by `Config::new`, and of it a `Heap`, whose steps are asked by the trait
 //! `Stepping`, or a `Book`, which keeps the history of the steps too. An `Actor` asks for a `Step`;
-//! what comes is an `Answer` or a `Refusal`. Calls that need memory take an allocator first, which
+//! what comes is a `Reply`: an `Answer` or a `Refusal`. Calls that need memory take an allocator first, which
 //! a program gets from its runtime by `rt.alloc()`.
 //!
 //! There is no code here: each name stands in a crate of its own, with its contract.
 #![tactic(auto)]
 
-pub use cycle::{Actor, Answer, Book, Entry, PageList, Step, Stepping, run, three_traps};
+pub use cycle::{Actor, Answer, Book, Entry, PageList, Reply, Step, Stepping, run, three_traps};
 pub use heap::{Config, ConfigFault, Heap, NewFault, Refusal};
 pub use layout::{Layout, Layouts};

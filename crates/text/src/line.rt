@@ -6,20 +6,20 @@ ghost use Rattle.std.specs.Io.KnownBytes.{Appends};
 ghost use Rattle.text.specs.Texts.{line_text, next_text, replies_text};
 
 use crate::steps::{ActorText, ReplyText};
-use model::{Actor, Answer, Refusal};
+use model::{Actor, Reply};
 use std::alloc::AllocError;
 use std::fmt::Write as _;
 use std::io;
 
 /// What a step says behind another one.
-fn put_next(text: &mut String, reply: Result<Answer, Refusal>) -> Result<(), AllocError>
+fn put_next(text: &mut String, reply: Reply) -> Result<(), AllocError>
     ensures { OnOk result (string_bytes text.new ≡ string_bytes text.old ++ next_text reply) }
 {
     let reply = ReplyText(reply);
     write!(text, ", {reply}")
 }
 
-fn put_others(text: &mut String, replies: &[Result<Answer, Refusal>]) -> Result<(), AllocError>
+fn put_others(text: &mut String, replies: &[Reply]) -> Result<(), AllocError>
     ensures { OnOk result (string_bytes text.new ≡ string_bytes text.old ++ flat_map next_text replies.now) }
 {
     for reply in replies {
@@ -28,7 +28,7 @@ fn put_others(text: &mut String, replies: &[Result<Answer, Refusal>]) -> Result<
     Ok(())
 }
 
-fn put_replies(text: &mut String, replies: &[Result<Answer, Refusal>]) -> Result<(), AllocError>
+fn put_replies(text: &mut String, replies: &[Reply]) -> Result<(), AllocError>
     ensures { OnOk result (string_bytes text.new ≡ string_bytes text.old ++ replies_text replies.now) }
 {
     let Some((first, others)) = replies.split_first() else {
@@ -46,7 +46,7 @@ pub fn put_line(
     text: &mut String,
     number: u64,
     actor: Actor,
-    replies: &[Result<Answer, Refusal>],
+    replies: &[Reply],
 ) -> Result<(), AllocError>
     ensures { OnOk result (string_bytes text.new ≡ string_bytes text.old ++ line_text number actor replies.now) }
 {
@@ -64,7 +64,7 @@ pub fn write_line<W: io::Write>(
     text: &mut String,
     number: u64,
     actor: Actor,
-    replies: &[Result<Answer, Refusal>],
+    replies: &[Reply],
 ) -> io::Result<()>
     ensures { OnOk result (Appends (W.contents w.old) (W.contents w.new) (line_text number actor replies.now)) }
 {

@@ -1,6 +1,6 @@
 //! The texts of actors, answers, refusals, and of what steps said.
 
-use model::{Actor, Answer, Refusal};
+use model::{Actor, Answer, Reply};
 use std::fmt;
 
 /// An actor's text: `t0` is thread 0, `w0` worker 0.
@@ -60,7 +60,7 @@ impl fmt::Display for AnswerText {
 
 /// The text of what a step said: its answer's, or `refused ` and its refusal's.
 #[derive(Clone, Copy, Debug, PartialEq, Eq)]
-pub struct ReplyText(pub Result<Answer, Refusal>);
+pub struct ReplyText(pub Reply);
 
 impl fmt::Display for ReplyText {
     ghost use Rattle.std.specs.Prelude.{Some};

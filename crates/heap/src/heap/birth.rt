@@ -14,7 +14,7 @@ ghost use Rattle.model.specs.Phases.{is_marking, is_mark_crossing};
 use crate::heap::Heap;
 use layout::{Header, Layout};
 use markbits::Rows;
-use model::{Answer, Buffer, Phase, Refusal};
+use model::{Answer, Buffer, Phase, Refusal, Reply};
 use page::Store;
 use refword::{Addr, Word};
 
@@ -60,7 +60,7 @@ impl Heap {
     /// Refused where there is no buffer, or it has fewer words left than the object
     /// (`NoRoom`); `BadIndex` where there is no such layout; `Births` where no more may be born.
     #[tactic(auto, unfolding(model::specs::Births::new_outcome))]
-    pub fn new_object(&mut self, thread: u32, target: u32, number: u32) -> Result<Answer, Refusal>
+    pub fn new_object(&mut self, thread: u32, target: u32, number: u32) -> Reply
         requires { Passes self.old thread (steps.New target number) }
         ensures { Does self.old result self.new (new_outcome self.old thread target number) }
     {

@@ -9,7 +9,7 @@ ghost use Rattle.model.specs.declared.steps.Step.TheVariants as steps;
 
 use crate::heap::Heap;
 use markbits::Rows;
-use model::{Answer, Buffer, Refusal, Room};
+use model::{Answer, Buffer, Refusal, Reply, Room};
 
 /// Clears the row of a page of which a buffer is the first.
 fn open_row(rows: &mut Rows, buffer: Buffer)
@@ -54,7 +54,7 @@ impl Heap {
     /// Refused where it has one (`HasBuffer`); where no page has room and no frame is free
     /// (`NoFrames`); where no page number is unused (`NoPages`).
     #[tactic(auto, unfolding(model::specs::Buffers::take_outcome, model::specs::Buffers::lend_buffer), using(model::proofs::Passing::take_low, model::proofs::Passing::take_high))]
-    pub fn take(&mut self, thread: u32, words: u32) -> Result<Answer, Refusal>
+    pub fn take(&mut self, thread: u32, words: u32) -> Reply
         requires { Passes self.old thread (steps.Take words) }
         ensures { Does self.old result self.new (take_outcome self.old thread words) }
     {
@@ -77,7 +77,7 @@ impl Heap {
     /// A thread gives its buffer back, whose rest is lost. Refused where it has none (`NoRoom`).
     ///
     #[tactic(auto, unfolding(model::specs::Buffers::give_back_outcome, model::specs::Buffers::with_buffer))]
-    pub fn give_back(&mut self, thread: u32) -> Result<Answer, Refusal>
+    pub fn give_back(&mut self, thread: u32) -> Reply
         requires { Passes self.old thread steps.GiveBack }
         ensures { Does self.old result self.new (give_back_outcome self.old thread) }
     {

@@ -9,7 +9,7 @@ ghost use Rattle.model.specs.declared.steps.Step.TheVariants as steps;
 
 use crate::heap::Heap;
 use layout::Layout;
-use model::{Answer, Refusal};
+use model::{Answer, Refusal, Reply};
 use refword::Addr;
 
 impl Heap {
@@ -45,7 +45,7 @@ impl Heap {
     /// Reads a data word, by its number from 0. Refused as `usable` is, then `BadIndex` where the
     /// object has no such word.
     #[tactic(auto, unfolding(model::specs::Data::datum_outcome))]
-    pub fn datum(&self, thread: u32, object: u32, index: u32) -> Result<Answer, Refusal>
+    pub fn datum(&self, thread: u32, object: u32, index: u32) -> Reply
         requires { Passes self.now thread (steps.Datum object index) }
         ensures { Does self.now result self.now (datum_outcome self.now thread object index) }
     {
@@ -67,7 +67,7 @@ impl Heap {
         object: u32,
         index: u32,
         value: u64,
-    ) -> Result<Answer, Refusal>
+    ) -> Reply
         requires { Passes self.old thread (steps.SetDatum object index value) }
         ensures { Does self.old result self.new (set_datum_outcome self.old thread object index value) }
     {

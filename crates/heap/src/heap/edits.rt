@@ -1,4 +1,4 @@
-//! Raw edits of a heap.
+//! Raw edits of a heap. The barrier that some open, change or close is the paper's.
 
 ghost use Rattle.std.specs.Prelude.{◌≡◌};
 ghost use Rattle.model.specs.References.{with_global, with_place};
@@ -19,11 +19,11 @@ pub trait Edits {
     /// Writes the place of a load, if it has memory.
     fn set_place(&mut self, place: Place, word: Word);
 
-    /// Opens or changes the barrier of a thread, if the thread is there (the paper's read barrier).
+    /// Opens or changes the barrier of a thread, if the thread is there.
     fn set_barrier(&mut self, thread: u32, barrier: Barrier);
 
     /// Ends the load of a thread, if the thread is there: a register, by its number from 0, gets
-    /// the word, and the barrier closes (the paper's read barrier).
+    /// the word, and the barrier closes.
     fn set_loaded(&mut self, thread: u32, register: u32, word: Word);
 
     /// Parks a thread or lets it run, if it is there.

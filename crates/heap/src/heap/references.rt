@@ -9,7 +9,7 @@ ghost use Rattle.model.specs.Loads.{bits_at};
 
 use crate::heap::Heap;
 use crate::heap::edits::Edits;
-use model::{Answer, Place, Refusal};
+use model::{Answer, Place, Refusal, Reply};
 use refword::{Addr, Word};
 
 /// The reference that 64 bits in memory are; bits that are no word's count as null (ours).
@@ -70,7 +70,7 @@ impl Heap {
         object: u32,
         field: u32,
         source: u32,
-    ) -> Result<Answer, Refusal>
+    ) -> Reply
         requires { Passes self.old thread (steps.Store object field source) }
         ensures { Does self.old result self.new (store_outcome self.old thread object field source) }
     {
@@ -92,7 +92,7 @@ impl Heap {
         thread: u32,
         global: u32,
         register: u32,
-    ) -> Result<Answer, Refusal>
+    ) -> Reply
         requires { Passes self.old thread (steps.StoreGlobal global register) }
         ensures { Does self.old result self.new (store_global_outcome self.old thread global register) }
     {

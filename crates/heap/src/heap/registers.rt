@@ -7,7 +7,7 @@ ghost use Rattle.model.specs.Outcome.{Passes};
 ghost use Rattle.model.specs.declared.steps.Step.TheVariants as steps;
 
 use crate::heap::Heap;
-use model::{Answer, PageState, Phase, Refusal};
+use model::{Answer, PageState, Phase, Refusal, Reply};
 use refword::{Addr, Word};
 
 impl Heap {
@@ -89,7 +89,7 @@ impl Heap {
     /// Whether two registers name the same object, or both none; their NMT bits don't count.
     /// Refused as `usable_or_null` is.
     #[tactic(auto, unfolding(model::specs::Registers::same_outcome))]
-    pub fn same(&self, thread: u32, left: u32, right: u32) -> Result<Answer, Refusal>
+    pub fn same(&self, thread: u32, left: u32, right: u32) -> Reply
         requires { Passes self.now thread (steps.Same left right) }
         ensures { Does self.now result self.now (same_outcome self.now thread left right) }
     {
@@ -100,7 +100,7 @@ impl Heap {
 
     /// Whether a register is null. Refuses nothing.
     #[tactic(auto, unfolding(model::specs::Registers::is_null_outcome))]
-    pub fn is_null(&self, thread: u32, register: u32) -> Result<Answer, Refusal>
+    pub fn is_null(&self, thread: u32, register: u32) -> Reply
         requires { Passes self.now thread (steps.IsNull register) }
         ensures { Does self.now result self.now (is_null_outcome self.now thread register) }
     {
@@ -114,7 +114,7 @@ impl Heap {
         thread: u32,
         target: u32,
         source: u32,
-    ) -> Result<Answer, Refusal>
+    ) -> Reply
         requires { Passes self.old thread (steps.CopyReg target source) }
         ensures { Does self.old result self.new (copy_register_outcome self.old thread target source) }
     {
@@ -125,7 +125,7 @@ impl Heap {
 
     /// A register becomes null. Refuses nothing.
     #[tactic(auto, unfolding(model::specs::Registers::clear_register_outcome))]
-    pub fn clear_register(&mut self, thread: u32, target: u32) -> Result<Answer, Refusal>
+    pub fn clear_register(&mut self, thread: u32, target: u32) -> Reply
         requires { Passes self.old thread (steps.ClearReg target) }
         ensures { Does self.old result self.new (clear_register_outcome self.old thread target) }
     {

@@ -1,4 +1,5 @@
-//! What threads take part in: loads that aren't finished, checkpoints, and being parked.
+//! What threads take part in: loads that aren't finished, and checkpoints, both the paper's; and
+//! being parked, which is ours.
 
 ghost use Rattle.std.specs.Prelude.{◌≡◌, slice_get};
 ghost use Rattle.model.specs.Loads.{barrier_of_thread};
@@ -8,8 +9,8 @@ use crate::heap::Heap;
 use model::Barrier;
 
 impl Heap {
-    /// Whether a thread has crossed the open checkpoint (the paper's checkpoints), by its number
-    /// from 0; true where there is no such thread.
+    /// Whether a thread has crossed the open checkpoint, by its number from 0; true where there is
+    /// no such thread.
     pub fn has_crossed(&self, thread: u32) -> bool
         ensures { result ≡ has_crossed (slice_get self.now.threads thread) }
     {
@@ -29,8 +30,7 @@ impl Heap {
         }
     }
 
-    /// The load of a thread that isn't finished, by the thread's number from 0, if there is one
-    /// (the paper's read barrier).
+    /// The load of a thread that isn't finished, by the thread's number from 0, if there is one.
     pub fn barrier(&self, thread: u32) -> Option<Barrier>
         ensures { result ≡ barrier_of_thread self.now thread }
     {
