@@ -1,26 +1,38 @@
 //! Rows of bits, one bit for each word of a page.
 
-ghost use Rattle.std.specs.Prelude.{◌≡◌, ◌<◌, length, replicate, slice_get, false, IfOk, count_by};
+ghost use Rattle.std.specs.Prelude.{◌≡◌, ℕ, ◌<◌, ◌≤◌, length, replicate, take, slice_get, slice_index_or, Some, map, false, IfOk, count_by};
+ghost use Rattle.std.specs.Int.{div_ceil};
 ghost use Rattle.std.specs.Option.{option_copied};
 ghost use Rattle.model.specs.States.{change_at};
 ghost use Rattle.model.specs.Buffers.{blank_row};
 ghost use Rattle.model.specs.Births.{put_bit};
+ghost use Rattle.markbits.specs.Words.{bit_of, IsNextPlace};
+ghost use Rattle.std.specs.Borrow.{sem};
+ghost use Rattle.markbits.specs.Lending.{LendsRow};
 
 use std::alloc::{AllocError, Global};
 use std::marker::Model;
+use std::mem;
 
 /// A bit for each word of a page. A contract sees the list of them.
 #[derive(Debug, Drop)]
 pub struct Row {
-    bits: Vec<bool>,
+    /// Bit `i` of the row is bit `i % 64` of word `i / 64`, and the bits from `len` on are clear.
+    words: Vec<u64>,
+    len: u32,
+    /// How many bits are set.
+    total: u32,
 }
 
 impl Model for Row {
     ghost use Rattle.std.specs.Prelude.{List, Bool};
+    ghost use Rattle.markbits.specs.Words.{bits_of, IsRow};
 
     ghost Value = { List Bool };
 
-    ghost view = { λ r. r.bits.items };
+    ghost view = { λ r. bits_of r.len r.words.items };
+
+    ghost invariant = { λ r. IsRow r.words.items r.len r.total };
 }
 
 impl Row {
@@ -29,7 +41,9 @@ impl Row {
         ensures { IfOk result (λ r. r ≡ replicate words false) }
     {
         Ok(Row {
-            bits: vec![in alloc; false; words as usize]?,
+            words: vec![in alloc; 0u64; (words as usize).div_ceil(64)]?,
+            len: words,
+            total: 0,
         })
     }
 
@@ -37,15 +51,27 @@ impl Row {
     pub fn count(&self) -> usize
         ensures { result ≡ count_by (λ b. b) self.now }
     {
-        self.bits.iter().filter(|bit| **bit).count()
+        self.total as usize
+    }
+
+    /// Whether a bit is set; past the end of the row none is.
+    pub fn test(&self, offset: usize) -> bool
+        ensures { result ≡ slice_index_or self.now offset false }
+    {
+        offset < self.len as usize && (self.words[offset / 64] >> (offset % 64)) & 1 == 1
     }
 
     /// Sets or clears a bit, if the row goes that far.
     pub fn put(&mut self, offset: usize, bit: bool)
         ensures { self.new ≡ put_bit offset bit self.old }
     {
-        if offset < self.bits.len() {
-            self.bits[offset] = bit;
+        if offset < self.len as usize && self.test(offset) != bit {
+            self.words[offset / 64] ^= 1u64 << (offset % 64);
+            if bit {
+                self.total += 1;
+            } else {
+                self.total -= 1;
+            }
         }
     }
 
@@ -53,7 +79,55 @@ impl Row {
     pub fn clear(&mut self)
         ensures { self.new ≡ blank_row self.old }
     {
-        self.bits.fill(false);
+        if self.total != 0 {
+            self.words.fill(0);
+            self.total = 0;
+        }
+    }
+
+    /// The first place from an offset on where a bit is set, if there is one.
+    pub fn next_from(&self, offset: usize) -> Option<u32>
+        ensures { IsNextPlace self.now offset result }
+    {
+        if self.total == 0 {
+            return None;
+        }
+        let mut mask = u64::MAX << (offset % 64);
+        for index in offset / 64..self.words.len() {
+            let word = self.words[index] & mask;
+            if word != 0 {
+                let place = index * 64 + word.trailing_zeros() as usize;
+                return Some(place as u32);
+            }
+            mask = u64::MAX;
+        }
+        None
+    }
+
+    /// How many bits are set below an offset.
+    pub fn rank(&self, offset: usize) -> usize
+        ensures { result ≡ count_by (λ b. b) (take offset self.now) }
+    {
+        if offset >= self.len as usize {
+            return self.total as usize;
+        }
+        let mut below = 0;
+        for index in 0..offset / 64 {
+            let word = self.words[index];
+            below += word.count_ones() as usize;
+        }
+        let part = self.words[offset / 64] & ((1u64 << (offset % 64)) - 1);
+        below + part.count_ones() as usize
+    }
+
+    /// The row as words: its bit `i` is bit `i % 64` of word `i / 64`, and the other bits of the
+    /// words are clear.
+    #[tactic(auto, using(crate::proofs::RowWords::bit_is, crate::proofs::RowWords::row_length))]
+    pub fn words(&self) -> &[u64]
+        ensures len { length result.now ≡ div_ceil (length self.now) 64 }
+        ensures bits { (i : ℕ) → bit_of result.now i ≡ slice_index_or self.now i false }
+    {
+        &self.words
     }
 }
 
@@ -101,13 +175,39 @@ impl Rows {
         }
     }
 
+    /// The row of an index from 0, which is there, to be changed.
+    pub fn row_mut(&mut self, index: usize) -> &mut Row
+        requires { index < length self.old }
+        ensures* after { sem 𝓛 (LendsRow self.entry index result) }
+        ensures value { slice_get self.old index ≡ Some result.now }
+    {
+        &mut self.rows[index]
+    }
+
     /// Clears a row, if it is there.
     pub fn clear(&mut self, index: usize)
         ensures { self.new ≡ change_at self.old index blank_row }
     {
         if index < self.rows.len() {
+            self.rows[index].clear();
+        }
+    }
+
+    /// Clears all rows. Rows without a bit cost one test each, and nothing where all are clear.
+    pub fn clear_all(&mut self)
+        ensures { self.new ≡ map blank_row self.old }
+    {
+        for index in 0..self.rows.len() {
             let row = &mut self.rows[index];
             row.clear();
         }
+    }
+
+    /// Swaps all rows with those of another table.
+    pub fn swap(&mut self, other: &mut Rows)
+        ensures here { self.new ≡ other.old }
+        ensures there { other.new ≡ self.old }
+    {
+        mem::swap(self, other);
     }
 }

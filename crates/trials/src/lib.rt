@@ -5,6 +5,8 @@
 #[cfg(test)]
 mod beginnings;
 #[cfg(test)]
+mod bits;
+#[cfg(test)]
 mod books;
 #[cfg(test)]
 mod configs;

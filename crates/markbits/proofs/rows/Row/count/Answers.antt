@@ -1,0 +1,5 @@
+use Rattle.markbits.proofs.RowWords.{count_of}
+use Rattle.markbits.proofs.rows.Row.count.Goals as goal
+
+pub returns : goal.returns
+returns c = count_of c.self.invariant.counted c.self.view_is
