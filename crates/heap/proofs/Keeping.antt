@@ -1,13 +1,17 @@
 -- What is done to a heap keeps its invariant.
 use Rattle.std.proofs.Common.{◌≡◌, ℕ, Bool, ◌-◌, ◌<◌, ◌≤◌, ◌+◌, List, Option, Some, None, replicate, arith, rules}
-use Rattle.std.proofs.Common.{set, length, ◌∙◌}
+use Rattle.std.proofs.Common.{set, length, ◌∙◌, sym, subst, true}
 use Rattle.std.proofs.Math.ListN.{length-set}
 use Rattle.std.specs.Option.{IfSome}
 use Rattle.model.specs.declared.records.Buffer.{Buffer}
 use Rattle.model.specs.Stores.{StoreState}
 use Rattle.model.specs.Owning.{Each, LiesIn, AreSized}
-use Rattle.model.specs.Holding.{IsHeap, HasSizes, FillsIn}
-use Rattle.model.specs.States.{HeapState, ThreadState}
+use Rattle.model.specs.Phases.{is_marking, is_mark_crossing}
+use Rattle.model.specs.Holding.{IsHeap, HasSizes, FillsIn, AreRowsFor}
+use Rattle.model.specs.States.{HeapState, ThreadState, change_at}
+use Rattle.model.specs.Births.{put_bit}
+use Rattle.model.specs.Buffers.{opened_rows}
+use Rattle.model.proofs.Tables.{rows_put, rows_opened}
 use Rattle.model.specs.First.{blank_thread}
 use Rattle.model.proofs.Lists.{each_set, each_replicate}
 
@@ -44,6 +48,11 @@ thread_keeps h t x i f =
     record {
       config = i.config;
       sizes = threads_sized h (set h.threads t x) (length-set h.threads t x) i.sizes;
+      starts = i.starts;
+      live = i.live;
+      mark = i.mark;
+      todo = i.todo;
+      sides = i.sides;
       births = i.births;
       buffers = each_set (FillsIn h.store) h.threads t x i.buffers f;
     }
@@ -58,15 +67,23 @@ pub store_keeps : (h : HeapState) (s : StoreState) → IsHeap h → AreSized h.s
 store_keeps h s i z k = record {
   config = i.config;
   sizes = store_sized h s z i.sizes;
+  starts = i.starts;
+  live = i.live;
+  mark = i.mark;
+  todo = i.todo;
+  sides = i.sides;
   births = i.births;
   buffers = λ t x e. fills_in h.store s x.buffer k (i.buffers t x e);
 }
 
 -- an object is made: other words in a page, other bits, one more birth
-pub birth_keeps : (h : HeapState) (s : StoreState) (starts mark todo : List (List Bool))
+pub birth_keeps : (h : HeapState) (s : StoreState) (b : Buffer) (starts mark todo : List (List Bool))
     → IsHeap h → h.births < h.config.births → AreSized h.store s → ((c : Buffer) → LiesIn h.store c → LiesIn s c)
+    → starts ≡ change_at h.starts (b.page - 1) (put_bit b.next true)
+    → mark ≡ change_at h.mark (b.page - 1) (put_bit b.next (is_marking h.phase))
+    → todo ≡ change_at h.todo (b.page - 1) (put_bit b.next (is_mark_crossing h.phase))
     → IsHeap (record h { store = s; starts = starts; mark = mark; todo = todo; births = h.births + 1 })
-birth_keeps h s starts mark todo i low z k = let sizes = store_sized h s z i.sizes in record {
+birth_keeps h s b starts mark todo i low z k e f g = let sizes = store_sized h s z i.sizes in record {
   config = i.config;
   sizes = record {
     words = sizes.words;
@@ -76,9 +93,45 @@ birth_keeps h s starts mark todo i low z k = let sizes = store_sized h s z i.siz
     workers = sizes.workers;
     globals = sizes.globals;
   };
+  starts = put_row h.starts starts true e i.starts;
+  live = i.live;
+  mark = put_row h.mark mark (is_marking h.phase) f i.mark;
+  todo = put_row h.todo todo (is_mark_crossing h.phase) g i.todo;
+  sides = i.sides;
   births = omega arith;
   buffers = λ t x e. fills_in h.store s x.buffer k (i.buffers t x e);
 }
+  where
+    put_row : (rows new : List (List Bool)) (bit : Bool) → new ≡ change_at rows (b.page - 1) (put_bit b.next bit)
+        → AreRowsFor h.config rows → AreRowsFor h.config new
+    put_row rows new bit e r = subst (AreRowsFor h.config) (sym e) (rows_put _ _ rows (b.page - 1) b.next bit r)
+
+-- the rows of a buffer's page are blanked, where the buffer is its first
+pub opened_keeps : (h : HeapState) (b : Buffer) (starts live mark todo : List (List Bool)) → IsHeap h
+    → starts ≡ opened_rows b h.starts → live ≡ opened_rows b h.live → mark ≡ opened_rows b h.mark
+    → todo ≡ opened_rows b h.todo → IsHeap (record h { starts = starts; live = live; mark = mark; todo = todo })
+opened_keeps h b starts live mark todo i e f g k = record {
+  config = i.config;
+  sizes = record {
+    words = i.sizes.words;
+    frames = i.sizes.frames;
+    pages = i.sizes.pages;
+    threads = i.sizes.threads;
+    workers = i.sizes.workers;
+    globals = i.sizes.globals;
+  };
+  starts = opened h.starts starts e i.starts;
+  live = opened h.live live f i.live;
+  mark = opened h.mark mark g i.mark;
+  todo = opened h.todo todo k i.todo;
+  sides = i.sides;
+  births = i.births;
+  buffers = i.buffers;
+}
+  where
+    opened : (rows new : List (List Bool)) → new ≡ opened_rows b rows → AreRowsFor h.config rows
+        → AreRowsFor h.config new
+    opened rows new e r = subst (AreRowsFor h.config) (sym e) (rows_opened _ _ rows b r)
 
 -- what is left of a buffer lies where it did
 pub rest_lies : (s : StoreState) (b : Buffer) (n : ℕ) → LiesIn s b → n ≤ b.end - b.next

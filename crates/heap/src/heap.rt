@@ -21,8 +21,8 @@ use std::marker::Model;
 /// The heap of a program: objects on pages, the threads that use them, and the collector.
 ///
 /// A contract sees all of it as plain data. It keeps, beside what its store keeps, that it has the
-/// sizes that it was made with, that each thread's buffer lies in an open page, and that births
-/// stay within their limit.
+/// sizes that it was made with, that its rows have a bit for each word of each page, that each
+/// thread's buffer lies in an open page, and that births stay within their limit.
 ///
 /// A user makes one, reads it, and asks for steps by `Stepping` of `cycle`. For the crates that do
 /// steps there are rows besides: `take`, `give_back`, `new_object`, `store_reference`,
@@ -61,8 +61,9 @@ impl Model for Heap {
 
 impl Heap {
     /// What holds of every heap: its frames have one owner each; it has the words of a page, the
-    /// frames, pages, threads, workers and globals that it was made with; each thread's buffer lies
-    /// in an open page; and births are within their limit.
+    /// frames, pages, threads, workers and globals that it was made with; each page record has rows
+    /// of a bit a word, and a side array whose entries rise; each thread's buffer lies in an open
+    /// page; and births are within their limit.
     pub fn law(&self)
         ensures store { IsStore self.now.store }
         ensures heap { IsHeap self.now }

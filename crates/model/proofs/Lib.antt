@@ -3,4 +3,5 @@ pub mod Ranges
 pub mod Memory
 pub mod Results
 pub mod Usual
+pub mod Tables
 pub mod Passing

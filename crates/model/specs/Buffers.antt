@@ -26,6 +26,15 @@ blank_row row = replicate (length row) false
 abbrev pub opened_rows : Buffer → List (List Bool) → List (List Bool)
 opened_rows b rows = if b.next == 0 then change_at rows (b.page - 1) blank_row else rows
 
+-- the heap with all rows of a page blank that a buffer is the first of
+abbrev pub with_opened_rows : HeapState → Buffer → HeapState
+with_opened_rows h b = record h {
+  starts = opened_rows b h.starts;
+  live = opened_rows b h.live;
+  mark = opened_rows b h.mark;
+  todo = opened_rows b h.todo;
+}
+
 -- the heap after a thread took a buffer of the store
 unfoldable pub lend_buffer : HeapState → ℕ → StoreState → Buffer → HeapState
 lend_buffer h t s b = record h {

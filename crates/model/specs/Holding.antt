@@ -1,8 +1,10 @@
 -- What the code of a heap keeps at all times.
-use Rattle.std.specs.Prelude.{◌≡◌, ◌≤◌, length, IfSome}
+use Rattle.std.specs.Prelude.{◌≡◌, ℕ, ◌+◌, ◌<◌, ◌≤◌, Bool, List, [], ◌∷◌, length, IfSome}
+use Rattle.model.specs.declared.config.Config.{Config}
+use Rattle.model.specs.declared.records.Forwarding.{Forwarding}
 use Rattle.model.specs.Configs.{IsRanged}
 use Rattle.model.specs.Owning.{Each, LiesIn}
-use Rattle.model.specs.Stores.{StoreState}
+use Rattle.model.specs.Stores.{StoreState, record_count}
 use Rattle.model.specs.States.{HeapState, ThreadState}
 
 -- the buffer of a thread lies in an open page
@@ -18,9 +20,37 @@ pub record HasSizes (h : HeapState) : Type 0 where
   pub workers : length h.workers ≡ h.config.workers
   pub globals : length h.globals ≡ h.config.globals
 
+-- each of so many pages has a row, of a bit for each of its words
+pub record AreRows (count size : ℕ) (rows : List (List Bool)) : Type 0 where
+  pub pages : length rows ≡ count
+  pub words : Each rows (λ row. length row ≡ size)
+
+-- offsets rise from a lowest one, and lie in a page of so many words
+abbrev pub AreRising : ℕ → ℕ → List Forwarding → Type 0
+AreRising words low [] = Unit {0}
+AreRising words low (f ∷ fs) = (low ≤ f.offset) × (f.offset < words) × AreRising words (f.offset + 1) fs
+
+-- each of so many pages has a side array, whose entries rise by their offsets
+pub record AreSides (count size : ℕ) (sides : List (List Forwarding)) : Type 0 where
+  pub pages : length sides ≡ count
+  pub rising : Each sides (AreRising size 0)
+
+-- each page record of a configuration has a row
+abbrev pub AreRowsFor : Config → List (List Bool) → Type 0
+AreRowsFor c rows = AreRows (record_count c.frames c.pages) c.words rows
+
+-- each page record of a configuration has a side array
+abbrev pub AreSidesFor : Config → List (List Forwarding) → Type 0
+AreSidesFor c sides = AreSides (record_count c.frames c.pages) c.words sides
+
 -- what holds of every heap, beside what holds of its store
 pub record IsHeap (h : HeapState) : Type 0 where
   pub config : IsRanged h.config
   pub sizes : HasSizes h
+  pub starts : AreRowsFor h.config h.starts
+  pub live : AreRowsFor h.config h.live
+  pub mark : AreRowsFor h.config h.mark
+  pub todo : AreRowsFor h.config h.todo
+  pub sides : AreSidesFor h.config h.sides
   pub births : h.births ≤ h.config.births
   pub buffers : Each h.threads (FillsIn h.store)

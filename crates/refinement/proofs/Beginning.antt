@@ -27,7 +27,8 @@ use Rattle.model.specs.Bits.{of_page, bit_at}
 use Rattle.refinement.specs.Worlds.{world_of, as_word, object_at, object_in}
 use Rattle.refinement.specs.Worlds.{entry_at, barrier_in, scan_in, global_in, todo_in}
 use Rattle.refinement.specs.PlainHeaps.{births_of, as_pair}
-use Rattle.refinement.specs.Claims.{AreRising, IsLaid, AreRows, HasGiven, Claim, OfObject}
+use Rattle.refinement.specs.Claims.{IsLaid, AreRowsOf, HasGiven, Claim, OfObject}
+use Rattle.model.proofs.Tables.{first_rows, first_sides}
 use Rattle.refinement.specs.Claims.{OfBuffer, OfPlan, OfEnd, extent, end_extent, sized_extent}
 use Rattle.refinement.specs.Claims.{planned_extent, size_at, buffer_extent, object_size}
 use Rattle.refword.specs.Words.{IsWord}
@@ -158,13 +159,11 @@ module _ (c : Config) where
           read_of (λ o. name_in o r) c.threads (record { registers = replicate c.registers None; pending = None })
           (sym (nones c.registers r)) t ∙ nones c.registers r
 
-  rows : AreRows h.store (blank_rows c)
+  rows : AreRowsOf h.store (blank_rows c)
   unfolding first_heap first_store
-  rows = record {
-    pages = length-replicate (record_count c.frames c.pages) (replicate c.words false)
-        ∙ sym (length-replicate (record_count c.frames c.pages) blank_page);
-    words = each_replicate (λ row. length row ≡ c.words) (record_count c.frames c.pages) (replicate c.words false)
-        (length-replicate c.words false);
+  rows = let r = first_rows c in record {
+    pages = r.pages ∙ sym (length-replicate (record_count c.frames c.pages) blank_page);
+    words = r.words;
   }
 
   first_laid : IsLaid h
@@ -174,10 +173,9 @@ module _ (c : Config) where
     live = rows;
     mark = rows;
     todo = rows;
-    sides = record {
-      pages = length-replicate (record_count c.frames c.pages) []
-          ∙ sym (length-replicate (record_count c.frames c.pages) blank_page);
-      rising = each_replicate (AreRising c.words 0) (record_count c.frames c.pages) [] tt;
+    sides = let r = first_sides c in record {
+      pages = r.pages ∙ sym (length-replicate (record_count c.frames c.pages) blank_page);
+      rising = r.rising;
     };
     registers = each_replicate (λ t. length t.registers ≡ c.registers) c.threads (blank_thread c.registers)
         (length-replicate c.registers None);

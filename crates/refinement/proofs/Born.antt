@@ -30,14 +30,15 @@ use Rattle.laws.specs.Edits.{add_object}
 use Rattle.laws.proofs.Basics.{put_after, put_same, put_other}
 use Rattle.model.specs.Bits.{bit_at}
 use Rattle.refinement.specs.Worlds.{world_of, object_at, barrier_in}
-use Rattle.refinement.specs.Claims.{IsLaid, AreRows, AreApart, Claim, OfObject, OfBuffer, OfPlan, OfEnd, Extent}
+use Rattle.refinement.specs.Claims.{IsLaid, AreRowsOf, AreApart, Claim, OfObject, OfBuffer, OfPlan, OfEnd, Extent}
 use Rattle.refinement.specs.Claims.{extent, object_size, size_at, sized_extent, planned_extent, buffer_extent}
 use Rattle.refinement.specs.Roots.{HoldsWords}
 use Rattle.refinement.proofs.Slices.{Agree, overlaid_before, overlaid_behind}
 use Rattle.refinement.proofs.ObjectWords.{IsRead, read_fits, read_fresh, new_object}
 use Rattle.refinement.proofs.Objects.{Rewrites, there, rewritten}
 use Rattle.refinement.proofs.Claims.{object_extent, Splits, split_apart}
-use Rattle.refinement.proofs.Changes.{read_changed, kept_of, rows_changed, length_put, bit_put, length_changed}
+use Rattle.model.proofs.Tables.{rows_changed, length_changed}
+use Rattle.refinement.proofs.Changes.{read_changed, kept_of, length_put, bit_put}
 use Rattle.refinement.proofs.Carrying.{Carries, alike}
 use Rattle.refinement.proofs.Rooted.{handed_holds_words}
 use Rattle.refinement.proofs.Changes.{register_changed}
@@ -108,14 +109,14 @@ module _ {h : HeapState} (s : IsStore h.store) (l : IsLaid h) {t target number :
   page_is : address / h.store.words ≡ suc (b.page - 1)
   page_is = omega (arith, address_page, record_there.1)
 
-  row : (rows : List (List Bool)) → AreRows h.store rows
+  row : (rows : List (List Bool)) → AreRowsOf h.store rows
       → (r : List Bool) × (slice_get rows (b.page - 1) ≡ Some r) × (b.next < length r)
   row rows r =
       let within = slice_get_within h.store.pages (b.page - 1) record_there.0 record_there.2 in
       let (y, e) = get_within rows (b.page - 1) (omega (arith, within, r.pages)) in
       (y, e, omega (arith, next_in, r.words (b.page - 1) y e))
 
-  put_at_address : (rows : List (List Bool)) → AreRows h.store rows → (bit : Bool) (y : ℕ) → bit_at
+  put_at_address : (rows : List (List Bool)) → AreRowsOf h.store rows → (bit : Bool) (y : ℕ) → bit_at
       (change_at rows (b.page - 1) (put_bit b.next bit)) h.store.words y ≡ put (bit_at rows h.store.words) address bit y
   put_at_address rows r bit y =
       let (z, e, k) = row rows r in
@@ -367,9 +368,9 @@ module _ {h : HeapState} (s : IsStore h.store) (l : IsLaid h) {t target number :
     unused = l.unused;
   }
     where
-      rows : (xs : List (List Bool)) → AreRows h.store xs → (bit : Bool)
-          → AreRows after.store (change_at xs (b.page - 1) (put_bit b.next bit))
-      rows xs r bit = let k = rows_changed h.store xs (b.page - 1) (put_bit b.next bit) r (length_put b.next bit) in
+      rows : (xs : List (List Bool)) → AreRowsOf h.store xs → (bit : Bool)
+          → AreRowsOf after.store (change_at xs (b.page - 1) (put_bit b.next bit))
+      rows xs r bit = let k = rows_changed (length h.store.pages) h.store.words xs (b.page - 1) (put_bit b.next bit) r (length_put b.next bit) in
           record { pages = k.pages; words = k.words }
 
   pub born_carries : Carries h after (add_object address fresh t target)

@@ -28,7 +28,7 @@ use Rattle.refinement.specs.Claims.{IsLaid, HasGiven}
 use Rattle.refinement.specs.Roots.{HoldsWords, HasWords}
 use Rattle.refinement.specs.Standing.{Holds, StepHolds, AnswersPlain, kept_at_mark}
 use Rattle.refinement.proofs.Accepted.{OnAccepted}
-use Rattle.refinement.proofs.Changes.{length_changed}
+use Rattle.model.proofs.Tables.{length_changed}
 
 -- g has the configuration of h, and as much of everything
 pub record IsAlike (h g : HeapState) : Type 0 where

@@ -16,7 +16,7 @@ use Rattle.model.proofs.Lists.{get_set_same, get_set_other, get_within, each_cha
 use Rattle.laws.specs.AddressHeap.{put, put_at}
 use Rattle.laws.proofs.Basics.{put_all, put_same, put_other, put_id}
 use Rattle.model.specs.Bits.{of_page, bit_at}
-use Rattle.refinement.specs.Claims.{AreRows}
+use Rattle.refinement.specs.Claims.{AreRowsOf}
 use Rattle.model.specs.Threads.{register_in}
 use Rattle.refinement.specs.Worlds.{as_word}
 
@@ -63,21 +63,7 @@ was_read {X} P xs t f h u y e = put_all (λ v o. P o ≡ Some y → P (slice_get
     here None k = k
     here (Some x) k = h x y k
 
-pub length_changed : {X : Type 0} (xs : List X) (t : ℕ) (f : X → X) → length (change_at xs t f) ≡ length xs
-length_changed {X} xs t f = go (slice_get xs t)
-  where
-    go : (o : Option X) → length (change_found xs t o f) ≡ length xs
-    go None = refl
-    go (Some x) = length-set xs t (f x)
-
 -- rows
-
-pub rows_changed : (s : StoreState) (rows : List (List Bool)) (i : ℕ) (f : List Bool → List Bool) → AreRows s rows
-    → ((row : List Bool) → length (f row) ≡ length row) → AreRows s (change_at rows i f)
-rows_changed s rows i f r h = record {
-  pages = length_changed rows i f ∙ r.pages;
-  words = each_changed (λ row. length row ≡ s.words) rows i f r.words (λ row e. h row ∙ e);
-}
 
 -- the row of a page, as what is read of the list
 abbrev row_of : Option (List Bool) → List Bool

@@ -19,12 +19,13 @@ use Rattle.laws.specs.AddressHeap.{put}
 use Rattle.laws.proofs.Basics.{put_all, put_same, put_other}
 use Rattle.model.specs.Bits.{bit_at}
 use Rattle.refinement.specs.Worlds.{world_of, object_at, object_in, as_word, barrier_in}
-use Rattle.refinement.specs.Claims.{IsLaid, AreRows, Claim, OfObject, OfBuffer, OfPlan, OfEnd, Extent, extent}
+use Rattle.refinement.specs.Claims.{IsLaid, AreRowsOf, Claim, OfObject, OfBuffer, OfPlan, OfEnd, Extent, extent}
 use Rattle.refinement.specs.Claims.{object_size, sized_extent, planned_extent, buffer_extent, end_extent, size_at}
 use Rattle.refinement.specs.Claims.{HasGiven}
 use Rattle.refinement.specs.Roots.{HoldsWords}
 use Rattle.refinement.proofs.Claims.{Splits, split_apart}
-use Rattle.refinement.proofs.Changes.{read_changed, kept_of, length_changed}
+use Rattle.model.proofs.Tables.{length_changed}
+use Rattle.refinement.proofs.Changes.{read_changed, kept_of}
 use Rattle.refinement.proofs.Carrying.{Carries, alike}
 use Rattle.refinement.proofs.Rooted.{buffer_holds_words}
 
@@ -181,7 +182,7 @@ module _ {h : HeapState} (l : IsLaid h) {t i : ℕ} {p : Page} {n : ℕ} {x : Th
           (Some (buffer_extent h.store.words (buffer_of i p.top n)))) ∙ e) in
           (sym (ap (λ (z : Extent). z.from) k), sym (ap (λ (z : Extent). z.upto) k))
 
-  rows : (xs : List (List Bool)) → AreRows h.store xs → AreRows after.store xs
+  rows : (xs : List (List Bool)) → AreRowsOf h.store xs → AreRowsOf after.store xs
   rows xs r = record { pages = r.pages ∙ sym (length-set h.store.pages i (with_more p n)); words = r.words }
 
   -- and memory is in order

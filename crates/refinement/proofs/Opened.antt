@@ -1,5 +1,5 @@
 -- An unused page is opened: no object, mark or claim is on it, and its words are one claim.
-use Rattle.std.proofs.Common.{◌≡◌, ◌≢◌, ◌⊎◌, inl, inr, ℕ, suc, ◌+◌, ◌*◌, ◌/◌, ◌%◌, ◌<◌, ◌≤◌, Bool, true, false, List}
+use Rattle.std.proofs.Common.{length, ◌≡◌, ◌≢◌, ◌⊎◌, inl, inr, ℕ, suc, ◌+◌, ◌*◌, ◌/◌, ◌%◌, ◌<◌, ◌≤◌, Bool, true, false, List}
 use Rattle.std.proofs.Common.{set, replicate, Option, Some, None, nat_eq, refl, sym, ◌∙◌, ap, ap₂, arith, cond}
 use Rattle.std.proofs.Common.{IfSome, div-add-mod', eq-eqb, ne_eqb, mul-le-mul_right}
 use Rattle.std.proofs.Math.Nat.{suc-mul}
@@ -28,12 +28,13 @@ use Rattle.laws.specs.Edits.{open_page}
 use Rattle.laws.proofs.Basics.{put_same, put_other}
 use Rattle.model.specs.Bits.{bit_at}
 use Rattle.refinement.specs.Worlds.{world_of, object_at, object_in}
-use Rattle.refinement.specs.Claims.{IsLaid, AreRows, Apart, AreApart, Claim, OfObject, OfBuffer, OfPlan, OfEnd}
+use Rattle.refinement.specs.Claims.{IsLaid, AreRowsOf, Apart, AreApart, Claim, OfObject, OfBuffer, OfPlan, OfEnd}
 use Rattle.refinement.specs.Claims.{Extent, extent, object_size, sized_extent, planned_extent, buffer_extent}
 use Rattle.refinement.specs.Claims.{end_extent, size_at}
 use Rattle.refinement.proofs.ObjectWords.{read_fits}
 use Rattle.refinement.proofs.Objects.{there}
-use Rattle.refinement.proofs.Changes.{blank_here, blank_other, rows_changed, length_blank}
+use Rattle.model.proofs.Tables.{rows_changed}
+use Rattle.refinement.proofs.Changes.{blank_here, blank_other, length_blank}
 use Rattle.refinement.proofs.Granted.{page_set, page_here}
 
 mul_less : (a b w : ℕ) → a < b → a * w + w ≤ b * w
@@ -190,17 +191,17 @@ module _ {h : HeapState} (s : IsStore h.store) (k : IsHeap h) (l : IsLaid h) (o 
           no : (n : ℕ) → None ≡ Some n → ⊥
           no n z = cc
 
-  row : (xs : List (List Bool)) → AreRows h.store xs → (r : List Bool) × (slice_get xs i ≡ Some r)
+  row : (xs : List (List Bool)) → AreRowsOf h.store xs → (r : List Bool) × (slice_get xs i ≡ Some r)
   row xs r = let within = slice_get_within h.store.pages i p w.at in get_within xs i (omega (arith, within, r.pages))
 
   page_suc : (n : ℕ) → n ≡ i + 1 → n ≡ suc i
   page_suc n e = omega (arith, e)
 
-  blank : (xs : List (List Bool)) → AreRows h.store xs → (a : ℕ) → a / h.store.words ≡ i + 1
+  blank : (xs : List (List Bool)) → AreRowsOf h.store xs → (a : ℕ) → a / h.store.words ≡ i + 1
       → bit_at (change_at xs i blank_row) h.store.words a ≡ false
   blank xs r a e = let (y, is) = row xs r in blank_here h.store.words xs i y a is (page_suc (a / h.store.words) e)
 
-  other_bit : (xs : List (List Bool)) → AreRows h.store xs → (a : ℕ) → a / h.store.words ≢ i + 1
+  other_bit : (xs : List (List Bool)) → AreRowsOf h.store xs → (a : ℕ) → a / h.store.words ≢ i + 1
       → bit_at (change_at xs i blank_row) h.store.words a ≡ bit_at xs h.store.words a
   other_bit xs r a d = let (y, is) = row xs r in blank_other h.store.words xs i y a is (λ e. d (omega (arith, e)))
 
@@ -230,7 +231,7 @@ module _ {h : HeapState} (s : IsStore h.store) (k : IsHeap h) (l : IsLaid h) (o 
 
   -- a row that has no bit on the page stays
   stays : (xs : List (List Bool))
-      → AreRows h.store xs → ((a : ℕ) → a / h.store.words ≡ i + 1 → bit_at xs h.store.words a ≡ false) → (a : ℕ)
+      → AreRowsOf h.store xs → ((a : ℕ) → a / h.store.words ≡ i + 1 → bit_at xs h.store.words a ≡ false) → (a : ℕ)
       → bit_at (change_at xs i blank_row) h.store.words a ≡ bit_at xs h.store.words a
   stays xs r none a = by_page (cases_eq (a / h.store.words) (i + 1))
     where
@@ -353,9 +354,9 @@ module _ {h : HeapState} (s : IsStore h.store) (k : IsHeap h) (l : IsLaid h) (o 
       ]
       go (inr a) (inr b) = l.apart c d x y (sym a ∙ e) (sym b ∙ g)
 
-  rows : (xs : List (List Bool)) → AreRows h.store xs → AreRows after.store (change_at xs i blank_row)
+  rows : (xs : List (List Bool)) → AreRowsOf h.store xs → AreRowsOf after.store (change_at xs i blank_row)
   unfolding open_fresh
-  rows xs r = let z = rows_changed h.store xs i blank_row r length_blank in
+  rows xs r = let z = rows_changed (length h.store.pages) h.store.words xs i blank_row r length_blank in
       record { pages = z.pages ∙ sym (length-set h.store.pages i (fresh_page f)); words = z.words }
 
   -- and memory is in order

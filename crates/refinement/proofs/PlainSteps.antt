@@ -20,7 +20,8 @@ use Rattle.laws.proofs.Basics.{put_all, put_same, put_other, put_id}
 use Rattle.refinement.specs.PlainHeaps.{births_of, layout_in, refs_in, data_in, as_pair, HasRootsOf}
 use Rattle.refinement.specs.Standing.{Holds}
 use Rattle.refinement.proofs.Slices.{get_second}
-use Rattle.refinement.proofs.Changes.{get_changed, kept_of, read_changed, length_changed}
+use Rattle.model.proofs.Tables.{length_changed}
+use Rattle.refinement.proofs.Changes.{get_changed, kept_of, read_changed}
 use Rattle.refinement.proofs.Carrying.{Follows, stays}
 
 -- registers

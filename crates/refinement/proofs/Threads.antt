@@ -23,7 +23,8 @@ use Rattle.refinement.specs.Claims.{Extent, IsLaid, Claim, OfObject, OfBuffer, O
 use Rattle.refinement.specs.Worlds.{world_of, as_word, as_barrier, barrier_in, global_in, todo_in}
 use Rattle.refinement.specs.Roots.{IsLoad}
 use Rattle.refinement.proofs.Claims.{extents_same}
-use Rattle.refinement.proofs.Changes.{was_read, kept_of, read_changed, length_changed}
+use Rattle.model.proofs.Tables.{length_changed}
+use Rattle.refinement.proofs.Changes.{was_read, kept_of, read_changed}
 use Rattle.refinement.proofs.Carrying.{Carries, thread_carries, alike}
 use Rattle.refinement.proofs.Rooted.{buffer_holds_words, register_holds_words, barrier_holds_words}
 use Rattle.refinement.proofs.Rooted.{loaded_holds_words, parked_holds_words}

@@ -1,12 +1,13 @@
 -- What lies where in memory: the runs of addresses that objects, buffers, planned places and the free ends of open pages
 -- have, of which no two overlap.
-use Rattle.std.specs.Prelude.{[], ◌∷◌, ◌<◌, ◌≡◌, ◌⊎◌, ◌≤◌, ◌+◌, ◌*◌, ◌%◌, ℕ, Bool, true, false, List, length, Option, Some, None, option_map, if◌then◌else◌}
+use Rattle.std.specs.Prelude.{◌≡◌, ◌⊎◌, ◌<◌, ◌≤◌, ◌+◌, ◌*◌, ◌%◌, ℕ, Bool, true, false, List, length, Option, Some, None, option_map, if◌then◌else◌}
 use Rattle.model.specs.declared.records.Forwarding.{Forwarding}
 use Rattle.model.specs.declared.records.Page.{Page}
 use Rattle.model.specs.declared.records.PageState.TheVariants.{Unused}
 use Rattle.model.specs.declared.records.Buffer.{Buffer}
 use Rattle.model.specs.Stores.{StoreState, page_at, is_open, has_memory}
 use Rattle.model.specs.Owning.{Each}
+use Rattle.model.specs.Holding.{AreRows, AreSides}
 use Rattle.model.specs.States.{HeapState}
 use Rattle.model.specs.Buffers.{buffer_of_thread}
 use Rattle.laws.specs.AddressHeap.{HeapObject, SideEntry, Planned}
@@ -67,28 +68,21 @@ AreApart x y = (x.upto ≤ y.from) ⊎ (y.upto ≤ x.from)
 abbrev pub Apart : (Claim → Option Extent) → Type 0
 Apart e = (c d : Claim) (x y : Extent) → e c ≡ Some x → e d ≡ Some y → (c ≡ d) ⊎ AreApart x y
 
--- each page has a row, of a bit for each of its words
-pub record AreRows (s : StoreState) (rows : List (List Bool)) : Type 0 where
-  pub pages : length rows ≡ length s.pages
-  pub words : Each rows (λ row. length row ≡ s.words)
+-- each page of a store has a row
+abbrev pub AreRowsOf : StoreState → List (List Bool) → Type 0
+AreRowsOf s rows = AreRows (length s.pages) s.words rows
 
--- offsets rise from a lowest one, and lie in a page of so many words
-abbrev pub AreRising : ℕ → ℕ → List Forwarding → Type 0
-AreRising words low [] = Unit {0}
-AreRising words low (f ∷ fs) = (low ≤ f.offset) × (f.offset < words) × AreRising words (f.offset + 1) fs
-
--- each page has a side array, whose entries rise by their offsets
-pub record AreSides (s : StoreState) (sides : List (List Forwarding)) : Type 0 where
-  pub pages : length sides ≡ length s.pages
-  pub rising : Each sides (AreRising s.words 0)
+-- each page of a store has a side array
+abbrev pub AreSidesOf : StoreState → List (List Forwarding) → Type 0
+AreSidesOf s sides = AreSides (length s.pages) s.words sides
 
 -- the memory of a heap is in order
 pub record IsLaid (h : HeapState) : Type 0 where
-  pub starts : AreRows h.store h.starts
-  pub live : AreRows h.store h.live
-  pub mark : AreRows h.store h.mark
-  pub todo : AreRows h.store h.todo
-  pub sides : AreSides h.store h.sides
+  pub starts : AreRowsOf h.store h.starts
+  pub live : AreRowsOf h.store h.live
+  pub mark : AreRowsOf h.store h.mark
+  pub todo : AreRowsOf h.store h.todo
+  pub sides : AreSidesOf h.store h.sides
   pub registers : Each h.threads (λ t. length t.registers ≡ h.config.registers)
   -- where an object is said to start on a page with memory, there is one
   pub objects : (a : ℕ) → bit_at h.starts h.store.words a ≡ true → has_memory ((world_of h).page_state a) ≡ true

@@ -2,7 +2,7 @@
 
 ghost use Rattle.std.specs.Prelude.{◌≡◌, ◌≤◌, ◌<◌, slice_get, Some, None, IfSome};
 ghost use Rattle.model.specs.Owning.{LiesIn};
-ghost use Rattle.model.specs.Buffers.{buffer_of_thread, opened_rows, with_buffer, lend_buffer, take_outcome, give_back_outcome};
+ghost use Rattle.model.specs.Buffers.{buffer_of_thread, opened_rows, with_opened_rows, with_buffer, lend_buffer, take_outcome, give_back_outcome};
 ghost use Rattle.model.specs.Refusing.{Does};
 ghost use Rattle.model.specs.Outcome.{Passes};
 ghost use Rattle.model.specs.declared.steps.Step.TheVariants as steps;
@@ -32,16 +32,23 @@ impl Heap {
         }
     }
 
+    /// Clears the rows of a page of which a buffer is the first.
+    fn open_rows(&mut self, buffer: Buffer)
+        ensures { self.new ≡ with_opened_rows self.old buffer }
+    {
+        open_row(&mut self.starts, buffer);
+        open_row(&mut self.live, buffer);
+        open_row(&mut self.mark, buffer);
+        open_row(&mut self.todo, buffer);
+    }
+
     /// Gives a thread a buffer that was taken of the store.
     #[tactic(auto, unfolding(model::specs::Buffers::lend_buffer))]
     fn lend(&mut self, thread: u32, buffer: Buffer)
         requires { LiesIn self.old.store buffer }
         ensures { self.new ≡ lend_buffer self.old thread self.old.store buffer }
     {
-        open_row(&mut self.starts, buffer);
-        open_row(&mut self.live, buffer);
-        open_row(&mut self.mark, buffer);
-        open_row(&mut self.todo, buffer);
+        self.open_rows(buffer);
         if (thread as usize) < self.threads.len() {
             let record = &mut self.threads[thread as usize];
             record.set_buffer(Some(buffer));

@@ -2,7 +2,7 @@
 
 ghost use Rattle.std.specs.Prelude.{◌≡◌, false, None, replicate, IfOk};
 ghost use Rattle.model.specs.Configs.{IsRanged};
-ghost use Rattle.model.specs.First.{first_heap, blank_thread};
+ghost use Rattle.model.specs.First.{first_heap, blank_rows, blank_thread};
 ghost use Rattle.heap.specs.Making.{Makes};
 
 use crate::fault::NewFault;
@@ -61,13 +61,16 @@ struct BlankRows {
     todo: Rows,
 }
 
-/// Rows for so many page records of so many words, with all bits clear.
-fn blank_rows(alloc: Memory, records: u32, words: u32) -> Result<BlankRows, AllocError>
-    ensures starts { IfOk result (λ rows. rows.starts ≡ replicate records (replicate words false)) }
-    ensures live { IfOk result (λ rows. rows.live ≡ replicate records (replicate words false)) }
-    ensures mark { IfOk result (λ rows. rows.mark ≡ replicate records (replicate words false)) }
-    ensures todo { IfOk result (λ rows. rows.todo ≡ replicate records (replicate words false)) }
+/// A row for each page record that the configuration needs, with all bits clear.
+fn blank_rows(alloc: Memory, config: &Config) -> Result<BlankRows, AllocError>
+    requires { IsRanged config.now }
+    ensures starts { IfOk result (λ rows. rows.starts ≡ blank_rows config.now) }
+    ensures live { IfOk result (λ rows. rows.live ≡ blank_rows config.now) }
+    ensures mark { IfOk result (λ rows. rows.mark ≡ blank_rows config.now) }
+    ensures todo { IfOk result (λ rows. rows.todo ≡ blank_rows config.now) }
 {
+    let words = config.words;
+    let records = record_count(config.frames, config.pages);
     let starts = Rows::new(alloc, records, words)?;
     let live = Rows::new(alloc, records, words)?;
     let mark = Rows::new(alloc, records, words)?;
@@ -103,10 +106,8 @@ impl Heap {
         requires { IsRanged config }
         ensures { IfOk result (λ h. h ≡ first_heap config) }
     {
-        let words = config.words;
-        let records = record_count(config.frames, config.pages);
-        let store = Store::new(alloc, words, config.frames, config.pages)?;
-        let rows = blank_rows(alloc, records, words)?;
+        let store = Store::new(alloc, config.words, config.frames, config.pages)?;
+        let rows = blank_rows(alloc, &config)?;
         let actors = blank_actors(alloc, &config)?;
         Ok(Heap {
             store,

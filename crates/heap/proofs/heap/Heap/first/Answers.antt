@@ -1,8 +1,15 @@
-use Rattle.std.proofs.Common.{◌∙◌, ap, arith, length}
+use Rattle.std.proofs.Common.{◌≡◌, ◌∙◌, Bool, List, ap, sym, subst, arith, length}
 use Rattle.std.proofs.Math.ListN.{length-replicate}
 use Rattle.model.specs.Stores.{StoreState, first_store}
+use Rattle.model.specs.declared.config.Config.{Config}
+use Rattle.model.specs.First.{blank_rows}
+use Rattle.model.specs.Holding.{AreRowsFor}
+use Rattle.model.proofs.Tables.{first_rows, first_sides}
 use Rattle.heap.proofs.Keeping.{first_fills}
 use Rattle.heap.proofs.heap.Heap.first.Goals as goal
+
+rows_for : (c : Config) (new : List (List Bool)) → new ≡ blank_rows c → AreRowsFor c new
+rows_for c new e = subst (AreRowsFor c) (sym e) (first_rows c)
 
 pub invariant_of-result : goal.invariant_of-result
 unfolding first_store
@@ -16,6 +23,11 @@ invariant_of-result c = record {
     workers = ap length c.in_ok-actors.ensures.workers ∙ length-replicate c.args.config.workers _;
     globals = ap length c.in_ok-actors.ensures.globals ∙ length-replicate c.args.config.globals _;
   };
+  starts = rows_for c.args.config _ c.in_ok-rows.ensures.starts;
+  live = rows_for c.args.config _ c.in_ok-rows.ensures.live;
+  mark = rows_for c.args.config _ c.in_ok-rows.ensures.mark;
+  todo = rows_for c.args.config _ c.in_ok-rows.ensures.todo;
+  sides = first_sides c.args.config;
   births = omega arith;
   buffers = first_fills _ c.args.config.threads c.args.config.registers
       _ c.in_ok-actors.ensures.threads;
