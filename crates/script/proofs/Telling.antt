@@ -8,7 +8,8 @@ use Rattle.cycle.specs.Books.{BookState, Reply}
 use Rattle.parser.specs.declared.order.Command.{Command}
 use Rattle.text.specs.Texts.{Leads, line_text}
 use Rattle.text.proofs.Leading.{leads_step, leads_end}
-use Rattle.script.specs.Output.{texts_from, cycles_from, cycle_line, next_cycle, lines_text, book_after, done}
+use Rattle.text.specs.Reports.{texts_from}
+use Rattle.script.specs.Output.{cycles_from, cycle_line, next_cycle, lines_text, book_after, done}
 
 split : {X : Type 0} (xs : List X) (i : ℕ) (d : X) → i < length xs → drop i xs ≡ get_or xs i d ∷ drop (i + 1) xs
 split xs i d h = rw (add-one, drop-cons xs i d) refl
@@ -35,18 +36,6 @@ told_next f i xs d old c new all h le a =
 pub told_end : {X : Type 0} (f : ℕ → X → List ℕ) (i : ℕ) (xs : List X) (old c : Option (List ℕ)) (all : List ℕ)
     → Leads old c (texts_from f i (drop i xs)) all → length xs ≤ i → Appends old c all
 told_end f i xs old c all h le = let k : Leads old c [] all = rw (← texts_end f i xs le) h in leads_end old c all k
-
--- the same in a text
-pub put_next : {X : Type 0} (f : ℕ → X → List ℕ) (i : ℕ) (xs : List X) (d : X) (c new all : List ℕ)
-    → c ++ texts_from f i (drop i xs) ≡ all → i < length xs → new ≡ c ++ f i (get_or xs i d)
-    → new ++ texts_from f (i + 1) (drop (i + 1) xs) ≡ all
-put_next f i xs d c new all h le a = ap (λ ys. ys ++ texts_from f (i + 1) (drop (i + 1) xs)) a
-    ∙ append_assoc c (f i (get_or xs i d)) (texts_from f (i + 1) (drop (i + 1) xs))
-    ∙ ap (λ ys. c ++ ys) (sym (texts_next f i xs d le)) ∙ h
-
-pub put_end : {X : Type 0} (f : ℕ → X → List ℕ) (i : ℕ) (xs : List X) (c all : List ℕ)
-    → c ++ texts_from f i (drop i xs) ≡ all → length xs ≤ i → c ≡ all
-put_end f i xs c all h le = sym (append-nil c) ∙ ap (λ ys. c ++ ys) (sym (texts_end f i xs le)) ∙ h
 
 -- the marks that ended
 
@@ -125,10 +114,10 @@ cycle_item k n i es e old c new all h le q a m =
     cycle_told k n i es e old c new all h le (subst (λ (y : Entry). Appends c new (cycle_line k y.answer)) q a)
     (subst (λ (y : Entry). n ≡ next_cycle k y.answer) q m)
 
-pub put_item : {X : Type 0} (f : ℕ → X → List ℕ) (i : ℕ) (xs : List X) (x : X) (c new all : List ℕ)
-    → c ++ texts_from f i (drop i xs) ≡ all → i < length xs → x ≡ get_or xs i x → new ≡ c ++ f i x
-    → new ++ texts_from f (i + 1) (drop (i + 1) xs) ≡ all
-put_item f i xs x c new all h le e a = put_next f i xs x c new all h le (a ∙ ap (λ y. c ++ f i y) e)
+-- nothing is appended
+pub appends_nothing : (o : Option (List ℕ)) → Appends o o []
+appends_nothing None = tt
+appends_nothing (Some x) = sym (append-nil x)
 
 -- what is appended after what was appended
 pub appends_more : (a b c : Option (List ℕ)) (xs ys : List ℕ) → Appends a b xs → Appends b c ys → Appends a c (xs ++ ys)

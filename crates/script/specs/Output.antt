@@ -1,11 +1,10 @@
 -- What a run of a script prints.
-use Rattle.std.specs.Prelude.{ℕ, ◌+◌, Bool, List, [], ◌∷◌, ◌++◌, length, count_by, is_some, Option, Some, None, slice_get, codes, if◌then◌else◌}
-use Rattle.std.specs.Fmt.{decimal}
+use Rattle.std.specs.Prelude.{ℕ, ◌+◌, Bool, List, [], ◌∷◌, ◌++◌, length, count_by, is_some, Option, Some, None, slice_get, if◌then◌else◌}
 use Rattle.model.specs.declared.steps.Answer.{Answer}
 use Rattle.model.specs.declared.steps.Answer.TheVariants as answers
 use Rattle.model.specs.declared.records.Global.{Global}
 use Rattle.model.specs.declared.records.Page.{Page}
-use Rattle.model.specs.States.{HeapState, ThreadState, Reference}
+use Rattle.model.specs.States.{HeapState, ThreadState}
 use Rattle.model.specs.Stores.{is_unused}
 use Rattle.cycle.specs.declared.book.Entry.{Entry}
 use Rattle.cycle.specs.Books.{BookState, first_book}
@@ -13,12 +12,11 @@ use Rattle.cycle.specs.Loads.{Told, whole_load, one_step}
 use Rattle.parser.specs.declared.order.Command.{Command}
 use Rattle.parser.specs.Orders.{step_of, is_get}
 use Rattle.parser.specs.Reading.{ScriptValue}
-use Rattle.text.specs.Texts.{line_text, phase_text, bit_text, page_state_text, frame_text, buffer_text, word_text}
-
--- the texts of a list's elements, one after another, the first being number i
-unfoldable pub texts_from : {X : Type 0} → (ℕ → X → List ℕ) → ℕ → List X → List ℕ
-texts_from f i [] = []
-texts_from f i (x ∷ xs) = f i x ++ texts_from f (i + 1) xs
+use Rattle.text.specs.declared.report.Activity.{Activity}
+use Rattle.text.specs.declared.report.Activity.TheVariants as activities
+use Rattle.text.specs.Texts.{line_text}
+use Rattle.text.specs.Reports.{texts_from}
+use Rattle.text.specs.Reports as lines
 
 -- the report
 
@@ -26,11 +24,13 @@ texts_from f i (x ∷ xs) = f i x ++ texts_from f (i + 1) xs
 abbrev pub used_frames : HeapState → ℕ
 used_frames h = count_by is_some h.store.owners
 
+-- a line and its newline
+abbrev pub ended : List ℕ → List ℕ
+ended line = line ++ 10 ∷ []
+
 -- the first line: the phase, the clean NMT bit, the births, the used frames of all
 abbrev pub head_line : HeapState → List ℕ
-head_line h =
-    codes "phase " ++ phase_text h.phase ++ codes " nmt " ++ bit_text h.nmt ++ codes " births " ++ decimal h.births
-    ++ codes " frames " ++ decimal (used_frames h) ++ codes "/" ++ decimal (length h.store.frames) ++ 10 ∷ []
+head_line h = ended (lines.head_line h.phase h.nmt h.births (used_frames h) (length h.store.frames))
 
 -- how many bits are set in a row that may be missing
 abbrev pub bits_of_row : Option (List Bool) → ℕ
@@ -41,42 +41,26 @@ bits_of_row (Some row) = count_by (λ b. b) row
 abbrev pub bits_in : List (List Bool) → ℕ → ℕ
 bits_in rows i = bits_of_row (slice_get rows i)
 
--- the line of a page in use
-abbrev pub used_page_line : ℕ → Page → ℕ → ℕ → List ℕ
-used_page_line number p objects live =
-    codes "page " ++ decimal number ++ codes " " ++ page_state_text p.state ++ codes " frame " ++ frame_text p.frame
-    ++ codes " top " ++ decimal p.top ++ codes " objects " ++ decimal objects ++ codes " live " ++ decimal live ++ 10 ∷ []
-
 -- the line of the page whose record stands at i; an unused one has none
 unfoldable pub page_line : HeapState → ℕ → Page → List ℕ
-page_line h i p = if is_unused p.state then [] else used_page_line (i + 1) p (bits_in h.starts i) (bits_in h.live i)
-
--- the number of register r and what it names
-abbrev pub register_text : ℕ → ℕ → Reference → List ℕ
-register_text page_words r w = codes " r" ++ decimal r ++ codes " " ++ word_text page_words w
-
--- that of all registers
-abbrev pub registers_text : ℕ → List Reference → List ℕ
-registers_text page_words ws = texts_from (register_text page_words) 0 ws
+page_line h i p =
+    if is_unused p.state then [] else ended (lines.page_line (i + 1) p (bits_in h.starts i) (bits_in h.live i))
 
 -- what a thread does
-abbrev pub state_text : ThreadState → List ℕ
-state_text t = if t.parked then codes "parked" else (if is_some t.barrier then codes "loading" else codes "running")
+abbrev pub activity_of : ThreadState → Activity
+activity_of t = if t.parked then activities.Parked else (if is_some t.barrier then activities.Loading else activities.Running)
 
 -- the line of thread n
 abbrev pub thread_line : ℕ → ℕ → ThreadState → List ℕ
-thread_line page_words n t =
-    codes "thread " ++ decimal n ++ codes " " ++ state_text t ++ codes " buffer " ++ buffer_text t.buffer
-    ++ registers_text page_words t.registers ++ 10 ∷ []
+thread_line page_words n t = ended (lines.thread_line n (activity_of t) t.buffer page_words t.registers)
 
 -- the line of global n
 abbrev pub global_line : ℕ → ℕ → Global → List ℕ
-global_line page_words n g = codes "global " ++ decimal n ++ codes " " ++ word_text page_words g.word ++ 10 ∷ []
+global_line page_words n g = ended (lines.global_line page_words n g.word)
 
 -- the line of mark number k, if the answer ended it
 abbrev pub cycle_line : ℕ → Answer → List ℕ
-cycle_line k (answers.Ended live retired) =
-    codes "cycle " ++ decimal k ++ codes " live " ++ decimal live ++ codes " retired " ++ decimal retired ++ 10 ∷ []
+cycle_line k (answers.Ended live retired) = ended (lines.cycle_line k live retired)
 cycle_line k _ = []
 
 -- the number of the next mark to end

@@ -3,7 +3,6 @@
 
 mod doing;
 mod fault;
-mod lines;
 mod reporting;
 mod schedule;
 

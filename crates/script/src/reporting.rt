@@ -1,16 +1,21 @@
 //! The report: the heap as it stands, and what each mark has found.
 
-ghost use Rattle.std.specs.Prelude.{◌≡◌, ◌+◌, ◌<◌, ◌≤◌, ◌^◌, OnOk, string_bytes};
+ghost use Rattle.std.specs.Prelude.{◌≡◌, ◌++◌, ◌∷◌, [], IfSome, ◌+◌, ◌<◌, ◌≤◌, ◌^◌, OnOk, string_bytes};
 ghost use Rattle.std.specs.Io.KnownBytes.{Appends};
-ghost use Rattle.script.specs.Output.{texts_from, head_line, page_line, thread_line, global_line, cycle_line, cycles_from, next_cycle, report_text};
+ghost use Rattle.model.specs.Stores.{is_unused};
+ghost use Rattle.text.specs.Reports.{texts_from};
+ghost use Rattle.script.specs.Output.{head_line, page_line, thread_line, global_line, cycle_line, cycles_from, next_cycle, report_text, bits_in, activity_of};
 
 use crate::fault::RunFault;
-use crate::lines::{put_cycle, put_global, put_head, put_page, put_thread};
 use cycle::{Answer, Entry};
-use heap::{Heap, Thread};
-use model::{Global, Page};
-use std::alloc::Global as Memory;
+use heap::{Heap, Rows, Thread};
+use model::{Global, Page, PageState};
+use std::alloc::{AllocError, Global as Memory};
+use std::fmt::{Display, Write as _};
 use std::io;
+use text::{
+    Activity, CycleLine, GlobalLine, HeadLine, PageLine, RegistersText, ThreadLine, WordText,
+};
 
 /// Writes a text.
 pub fn tell<W: io::Write>(w: &mut W, text: &String) -> Result<(), RunFault>
@@ -22,14 +27,56 @@ pub fn tell<W: io::Write>(w: &mut W, text: &String) -> Result<(), RunFault>
     }
 }
 
-fn tell_head<W: io::Write>(heap: &Heap, text: &mut String, w: &mut W) -> Result<(), RunFault>
-    ensures { OnOk result (Appends (W.contents w.old) (W.contents w.new) (head_line heap.now)) }
+/// Puts a line and its newline at the end of a text.
+fn put_line<D: Display>(line: &D, text: &mut String) -> Result<(), AllocError>
+    ensures { OnOk result (IfSome (D.output line.now) (λ bytes. string_bytes text.new ≡ string_bytes text.old ++ bytes ++ 10 ∷ [])) }
+{
+    writeln!(text, "{line}")
+}
+
+/// Writes a line and its newline.
+fn tell_line<D: Display, W: io::Write>(
+    line: &D,
+    text: &mut String,
+    w: &mut W,
+) -> Result<(), RunFault>
+    ensures { OnOk result (IfSome (D.output line.now) (λ bytes. Appends (W.contents w.old) (W.contents w.new) (bytes ++ 10 ∷ []))) }
 {
     text.clear();
-    put_head(text, heap)?;
+    put_line(line, text)?;
     tell(w, text)
 }
 
+fn bits_in(rows: &Rows, index: usize) -> usize
+    ensures { result ≡ bits_in rows.now index }
+{
+    match rows.get(index) {
+        None => 0,
+        Some(row) => row.count(),
+    }
+}
+
+fn is_unused(page: Page) -> bool
+    ensures { result ≡ is_unused page.state }
+{
+    matches!(page.state, PageState::Unused)
+}
+
+fn tell_head<W: io::Write>(heap: &Heap, text: &mut String, w: &mut W) -> Result<(), RunFault>
+    ensures { OnOk result (Appends (W.contents w.old) (W.contents w.new) (head_line heap.now)) }
+{
+    let line = HeadLine {
+        phase: heap.phase(),
+        nmt: heap.nmt(),
+        births: heap.births(),
+        used: heap.store().used_frames(),
+        frames: heap.store().frame_count(),
+    };
+    tell_line(&line, text, w)
+}
+
+/// Writes the line of the page of an index; nothing where it is unused.
+#[tactic(auto, unfolding(crate::specs::Output::page_line), using(crate::proofs::Telling::appends_nothing))]
 fn tell_page<W: io::Write>(
     heap: &Heap,
     index: usize,
@@ -40,9 +87,28 @@ fn tell_page<W: io::Write>(
     requires { index + 1 < 2 ^ 64 }
     ensures { OnOk result (Appends (W.contents w.old) (W.contents w.new) (page_line heap.now index page)) }
 {
-    text.clear();
-    put_page(text, heap, index, page)?;
-    tell(w, text)
+    if is_unused(page) {
+        return Ok(());
+    }
+    let line = PageLine {
+        number: index + 1,
+        page,
+        objects: bits_in(heap.starts(), index),
+        live: bits_in(heap.live(), index),
+    };
+    tell_line(&line, text, w)
+}
+
+fn activity_of(thread: &Thread) -> Activity
+    ensures { result ≡ activity_of thread.now }
+{
+    if thread.is_parked() {
+        Activity::Parked
+    } else if thread.barrier().is_some() {
+        Activity::Loading
+    } else {
+        Activity::Running
+    }
 }
 
 fn tell_thread<W: io::Write>(
@@ -55,9 +121,13 @@ fn tell_thread<W: io::Write>(
     requires { 0 < page_words }
     ensures { OnOk result (Appends (W.contents w.old) (W.contents w.new) (thread_line page_words number thread.now)) }
 {
-    text.clear();
-    put_thread(text, page_words, number, thread)?;
-    tell(w, text)
+    let line = ThreadLine {
+        number,
+        activity: activity_of(thread),
+        buffer: thread.buffer(),
+        registers: RegistersText::new(thread.registers(), page_words),
+    };
+    tell_line(&line, text, w)
 }
 
 fn tell_global<W: io::Write>(
@@ -70,9 +140,8 @@ fn tell_global<W: io::Write>(
     requires { 0 < page_words }
     ensures { OnOk result (Appends (W.contents w.old) (W.contents w.new) (global_line page_words number global)) }
 {
-    text.clear();
-    put_global(text, page_words, number, global)?;
-    tell(w, text)
+    let word = WordText::new(global.word, page_words);
+    tell_line(&GlobalLine { number, word }, text, w)
 }
 
 fn tell_pages<W: io::Write>(heap: &Heap, text: &mut String, w: &mut W) -> Result<(), RunFault>
@@ -108,6 +177,7 @@ fn tell_globals<W: io::Write>(heap: &Heap, text: &mut String, w: &mut W) -> Resu
 }
 
 /// Writes the line of an entry that ended the mark of a number; nothing for another entry.
+#[tactic(auto, using(crate::proofs::Telling::appends_nothing))]
 fn tell_cycle<W: io::Write>(
     number: u64,
     answer: Answer,
@@ -116,9 +186,18 @@ fn tell_cycle<W: io::Write>(
 ) -> Result<(), RunFault>
     ensures { OnOk result (Appends (W.contents w.old) (W.contents w.new) (cycle_line number answer)) }
 {
-    text.clear();
-    put_cycle(text, number, answer)?;
-    tell(w, text)
+    match answer {
+        Answer::Ended { live, retired } => tell_line(
+            &CycleLine {
+                number,
+                live,
+                retired,
+            },
+            text,
+            w,
+        ),
+        _ => Ok(()),
+    }
 }
 
 /// The number of the next mark to end.

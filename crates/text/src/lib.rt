@@ -3,8 +3,12 @@
 
 mod line;
 mod records;
+mod report;
 mod steps;
 
 pub use line::{put_line, write_line};
 pub use records::{BufferText, FrameText, PageStateText, PhaseText, WordText};
+pub use report::{
+    Activity, BitText, CycleLine, GlobalLine, HeadLine, PageLine, RegistersText, ThreadLine,
+};
 pub use steps::{ActorText, AnswerText, ReplyText};

@@ -1,7 +1,8 @@
 use Rattle.std.proofs.Common.{ap, ◌∙◌, subst}
 use Rattle.std.specs.Io.KnownBytes.{Appends}
 use Rattle.model.specs.Stores.{StoreState}
-use Rattle.script.specs.Output.{texts_from, global_line}
+use Rattle.text.specs.Reports.{texts_from}
+use Rattle.script.specs.Output.{global_line}
 use Rattle.script.proofs.Telling.{told_item, told_end}
 use Rattle.script.proofs.reporting.tell_globals.Goals as goal
 

@@ -1,7 +1,8 @@
 use Rattle.std.proofs.Common.{ap, ◌∙◌, subst}
 use Rattle.std.specs.Io.KnownBytes.{Appends}
 use Rattle.model.specs.Stores.{StoreState}
-use Rattle.script.specs.Output.{texts_from, page_line}
+use Rattle.text.specs.Reports.{texts_from}
+use Rattle.script.specs.Output.{page_line}
 use Rattle.script.proofs.Telling.{told_next, told_end}
 use Rattle.script.proofs.reporting.tell_pages.Goals as goal
 

@@ -1,6 +1,7 @@
 use Rattle.std.proofs.Common.{drop}
 use Rattle.text.specs.Texts.{Leads}
-use Rattle.script.specs.Output.{texts_from, page_line}
+use Rattle.text.specs.Reports.{texts_from}
+use Rattle.script.specs.Output.{page_line}
 use Rattle.script.proofs.reporting.tell_pages.Given as goal
 
 abbrev pub invariant-loop-index : goal.invariant-loop-index

@@ -1,6 +1,7 @@
 use Rattle.std.proofs.Common.{drop}
 use Rattle.text.specs.Texts.{Leads}
-use Rattle.script.specs.Output.{texts_from, thread_line}
+use Rattle.text.specs.Reports.{texts_from}
+use Rattle.script.specs.Output.{thread_line}
 use Rattle.script.proofs.reporting.tell_threads.Given as goal
 
 abbrev pub invariant-loop-number : goal.invariant-loop-number

@@ -1,0 +1,54 @@
+-- The lines of a report, each without its newline.
+use Rattle.std.specs.Prelude.{ℕ, ◌+◌, Bool, List, [], ◌∷◌, ◌++◌, Option, codes}
+use Rattle.std.specs.Fmt.{decimal}
+use Rattle.model.specs.declared.records.Buffer.{Buffer}
+use Rattle.model.specs.declared.records.Page.{Page}
+use Rattle.model.specs.declared.records.Phase.{Phase}
+use Rattle.text.specs.declared.report.Activity.{Activity}
+use Rattle.text.specs.declared.report.Activity.TheVariants as activities
+use Rattle.text.specs.Texts.{phase_text, bit_text, page_state_text, frame_text, buffer_text, word_text}
+
+-- the texts of a list's elements, one after another, the first being number i
+unfoldable pub texts_from : {X : Type 0} → (ℕ → X → List ℕ) → ℕ → List X → List ℕ
+texts_from f i [] = []
+texts_from f i (x ∷ xs) = f i x ++ texts_from f (i + 1) xs
+
+-- the first line: the phase, the clean NMT bit, the births, the used frames of all
+abbrev pub head_line : Phase → Bool → ℕ → ℕ → ℕ → List ℕ
+head_line phase nmt births used frames =
+    codes "phase " ++ phase_text phase ++ codes " nmt " ++ bit_text nmt ++ codes " births " ++ decimal births
+    ++ codes " frames " ++ decimal used ++ codes "/" ++ decimal frames
+
+-- the line of a page, of its objects and those that live
+abbrev pub page_line : ℕ → Page → ℕ → ℕ → List ℕ
+page_line number p objects live =
+    codes "page " ++ decimal number ++ codes " " ++ page_state_text p.state ++ codes " frame " ++ frame_text p.frame
+    ++ codes " top " ++ decimal p.top ++ codes " objects " ++ decimal objects ++ codes " live " ++ decimal live
+
+-- the number of register r and what it holds
+abbrev pub register_text : ℕ → ℕ → Option (ℕ × Bool) → List ℕ
+register_text page_words r w = codes " r" ++ decimal r ++ codes " " ++ word_text page_words w
+
+-- that of all registers
+abbrev pub registers_text : ℕ → List (Option (ℕ × Bool)) → List ℕ
+registers_text page_words ws = texts_from (register_text page_words) 0 ws
+
+-- the name of what a thread does
+abbrev pub activity_text : Activity → List ℕ
+activity_text activities.Parked = codes "parked"
+activity_text activities.Loading = codes "loading"
+activity_text activities.Running = codes "running"
+
+-- the line of thread n
+abbrev pub thread_line : ℕ → Activity → Option Buffer → ℕ → List (Option (ℕ × Bool)) → List ℕ
+thread_line n activity buffer page_words registers =
+    codes "thread " ++ decimal n ++ codes " " ++ activity_text activity ++ codes " buffer " ++ buffer_text buffer
+    ++ registers_text page_words registers
+
+-- the line of global n
+abbrev pub global_line : ℕ → ℕ → Option (ℕ × Bool) → List ℕ
+global_line page_words n w = codes "global " ++ decimal n ++ codes " " ++ word_text page_words w
+
+-- the line of mark number k, which ended
+abbrev pub cycle_line : ℕ → ℕ → ℕ → List ℕ
+cycle_line k live retired = codes "cycle " ++ decimal k ++ codes " live " ++ decimal live ++ codes " retired " ++ decimal retired
