@@ -92,25 +92,20 @@ fn parted(alloc: Global, rows: Vec<Row>) -> Result<(Vec<(Actor, Step)>, Vec<Repl
     Ok((steps, replies))
 }
 
-fn replied(
-    rt: &impl Abort,
-    alloc: Global,
-    book: &mut Book,
-    steps: Vec<(Actor, Step)>,
-    wanted: &[Reply],
-) -> Result<(), Fail> {
+fn replied(rt: &impl Abort, alloc: Global, book: &mut Book, rows: Vec<Row>) -> Result<(), Fail> {
+    let (steps, wanted) = parted(alloc, rows)?;
     let replies = run(alloc, book, steps)?;
-    assert_eq!(rt; replies.as_slice(), wanted);
+    assert_eq!(rt; replies.as_slice(), wanted.as_slice());
     assert_eq!(rt; book.history().len(), 6);
     Ok(())
 }
 
 #[test]
 fn a_run_replies_in_order(rt: HostRuntime) -> Result<(), Fail> {
-    let (steps, wanted) = parted(rt.alloc(), page_of_objects(rt.alloc())?)?;
+    let rows = page_of_objects(rt.alloc())?;
     let config = small(rt.alloc())?;
     let mut book = Book::new(rt.alloc(), config)?;
-    replied(&rt, rt.alloc(), &mut book, steps, &wanted)
+    replied(&rt, rt.alloc(), &mut book, rows)
 }
 
 /// Does the steps, all of which are accepted.
