@@ -1,6 +1,8 @@
 //! The first state of a heap, through its readers.
 
-use heap::{Config, Heap, Rows, Thread};
+use crate::configs::sizes;
+use crate::rows::has_counts;
+use heap::{Config, Heap, Thread};
 use layout::{Layout, Layouts};
 use model::{PageState, Phase};
 use page::Store;
@@ -35,18 +37,6 @@ fn has_pages(rt: &impl Abort, store: &Store) {
         assert_eq!(rt; page.state, PageState::Unused);
         assert_eq!(rt; (page.frame, page.top), (None, 0));
     }
-}
-
-/// A row for each record, and no bit is set.
-fn has_clear_rows(rt: &impl Abort, rows: &Rows) {
-    for index in 0..6 {
-        assert_eq!(rt;
-            rows.get(index).map(heap::Row::count),
-            Some(0),
-            "in row {index}"
-        );
-    }
-    assert!(rt; rows.get(6).is_none());
 }
 
 /// No register names anything; the thread has no buffer and no barrier, and runs.
@@ -87,21 +77,25 @@ fn has_collector(rt: &impl Abort, heap: &Heap) {
 
 /// The configuration is the one that the heap was made of.
 fn has_config(rt: &impl Abort, config: &Config) {
-    assert_eq!(rt; (config.words, config.frames, config.pages), (32, 3, 8));
-    assert_eq!(rt; (config.threads, config.workers), (2, 4));
-    assert_eq!(rt; (config.registers, config.globals), (5, 7));
+    assert_eq!(rt; sizes(config), [32, 3, 8, 2, 4, 5, 7]);
     assert_eq!(rt; (config.births, config.history), (100, 200));
     assert_eq!(rt; config.layouts.len(), 2);
+}
+
+/// A row for each record of a page, and no bit is set.
+fn has_clear_rows(rt: &impl Abort, heap: &Heap) {
+    let counts = [0; 6];
+    has_counts(rt, heap.starts(), &counts);
+    has_counts(rt, heap.live(), &counts);
+    has_counts(rt, heap.mark(), &counts);
+    has_counts(rt, heap.todo(), &counts);
 }
 
 #[test]
 fn pages_of_a_new_heap(rt: HostRuntime) -> Result<(), Fail> {
     let heap = Heap::new(rt.alloc(), mixed(rt.alloc())?)?;
     has_pages(&rt, heap.store());
-    has_clear_rows(&rt, heap.starts());
-    has_clear_rows(&rt, heap.live());
-    has_clear_rows(&rt, heap.mark());
-    has_clear_rows(&rt, heap.todo());
+    has_clear_rows(&rt, &heap);
     Ok(())
 }
 

@@ -1,7 +1,7 @@
 //! Books of the steps that a heap accepted.
 
 use crate::samples::small;
-use cycle::{Actor, Answer, Book, Step, run};
+use cycle::{Actor, Answer, Book, Entry, Step, run};
 use heap::{NewFault, Refusal};
 use std::alloc::{AllocError, Global};
 use std::process::Abort;
@@ -58,17 +58,20 @@ fn page_of_objects(alloc: Global) -> Result<Vec<Row>, AllocError> {
     ]?)
 }
 
+/// The last entry is that of the second buffer.
+fn is_last(rt: &impl Abort, last: &Entry) {
+    assert_eq!(rt; last.actor, Actor::Thread(0));
+    assert!(rt; matches!(&last.step, Step::Take(12)));
+    assert_eq!(rt; last.answer, Answer::Lent { page: 1, offset: 4 });
+}
+
 fn filled(rt: &impl Abort, book: &mut Book, rows: Vec<Row>) {
     play(rt, book, rows);
     assert_eq!(rt; book.history().len(), 6);
     assert_eq!(rt; book.heap().births(), 1);
     match book.history().last() {
         None => assert!(rt; false),
-        Some(last) => {
-            assert_eq!(rt; last.actor, Actor::Thread(0));
-            assert!(rt; matches!(&last.step, Step::Take(12)));
-            assert_eq!(rt; last.answer, Answer::Lent { page: 1, offset: 4 });
-        }
+        Some(last) => is_last(rt, last),
     }
 }
 

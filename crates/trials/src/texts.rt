@@ -96,6 +96,12 @@ fn replies(rt: HostRuntime) -> Result<(), Fail> {
     Ok(())
 }
 
+/// What is shown has this text.
+fn is_shown(rt: &impl Abort, alloc: Global, refusal: Refusal, name: &str) -> Result<(), Fail> {
+    assert_eq!(rt; format!(in alloc; "{refusal}")?.as_str(), name);
+    Ok(())
+}
+
 #[test]
 fn refusals(rt: HostRuntime) -> Result<(), Fail> {
     for (refusal, name) in [
@@ -127,7 +133,7 @@ fn refusals(rt: HostRuntime) -> Result<(), Fail> {
         (Refusal::HistoryFull, "HistoryFull"),
         (Refusal::Memory, "Memory"),
     ] {
-        assert_eq!(rt; format!(in rt.alloc(); "{refusal}")?.as_str(), name);
+        is_shown(&rt, rt.alloc(), refusal, name)?;
     }
     Ok(())
 }
@@ -153,8 +159,14 @@ fn parts(rt: HostRuntime) -> Result<(), Fail> {
     Ok(())
 }
 
+fn phase_is_shown(rt: &impl Abort, alloc: Global, phase: Phase, name: &str) -> Result<(), Fail> {
+    let phase = PhaseText(phase);
+    assert_eq!(rt; format!(in alloc; "{phase}")?.as_str(), name);
+    Ok(())
+}
+
 #[test]
-fn names(rt: HostRuntime) -> Result<(), Fail> {
+fn phases(rt: HostRuntime) -> Result<(), Fail> {
     for (phase, name) in [
         (Phase::Idle, "idle"),
         (Phase::MarkCrossing, "mark-crossing"),
@@ -162,9 +174,24 @@ fn names(rt: HostRuntime) -> Result<(), Fail> {
         (Phase::ProtectCrossing, "protect-crossing"),
         (Phase::Relocating, "relocating"),
     ] {
-        let phase = PhaseText(phase);
-        assert_eq!(rt; format!(in rt.alloc(); "{phase}")?.as_str(), name);
+        phase_is_shown(&rt, rt.alloc(), phase, name)?;
     }
+    Ok(())
+}
+
+fn state_is_shown(
+    rt: &impl Abort,
+    alloc: Global,
+    state: PageState,
+    name: &str,
+) -> Result<(), Fail> {
+    let state = PageStateText(state);
+    assert_eq!(rt; format!(in alloc; "{state}")?.as_str(), name);
+    Ok(())
+}
+
+#[test]
+fn states_of_pages(rt: HostRuntime) -> Result<(), Fail> {
     for (state, name) in [
         (PageState::Unused, "unused"),
         (PageState::Open, "open"),
@@ -172,8 +199,7 @@ fn names(rt: HostRuntime) -> Result<(), Fail> {
         (PageState::From, "from"),
         (PageState::Gone, "gone"),
     ] {
-        let state = PageStateText(state);
-        assert_eq!(rt; format!(in rt.alloc(); "{state}")?.as_str(), name);
+        state_is_shown(&rt, rt.alloc(), state, name)?;
     }
     Ok(())
 }
