@@ -1,8 +1,8 @@
 //! Books of the steps that a heap accepted.
 
-use crate::samples::small;
+use crate::samples::{small, small_book};
 use cycle::{Actor, Answer, Book, Entry, Step, run};
-use heap::{NewFault, Refusal};
+use heap::{Config, NewFault, Refusal};
 use std::alloc::{AllocError, Global};
 use std::process::Abort;
 use std::test::Fail;
@@ -78,8 +78,7 @@ fn filled(rt: &impl Abort, book: &mut Book, rows: Vec<Row>) {
 #[test]
 fn a_page_is_filled(rt: HostRuntime) -> Result<(), Fail> {
     let rows = page_of_objects(rt.alloc())?;
-    let config = small(rt.alloc())?;
-    let mut book = Book::new(rt.alloc(), config)?;
+    let mut book = small_book(rt.alloc())?;
     filled(&rt, &mut book, rows);
     Ok(())
 }
@@ -106,17 +105,8 @@ fn replied(rt: &impl Abort, alloc: Global, book: &mut Book, rows: Vec<Row>) -> R
 #[test]
 fn a_run_replies_in_order(rt: HostRuntime) -> Result<(), Fail> {
     let rows = page_of_objects(rt.alloc())?;
-    let config = small(rt.alloc())?;
-    let mut book = Book::new(rt.alloc(), config)?;
+    let mut book = small_book(rt.alloc())?;
     replied(&rt, rt.alloc(), &mut book, rows)
-}
-
-/// Does the steps, all of which are accepted.
-fn accepted(alloc: Global, book: &mut Book, steps: Vec<(Actor, Step)>) -> Result<(), Fail> {
-    for reply in run(alloc, book, steps)? {
-        reply?;
-    }
-    Ok(())
 }
 
 /// The steps of the rows that are to be accepted.
@@ -130,12 +120,20 @@ fn accepted_steps(alloc: Global, rows: Vec<Row>) -> Result<Vec<(Actor, Step)>, F
     Ok(steps)
 }
 
+/// Does the steps of those rows, all of which are accepted.
+fn accepted(alloc: Global, book: &mut Book, rows: Vec<Row>) -> Result<(), Fail> {
+    let steps = accepted_steps(alloc, rows)?;
+    for reply in run(alloc, book, steps)? {
+        reply?;
+    }
+    Ok(())
+}
+
 #[test]
 fn a_run_is_accepted(rt: HostRuntime) -> Result<(), Fail> {
-    let steps = accepted_steps(rt.alloc(), page_of_objects(rt.alloc())?)?;
-    let config = small(rt.alloc())?;
-    let mut book = Book::new(rt.alloc(), config)?;
-    accepted(rt.alloc(), &mut book, steps)
+    let rows = page_of_objects(rt.alloc())?;
+    let mut book = small_book(rt.alloc())?;
+    accepted(rt.alloc(), &mut book, rows)
 }
 
 /// Steps of which an actor or a number names nothing, on a heap with two registers and one layout.
@@ -178,10 +176,17 @@ fn refused(rt: &impl Abort, book: &mut Book, rows: Vec<Row>) {
 #[test]
 fn numbers_that_name_nothing(rt: HostRuntime) -> Result<(), Fail> {
     let rows = bad_steps(rt.alloc())?;
-    let config = small(rt.alloc())?;
-    let mut book = Book::new(rt.alloc(), config)?;
+    let mut book = small_book(rt.alloc())?;
     refused(&rt, &mut book, rows);
     Ok(())
+}
+
+/// One birth, and three entries.
+fn limits(alloc: Global) -> Result<Config, AllocError> {
+    let mut config = small(alloc)?;
+    config.births = 1;
+    config.history = 3;
+    Ok(config)
 }
 
 fn limit_rows(alloc: Global) -> Result<Vec<Row>, AllocError> {
@@ -203,10 +208,7 @@ fn limited(rt: &impl Abort, book: &mut Book, rows: Vec<Row>) {
 #[test]
 fn limits_are_kept(rt: HostRuntime) -> Result<(), Fail> {
     let rows = limit_rows(rt.alloc())?;
-    let mut config = small(rt.alloc())?;
-    config.births = 1;
-    config.history = 3;
-    let mut book = Book::new(rt.alloc(), config)?;
+    let mut book = Book::new(rt.alloc(), limits(rt.alloc())?)?;
     limited(&rt, &mut book, rows);
     Ok(())
 }
