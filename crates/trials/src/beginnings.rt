@@ -4,7 +4,7 @@ use crate::configs::sizes;
 use crate::rows::has_counts;
 use heap::{Config, Heap, Thread};
 use layout::{Layout, Layouts};
-use model::{PageState, Phase};
+use model::{Page, PageState, Phase};
 use page::Store;
 use refword::Word;
 use std::alloc::{AllocError, Global};
@@ -28,14 +28,18 @@ fn mixed(alloc: Global) -> Result<Config, AllocError> {
     })
 }
 
+fn is_unused(rt: &impl Abort, page: Page) {
+    assert_eq!(rt; page.state, PageState::Unused);
+    assert_eq!(rt; (page.frame, page.top), (None, 0));
+}
+
 /// All pages are unused and all frames free; there are twice as many records as frames.
 fn has_pages(rt: &impl Abort, store: &Store) {
     assert_eq!(rt; (store.page_words(), store.page_count()), (32, 8));
     assert_eq!(rt; (store.frame_count(), store.free_frames()), (3, 3));
     assert_eq!(rt; store.pages().len(), 6);
     for page in store.pages() {
-        assert_eq!(rt; page.state, PageState::Unused);
-        assert_eq!(rt; (page.frame, page.top), (None, 0));
+        is_unused(rt, *page);
     }
 }
 
@@ -91,21 +95,26 @@ fn has_clear_rows(rt: &impl Abort, heap: &Heap) {
     has_counts(rt, heap.todo(), &counts);
 }
 
-#[test]
-fn pages_of_a_new_heap(rt: HostRuntime) -> Result<(), Fail> {
-    let heap = Heap::new(rt.alloc(), mixed(rt.alloc())?)?;
-    has_pages(&rt, heap.store());
-    has_clear_rows(&rt, &heap);
-    Ok(())
+/// Its pages, frames and rows of bits.
+fn has_first_pages(rt: &impl Abort, heap: &Heap) {
+    has_pages(rt, heap.store());
+    has_clear_rows(rt, heap);
+}
+
+/// Its configuration, threads, workers and globals.
+fn has_first_records(rt: &impl Abort, heap: &Heap) {
+    has_config(rt, heap.config());
+    has_threads(rt, heap.threads());
+    has_workers(rt, heap);
+    has_globals(rt, heap);
+    has_collector(rt, heap);
 }
 
 #[test]
-fn records_of_a_new_heap(rt: HostRuntime) -> Result<(), Fail> {
-    let heap = Heap::new(rt.alloc(), mixed(rt.alloc())?)?;
-    has_config(&rt, heap.config());
-    has_threads(&rt, heap.threads());
-    has_workers(&rt, &heap);
-    has_globals(&rt, &heap);
-    has_collector(&rt, &heap);
+fn a_new_heap(rt: HostRuntime) -> Result<(), Fail> {
+    let config = mixed(rt.alloc())?;
+    let heap = Heap::new(rt.alloc(), config)?;
+    has_first_pages(&rt, &heap);
+    has_first_records(&rt, &heap);
     Ok(())
 }

@@ -2,7 +2,7 @@
 
 use crate::samples::{small, small_book};
 use cycle::{Actor, Answer, Book, Entry, Step, run};
-use heap::{Config, NewFault, Refusal};
+use heap::{Config, ConfigFault, NewFault, Refusal};
 use std::alloc::{AllocError, Global};
 use std::process::Abort;
 use std::test::Fail;
@@ -213,14 +213,18 @@ fn limits_are_kept(rt: HostRuntime) -> Result<(), Fail> {
     Ok(())
 }
 
+/// The field for which no book can be made.
+fn told(alloc: Global, config: Config) -> Option<ConfigFault> {
+    match Book::new(alloc, config).err() {
+        Some(NewFault::Config(fault)) => Some(fault),
+        _ => None,
+    }
+}
+
 #[test]
 fn a_fault_is_told(rt: HostRuntime) -> Result<(), Fail> {
     let mut config = small(rt.alloc())?;
     config.registers = 17;
-    let told = match Book::new(rt.alloc(), config) {
-        Err(NewFault::Config(fault)) => Some(fault),
-        _ => None,
-    };
-    assert_eq!(rt; told, Some(heap::ConfigFault::Registers));
+    assert_eq!(rt; told(rt.alloc(), config), Some(ConfigFault::Registers));
     Ok(())
 }
