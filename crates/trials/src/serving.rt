@@ -65,10 +65,7 @@ fn other_words(rt: HostRuntime) -> Result<(), Fail> {
 
 /// What serving a reader's bytes gives: the status, the output past its buffer, what waits in the
 /// buffer, and the errors.
-fn served<R: Read>(
-    alloc: Global,
-    reader: &mut R,
-) -> Result<(u8, Vec<u8>, Vec<u8>, Vec<u8>), Fail> {
+fn served<R: Read>(alloc: Global, reader: &mut R) -> Result<(u8, Vec<u8>, Vec<u8>, Vec<u8>), Fail> {
     let asked = words_asked(alloc, "run a.script")?;
     let mut output = BufWriter::new(alloc, Vec::new(alloc))?;
     let mut errors = Vec::new(alloc);
