@@ -10,8 +10,11 @@ use std::test::Fail;
 /// What a step is answered.
 type Reply = Result<Answer, Refusal>;
 
-/// A thread, its step, and the reply that it has to have.
-type Row = (u32, Step, Reply);
+/// An actor, its step, and the reply that it has to have.
+type Row = (Actor, Step, Reply);
+
+const FIRST: Actor = Actor::Thread(0);
+const SECOND: Actor = Actor::Thread(1);
 
 /// An object of the one layout.
 fn new(target: u32) -> Step {
@@ -20,18 +23,18 @@ fn new(target: u32) -> Step {
 
 /// Does the step of each row, and compares the reply.
 fn play(rt: &impl Abort, book: &mut Book, rows: Vec<Row>) {
-    for (thread, step, reply) in rows {
-        let told = book.act(Actor::Thread(thread), step);
+    for (actor, step, reply) in rows {
+        let told = book.act(actor, step);
         assert_eq!(rt; told, reply);
     }
 }
 
 fn page_of_objects(alloc: Global) -> Result<Vec<Row>, AllocError> {
     Ok(vec![in alloc;
-        (0, Step::Take(4), Ok(Answer::Lent { page: 1, offset: 0 })),
-        (0, new(0), Ok(Answer::Birth(0))),
+        (FIRST, Step::Take(4), Ok(Answer::Lent { page: 1, offset: 0 })),
+        (FIRST, new(0), Ok(Answer::Birth(0))),
         (
-            0,
+            FIRST,
             Step::SetDatum {
                 object: 0,
                 index: 1,
@@ -40,27 +43,27 @@ fn page_of_objects(alloc: Global) -> Result<Vec<Row>, AllocError> {
             Ok(Answer::Done)
         ),
         (
-            0,
+            FIRST,
             Step::Datum {
                 object: 0,
                 index: 1
             },
             Ok(Answer::Datum(9))
         ),
-        (0, new(1), Err(Refusal::NoRoom)),
-        (0, Step::GiveBack, Ok(Answer::Done)),
+        (FIRST, new(1), Err(Refusal::NoRoom)),
+        (FIRST, Step::GiveBack, Ok(Answer::Done)),
         (
-            0,
+            FIRST,
             Step::Take(13),
             Err(Refusal::NoFrames { need: 1, free: 0 })
         ),
-        (0, Step::Take(12), Ok(Answer::Lent { page: 1, offset: 4 })),
+        (FIRST, Step::Take(12), Ok(Answer::Lent { page: 1, offset: 4 })),
     ]?)
 }
 
 /// The last entry is that of the second buffer.
 fn is_last(rt: &impl Abort, last: &Entry) {
-    assert_eq!(rt; last.actor, Actor::Thread(0));
+    assert_eq!(rt; last.actor, FIRST);
     assert!(rt; matches!(&last.step, Step::Take(12)));
     assert_eq!(rt; last.answer, Answer::Lent { page: 1, offset: 4 });
 }
@@ -87,8 +90,8 @@ fn a_page_is_filled(rt: HostRuntime) -> Result<(), Fail> {
 fn parted(alloc: Global, rows: Vec<Row>) -> Result<(Vec<(Actor, Step)>, Vec<Reply>), Fail> {
     let mut steps = Vec::new(alloc);
     let mut replies = Vec::new(alloc);
-    for (thread, step, reply) in rows {
-        steps.push((Actor::Thread(thread), step))?;
+    for (actor, step, reply) in rows {
+        steps.push((actor, step))?;
         replies.push(reply)?;
     }
     Ok((steps, replies))
@@ -112,9 +115,9 @@ fn a_run_replies_in_order(rt: HostRuntime) -> Result<(), Fail> {
 /// The steps of the rows that are to be accepted.
 fn accepted_steps(alloc: Global, rows: Vec<Row>) -> Result<Vec<(Actor, Step)>, Fail> {
     let mut steps = Vec::new(alloc);
-    for (thread, step, reply) in rows {
+    for (actor, step, reply) in rows {
         if reply.is_ok() {
-            steps.push((Actor::Thread(thread), step))?;
+            steps.push((actor, step))?;
         }
     }
     Ok(steps)
@@ -139,12 +142,12 @@ fn a_run_is_accepted(rt: HostRuntime) -> Result<(), Fail> {
 /// Steps of which an actor or a number names nothing, on a heap with two registers and one layout.
 fn bad_steps(alloc: Global) -> Result<Vec<Row>, AllocError> {
     Ok(vec![in alloc;
-        (1, Step::Take(0), Err(Refusal::NoActor)),
-        (0, Step::StartMark, Err(Refusal::NoActor)),
-        (0, Step::Take(0), Err(Refusal::BadIndex)),
-        (0, Step::Take(17), Err(Refusal::BadIndex)),
+        (SECOND, Step::Take(0), Err(Refusal::NoActor)),
+        (FIRST, Step::StartMark, Err(Refusal::NoActor)),
+        (FIRST, Step::Take(0), Err(Refusal::BadIndex)),
+        (FIRST, Step::Take(17), Err(Refusal::BadIndex)),
         (
-            0,
+            FIRST,
             Step::New {
                 target: 0,
                 layout: 1
@@ -152,32 +155,37 @@ fn bad_steps(alloc: Global) -> Result<Vec<Row>, AllocError> {
             Err(Refusal::BadIndex)
         ),
         (
-            0,
+            FIRST,
             Step::LoadGlobal {
                 target: 0,
                 global: 0
             },
             Err(Refusal::BadIndex)
         ),
-        (0, Step::Same { left: 0, right: 2 }, Err(Refusal::BadIndex)),
-        (0, Step::Scrub(2), Err(Refusal::BadIndex)),
+        (FIRST, Step::Same { left: 0, right: 2 }, Err(Refusal::BadIndex)),
+        (FIRST, Step::Scrub(2), Err(Refusal::BadIndex)),
+        (Actor::Worker(0), Step::GiveBack, Err(Refusal::NoActor)),
     ]?)
 }
 
-fn refused(rt: &impl Abort, book: &mut Book, rows: Vec<Row>) {
-    play(rt, book, rows);
-    assert_eq!(rt;
-        book.act(Actor::Worker(0), Step::GiveBack),
-        Err(Refusal::NoActor)
-    );
-    assert_eq!(rt; book.history().len(), 0);
+/// Does the steps of the rows on a new book, which has so many entries then.
+fn plays(
+    rt: &impl Abort,
+    alloc: Global,
+    config: Config,
+    rows: Vec<Row>,
+    entries: usize,
+) -> Result<(), NewFault> {
+    let mut book = Book::new(alloc, config)?;
+    play(rt, &mut book, rows);
+    assert_eq!(rt; book.history().len(), entries);
+    Ok(())
 }
 
 #[test]
 fn numbers_that_name_nothing(rt: HostRuntime) -> Result<(), Fail> {
     let rows = bad_steps(rt.alloc())?;
-    let mut book = small_book(rt.alloc())?;
-    refused(&rt, &mut book, rows);
+    plays(&rt, rt.alloc(), small(rt.alloc())?, rows, 0)?;
     Ok(())
 }
 
@@ -191,25 +199,19 @@ fn limits(alloc: Global) -> Result<Config, AllocError> {
 
 fn limit_rows(alloc: Global) -> Result<Vec<Row>, AllocError> {
     Ok(vec![in alloc;
-        (0, Step::Take(16), Ok(Answer::Lent { page: 1, offset: 0 })),
-        (0, new(0), Ok(Answer::Birth(0))),
-        (0, new(1), Err(Refusal::Births)),
-        (0, Step::IsNull(1), Ok(Answer::Truth(true))),
-        (0, Step::IsNull(1), Err(Refusal::HistoryFull)),
-        (1, Step::IsNull(1), Err(Refusal::HistoryFull)),
+        (FIRST, Step::Take(16), Ok(Answer::Lent { page: 1, offset: 0 })),
+        (FIRST, new(0), Ok(Answer::Birth(0))),
+        (FIRST, new(1), Err(Refusal::Births)),
+        (FIRST, Step::IsNull(1), Ok(Answer::Truth(true))),
+        (FIRST, Step::IsNull(1), Err(Refusal::HistoryFull)),
+        (SECOND, Step::IsNull(1), Err(Refusal::HistoryFull)),
     ]?)
-}
-
-fn limited(rt: &impl Abort, book: &mut Book, rows: Vec<Row>) {
-    play(rt, book, rows);
-    assert_eq!(rt; book.history().len(), 3);
 }
 
 #[test]
 fn limits_are_kept(rt: HostRuntime) -> Result<(), Fail> {
     let rows = limit_rows(rt.alloc())?;
-    let mut book = Book::new(rt.alloc(), limits(rt.alloc())?)?;
-    limited(&rt, &mut book, rows);
+    plays(&rt, rt.alloc(), limits(rt.alloc())?, rows, 3)?;
     Ok(())
 }
 

@@ -139,13 +139,18 @@ fn refusals(rt: HostRuntime) -> Result<(), Fail> {
 }
 
 #[test]
-fn parts(rt: HostRuntime) -> Result<(), Fail> {
+fn words(rt: HostRuntime) -> Result<(), Fail> {
     let word = Addr::new(28).map_or(Word::null(), |addr| Word::of(addr, true));
     let marked = WordText::new(word, 16);
     let clear = WordText::new(word.with_nmt(false), 16);
     let null = WordText::new(Word::null(), 16);
     let words = format!(in rt.alloc(); "{marked} {clear} {null}")?;
     assert_eq!(rt; words.as_str(), "1.12/1 1.12/0 -");
+    Ok(())
+}
+
+#[test]
+fn buffers_and_frames(rt: HostRuntime) -> Result<(), Fail> {
     let buffer = BufferText(Some(Buffer {
         page: 1,
         next: 15,
@@ -154,8 +159,8 @@ fn parts(rt: HostRuntime) -> Result<(), Fail> {
     let none = BufferText(None);
     let frame = FrameText(Some(0));
     let no_frame = FrameText(None);
-    let buffers = format!(in rt.alloc(); "{buffer} {none} {frame} {no_frame}")?;
-    assert_eq!(rt; buffers.as_str(), "1.15-16 - 0 -");
+    let shown = format!(in rt.alloc(); "{buffer} {none} {frame} {no_frame}")?;
+    assert_eq!(rt; shown.as_str(), "1.15-16 - 0 -");
     Ok(())
 }
 
