@@ -33,7 +33,7 @@ impl fmt::Display for WordText {
 
     fn fmt<W: fmt::Write>(&self, f: &mut fmt::Formatter<W>) -> fmt::Result {
         match self.word.addr() {
-            None => write!(f, "-"),
+            None => f.write_str("-"),
             Some(addr) => {
                 let number = addr.number();
                 let page = number / u64::from(self.page_words);
@@ -60,11 +60,11 @@ impl fmt::Display for PhaseText {
 
     fn fmt<W: fmt::Write>(&self, f: &mut fmt::Formatter<W>) -> fmt::Result {
         match self.0 {
-            Phase::Idle => write!(f, "idle"),
-            Phase::MarkCrossing => write!(f, "mark-crossing"),
-            Phase::Scanning => write!(f, "scanning"),
-            Phase::ProtectCrossing => write!(f, "protect-crossing"),
-            Phase::Relocating => write!(f, "relocating"),
+            Phase::Idle => f.write_str("idle"),
+            Phase::MarkCrossing => f.write_str("mark-crossing"),
+            Phase::Scanning => f.write_str("scanning"),
+            Phase::ProtectCrossing => f.write_str("protect-crossing"),
+            Phase::Relocating => f.write_str("relocating"),
         }
     }
 }
@@ -81,11 +81,11 @@ impl fmt::Display for PageStateText {
 
     fn fmt<W: fmt::Write>(&self, f: &mut fmt::Formatter<W>) -> fmt::Result {
         match self.0 {
-            PageState::Unused => write!(f, "unused"),
-            PageState::Open => write!(f, "open"),
-            PageState::Closed => write!(f, "closed"),
-            PageState::From => write!(f, "from"),
-            PageState::Gone => write!(f, "gone"),
+            PageState::Unused => f.write_str("unused"),
+            PageState::Open => f.write_str("open"),
+            PageState::Closed => f.write_str("closed"),
+            PageState::From => f.write_str("from"),
+            PageState::Gone => f.write_str("gone"),
         }
     }
 }
@@ -102,7 +102,7 @@ impl fmt::Display for FrameText {
 
     fn fmt<W: fmt::Write>(&self, f: &mut fmt::Formatter<W>) -> fmt::Result {
         match self.0 {
-            None => write!(f, "-"),
+            None => f.write_str("-"),
             Some(frame) => write!(f, "{frame}"),
         }
     }
@@ -120,7 +120,7 @@ impl fmt::Display for BufferText {
 
     fn fmt<W: fmt::Write>(&self, f: &mut fmt::Formatter<W>) -> fmt::Result {
         match self.0 {
-            None => write!(f, "-"),
+            None => f.write_str("-"),
             Some(Buffer { page, next, end }) => write!(f, "{page}.{next}-{end}"),
         }
     }

@@ -1,8 +1,10 @@
 //! The first state of a heap, through its readers.
 
-use heap::{Config, Heap, Rows, Thread};
+use crate::configs::sizes;
+use crate::rows::has_counts;
+use heap::{Config, Heap, Thread};
 use layout::{Layout, Layouts};
-use model::{PageState, Phase};
+use model::{Page, PageState, Phase};
 use page::Store;
 use refword::Word;
 use std::alloc::{AllocError, Global};
@@ -26,27 +28,19 @@ fn mixed(alloc: Global) -> Result<Config, AllocError> {
     })
 }
 
+fn is_unused(rt: &impl Abort, page: Page) {
+    assert_eq!(rt; page.state, PageState::Unused);
+    assert_eq!(rt; (page.frame, page.top), (None, 0));
+}
+
 /// All pages are unused and all frames free; there are twice as many records as frames.
 fn has_pages(rt: &impl Abort, store: &Store) {
     assert_eq!(rt; (store.page_words(), store.page_count()), (32, 8));
     assert_eq!(rt; (store.frame_count(), store.free_frames()), (3, 3));
     assert_eq!(rt; store.pages().len(), 6);
     for page in store.pages() {
-        assert_eq!(rt; page.state, PageState::Unused);
-        assert_eq!(rt; (page.frame, page.top), (None, 0));
+        is_unused(rt, *page);
     }
-}
-
-/// A row for each record, and no bit is set.
-fn has_clear_rows(rt: &impl Abort, rows: &Rows) {
-    for index in 0..6 {
-        assert_eq!(rt;
-            rows.get(index).map(heap::Row::count),
-            Some(0),
-            "in row {index}"
-        );
-    }
-    assert!(rt; rows.get(6).is_none());
 }
 
 /// No register names anything; the thread has no buffer and no barrier, and runs.
@@ -87,31 +81,40 @@ fn has_collector(rt: &impl Abort, heap: &Heap) {
 
 /// The configuration is the one that the heap was made of.
 fn has_config(rt: &impl Abort, config: &Config) {
-    assert_eq!(rt; (config.words, config.frames, config.pages), (32, 3, 8));
-    assert_eq!(rt; (config.threads, config.workers), (2, 4));
-    assert_eq!(rt; (config.registers, config.globals), (5, 7));
+    assert_eq!(rt; sizes(config), [32, 3, 8, 2, 4, 5, 7]);
     assert_eq!(rt; (config.births, config.history), (100, 200));
     assert_eq!(rt; config.layouts.len(), 2);
 }
 
-#[test]
-fn pages_of_a_new_heap(rt: HostRuntime) -> Result<(), Fail> {
-    let heap = Heap::new(rt.alloc(), mixed(rt.alloc())?)?;
-    has_pages(&rt, heap.store());
-    has_clear_rows(&rt, heap.starts());
-    has_clear_rows(&rt, heap.live());
-    has_clear_rows(&rt, heap.mark());
-    has_clear_rows(&rt, heap.todo());
-    Ok(())
+/// A row for each record of a page, and no bit is set.
+fn has_clear_rows(rt: &impl Abort, heap: &Heap) {
+    let counts = [0; 6];
+    has_counts(rt, heap.starts(), &counts);
+    has_counts(rt, heap.live(), &counts);
+    has_counts(rt, heap.mark(), &counts);
+    has_counts(rt, heap.todo(), &counts);
+}
+
+/// Its pages, frames and rows of bits.
+fn has_first_pages(rt: &impl Abort, heap: &Heap) {
+    has_pages(rt, heap.store());
+    has_clear_rows(rt, heap);
+}
+
+/// Its configuration, threads, workers and globals.
+fn has_first_records(rt: &impl Abort, heap: &Heap) {
+    has_config(rt, heap.config());
+    has_threads(rt, heap.threads());
+    has_workers(rt, heap);
+    has_globals(rt, heap);
+    has_collector(rt, heap);
 }
 
 #[test]
-fn records_of_a_new_heap(rt: HostRuntime) -> Result<(), Fail> {
-    let heap = Heap::new(rt.alloc(), mixed(rt.alloc())?)?;
-    has_config(&rt, heap.config());
-    has_threads(&rt, heap.threads());
-    has_workers(&rt, &heap);
-    has_globals(&rt, &heap);
-    has_collector(&rt, &heap);
+fn a_new_heap(rt: HostRuntime) -> Result<(), Fail> {
+    let config = mixed(rt.alloc())?;
+    let heap = Heap::new(rt.alloc(), config)?;
+    has_first_pages(&rt, &heap);
+    has_first_records(&rt, &heap);
     Ok(())
 }

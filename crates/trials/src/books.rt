@@ -1,8 +1,8 @@
 //! Books of the steps that a heap accepted.
 
-use crate::samples::small;
-use cycle::{Actor, Answer, Book, Step, run};
-use heap::{NewFault, Refusal};
+use crate::samples::{small, small_book};
+use cycle::{Actor, Answer, Book, Entry, Step, run};
+use heap::{Config, ConfigFault, NewFault, Refusal};
 use std::alloc::{AllocError, Global};
 use std::process::Abort;
 use std::test::Fail;
@@ -10,8 +10,11 @@ use std::test::Fail;
 /// What a step is answered.
 type Reply = Result<Answer, Refusal>;
 
-/// A thread, its step, and the reply that it has to have.
-type Row = (u32, Step, Reply);
+/// An actor, its step, and the reply that it has to have.
+type Row = (Actor, Step, Reply);
+
+const FIRST: Actor = Actor::Thread(0);
+const SECOND: Actor = Actor::Thread(1);
 
 /// An object of the one layout.
 fn new(target: u32) -> Step {
@@ -20,18 +23,18 @@ fn new(target: u32) -> Step {
 
 /// Does the step of each row, and compares the reply.
 fn play(rt: &impl Abort, book: &mut Book, rows: Vec<Row>) {
-    for (thread, step, reply) in rows {
-        let told = book.act(Actor::Thread(thread), step);
+    for (actor, step, reply) in rows {
+        let told = book.act(actor, step);
         assert_eq!(rt; told, reply);
     }
 }
 
 fn page_of_objects(alloc: Global) -> Result<Vec<Row>, AllocError> {
     Ok(vec![in alloc;
-        (0, Step::Take(4), Ok(Answer::Lent { page: 1, offset: 0 })),
-        (0, new(0), Ok(Answer::Birth(0))),
+        (FIRST, Step::Take(4), Ok(Answer::Lent { page: 1, offset: 0 })),
+        (FIRST, new(0), Ok(Answer::Birth(0))),
         (
-            0,
+            FIRST,
             Step::SetDatum {
                 object: 0,
                 index: 1,
@@ -40,22 +43,29 @@ fn page_of_objects(alloc: Global) -> Result<Vec<Row>, AllocError> {
             Ok(Answer::Done)
         ),
         (
-            0,
+            FIRST,
             Step::Datum {
                 object: 0,
                 index: 1
             },
             Ok(Answer::Datum(9))
         ),
-        (0, new(1), Err(Refusal::NoRoom)),
-        (0, Step::GiveBack, Ok(Answer::Done)),
+        (FIRST, new(1), Err(Refusal::NoRoom)),
+        (FIRST, Step::GiveBack, Ok(Answer::Done)),
         (
-            0,
+            FIRST,
             Step::Take(13),
             Err(Refusal::NoFrames { need: 1, free: 0 })
         ),
-        (0, Step::Take(12), Ok(Answer::Lent { page: 1, offset: 4 })),
+        (FIRST, Step::Take(12), Ok(Answer::Lent { page: 1, offset: 4 })),
     ]?)
+}
+
+/// The last entry is that of the second buffer.
+fn is_last(rt: &impl Abort, last: &Entry) {
+    assert_eq!(rt; last.actor, FIRST);
+    assert!(rt; matches!(&last.step, Step::Take(12)));
+    assert_eq!(rt; last.answer, Answer::Lent { page: 1, offset: 4 });
 }
 
 fn filled(rt: &impl Abort, book: &mut Book, rows: Vec<Row>) {
@@ -64,19 +74,14 @@ fn filled(rt: &impl Abort, book: &mut Book, rows: Vec<Row>) {
     assert_eq!(rt; book.heap().births(), 1);
     match book.history().last() {
         None => assert!(rt; false),
-        Some(last) => {
-            assert_eq!(rt; last.actor, Actor::Thread(0));
-            assert!(rt; matches!(&last.step, Step::Take(12)));
-            assert_eq!(rt; last.answer, Answer::Lent { page: 1, offset: 4 });
-        }
+        Some(last) => is_last(rt, last),
     }
 }
 
 #[test]
 fn a_page_is_filled(rt: HostRuntime) -> Result<(), Fail> {
     let rows = page_of_objects(rt.alloc())?;
-    let config = small(rt.alloc())?;
-    let mut book = Book::new(rt.alloc(), config)?;
+    let mut book = small_book(rt.alloc())?;
     filled(&rt, &mut book, rows);
     Ok(())
 }
@@ -85,70 +90,64 @@ fn a_page_is_filled(rt: HostRuntime) -> Result<(), Fail> {
 fn parted(alloc: Global, rows: Vec<Row>) -> Result<(Vec<(Actor, Step)>, Vec<Reply>), Fail> {
     let mut steps = Vec::new(alloc);
     let mut replies = Vec::new(alloc);
-    for (thread, step, reply) in rows {
-        steps.push((Actor::Thread(thread), step))?;
+    for (actor, step, reply) in rows {
+        steps.push((actor, step))?;
         replies.push(reply)?;
     }
     Ok((steps, replies))
 }
 
-fn replied(
-    rt: &impl Abort,
-    alloc: Global,
-    book: &mut Book,
-    steps: Vec<(Actor, Step)>,
-    wanted: &[Reply],
-) -> Result<(), Fail> {
+fn replied(rt: &impl Abort, alloc: Global, book: &mut Book, rows: Vec<Row>) -> Result<(), Fail> {
+    let (steps, wanted) = parted(alloc, rows)?;
     let replies = run(alloc, book, steps)?;
-    assert_eq!(rt; replies.as_slice(), wanted);
+    assert_eq!(rt; replies.as_slice(), wanted.as_slice());
     assert_eq!(rt; book.history().len(), 6);
     Ok(())
 }
 
 #[test]
 fn a_run_replies_in_order(rt: HostRuntime) -> Result<(), Fail> {
-    let (steps, wanted) = parted(rt.alloc(), page_of_objects(rt.alloc())?)?;
-    let config = small(rt.alloc())?;
-    let mut book = Book::new(rt.alloc(), config)?;
-    replied(&rt, rt.alloc(), &mut book, steps, &wanted)
+    let rows = page_of_objects(rt.alloc())?;
+    let mut book = small_book(rt.alloc())?;
+    replied(&rt, rt.alloc(), &mut book, rows)
 }
 
-/// Does the steps, all of which are accepted.
-fn accepted(alloc: Global, book: &mut Book, steps: Vec<(Actor, Step)>) -> Result<(), Fail> {
+/// The steps of the rows that are to be accepted.
+fn accepted_steps(alloc: Global, rows: Vec<Row>) -> Result<Vec<(Actor, Step)>, Fail> {
+    let mut steps = Vec::new(alloc);
+    for (actor, step, reply) in rows {
+        if reply.is_ok() {
+            steps.push((actor, step))?;
+        }
+    }
+    Ok(steps)
+}
+
+/// Does the steps of those rows, all of which are accepted.
+fn accepted(alloc: Global, book: &mut Book, rows: Vec<Row>) -> Result<(), Fail> {
+    let steps = accepted_steps(alloc, rows)?;
     for reply in run(alloc, book, steps)? {
         reply?;
     }
     Ok(())
 }
 
-/// The steps of the rows that are to be accepted.
-fn accepted_steps(alloc: Global, rows: Vec<Row>) -> Result<Vec<(Actor, Step)>, Fail> {
-    let mut steps = Vec::new(alloc);
-    for (thread, step, reply) in rows {
-        if reply.is_ok() {
-            steps.push((Actor::Thread(thread), step))?;
-        }
-    }
-    Ok(steps)
-}
-
 #[test]
 fn a_run_is_accepted(rt: HostRuntime) -> Result<(), Fail> {
-    let steps = accepted_steps(rt.alloc(), page_of_objects(rt.alloc())?)?;
-    let config = small(rt.alloc())?;
-    let mut book = Book::new(rt.alloc(), config)?;
-    accepted(rt.alloc(), &mut book, steps)
+    let rows = page_of_objects(rt.alloc())?;
+    let mut book = small_book(rt.alloc())?;
+    accepted(rt.alloc(), &mut book, rows)
 }
 
 /// Steps of which an actor or a number names nothing, on a heap with two registers and one layout.
 fn bad_steps(alloc: Global) -> Result<Vec<Row>, AllocError> {
     Ok(vec![in alloc;
-        (1, Step::Take(0), Err(Refusal::NoActor)),
-        (0, Step::StartMark, Err(Refusal::NoActor)),
-        (0, Step::Take(0), Err(Refusal::BadIndex)),
-        (0, Step::Take(17), Err(Refusal::BadIndex)),
+        (SECOND, Step::Take(0), Err(Refusal::NoActor)),
+        (FIRST, Step::StartMark, Err(Refusal::NoActor)),
+        (FIRST, Step::Take(0), Err(Refusal::BadIndex)),
+        (FIRST, Step::Take(17), Err(Refusal::BadIndex)),
         (
-            0,
+            FIRST,
             Step::New {
                 target: 0,
                 layout: 1
@@ -156,71 +155,78 @@ fn bad_steps(alloc: Global) -> Result<Vec<Row>, AllocError> {
             Err(Refusal::BadIndex)
         ),
         (
-            0,
+            FIRST,
             Step::LoadGlobal {
                 target: 0,
                 global: 0
             },
             Err(Refusal::BadIndex)
         ),
-        (0, Step::Same { left: 0, right: 2 }, Err(Refusal::BadIndex)),
-        (0, Step::Scrub(2), Err(Refusal::BadIndex)),
+        (FIRST, Step::Same { left: 0, right: 2 }, Err(Refusal::BadIndex)),
+        (FIRST, Step::Scrub(2), Err(Refusal::BadIndex)),
+        (Actor::Worker(0), Step::GiveBack, Err(Refusal::NoActor)),
     ]?)
 }
 
-fn refused(rt: &impl Abort, book: &mut Book, rows: Vec<Row>) {
-    play(rt, book, rows);
-    assert_eq!(rt;
-        book.act(Actor::Worker(0), Step::GiveBack),
-        Err(Refusal::NoActor)
-    );
-    assert_eq!(rt; book.history().len(), 0);
+/// Does the steps of the rows on a new book, which has so many entries then.
+fn plays(
+    rt: &impl Abort,
+    alloc: Global,
+    config: Config,
+    rows: Vec<Row>,
+    entries: usize,
+) -> Result<(), NewFault> {
+    let mut book = Book::new(alloc, config)?;
+    play(rt, &mut book, rows);
+    assert_eq!(rt; book.history().len(), entries);
+    Ok(())
 }
 
 #[test]
 fn numbers_that_name_nothing(rt: HostRuntime) -> Result<(), Fail> {
     let rows = bad_steps(rt.alloc())?;
-    let config = small(rt.alloc())?;
-    let mut book = Book::new(rt.alloc(), config)?;
-    refused(&rt, &mut book, rows);
+    plays(&rt, rt.alloc(), small(rt.alloc())?, rows, 0)?;
     Ok(())
+}
+
+/// One birth, and three entries.
+fn limits(alloc: Global) -> Result<Config, AllocError> {
+    let mut config = small(alloc)?;
+    config.births = 1;
+    config.history = 3;
+    Ok(config)
 }
 
 fn limit_rows(alloc: Global) -> Result<Vec<Row>, AllocError> {
     Ok(vec![in alloc;
-        (0, Step::Take(16), Ok(Answer::Lent { page: 1, offset: 0 })),
-        (0, new(0), Ok(Answer::Birth(0))),
-        (0, new(1), Err(Refusal::Births)),
-        (0, Step::IsNull(1), Ok(Answer::Truth(true))),
-        (0, Step::IsNull(1), Err(Refusal::HistoryFull)),
-        (1, Step::IsNull(1), Err(Refusal::HistoryFull)),
+        (FIRST, Step::Take(16), Ok(Answer::Lent { page: 1, offset: 0 })),
+        (FIRST, new(0), Ok(Answer::Birth(0))),
+        (FIRST, new(1), Err(Refusal::Births)),
+        (FIRST, Step::IsNull(1), Ok(Answer::Truth(true))),
+        (FIRST, Step::IsNull(1), Err(Refusal::HistoryFull)),
+        (SECOND, Step::IsNull(1), Err(Refusal::HistoryFull)),
     ]?)
-}
-
-fn limited(rt: &impl Abort, book: &mut Book, rows: Vec<Row>) {
-    play(rt, book, rows);
-    assert_eq!(rt; book.history().len(), 3);
 }
 
 #[test]
 fn limits_are_kept(rt: HostRuntime) -> Result<(), Fail> {
     let rows = limit_rows(rt.alloc())?;
-    let mut config = small(rt.alloc())?;
-    config.births = 1;
-    config.history = 3;
-    let mut book = Book::new(rt.alloc(), config)?;
-    limited(&rt, &mut book, rows);
+    plays(&rt, rt.alloc(), limits(rt.alloc())?, rows, 3)?;
     Ok(())
+}
+
+/// The field for which no book can be made.
+fn told(alloc: Global, config: Config) -> Option<ConfigFault> {
+    match Book::new(alloc, config).err() {
+        Some(NewFault::Config(fault)) => Some(fault),
+        _ => None,
+    }
 }
 
 #[test]
 fn a_fault_is_told(rt: HostRuntime) -> Result<(), Fail> {
     let mut config = small(rt.alloc())?;
     config.registers = 17;
-    let told = match Book::new(rt.alloc(), config) {
-        Err(NewFault::Config(fault)) => Some(fault),
-        _ => None,
-    };
-    assert_eq!(rt; told, Some(heap::ConfigFault::Registers));
+    assert_eq!(rt; told(rt.alloc(), config), Some(ConfigFault::Registers));
     Ok(())
 }

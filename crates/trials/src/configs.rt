@@ -3,6 +3,7 @@
 use layout::{Layout, Layouts};
 use model::{Config, ConfigFault, PageList};
 use std::alloc::{AllocError, Global};
+use std::process::Abort;
 use std::test::Fail;
 
 fn small(alloc: Global) -> Result<Config, AllocError> {
@@ -21,47 +22,78 @@ fn small(alloc: Global) -> Result<Config, AllocError> {
     })
 }
 
+fn has_fault(rt: &impl Abort, config: &Config, fault: Option<ConfigFault>) {
+    assert_eq!(rt; config.fault(), fault);
+}
+
+/// Spoils one number after another, each of which is looked at before those behind it.
+fn spoil(rt: &impl Abort, config: &mut Config, layouts: Layouts) {
+    has_fault(rt, config, None);
+    config.history = 1_000_001;
+    has_fault(rt, config, Some(ConfigFault::History));
+    config.layouts = layouts;
+    has_fault(rt, config, Some(ConfigFault::Layouts));
+    config.pages = 2;
+    has_fault(rt, config, Some(ConfigFault::Pages));
+    config.words = 24;
+    has_fault(rt, config, Some(ConfigFault::Words));
+}
+
 #[test]
 fn the_first_fault_is_told(rt: HostRuntime) -> Result<(), Fail> {
+    let large = vec![in rt.alloc(); Layout { refs: 1, nums: 15 }]?;
     let mut config = small(rt.alloc())?;
-    assert_eq!(rt; config.fault(), None);
-    config.history = 1_000_001;
-    assert_eq!(rt; config.fault(), Some(ConfigFault::History));
-    let layouts = vec![in rt.alloc(); Layout { refs: 1, nums: 15 }]?;
-    config.layouts = Layouts::new(layouts);
-    assert_eq!(rt; config.fault(), Some(ConfigFault::Layouts));
-    config.pages = 2;
-    assert_eq!(rt; config.fault(), Some(ConfigFault::Pages));
-    config.words = 24;
-    assert_eq!(rt; config.fault(), Some(ConfigFault::Words));
+    spoil(&rt, &mut config, Layouts::new(large));
+    Ok(())
+}
+
+#[test]
+fn the_text_of_a_fault(rt: HostRuntime) -> Result<(), Fail> {
     let text = format!(in rt.alloc(); "{}", ConfigFault::Words)?;
     assert_eq!(rt; text.as_str(), "words out of range");
     Ok(())
+}
+
+/// The numbers that are no counts of births or entries.
+pub fn sizes(config: &Config) -> [u32; 7] {
+    [
+        config.words,
+        config.frames,
+        config.pages,
+        config.threads,
+        config.workers,
+        config.registers,
+        config.globals,
+    ]
+}
+
+/// The limits of births and entries are the highest.
+fn has_highest_limits(rt: &impl Abort, config: &Config) {
+    assert_eq!(rt; (config.births, config.history), (1 << 32, 1_000_000));
 }
 
 #[test]
 fn the_usual_values(rt: HostRuntime) -> Result<(), Fail> {
     let layouts = vec![in rt.alloc(); Layout { refs: 1, nums: 14 }]?;
     let config = Config::new(16, 3, Layouts::new(layouts));
-    assert_eq!(rt; (config.words, config.frames, config.pages), (16, 3, 6));
-    assert_eq!(rt; (config.threads, config.workers), (1, 1));
-    assert_eq!(rt; (config.registers, config.globals), (16, 64));
-    assert_eq!(rt; (config.births, config.history), (1 << 32, 1_000_000));
-    assert_eq!(rt; (config.layouts.len(), config.fault()), (1, None));
+    assert_eq!(rt; sizes(&config), [16, 3, 6, 1, 1, 16, 64]);
+    assert_eq!(rt; config.layouts.len(), 1);
+    has_highest_limits(&rt, &config);
+    has_fault(&rt, &config, None);
     Ok(())
+}
+
+fn is_copy(rt: &impl Abort, copy: &Config, config: &Config) {
+    assert_eq!(rt; sizes(copy), [16, 3, 8, 2, 1, 4, 0]);
+    assert_eq!(rt; copy.layouts.as_slice(), config.layouts.as_slice());
+    has_highest_limits(rt, copy);
 }
 
 #[test]
 fn a_copy_has_the_same_values(rt: HostRuntime) -> Result<(), Fail> {
     let config = small(rt.alloc())?;
     let copy = config.copy(rt.alloc())?;
-    assert_eq!(rt;
-        (copy.words, copy.frames, copy.pages, copy.threads),
-        (16, 3, 8, 2)
-    );
-    assert_eq!(rt; (copy.workers, copy.registers, copy.globals), (1, 4, 0));
-    assert_eq!(rt; copy.layouts.as_slice(), config.layouts.as_slice());
-    assert_eq!(rt; (copy.births, copy.history), (1 << 32, 1_000_000));
+    is_copy(&rt, &copy, &config);
     Ok(())
 }
 

@@ -4,6 +4,7 @@ use crate::samples::small;
 use heap::{Config, ConfigFault, Heap, NewFault};
 use layout::{Layout, Layouts};
 use std::alloc::{AllocError, Global};
+use std::process::Abort;
 use std::test::Fail;
 
 /// All faults, in the order in which they are told.
@@ -46,17 +47,22 @@ fn told(alloc: Global, config: Config) -> Option<ConfigFault> {
     }
 }
 
+/// The fault is told, and before one of the history.
+fn is_told(rt: &impl Abort, alloc: Global, fault: ConfigFault) -> Result<(), AllocError> {
+    let mut config = small(alloc)?;
+    spoil(alloc, &mut config, fault)?;
+    assert_eq!(rt; told(alloc, config), Some(fault));
+    let mut config = small(alloc)?;
+    spoil(alloc, &mut config, ConfigFault::History)?;
+    spoil(alloc, &mut config, fault)?;
+    assert_eq!(rt; told(alloc, config), Some(fault), "before the history");
+    Ok(())
+}
+
 #[test]
 fn the_first_fault_is_told(rt: HostRuntime) -> Result<(), Fail> {
-    let alloc = rt.alloc();
     for fault in FAULTS {
-        let mut config = small(alloc)?;
-        spoil(alloc, &mut config, fault)?;
-        assert_eq!(rt; told(alloc, config), Some(fault));
-        let mut config = small(alloc)?;
-        spoil(alloc, &mut config, ConfigFault::History)?;
-        spoil(alloc, &mut config, fault)?;
-        assert_eq!(rt; told(alloc, config), Some(fault), "before the history");
+        is_told(&rt, rt.alloc(), fault)?;
     }
     Ok(())
 }

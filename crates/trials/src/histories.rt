@@ -1,6 +1,6 @@
 //! A history that is filled to the highest limit.
 
-use crate::samples::small;
+use crate::samples::small_book;
 use cycle::{Actor, Answer, Book, Step};
 use heap::Refusal;
 use std::process::Abort;
@@ -19,8 +19,7 @@ fn fill(rt: &impl Abort, book: &mut Book) {
 
 #[test]
 fn a_million_steps(rt: HostRuntime) -> Result<(), Fail> {
-    let config = small(rt.alloc())?;
-    let mut book = Book::new(rt.alloc(), config)?;
+    let mut book = small_book(rt.alloc())?;
     fill(&rt, &mut book);
     Ok(())
 }

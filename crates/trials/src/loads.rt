@@ -4,6 +4,7 @@ use crate::samples::linked;
 use cycle::Book;
 use model::{Actor, Answer, Refusal, Step};
 use std::alloc::Global;
+use std::process::Abort;
 use std::test::Fail;
 
 const THREAD: Actor = Actor::Thread(0);
@@ -38,19 +39,23 @@ fn load(
     book.whole_load(THREAD, load, replies)
 }
 
-/// A load from register 0, and one from register 1 before that, which is null then.
-fn try_loads(
-    book: &mut Book,
-    replies: &mut Vec<Result<Answer, Refusal>>,
-) -> (
-    Result<(), Refusal>,
-    Result<(), Refusal>,
-    Result<(), Refusal>,
-) {
-    let made = make(book);
-    let refused = load(book, 1, replies);
-    let loaded = load(book, 0, replies);
-    (made, refused, loaded)
+/// A load from register 1, which is null then, and one from register 0 into it.
+fn try_loads(rt: &impl Abort, book: &mut Book, replies: &mut Vec<Result<Answer, Refusal>>) {
+    assert_eq!(rt; make(book), Ok(()));
+    assert_eq!(rt; load(book, 1, replies), Err(Refusal::Null));
+    assert_eq!(rt; load(book, 0, replies), Ok(()));
+    assert_eq!(rt; book.heap().register(0, 1), book.heap().register(0, 0));
+}
+
+/// What the steps of both loads said.
+fn have_replied(rt: &impl Abort, replies: &[Result<Answer, Refusal>]) {
+    let wanted = [
+        Err(Refusal::Null),
+        Ok(Answer::Loaded),
+        Ok(Answer::Clear),
+        Ok(Answer::Done),
+    ];
+    assert_eq!(rt; replies, wanted.as_slice());
 }
 
 #[test]
@@ -58,20 +63,7 @@ fn a_whole_load(rt: HostRuntime) -> Result<(), Fail> {
     let alloc: Global = rt.alloc();
     let mut book = Book::new(alloc, linked(alloc)?)?;
     let mut replies = Vec::new(alloc);
-    let (made, refused, loaded) = try_loads(&mut book, &mut replies);
-    assert_eq!(rt; made, Ok(()));
-    assert_eq!(rt; refused, Err(Refusal::Null));
-    assert_eq!(rt; loaded, Ok(()));
-    assert_eq!(rt; book.heap().register(0, 1), book.heap().register(0, 0));
-    assert_eq!(rt;
-        replies.as_slice(),
-        [
-            Err(Refusal::Null),
-            Ok(Answer::Loaded),
-            Ok(Answer::Clear),
-            Ok(Answer::Done),
-        ]
-        .as_slice()
-    );
+    try_loads(&rt, &mut book, &mut replies);
+    have_replied(&rt, &replies);
     Ok(())
 }

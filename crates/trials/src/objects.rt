@@ -1,6 +1,7 @@
 //! Layouts of objects, their headers and parts.
 
 use layout::{Header, Layout, Layouts, split, split_header, split_parts};
+use std::process::Abort;
 use std::test::Fail;
 
 #[test]
@@ -14,6 +15,13 @@ fn bits_of_a_header(rt: HostRuntime) {
     assert_eq!(rt; Header::read(1 << 40), None);
 }
 
+/// Two layouts, of which the second is this one.
+fn has_two(rt: &impl Abort, table: &Layouts, second: Layout) {
+    assert_eq!(rt; (table.len(), table.is_empty()), (2, false));
+    assert_eq!(rt; (table.get(1), table.get(2)), (Some(second), None));
+    assert_eq!(rt; table.as_slice().len(), 2);
+}
+
 #[test]
 fn a_table_of_two(rt: HostRuntime) -> Result<(), Fail> {
     let small = Layout { refs: 0, nums: 0 };
@@ -22,11 +30,8 @@ fn a_table_of_two(rt: HostRuntime) -> Result<(), Fail> {
         nums: 255,
     };
     assert_eq!(rt; (small.size(), large.size()), (1, 511));
-    let layouts = vec![in rt.alloc(); small, large]?;
-    let table = Layouts::new(layouts);
-    assert_eq!(rt; (table.len(), table.is_empty()), (2, false));
-    assert_eq!(rt; (table.get(1), table.get(2)), (Some(large), None));
-    assert_eq!(rt; table.as_slice().len(), 2);
+    let table = Layouts::new(vec![in rt.alloc(); small, large]?);
+    has_two(&rt, &table, large);
     assert_eq!(rt; table.into_vec().len(), 2);
     Ok(())
 }

@@ -57,27 +57,35 @@ fn has_two_open(rt: &impl Abort, store: &Store) {
     }
 }
 
+/// Buffers go into the lowest page that has room, until no frame is free.
+fn takes_lowest(rt: &impl Abort, store: &mut Store) -> Result<(), Room> {
+    let rows = [(10, 1, 0), (7, 2, 0), (6, 1, 10), (9, 2, 7)];
+    is_new(rt, store);
+    takes(rt, store, &rows)?;
+    is_full(rt, store, Room::NoFrames, 0);
+    has_two_open(rt, store);
+    Ok(())
+}
+
 #[test]
 fn takes_in_the_lowest_page(rt: HostRuntime) -> Result<(), Fail> {
     let mut store = Store::new(rt.alloc(), 16, 2, 8)?;
-    is_new(&rt, &store);
-    takes(
-        &rt,
-        &mut store,
-        &[(10, 1, 0), (7, 2, 0), (6, 1, 10), (9, 2, 7)],
-    )?;
-    is_full(&rt, &mut store, Room::NoFrames, 0);
-    has_two_open(&rt, &store);
+    takes_lowest(&rt, &mut store)?;
+    Ok(())
+}
+
+fn gives_back(rt: &impl Abort, store: &mut Store) -> Result<(), Room> {
+    let buffer = take(rt, store, 9)?;
+    store.give_back(buffer);
+    takes(rt, store, &[(7, 1, 9)])?;
+    is_full(rt, store, Room::NoFrames, 0);
     Ok(())
 }
 
 #[test]
 fn what_is_given_back_is_lost(rt: HostRuntime) -> Result<(), Fail> {
     let mut store = Store::new(rt.alloc(), 16, 1, 1)?;
-    let buffer = take(&rt, &mut store, 9)?;
-    store.give_back(buffer);
-    takes(&rt, &mut store, &[(7, 1, 9)])?;
-    is_full(&rt, &mut store, Room::NoFrames, 0);
+    gives_back(&rt, &mut store)?;
     Ok(())
 }
 
@@ -99,12 +107,17 @@ fn takes_in_each(rt: &impl Abort, store: &mut Store, n: u32, next: u32) -> Resul
 
 /// Each first buffer leaves one word, so that the next needs a page of its own; then the words
 /// that were left are given out from the lowest page on.
+fn fills_pages(rt: &impl Abort, store: &mut Store) -> Result<(), Room> {
+    takes_in_each(rt, store, 15, 0)?;
+    takes_in_each(rt, store, 1, 15)?;
+    is_full(rt, store, Room::NoFrames, 0);
+    Ok(())
+}
+
 #[test]
 fn fills_many_pages(rt: HostRuntime) -> Result<(), Fail> {
     let mut store = Store::new(rt.alloc(), 16, 300, 700)?;
-    takes_in_each(&rt, &mut store, 15, 0)?;
-    takes_in_each(&rt, &mut store, 1, 15)?;
-    is_full(&rt, &mut store, Room::NoFrames, 0);
+    fills_pages(&rt, &mut store)?;
     Ok(())
 }
 
@@ -142,10 +155,14 @@ fn writes(rt: &impl Abort, store: &mut Store) -> Result<(), Room> {
     Ok(())
 }
 
-/// The words of page 1, and words by their addresses.
+/// The words of page 1.
 fn written(rt: &impl Abort, store: &Store) {
     let wanted = [7, 8, 7, 9, 9, 0, 0, 0, 0, 0, 0, 0, 0, 0, 0, 0];
     assert_eq!(rt; store.words(1), Some(wanted.as_slice()));
+}
+
+/// Words by their addresses.
+fn has_words(rt: &impl Abort, store: &Store) {
     for (address, word) in [(15, None), (20, Some(9)), (21, Some(0)), (32, None)] {
         assert_eq!(rt; store.word(address), word, "at {address}");
     }
@@ -156,5 +173,6 @@ fn writes_where_a_buffer_is(rt: HostRuntime) -> Result<(), Fail> {
     let mut store = Store::new(rt.alloc(), 16, 2, 8)?;
     writes(&rt, &mut store)?;
     written(&rt, &store);
+    has_words(&rt, &store);
     Ok(())
 }

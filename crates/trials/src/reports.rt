@@ -1,6 +1,6 @@
 //! What runs of scripts write, and what a report says of a history that no script of today has.
 
-use crate::samples::small;
+use crate::samples::small_book;
 use cycle::{Actor, Answer, Book, Entry, Step};
 use script::{RunFault, by_schedule, parse, report};
 use std::alloc::Global;
@@ -85,7 +85,6 @@ fn tells_cycles(rt: &impl Abort, alloc: Global, book: &Book) -> Result<(), Fail>
 
 #[test]
 fn cycles(rt: HostRuntime) -> Result<(), Fail> {
-    let config = small(rt.alloc())?;
-    let book = Book::new(rt.alloc(), config)?;
+    let book = small_book(rt.alloc())?;
     tells_cycles(&rt, rt.alloc(), &book)
 }

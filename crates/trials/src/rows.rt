@@ -17,7 +17,7 @@ fn a_row_of_clear_bits(rt: HostRuntime) -> Result<(), Fail> {
 }
 
 /// How many bits are set in the first rows, and that there are no more.
-fn has_counts(rt: &impl Abort, rows: &Rows, counts: &[usize]) {
+pub fn has_counts(rt: &impl Abort, rows: &Rows, counts: &[usize]) {
     for (index, count) in counts.iter().enumerate() {
         assert_eq!(rt;
             rows.get(index).map(Row::count),

@@ -1,5 +1,7 @@
 //! What several tests begin with.
 
+use cycle::Book;
+use heap::NewFault;
 use layout::{Layout, Layouts};
 use model::Config;
 use std::alloc::{AllocError, Global};
@@ -19,6 +21,11 @@ pub fn small(alloc: Global) -> Result<Config, AllocError> {
         births: 1 << 32,
         history: 1_000_000,
     })
+}
+
+/// A new book of that configuration.
+pub fn small_book(alloc: Global) -> Result<Book, NewFault> {
+    Book::new(alloc, small(alloc)?)
 }
 
 /// One page of 16 words, one thread with 16 registers, and one layout of one reference.

@@ -3,8 +3,9 @@
 //! `rt try --test --fail-alloc N` refuses the Nth allocation of a test: `parse` then says that it
 //! is out of memory.
 
+use crate::configs::sizes;
 use layout::Layout;
-use model::Actor;
+use model::{Actor, Config};
 use parser::{Command, Order, ParseFault, Script, parse};
 use std::alloc::{AllocError, Global};
 use std::process::Abort;
@@ -19,12 +20,25 @@ fn parse_parts(alloc: Global, front: &str, rest: &str) -> Result<Script, ParseFa
     parse(alloc, text.as_bytes())
 }
 
-/// The text of the fault, or `none`.
-fn fault_text(alloc: Global, front: &str, rest: &str) -> Result<String, Fail> {
-    match parse_parts(alloc, front, rest) {
-        Ok(_) => Ok(String::from_str(alloc, "none")?),
-        Err(fault) => Ok(format!(in alloc; "{fault}")?),
+/// The text of what reading gave, which is `none` for a script.
+fn fault_text(alloc: Global, read: Result<Script, ParseFault>) -> Result<String, AllocError> {
+    match read {
+        Ok(_) => String::from_str(alloc, "none"),
+        Err(fault) => format!(in alloc; "{fault}"),
     }
+}
+
+/// The text in two parts has this fault, or `none`.
+fn has_fault(
+    rt: &impl Abort,
+    alloc: Global,
+    front: &str,
+    rest: &str,
+    fault: &str,
+) -> Result<(), Fail> {
+    let told = fault_text(alloc, parse_parts(alloc, front, rest))?;
+    assert_eq!(rt; told.as_str(), fault, "of {rest:?}");
+    Ok(())
 }
 
 /// The table of all faults is `tests/faults.txt`, which the built program is run on: a table here
@@ -36,11 +50,7 @@ fn faults(rt: HostRuntime) -> Result<(), Fail> {
         ("t0 take 01\n", "line 3 column 9: number expected"),
         ("times 3\nt0 give\n", "line 5 column 1: times without end"),
     ] {
-        assert_eq!(rt;
-            fault_text(rt.alloc(), HEAD, rest)?.as_str(),
-            fault,
-            "of {rest:?}"
-        );
+        has_fault(&rt, rt.alloc(), HEAD, rest, fault)?;
     }
     Ok(())
 }
@@ -106,8 +116,22 @@ fn steps_of_orders(rt: HostRuntime) -> Result<(), Fail> {
     ];
     let script = parse_parts(rt.alloc(), HEAD, rest)?;
     assert!(rt; has_steps(rt.alloc(), &script, &texts)?);
-    assert_eq!(rt; std::mem::size_of::<Command>(), 32);
     Ok(())
+}
+
+#[test]
+fn the_size_of_a_command(rt: HostRuntime) {
+    assert_eq!(rt; std::mem::size_of::<Command>(), 32);
+}
+
+/// The numbers of the head.
+fn has_numbers(rt: &impl Abort, config: &Config) {
+    assert_eq!(rt; sizes(config), [16, 1, 1, 1, 1, 2, 0]);
+    assert_eq!(rt; (config.births, config.history), (1 << 32, 1_000_000));
+}
+
+fn has_layouts(rt: &impl Abort, config: &Config, layouts: &[Layout]) {
+    assert_eq!(rt; config.layouts.as_slice(), layouts);
 }
 
 #[test]
@@ -115,17 +139,9 @@ fn a_configuration(rt: HostRuntime) -> Result<(), Fail> {
     let script = parse_parts(rt.alloc(), HEAD, "# layouts\nlayout 3 4\nt0 give\n")?;
     let (config, commands) = script.into_parts();
     assert_eq!(rt; commands.len(), 1);
-    assert_eq!(rt; (config.words, config.frames, config.pages), (16, 1, 1));
-    assert_eq!(rt;
-        (config.threads, config.workers, config.registers),
-        (1, 1, 2)
-    );
-    assert_eq!(rt;
-        (config.globals, config.births, config.history),
-        (0, 1 << 32, 1_000_000)
-    );
+    has_numbers(&rt, &config);
     let layouts = [Layout { refs: 0, nums: 2 }, Layout { refs: 3, nums: 4 }];
-    assert_eq!(rt; config.layouts.as_slice(), layouts.as_slice());
+    has_layouts(&rt, &config, &layouts);
     Ok(())
 }
 
@@ -171,46 +187,49 @@ fn newlines(alloc: Global, count: usize) -> Result<Vec<u8>, Fail> {
     Ok(bytes)
 }
 
-#[test]
-fn limits(rt: HostRuntime) -> Result<(), Fail> {
-    for (count, fault) in [
-        (4_194_305, "script too long"),
-        (4_194_304, "line 4194305 column 1: heap line expected"),
-    ] {
-        let bytes = newlines(rt.alloc(), count)?;
-        match parse(rt.alloc(), &bytes) {
-            Ok(_) => assert!(rt; false),
-            Err(found) => assert_eq!(rt; format!(in rt.alloc(); "{found}")?.as_str(), fault),
-        }
-    }
+/// So many newlines have this fault.
+fn newlines_have(rt: &impl Abort, alloc: Global, count: usize, fault: &str) -> Result<(), Fail> {
+    let bytes = newlines(alloc, count)?;
+    let told = fault_text(alloc, parse(alloc, &bytes))?;
+    assert_eq!(rt; told.as_str(), fault);
     Ok(())
 }
 
 #[test]
-fn many_layouts(rt: HostRuntime) -> Result<(), Fail> {
-    let mut text = String::from_str(rt.alloc(), HEAD)?;
-    for _ in 0..63 {
-        text.push_str("layout 1 1\n")?;
+fn limits(rt: HostRuntime) -> Result<(), Fail> {
+    newlines_have(&rt, rt.alloc(), 4_194_305, "script too long")?;
+    newlines_have(
+        &rt,
+        rt.alloc(),
+        4_194_304,
+        "line 4194305 column 1: heap line expected",
+    )
+}
+
+/// The head, and then a line so many times.
+fn repeated(alloc: Global, count: usize, line: &str) -> Result<String, AllocError> {
+    let mut text = String::from_str(alloc, HEAD)?;
+    for _ in 0..count {
+        text.push_str(line)?;
     }
+    Ok(text)
+}
+
+#[test]
+fn many_layouts(rt: HostRuntime) -> Result<(), Fail> {
+    let text = repeated(rt.alloc(), 63, "layout 1 1\n")?;
     for (rest, fault) in [
         ("", "none"),
         ("layout 1 1\n", "line 66 column 1: unknown word"),
     ] {
-        assert_eq!(rt;
-            fault_text(rt.alloc(), text.as_str(), rest)?.as_str(),
-            fault
-        );
+        has_fault(&rt, rt.alloc(), text.as_str(), rest, fault)?;
     }
     Ok(())
 }
 
 #[test]
 fn too_many_commands(rt: HostRuntime) -> Result<(), Fail> {
-    let mut text = String::with_capacity(rt.alloc(), 2_000_000)?;
-    text.push_str(HEAD)?;
-    for _ in 0..200_000 {
-        text.push_str("t0 give\n")?;
-    }
+    let text = repeated(rt.alloc(), 200_000, "t0 give\n")?;
     for (rest, fault) in [
         ("# a comment\n", "none"),
         ("t0 take x\n", "line 200003 column 1: too many commands"),
@@ -221,11 +240,7 @@ fn too_many_commands(rt: HostRuntime) -> Result<(), Fail> {
             "line 200005 column 1: too many commands",
         ),
     ] {
-        assert_eq!(rt;
-            fault_text(rt.alloc(), text.as_str(), rest)?.as_str(),
-            fault,
-            "of {rest:?}"
-        );
+        has_fault(&rt, rt.alloc(), text.as_str(), rest, fault)?;
     }
     Ok(())
 }

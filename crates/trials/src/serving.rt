@@ -5,6 +5,7 @@ use service::{AskFault, Asked, ask, serve};
 use std::alloc::Global;
 use std::io;
 use std::io::{BufWriter, Read};
+use std::process::Abort;
 use std::test::Fail;
 
 pub const SCRIPT: &str =
@@ -21,11 +22,31 @@ pub fn words_asked(alloc: Global, line: &str) -> Result<Asked, AskFault> {
     ask(alloc, &words)
 }
 
+/// The words are the fault of usage.
+fn are_refused(rt: &impl Abort, alloc: Global, line: &str) -> Result<(), Fail> {
+    match words_asked(alloc, line) {
+        Ok(_) => assert!(rt; false, "{line}"),
+        Err(fault) => {
+            let mut errors = Vec::new(alloc);
+            assert_eq!(rt; fault.tell(&mut errors), 2);
+            assert_eq!(rt;
+                errors.as_slice(),
+                b"usage: pauseless run FILE\n".as_slice()
+            );
+        }
+    }
+    Ok(())
+}
+
 #[test]
 fn words(rt: HostRuntime) -> Result<(), Fail> {
-    let alloc = rt.alloc();
-    let asked = words_asked(alloc, "run a.script")?;
+    let asked = words_asked(rt.alloc(), "run a.script")?;
     assert_eq!(rt; asked.file(), "a.script");
+    Ok(())
+}
+
+#[test]
+fn other_words(rt: HostRuntime) -> Result<(), Fail> {
     for line in [
         "",
         "run",
@@ -37,30 +58,37 @@ fn words(rt: HostRuntime) -> Result<(), Fail> {
         "run --help",
         "--version",
     ] {
-        match words_asked(alloc, line) {
-            Ok(_) => assert!(rt; false, "{line}"),
-            Err(fault) => {
-                let mut errors = Vec::new(alloc);
-                assert_eq!(rt; fault.tell(&mut errors), 2);
-                assert_eq!(rt;
-                    errors.as_slice(),
-                    b"usage: pauseless run FILE\n".as_slice()
-                );
-            }
-        }
+        are_refused(&rt, rt.alloc(), line)?;
     }
     Ok(())
 }
 
-/// What serving a script gives: the status, the output past its buffer, and the errors.
-fn served(alloc: Global, script: &str) -> Result<(u8, Vec<u8>, Vec<u8>), Fail> {
+/// What serving a reader's bytes gives: the status, the output past its buffer, what waits in the
+/// buffer, and the errors.
+fn served<R: Read>(alloc: Global, reader: &mut R) -> Result<(u8, Vec<u8>, Vec<u8>, Vec<u8>), Fail> {
     let asked = words_asked(alloc, "run a.script")?;
-    let mut reader = script.as_bytes();
     let mut output = BufWriter::new(alloc, Vec::new(alloc))?;
     let mut errors = Vec::new(alloc);
-    let status = serve(alloc, &asked, &mut reader, &mut output, &mut errors);
-    let (written, _) = output.into_parts();
-    Ok((status, written, errors))
+    let status = serve(alloc, &asked, reader, &mut output, &mut errors);
+    let (written, waiting) = output.into_parts();
+    Ok((status, written, waiting, errors))
+}
+
+/// Serving the bytes gives this status, writes this output, and tells this fault.
+fn has_served<R: Read>(
+    rt: &impl Abort,
+    alloc: Global,
+    reader: &mut R,
+    wanted: u8,
+    output: &str,
+    fault: &str,
+) -> Result<(), Fail> {
+    let (status, written, waiting, errors) = served(alloc, reader)?;
+    assert_eq!(rt; status, wanted);
+    assert_eq!(rt; written.as_slice(), output.as_bytes());
+    assert_eq!(rt; waiting.len(), 0);
+    assert_eq!(rt; errors.as_slice(), fault.as_bytes());
+    Ok(())
 }
 
 #[test]
@@ -86,10 +114,8 @@ fn scripts(rt: HostRuntime) -> Result<(), Fail> {
             "pauseless: line 4 column 1: no such actor\n",
         ),
     ] {
-        let (status, told, faults) = served(rt.alloc(), script)?;
-        assert_eq!(rt; status, wanted);
-        assert_eq!(rt; told.as_slice(), output.as_bytes());
-        assert_eq!(rt; faults.as_slice(), errors.as_bytes());
+        let mut reader = script.as_bytes();
+        has_served(&rt, rt.alloc(), &mut reader, wanted, output, errors)?;
     }
     Ok(())
 }
@@ -107,18 +133,8 @@ impl Read for Endless {
 
 #[test]
 fn long_scripts(rt: HostRuntime) -> Result<(), Fail> {
-    let alloc = rt.alloc();
-    let asked = words_asked(alloc, "run a.script")?;
-    let mut output = BufWriter::new(alloc, Vec::new(alloc))?;
-    let mut errors = Vec::new(alloc);
-    let status = serve(alloc, &asked, &mut Endless, &mut output, &mut errors);
-    assert_eq!(rt; status, 2);
-    assert_eq!(rt; output.into_inner()?.len(), 0);
-    assert_eq!(rt;
-        errors.as_slice(),
-        b"pauseless: script too long\n".as_slice()
-    );
-    Ok(())
+    let fault = "pauseless: script too long\n";
+    has_served(&rt, rt.alloc(), &mut Endless, 2, "", fault)
 }
 
 /// A reader that fails.
@@ -133,16 +149,6 @@ impl Read for Broken {
 
 #[test]
 fn files_that_fail(rt: HostRuntime) -> Result<(), Fail> {
-    let alloc = rt.alloc();
-    let asked = words_asked(alloc, "run a.script")?;
-    let mut output = BufWriter::new(alloc, Vec::new(alloc))?;
-    let mut errors = Vec::new(alloc);
-    let status = serve(alloc, &asked, &mut Broken, &mut output, &mut errors);
-    assert_eq!(rt; status, 3);
-    assert_eq!(rt; output.into_inner()?.len(), 0);
-    assert_eq!(rt;
-        errors.as_slice(),
-        b"pauseless: cannot read a.script\n".as_slice()
-    );
-    Ok(())
+    let fault = "pauseless: cannot read a.script\n";
+    has_served(&rt, rt.alloc(), &mut Broken, 3, "", fault)
 }

@@ -96,6 +96,12 @@ fn replies(rt: HostRuntime) -> Result<(), Fail> {
     Ok(())
 }
 
+/// What is shown has this text.
+fn is_shown(rt: &impl Abort, alloc: Global, refusal: Refusal, name: &str) -> Result<(), Fail> {
+    assert_eq!(rt; format!(in alloc; "{refusal}")?.as_str(), name);
+    Ok(())
+}
+
 #[test]
 fn refusals(rt: HostRuntime) -> Result<(), Fail> {
     for (refusal, name) in [
@@ -127,19 +133,24 @@ fn refusals(rt: HostRuntime) -> Result<(), Fail> {
         (Refusal::HistoryFull, "HistoryFull"),
         (Refusal::Memory, "Memory"),
     ] {
-        assert_eq!(rt; format!(in rt.alloc(); "{refusal}")?.as_str(), name);
+        is_shown(&rt, rt.alloc(), refusal, name)?;
     }
     Ok(())
 }
 
 #[test]
-fn parts(rt: HostRuntime) -> Result<(), Fail> {
+fn words(rt: HostRuntime) -> Result<(), Fail> {
     let word = Addr::new(28).map_or(Word::null(), |addr| Word::of(addr, true));
     let marked = WordText::new(word, 16);
     let clear = WordText::new(word.with_nmt(false), 16);
     let null = WordText::new(Word::null(), 16);
     let words = format!(in rt.alloc(); "{marked} {clear} {null}")?;
     assert_eq!(rt; words.as_str(), "1.12/1 1.12/0 -");
+    Ok(())
+}
+
+#[test]
+fn buffers_and_frames(rt: HostRuntime) -> Result<(), Fail> {
     let buffer = BufferText(Some(Buffer {
         page: 1,
         next: 15,
@@ -148,13 +159,19 @@ fn parts(rt: HostRuntime) -> Result<(), Fail> {
     let none = BufferText(None);
     let frame = FrameText(Some(0));
     let no_frame = FrameText(None);
-    let buffers = format!(in rt.alloc(); "{buffer} {none} {frame} {no_frame}")?;
-    assert_eq!(rt; buffers.as_str(), "1.15-16 - 0 -");
+    let shown = format!(in rt.alloc(); "{buffer} {none} {frame} {no_frame}")?;
+    assert_eq!(rt; shown.as_str(), "1.15-16 - 0 -");
+    Ok(())
+}
+
+fn phase_is_shown(rt: &impl Abort, alloc: Global, phase: Phase, name: &str) -> Result<(), Fail> {
+    let phase = PhaseText(phase);
+    assert_eq!(rt; format!(in alloc; "{phase}")?.as_str(), name);
     Ok(())
 }
 
 #[test]
-fn names(rt: HostRuntime) -> Result<(), Fail> {
+fn phases(rt: HostRuntime) -> Result<(), Fail> {
     for (phase, name) in [
         (Phase::Idle, "idle"),
         (Phase::MarkCrossing, "mark-crossing"),
@@ -162,9 +179,24 @@ fn names(rt: HostRuntime) -> Result<(), Fail> {
         (Phase::ProtectCrossing, "protect-crossing"),
         (Phase::Relocating, "relocating"),
     ] {
-        let phase = PhaseText(phase);
-        assert_eq!(rt; format!(in rt.alloc(); "{phase}")?.as_str(), name);
+        phase_is_shown(&rt, rt.alloc(), phase, name)?;
     }
+    Ok(())
+}
+
+fn state_is_shown(
+    rt: &impl Abort,
+    alloc: Global,
+    state: PageState,
+    name: &str,
+) -> Result<(), Fail> {
+    let state = PageStateText(state);
+    assert_eq!(rt; format!(in alloc; "{state}")?.as_str(), name);
+    Ok(())
+}
+
+#[test]
+fn states_of_pages(rt: HostRuntime) -> Result<(), Fail> {
     for (state, name) in [
         (PageState::Unused, "unused"),
         (PageState::Open, "open"),
@@ -172,8 +204,7 @@ fn names(rt: HostRuntime) -> Result<(), Fail> {
         (PageState::From, "from"),
         (PageState::Gone, "gone"),
     ] {
-        let state = PageStateText(state);
-        assert_eq!(rt; format!(in rt.alloc(); "{state}")?.as_str(), name);
+        state_is_shown(&rt, rt.alloc(), state, name)?;
     }
     Ok(())
 }

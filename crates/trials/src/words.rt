@@ -1,18 +1,24 @@
 //! Words of references.
 
 use refword::{Addr, Word};
+use std::process::Abort;
 use std::test::Fail;
+
+/// The address of a number, marked or not, is written as these bits, and they are read so.
+fn has_bits(rt: &impl Abort, number: u64, nmt: bool, bits: u64) -> Result<(), Fail> {
+    let addr = Addr::new(number).ok_or("no address")?;
+    let word = Word::of(addr, nmt);
+    assert_eq!(rt; word.bits(), bits);
+    assert_eq!(rt; Word::read(bits), Some(word));
+    assert_eq!(rt; word.with_nmt(!nmt).nmt(), !nmt);
+    Ok(())
+}
 
 /// With 16 words a page: the words of page 1 at offset 0 and of page 2 at offset 3.
 #[test]
 fn bits_of_words(rt: HostRuntime) -> Result<(), Fail> {
-    for (number, nmt, bits) in [(16, true, 0x8000_0000_0000_0010), (2 * 16 + 3, false, 0x23)] {
-        let addr = Addr::new(number).ok_or("no address")?;
-        let word = Word::of(addr, nmt);
-        assert_eq!(rt; word.bits(), bits, "of {number}");
-        assert_eq!(rt; Word::read(bits), Some(word), "of {number}");
-        assert_eq!(rt; word.with_nmt(!nmt).nmt(), !nmt, "of {number}");
-    }
+    has_bits(&rt, 16, true, 0x8000_0000_0000_0010)?;
+    has_bits(&rt, 2 * 16 + 3, false, 0x23)?;
     assert_eq!(rt; Word::read(0), Some(Word::null()));
     Ok(())
 }

@@ -58,20 +58,31 @@ fn served(
     Ok((status, writer.taken, errors))
 }
 
+/// Behind a buffer of so many bytes a writer that fails behind so many writes makes this status and
+/// this fault, and takes a part of the output.
+fn is_told(
+    rt: &impl Abort,
+    alloc: Global,
+    capacity: usize,
+    left: u32,
+    wanted: u8,
+    fault: &str,
+) -> Result<(), Fail> {
+    let (status, taken, errors) = served(alloc, capacity, left, true)?;
+    assert_eq!(rt; status, wanted);
+    assert_eq!(rt; taken.len() == OUTPUT.len(), wanted == 0);
+    assert!(rt; OUTPUT.as_bytes().starts_with(&taken));
+    assert_eq!(rt; errors.as_slice(), fault.as_bytes());
+    Ok(())
+}
+
 /// Behind a buffer of so many bytes so many writes are needed, and a fault of each is told.
 fn are_needed(rt: &impl Abort, alloc: Global, capacity: usize, writes: u32) -> Result<(), Fail> {
-    for left in 0..6u32 {
-        let (status, taken, errors) = served(alloc, capacity, left, true)?;
-        let is_whole = left >= writes;
-        let line = if is_whole {
-            ""
-        } else {
-            "pauseless: cannot write\n"
-        };
-        assert_eq!(rt; status, if is_whole { 0 } else { 3 });
-        assert_eq!(rt; taken.len() == OUTPUT.len(), is_whole);
-        assert!(rt; OUTPUT.as_bytes().starts_with(&taken));
-        assert_eq!(rt; errors.as_slice(), line.as_bytes());
+    for left in 0..writes {
+        is_told(rt, alloc, capacity, left, 3, "pauseless: cannot write\n")?;
+    }
+    for left in writes..6 {
+        is_told(rt, alloc, capacity, left, 0, "")?;
     }
     Ok(())
 }
@@ -83,13 +94,17 @@ fn each_write_fails(rt: HostRuntime) -> Result<(), Fail> {
     are_needed(&rt, rt.alloc(), 8192, 1)
 }
 
+/// A writer that fails when it is flushed, behind a buffer of so many bytes.
+fn flush_is_told(rt: &impl Abort, alloc: Global, capacity: usize) -> Result<(), Fail> {
+    let (status, taken, errors) = served(alloc, capacity, 6, false)?;
+    assert_eq!(rt; status, 3);
+    assert_eq!(rt; taken.as_slice(), OUTPUT.as_bytes());
+    assert_eq!(rt; errors.as_slice(), b"pauseless: cannot write\n".as_slice());
+    Ok(())
+}
+
 #[test]
 fn a_flush_fails(rt: HostRuntime) -> Result<(), Fail> {
-    for capacity in [8, 8192] {
-        let (status, taken, errors) = served(rt.alloc(), capacity, 6, false)?;
-        assert_eq!(rt; status, 3);
-        assert_eq!(rt; taken.as_slice(), OUTPUT.as_bytes());
-        assert_eq!(rt; errors.as_slice(), b"pauseless: cannot write\n".as_slice());
-    }
-    Ok(())
+    flush_is_told(&rt, rt.alloc(), 8)?;
+    flush_is_told(&rt, rt.alloc(), 8192)
 }
