@@ -14,6 +14,7 @@ type Reply = Result<Answer, Refusal>;
 type Row = (Actor, Step, Reply);
 
 const FIRST: Actor = Actor::Thread(0);
+
 const SECOND: Actor = Actor::Thread(1);
 
 /// An object of the one layout.
@@ -31,7 +32,11 @@ fn play(rt: &impl Abort, book: &mut Book, rows: Vec<Row>) {
 
 fn page_of_objects(alloc: Global) -> Result<Vec<Row>, AllocError> {
     Ok(vec![in alloc;
-        (FIRST, Step::Take(4), Ok(Answer::Lent { page: 1, offset: 0 })),
+        (
+            FIRST,
+            Step::Take(4),
+            Ok(Answer::Lent { page: 1, offset: 0 })
+        ),
         (FIRST, new(0), Ok(Answer::Birth(0))),
         (
             FIRST,
@@ -57,7 +62,11 @@ fn page_of_objects(alloc: Global) -> Result<Vec<Row>, AllocError> {
             Step::Take(13),
             Err(Refusal::NoFrames { need: 1, free: 0 })
         ),
-        (FIRST, Step::Take(12), Ok(Answer::Lent { page: 1, offset: 4 })),
+        (
+            FIRST,
+            Step::Take(12),
+            Ok(Answer::Lent { page: 1, offset: 4 })
+        ),
     ]?)
 }
 
@@ -162,7 +171,11 @@ fn bad_steps(alloc: Global) -> Result<Vec<Row>, AllocError> {
             },
             Err(Refusal::BadIndex)
         ),
-        (FIRST, Step::Same { left: 0, right: 2 }, Err(Refusal::BadIndex)),
+        (
+            FIRST,
+            Step::Same { left: 0, right: 2 },
+            Err(Refusal::BadIndex)
+        ),
         (FIRST, Step::Scrub(2), Err(Refusal::BadIndex)),
         (Actor::Worker(0), Step::GiveBack, Err(Refusal::NoActor)),
     ]?)
@@ -199,7 +212,11 @@ fn limits(alloc: Global) -> Result<Config, AllocError> {
 
 fn limit_rows(alloc: Global) -> Result<Vec<Row>, AllocError> {
     Ok(vec![in alloc;
-        (FIRST, Step::Take(16), Ok(Answer::Lent { page: 1, offset: 0 })),
+        (
+            FIRST,
+            Step::Take(16),
+            Ok(Answer::Lent { page: 1, offset: 0 })
+        ),
         (FIRST, new(0), Ok(Answer::Birth(0))),
         (FIRST, new(1), Err(Refusal::Births)),
         (FIRST, Step::IsNull(1), Ok(Answer::Truth(true))),
