@@ -144,7 +144,7 @@ impl Store {
     pub fn frame_count(&self) -> usize
         ensures { result ≡ length self.now.frames }
     {
-        self.frames.len()
+        self.frames.as_slice().len()
     }
 
     /// The number of free frames.
