@@ -9,16 +9,12 @@ use Rattle.parser.specs.declared.fault.FaultKind.TheVariants as kinds
 use Rattle.parser.specs.declared.fault.Flaw.{Flaw}
 use Rattle.parser.specs.declared.heading.Sizes.{Sizes}
 use Rattle.parser.specs.declared.order.Order.{Order}
-use Rattle.parser.specs.declared.keywords.Keyword.{Keyword}
-use Rattle.parser.specs.declared.keywords.Keyword.TheVariants as keywords
-use Rattle.parser.specs.declared.keywords.OfRegisters.{OfRegisters}
-use Rattle.parser.specs.declared.keywords.OfRegisters.TheVariants as of_registers
-use Rattle.parser.specs.declared.keywords.Mixed.{Mixed}
-use Rattle.parser.specs.declared.keywords.Mixed.TheVariants as mixed
+use Rattle.parser.specs.declared.verbs.Kind.{Kind}
+use Rattle.parser.specs.declared.verbs.Kind.TheVariants.{Nothing, Register, Number, Long}
+use Rattle.parser.specs.declared.verbs.Verb.{Verb}
 use Rattle.model.specs.declared.steps.Actor.{Actor}
 use Rattle.parser.specs.Words.{◌>>=◌, flaw, or_flaw, word_or, is_number, capped_from, named_in, named_at, end_at}
-use Rattle.parser.specs.Orders.{keyword_in, register_at, slot_at, pair_at, field_at}
-use Rattle.parser.specs.Orders.{registers_at, mixed_at, operands_at, order_at}
+use Rattle.parser.specs.Orders.{verb_in, register_at, operand_at, operands_at, order_at}
 use Rattle.parser.specs.Faults.{IsWrongWord}
 use Rattle.parser.proofs.Alike.{AreAlike, IsJudged, IsWordAlike, IsReadAlike, word_alike, then_alike, done_alike}
 use Rattle.parser.proofs.Alike.{one_word, one_word_then}
@@ -87,124 +83,67 @@ register_alike n line other k sizes at =
 
 -- ---- operands
 
-slot_alike : (n : ℕ) (line other : List ℕ) (k : AreAlike n line other) (sizes : Sizes) (at : ℕ)
-    → IsReadAlike line (λ (x : (ℕ × ℕ) × ℕ). x.1) n at (slot_at sizes line at) (slot_at sizes other at)
-unfolding slot_at
-slot_alike n line other k sizes at =
-    then_alike line (λ (x : ℕ × ℕ). x.1) (λ (x : (ℕ × ℕ) × ℕ). x.1) n at _ _ _ _
-    (register_alike n line other k sizes at)
-    (λ r. then_alike line (λ (x : ℕ × ℕ). x.1) (λ (x : (ℕ × ℕ) × ℕ). x.1) n r.1 _ _ _ _
-    (small_alike n line other k r.1) (λ v. done_alike line (λ (x : (ℕ × ℕ) × ℕ). x.1) n v.1 ((r.0, v.0), v.1) refl))
-
-pair_alike : (n : ℕ) (line other : List ℕ) (k : AreAlike n line other) (sizes : Sizes) (at : ℕ)
-    → IsReadAlike line (λ (x : (ℕ × ℕ) × ℕ). x.1) n at (pair_at sizes line at) (pair_at sizes other at)
-unfolding pair_at
-pair_alike n line other k sizes at =
-    then_alike line (λ (x : ℕ × ℕ). x.1) (λ (x : (ℕ × ℕ) × ℕ). x.1) n at _ _ _ _
-    (register_alike n line other k sizes at)
-    (λ r. then_alike line (λ (x : ℕ × ℕ). x.1) (λ (x : (ℕ × ℕ) × ℕ). x.1) n r.1 _ _ _ _
-    (register_alike n line other k sizes r.1)
-    (λ v. done_alike line (λ (x : (ℕ × ℕ) × ℕ). x.1) n v.1 ((r.0, v.0), v.1) refl))
-
-field_alike : (n : ℕ) (line other : List ℕ) (k : AreAlike n line other) (sizes : Sizes) (at : ℕ)
-    → IsReadAlike line (λ (x : (ℕ × (ℕ × ℕ)) × ℕ). x.1) n at (field_at sizes line at) (field_at sizes other at)
-unfolding field_at
-field_alike n line other k sizes at =
-    then_alike line (λ (x : ℕ × ℕ). x.1) (λ (x : (ℕ × (ℕ × ℕ)) × ℕ). x.1) n at _ _ _ _
-    (register_alike n line other k sizes at)
-    (λ r. then_alike line (λ (x : (ℕ × ℕ) × ℕ). x.1) (λ (x : (ℕ × (ℕ × ℕ)) × ℕ). x.1) n r.1 _ _ _ _
-    (slot_alike n line other k sizes r.1)
-    (λ s. done_alike line (λ (x : (ℕ × (ℕ × ℕ)) × ℕ). x.1) n s.1 ((r.0, s.0), s.1) refl))
-
 -- an order and the place behind it
 abbrev order_end : Order × ℕ → ℕ
 order_end x = x.1
 
-registers_alike : (n : ℕ) (line other : List ℕ) (k : AreAlike n line other) (sizes : Sizes) (at : ℕ) (of : OfRegisters)
-    → IsReadAlike line order_end n at (registers_at sizes line at of) (registers_at sizes other at of)
-unfolding registers_at
-registers_alike n line other k sizes at of_registers.Same =
-    then_alike line (λ (x : (ℕ × ℕ) × ℕ). x.1) order_end n at _ _ _ _ (pair_alike n line other k sizes at)
-    (λ p. done_alike line order_end n p.1 _ refl)
-registers_alike n line other k sizes at of_registers.Null =
-    then_alike line (λ (x : ℕ × ℕ). x.1) order_end n at _ _ _ _ (register_alike n line other k sizes at)
-    (λ p. done_alike line order_end n p.1 _ refl)
-registers_alike n line other k sizes at of_registers.Move =
-    then_alike line (λ (x : (ℕ × ℕ) × ℕ). x.1) order_end n at _ _ _ _ (pair_alike n line other k sizes at)
-    (λ p. done_alike line order_end n p.1 _ refl)
-registers_alike n line other k sizes at of_registers.Clear =
-    then_alike line (λ (x : ℕ × ℕ). x.1) order_end n at _ _ _ _ (register_alike n line other k sizes at)
-    (λ p. done_alike line order_end n p.1 _ refl)
-registers_alike n line other k sizes at of_registers.Scrub =
-    then_alike line (λ (x : ℕ × ℕ). x.1) order_end n at _ _ _ _ (register_alike n line other k sizes at)
-    (λ p. done_alike line order_end n p.1 _ refl)
+operand_alike : (n : ℕ) (line other : List ℕ) (k : AreAlike n line other) (sizes : Sizes) (at : ℕ) (kind : Kind)
+    → IsReadAlike line (λ (x : ℕ × ℕ). x.1) n at (operand_at sizes line at kind) (operand_at sizes other at kind)
+unfolding operand_at
+operand_alike n line other k sizes at Nothing = done_alike line (λ (x : ℕ × ℕ). x.1) n at _ refl
+operand_alike n line other k sizes at Register = register_alike n line other k sizes at
+operand_alike n line other k sizes at Number = small_alike n line other k at
+operand_alike n line other k sizes at Long = number_alike n line other k at 0 18446744073709551615
 
-mixed_alike : (n : ℕ) (line other : List ℕ) (k : AreAlike n line other) (sizes : Sizes) (at : ℕ) (of : Mixed)
-    → IsReadAlike line order_end n at (mixed_at sizes line at of) (mixed_at sizes other at of)
-unfolding mixed_at
-mixed_alike n line other k sizes at mixed.Take =
-    then_alike line (λ (x : ℕ × ℕ). x.1) order_end n at _ _ _ _ (small_alike n line other k at)
-    (λ p. done_alike line order_end n p.1 _ refl)
-mixed_alike n line other k sizes at mixed.Set =
-    then_alike line (λ (x : (ℕ × ℕ) × ℕ). x.1) order_end n at _ _ _ _ (slot_alike n line other k sizes at)
-    (λ s. then_alike line (λ (x : ℕ × ℕ). x.1) order_end n s.1 _ _ _ _
-    (number_alike n line other k s.1 0 18446744073709551615) (λ p. done_alike line order_end n p.1 _ refl))
-mixed_alike n line other k sizes at mixed.Store =
-    then_alike line (λ (x : (ℕ × ℕ) × ℕ). x.1) order_end n at _ _ _ _ (slot_alike n line other k sizes at)
-    (λ s. then_alike line (λ (x : ℕ × ℕ). x.1) order_end n s.1 _ _ _ _
-    (register_alike n line other k sizes s.1) (λ p. done_alike line order_end n p.1 _ refl))
-mixed_alike n line other k sizes at mixed.StoreGlobal =
-    then_alike line (λ (x : ℕ × ℕ). x.1) order_end n at _ _ _ _ (small_alike n line other k at)
-    (λ s. then_alike line (λ (x : ℕ × ℕ). x.1) order_end n s.1 _ _ _ _
-    (register_alike n line other k sizes s.1) (λ p. done_alike line order_end n p.1 _ refl))
+-- an operand, and what is read behind it
+operand_then : (n : ℕ) (line other : List ℕ) (k : AreAlike n line other) (sizes : Sizes) (at : ℕ) (kind : Kind)
+    (f g : ℕ × ℕ → Result (Order × ℕ) Flaw) → ((x : ℕ × ℕ) → IsReadAlike line order_end n x.1 (f x) (g x))
+    → IsReadAlike line order_end n at (operand_at sizes line at kind >>= f) (operand_at sizes other at kind >>= g)
+operand_then n line other k sizes at kind f g =
+    then_alike line (λ (x : ℕ × ℕ). x.1) order_end n at _ _ f g (operand_alike n line other k sizes at kind)
 
-operands_alike : (n : ℕ) (line other : List ℕ) (k : AreAlike n line other) (sizes : Sizes) (at : ℕ) (of : Keyword)
-    → IsReadAlike line order_end n at (operands_at sizes line at of) (operands_at sizes other at of)
+operands_alike : (n : ℕ) (line other : List ℕ) (k : AreAlike n line other) (sizes : Sizes) (at : ℕ) (verb : Verb)
+    → IsReadAlike line order_end n at (operands_at sizes line at verb) (operands_at sizes other at verb)
 unfolding operands_at
-operands_alike n line other k sizes at (keywords.Bare of) = done_alike line order_end n at _ refl
-operands_alike n line other k sizes at (keywords.Registers of) = registers_alike n line other k sizes at of
-operands_alike n line other k sizes at (keywords.Slot of) =
-    then_alike line (λ (x : (ℕ × ℕ) × ℕ). x.1) order_end n at _ _ _ _ (slot_alike n line other k sizes at)
-    (λ p. done_alike line order_end n p.1 _ refl)
-operands_alike n line other k sizes at (keywords.Field of) =
-    then_alike line (λ (x : (ℕ × (ℕ × ℕ)) × ℕ). x.1) order_end n at _ _ _ _ (field_alike n line other k sizes at)
-    (λ p. done_alike line order_end n p.1 _ refl)
-operands_alike n line other k sizes at (keywords.Mixed of) = mixed_alike n line other k sizes at of
+operands_alike n line other k sizes at verb =
+    operand_then n line other k sizes at _ _ _ (λ a. operand_then n line other k sizes a.1 _ _ _
+    (λ b. operand_then n line other k sizes b.1 _ _ _ (λ c. operand_then n line other k sizes c.1 _ _ _
+    (λ d. done_alike line order_end n d.1 _ refl))))
 
 -- ---- an order
 
--- what stands behind an order's keyword
-abbrev order_behind : Sizes → List ℕ → Keyword × ℕ → Result Order Flaw
-order_behind sizes line key =
-    operands_at sizes line key.1 key.0 >>= (λ order. end_at line order.1 >>= (λ u. Ok order.0))
+-- what stands behind an order's verb
+abbrev order_behind : Sizes → List ℕ → Verb × ℕ → Result Order Flaw
+order_behind sizes line verb =
+    operands_at sizes line verb.1 verb.0 >>= (λ order. end_at line order.1 >>= (λ u. Ok order.0))
 
-behind_alike : (n : ℕ) (line other : List ℕ) (k : AreAlike n line other) (sizes : Sizes) (key : Keyword × ℕ)
-    → IsReadAlike line (λ (x : Order). length line + 1) n key.1 (order_behind sizes line key)
-    (order_behind sizes other key)
-behind_alike n line other k sizes key =
-    then_alike line order_end (λ (x : Order). length line + 1) n key.1 _ _ _ _
-    (operands_alike n line other k sizes key.1 key.0)
+behind_alike : (n : ℕ) (line other : List ℕ) (k : AreAlike n line other) (sizes : Sizes) (verb : Verb × ℕ)
+    → IsReadAlike line (λ (x : Order). length line + 1) n verb.1 (order_behind sizes line verb)
+    (order_behind sizes other verb)
+behind_alike n line other k sizes verb =
+    then_alike line order_end (λ (x : Order). length line + 1) n verb.1 _ _ _ _
+    (operands_alike n line other k sizes verb.1 verb.0)
     (λ order. then_alike line (λ (u : Unit {0}). length line + 1) (λ (x : Order). length line + 1) n order.1 _ _ _ _
     (end_alike n line other k order.1)
     (λ u. done_alike line (λ (x : Order). length line + 1) n (length line + 1) _ refl))
 
--- a keyword and what follows it, as two steps
-key_first : {B : Type 0} (r : Result (List ℕ × ℕ) Flaw) (test : List ℕ → Option Keyword) (f : Flaw)
-    (next : Keyword × ℕ → Result B Flaw)
-    → ((r >>= (λ w. or_flaw (test w.0) f >>= (λ key. Ok (key, w.1)))) >>= next)
-    ≡ (r >>= (λ w. or_flaw (test w.0) f >>= (λ key. next (key, w.1))))
-key_first (Err d) test f next = refl
-key_first {B} (Ok w) test f next = by_test (test w.0)
+-- a verb and what follows it, as two steps
+verb_first : {B : Type 0} (r : Result (List ℕ × ℕ) Flaw) (test : List ℕ → Option Verb) (f : Flaw)
+    (next : Verb × ℕ → Result B Flaw)
+    → ((r >>= (λ w. or_flaw (test w.0) f >>= (λ verb. Ok (verb, w.1)))) >>= next)
+    ≡ (r >>= (λ w. or_flaw (test w.0) f >>= (λ verb. next (verb, w.1))))
+verb_first (Err d) test f next = refl
+verb_first {B} (Ok w) test f next = by_test (test w.0)
   where
-    by_test : (o : Option Keyword) → ((or_flaw o f >>= (λ key. Ok (key, w.1))) >>= next)
-        ≡ (or_flaw o f >>= (λ key. next (key, w.1)))
+    by_test : (o : Option Verb) → ((or_flaw o f >>= (λ verb. Ok (verb, w.1))) >>= next)
+        ≡ (or_flaw o f >>= (λ verb. next (verb, w.1)))
     by_test None = refl
-    by_test (Some key) = refl
+    by_test (Some verb) = refl
 
-judge_key : (at : ℕ) (w : List ℕ × ℕ) (o : Option Keyword)
-    → IsJudged (λ (x : Keyword × ℕ). x.1) at w (or_flaw o (flaw at kinds.UnknownWord) >>= (λ key. Ok (key, w.1)))
-judge_key at w None = (refl, λ front size. tt)
-judge_key at w (Some key) = refl
+judge_verb : (at : ℕ) (w : List ℕ × ℕ) (o : Option Verb)
+    → IsJudged (λ (x : Verb × ℕ). x.1) at w (or_flaw o (flaw at kinds.UnknownWord) >>= (λ verb. Ok (verb, w.1)))
+judge_verb at w None = (refl, λ front size. tt)
+judge_verb at w (Some verb) = refl
 
 pub order_alike : (n : ℕ) (line other : List ℕ) (k : AreAlike n line other) (sizes : Sizes) (actor : Actor) (at : ℕ)
     → IsReadAlike line (λ (x : Order). length line + 1) n at (order_at sizes line actor at)
@@ -213,15 +152,15 @@ unfolding order_at
 order_alike n line other k sizes actor at =
     let end = λ (x : Order). length line + 1 in
     let f = flaw at kinds.UnknownWord in
-    let judge = λ (w : List ℕ × ℕ). or_flaw (keyword_in actor w.0) f >>= (λ key. Ok (key, w.1)) in
-    let both = then_alike line (λ (x : Keyword × ℕ). x.1) end n at (word_or line at kinds.UnknownWord >>= judge)
+    let judge = λ (w : List ℕ × ℕ). or_flaw (verb_in actor w.0) f >>= (λ verb. Ok (verb, w.1)) in
+    let both = then_alike line (λ (x : Verb × ℕ). x.1) end n at (word_or line at kinds.UnknownWord >>= judge)
     (word_or other at kinds.UnknownWord >>= judge) (order_behind sizes line) (order_behind sizes other)
-    (word_alike line (λ (x : Keyword × ℕ). x.1) n at _ _ (one_word n line other k (λ (x : Keyword × ℕ). x.1) at
-    kinds.UnknownWord judge (λ w. judge_key at w (keyword_in actor w.0)) tt))
-    (λ key. behind_alike n line other k sizes key) in
+    (word_alike line (λ (x : Verb × ℕ). x.1) n at _ _ (one_word n line other k (λ (x : Verb × ℕ). x.1) at
+    kinds.UnknownWord judge (λ w. judge_verb at w (verb_in actor w.0)) tt))
+    (λ verb. behind_alike n line other k sizes verb) in
     subst (λ (r : Result Order Flaw). IsReadAlike line end n at (word_or line at kinds.UnknownWord
-    >>= (λ w. or_flaw (keyword_in actor w.0) f >>= (λ key. order_behind sizes line (key, w.1)))) r)
-    (key_first (word_or other at kinds.UnknownWord) (keyword_in actor) f (order_behind sizes other))
+    >>= (λ w. or_flaw (verb_in actor w.0) f >>= (λ verb. order_behind sizes line (verb, w.1)))) r)
+    (verb_first (word_or other at kinds.UnknownWord) (verb_in actor) f (order_behind sizes other))
     (subst (λ (r : Result Order Flaw). IsReadAlike line end n at r ((word_or other at kinds.UnknownWord >>= judge)
     >>= order_behind sizes other))
-    (key_first (word_or line at kinds.UnknownWord) (keyword_in actor) f (order_behind sizes line)) both)
+    (verb_first (word_or line at kinds.UnknownWord) (verb_in actor) f (order_behind sizes line)) both)

@@ -11,11 +11,12 @@ use Rattle.parser.specs.declared.fault.Flaw.{Flaw}
 use Rattle.parser.specs.declared.heading.Sizes.{Sizes}
 use Rattle.parser.specs.Words.{◌>>=◌, flaw, word_or, is_number, capped_from, in_range, number_at, small_at}
 use Rattle.parser.specs.Words.{named_in, named_at, end_at}
-use Rattle.parser.specs.Orders.{register_at, slot_at, pair_at, field_at}
+use Rattle.parser.specs.declared.verbs.Kind.{Kind}
+use Rattle.parser.specs.declared.verbs.Kind.TheVariants.{Nothing, Register, Number, Long}
+use Rattle.parser.specs.Orders.{register_at, operand_at}
 use Rattle.parser.specs.Spelling.{register_word}
 use Rattle.parser.proofs.Places.{words_from, end_past}
 use Rattle.parser.proofs.Pieces.{bind_ok}
-use Rattle.parser.proofs.Operands.{register_ok}
 use Rattle.parser.proofs.Alike.{IsJudged, word_or_some, word_or_none, bind_assoc}
 use Rattle.parser.proofs.WordPlaces.{finds_word}
 use Rattle.parser.proofs.AlikeReads.{judge_number}
@@ -139,11 +140,11 @@ number_within line at low high v h =
     let w = bind_ok (word_or line at kinds.NumberExpected) _ v h in
     word_within line at kinds.NumberExpected w.0 w.1
 
-pub small_break : (line : List ℕ) (at : ℕ) (f : Flaw) → small_at line at ≡ Err f → BreaksBehind line at f []
+small_break : (line : List ℕ) (at : ℕ) (f : Flaw) → small_at line at ≡ Err f → BreaksBehind line at f []
 unfolding small_at
 small_break line at f h = number_break line at 0 4294967295 f h
 
-pub register_break : (sizes : Sizes) (line : List ℕ) (at : ℕ) (f : Flaw) → register_at sizes line at ≡ Err f
+register_break : (sizes : Sizes) (line : List ℕ) (at : ℕ) (f : Flaw) → register_at sizes line at ≡ Err f
     → BreaksBehind line at f []
 unfolding register_at named_at
 register_break sizes line at f h =
@@ -170,120 +171,10 @@ end_break line at f h = by_test (nat_le at (length line)) refl h
         at_place line at f within (ap (λ (x : Flaw). x.column) (sym same))
     by_test false e told = absurd (no_err tt f told)
 
--- ---- operands
-
--- a register and a number, of which the fault stands behind the first words
-pub record SlotBreaks (registers : ℕ) (line : List ℕ) (at : ℕ) (f : Flaw) : Type 0 where
-  pub register : ℕ
-  pub number : ℕ
-  pub there : register < registers
-  pub small : number < 2 ^ 32
-  pub breaks : Breaks line at f (register_word register ∷ decimal number ∷ [])
-
-pub slot_breaks : (sizes : Sizes) (line : List ℕ) (at : ℕ) (f : Flaw) → 1 ≤ sizes.registers → sizes.registers < 2 ^ 64
-    → slot_at sizes line at ≡ Err f → SlotBreaks sizes.registers line at f
-unfolding slot_at
-slot_breaks sizes line at f some fits h = elim (bind_err (register_at sizes line at) _ f h) [
-  | inl e ↦
-      record {
-        register = 0;
-        number = 0;
-        there = omega arith;
-        small = omega arith;
-        breaks = here line at f (register_word 0 ∷ decimal 0 ∷ []) (register_break sizes line at f e);
-      }
-  | inr a ↦
-      let r = register_ok sizes line at a.0 fits a.1.0 in
-      elim (bind_err (small_at line a.0.1) _ f a.1.1) [
-        | inl e ↦
-            record {
-              register = a.0.0;
-              number = 0;
-              there = r.below;
-              small = omega arith;
-              breaks = later line at a.0.1 f (register_word a.0.0 ∷ []) (decimal 0 ∷ []) r.spelled
-                  (here line a.0.1 f (decimal 0 ∷ []) (small_break line a.0.1 f e));
-            }
-        | inr b ↦ absurd (no_err _ f b.1.1)
-      ]
-]
-
--- two registers, of which the fault stands behind the first words
-pub record PairBreaks (registers : ℕ) (line : List ℕ) (at : ℕ) (f : Flaw) : Type 0 where
-  pub left : ℕ
-  pub right : ℕ
-  pub left_there : left < registers
-  pub right_there : right < registers
-  pub breaks : Breaks line at f (register_word left ∷ register_word right ∷ [])
-
-pub pair_breaks : (sizes : Sizes) (line : List ℕ) (at : ℕ) (f : Flaw) → 1 ≤ sizes.registers → sizes.registers < 2 ^ 64
-    → pair_at sizes line at ≡ Err f → PairBreaks sizes.registers line at f
-unfolding pair_at
-pair_breaks sizes line at f some fits h = elim (bind_err (register_at sizes line at) _ f h) [
-  | inl e ↦
-      record {
-        left = 0;
-        right = 0;
-        left_there = omega arith;
-        right_there = omega arith;
-        breaks = here line at f (register_word 0 ∷ register_word 0 ∷ []) (register_break sizes line at f e);
-      }
-  | inr a ↦
-      let r = register_ok sizes line at a.0 fits a.1.0 in
-      elim (bind_err (register_at sizes line a.0.1) _ f a.1.1) [
-        | inl e ↦
-            record {
-              left = a.0.0;
-              right = 0;
-              left_there = r.below;
-              right_there = omega arith;
-              breaks = later line at a.0.1 f (register_word a.0.0 ∷ []) (register_word 0 ∷ []) r.spelled
-                  (here line a.0.1 f (register_word 0 ∷ []) (register_break sizes line a.0.1 f e));
-            }
-        | inr b ↦ absurd (no_err _ f b.1.1)
-      ]
-]
-
--- two registers and a number, of which the fault stands behind the first words
-pub record FieldBreaks (registers : ℕ) (line : List ℕ) (at : ℕ) (f : Flaw) : Type 0 where
-  pub target : ℕ
-  pub object : ℕ
-  pub number : ℕ
-  pub target_there : target < registers
-  pub object_there : object < registers
-  pub small : number < 2 ^ 32
-  pub breaks : Breaks line at f (register_word target ∷ register_word object ∷ decimal number ∷ [])
-
-pub field_breaks : (sizes : Sizes) (line : List ℕ) (at : ℕ) (f : Flaw) → 1 ≤ sizes.registers → sizes.registers < 2 ^ 64
-    → field_at sizes line at ≡ Err f → FieldBreaks sizes.registers line at f
-unfolding field_at
-field_breaks sizes line at f some fits h = elim (bind_err (register_at sizes line at) _ f h) [
-  | inl e ↦
-      record {
-        target = 0;
-        object = 0;
-        number = 0;
-        target_there = omega arith;
-        object_there = omega arith;
-        small = omega arith;
-        breaks = here line at f (register_word 0 ∷ register_word 0 ∷ decimal 0 ∷ [])
-            (register_break sizes line at f e);
-      }
-  | inr a ↦
-      let r = register_ok sizes line at a.0 fits a.1.0 in
-      elim (bind_err (slot_at sizes line a.0.1) _ f a.1.1) [
-        | inl e ↦
-            let s = slot_breaks sizes line a.0.1 f some fits e in
-            record {
-              target = a.0.0;
-              object = s.register;
-              number = s.number;
-              target_there = r.below;
-              object_there = s.there;
-              small = s.small;
-              breaks = later line at a.0.1 f (register_word a.0.0 ∷ [])
-                  (register_word s.register ∷ decimal s.number ∷ []) r.spelled s.breaks;
-            }
-        | inr b ↦ absurd (no_err _ f b.1.1)
-      ]
-]
+pub operand_break : (sizes : Sizes) (line : List ℕ) (at : ℕ) (kind : Kind) (f : Flaw)
+    → operand_at sizes line at kind ≡ Err f → BreaksBehind line at f []
+unfolding operand_at
+operand_break sizes line at Nothing f h = absurd (no_err _ f h)
+operand_break sizes line at Register f h = register_break sizes line at f h
+operand_break sizes line at Number f h = small_break line at f h
+operand_break sizes line at Long f h = number_break line at 0 18446744073709551615 f h

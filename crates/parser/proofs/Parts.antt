@@ -8,7 +8,7 @@ use Rattle.std.proofs.lemmas.Grind.{flat_map-append}
 use Rattle.parser.specs.declared.order.Command.{Command}
 use Rattle.parser.specs.declared.reading.TheConstants.{MOST_TURNS}
 use Rattle.parser.specs.Spelling.{command_line_of, Part, One, Times, times_line_of, part_lines, part_commands}
-use Rattle.parser.proofs.Lists.{all_front}
+use Rattle.parser.proofs.Lists.{all_front, all_both}
 
 -- the lines of the open block so far
 abbrev pub open_lines : Option ℕ → List Command → List (List ℕ)
@@ -102,11 +102,6 @@ say_end front parts turns said line o body some is h =
 pub more_commands : (parts : List Part) (p : Part) (cs : List Command) → cs ≡ flat_map part_commands parts →
     cs ++ part_commands p ≡ flat_map part_commands (parts ++ p ∷ [])
 more_commands parts p cs h = rw (h, flat_map-append part_commands parts (p ∷ []), append-nil (part_commands p)) refl
-
-pub all_both : {A : Type 0} (P : A → Type 0) (xs ys : List A) → AllByRecursion P xs → AllByRecursion P ys
-    → AllByRecursion P (xs ++ ys)
-all_both P [] ys h k = k
-all_both P (x ∷ xs) ys h k = (h.0, all_both P xs ys h.1 k)
 
 pub all_repeated : (P : Command → Type 0) (n : ℕ) (cs : List Command) → AllByRecursion P cs
     → AllByRecursion P (repeat n cs)

@@ -11,15 +11,17 @@ use Rattle.model.specs.declared.steps.Actor.{Actor}
 use Rattle.model.specs.declared.steps.Actor.TheVariants.{Thread, Worker}
 use Rattle.parser.specs.declared.heading.Sizes.{Sizes}
 use Rattle.parser.specs.declared.order.Order.{Order}
-use Rattle.parser.specs.declared.order.Order.TheVariants as orders
+use Rattle.parser.specs.declared.verbs.Verb.{Verb}
 use Rattle.parser.specs.Words.{is_digit}
+use Rattle.parser.specs.Verbs.{row_of}
 use Rattle.parser.specs.Headings.{config_of}
 use Rattle.parser.specs.Reading.{newline}
-use Rattle.parser.specs.Spelling.{actor_word, register_word, order_words}
+use Rattle.parser.specs.Spelling.{actor_word, order_words}
 use Rattle.parser.specs.Spelling.{size_words, SpellsLimit, ended, IsActor, IsOrder}
-use Rattle.parser.proofs.Lists.{HasNoNewlines}
+use Rattle.parser.proofs.Lists.{HasNoNewlines, all_both}
 use Rattle.parser.proofs.Numbers.{decimal_digits}
 use Rattle.parser.proofs.Places.{space}
+use Rattle.parser.proofs.Operands.{each_word}
 use Rattle.parser.proofs.ActorsAndOrders.{AreFew}
 use Rattle.parser.proofs.HeapLines.{IsSizes}
 
@@ -78,58 +80,16 @@ decimal_plain n h = digits_plain (decimal n) (decimal_digits n h)
 pub small_plain : (n : ℕ) → n < 2 ^ 32 → IsPlain (decimal n)
 small_plain n h = decimal_plain n (omega arith)
 
-register_plain : (count n : ℕ) → count < 2 ^ 64 → n < count → IsPlain (register_word n)
-register_plain count n few h = decimal_plain n (omega arith)
-
 pub actor_plain : (sizes : Sizes) (a : Actor) → AreFew sizes → IsActor (config_of sizes []) a → IsPlain (actor_word a)
 actor_plain sizes (Thread t) few h = decimal_plain t (omega (arith, few.threads, h))
 actor_plain sizes (Worker w) few h = decimal_plain w (omega (arith, few.workers, h))
 
-pub order_plain : (count : ℕ) (o : Order) → count < 2 ^ 64 → IsOrder count o → AllByRecursion IsPlain (order_words o)
-order_plain count (orders.Take n) few h = (refl, (small_plain n h, tt))
-order_plain count orders.Give few h = (refl, tt)
-order_plain count (orders.New target layout) few h =
-    (refl, (register_plain count target few h.0, (small_plain layout h.1, tt)))
-order_plain count (orders.Load target object index) few h = (
-  refl,
-  (register_plain count target few h.0.0, (register_plain count object few h.0.1, (small_plain index h.1, tt))),
-)
-order_plain count (orders.LoadGlobal target global) few h =
-    (refl, (register_plain count target few h.0, (small_plain global h.1, tt)))
-order_plain count orders.Trap few h = (refl, tt)
-order_plain count orders.Heal few h = (refl, tt)
-order_plain count orders.Finish few h = (refl, tt)
-order_plain count (orders.Store object index source) few h = (
-  refl,
-  (register_plain count object few h.0.0, (small_plain index h.0.1, (register_plain count source few h.1, tt))),
-)
-order_plain count (orders.StoreGlobal global source) few h =
-    (refl, (small_plain global h.0, (register_plain count source few h.1, tt)))
-order_plain count (orders.Datum object index) few h =
-    (refl, (register_plain count object few h.0, (small_plain index h.1, tt)))
-order_plain count (orders.Set object index value) few h =
-    (refl, (register_plain count object few h.0.0, (small_plain index h.0.1, (decimal_plain value h.1, tt))))
-order_plain count (orders.Same left right) few h =
-    (refl, (register_plain count left few h.0, (register_plain count right few h.1, tt)))
-order_plain count (orders.Null r) few h = (refl, (register_plain count r few h, tt))
-order_plain count (orders.Move target source) few h =
-    (refl, (register_plain count target few h.0, (register_plain count source few h.1, tt)))
-order_plain count (orders.Clear r) few h = (refl, (register_plain count r few h, tt))
-order_plain count orders.Cross few h = (refl, tt)
-order_plain count (orders.Scrub r) few h = (refl, (register_plain count r few h, tt))
-order_plain count orders.Park few h = (refl, tt)
-order_plain count orders.Unpark few h = (refl, tt)
-order_plain count (orders.Get target object index) few h = (
-  refl,
-  (register_plain count target few h.0.0, (register_plain count object few h.0.1, (small_plain index h.1, tt))),
-)
-order_plain count (orders.GetGlobal target global) few h =
-    (refl, (register_plain count target few h.0, (small_plain global h.1, tt)))
+-- no space stands in a verb's word
+text_plain : (verb : Verb) → IsPlain (row_of verb).text
+text_plain verb = grind arith
 
-all_append : (xs ys : List (List ℕ)) → AllByRecursion IsPlain xs → AllByRecursion IsPlain ys
-    → AllByRecursion IsPlain (xs ++ ys)
-all_append [] ys h g = g
-all_append (x ∷ xs) ys h g = (h.0, all_append xs ys h.1 g)
+pub order_plain : (count : ℕ) (o : Order) → count < 2 ^ 64 → IsOrder count o → AllByRecursion IsPlain (order_words o)
+order_plain count o few h = each_word IsPlain count o few (text_plain o.verb) decimal_plain decimal_plain h
 
 limit_plain : (name : List ℕ) (most n : ℕ) (words : List (List ℕ)) → IsPlain name → n < 2 ^ 64
     → SpellsLimit name most n words → AllByRecursion IsPlain words
@@ -141,7 +101,7 @@ pub heap_plain : (s : Sizes) (births history : List (List ℕ)) → IsSizes s �
     → AllByRecursion IsPlain (size_words (config_of s []) ++ births ++ history)
 heap_plain s births history r words b y =
     let tail : AllByRecursion IsPlain (births ++ history) =
-    all_append births history
+    all_both IsPlain births history
     (limit_plain (codes "births") (2 ^ 32) s.births births refl (omega (arith, r.births_most)) b)
     (limit_plain (codes "history") 1000000 s.history history refl (omega (arith, r.history_most)) y) in (
       refl,

@@ -32,8 +32,8 @@ use Rattle.parser.proofs.Pieces.{bind_ok, test_ok, number_ok, end_ok, one_of}
 use Rattle.parser.proofs.ActorsAndOrders.{AreFew, order_ok, actor_ok, line_is}
 use Rattle.parser.proofs.HeapLines.{IsSizes, heap_ok, layout_ok}
 use Rattle.parser.proofs.Parts.{open_lines, HasTurns, say_one, say_inside, say_times, say_end}
-use Rattle.parser.proofs.Parts.{more_commands, all_both, all_repeated, repeated_length}
-use Rattle.parser.proofs.Lists.{all_push, told}
+use Rattle.parser.proofs.Parts.{more_commands, all_repeated, repeated_length}
+use Rattle.parser.proofs.Lists.{all_push, told, all_both}
 
 -- ---- the first word
 

@@ -32,7 +32,7 @@ use Rattle.parser.proofs.Splitting.{split_cons}
 use Rattle.parser.proofs.Places.{space, words_from, words_inside}
 use Rattle.parser.proofs.Pieces.{one_of, number_ok}
 use Rattle.parser.proofs.ActorsAndOrders.{actor_ok, line_is, first_is}
-use Rattle.parser.proofs.Lists.{all_from, HasNoNewlines, all_push, told, filter_told}
+use Rattle.parser.proofs.Lists.{all_from, HasNoNewlines, all_push, told, filter_told, all_both}
 use Rattle.parser.proofs.ReadIsSpelled.{Said, line_ok, first_words, few_actors, some_layouts}
 use Rattle.parser.proofs.TakenLines.{IsReady, heap_taken, times_taken, end_taken, command_taken}
 use Rattle.parser.proofs.Alike.{IsFaultAt, IsJudged, no_bytes, bind_assoc, word_or_some}
@@ -43,7 +43,6 @@ use Rattle.parser.proofs.Breaks.{number_break, end_break}
 use Rattle.parser.proofs.OrderBreaks.{order_break}
 use Rattle.parser.proofs.HeapBreaks.{heap_breaks}
 use Rattle.parser.proofs.HeapLines.{IsSizes}
-use Rattle.parser.proofs.Parts.{all_both}
 use Rattle.model.proofs.Ranges.{page_size_range}
 use Rattle.parser.proofs.Completions.{no_newlines, number_no_newlines, words_no_newlines, taken_have_none}
 use Rattle.parser.proofs.OrderBytes.{thread_no_newlines}

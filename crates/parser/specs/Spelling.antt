@@ -39,8 +39,8 @@ operand_word Long n = decimal n ∷ []
 -- the words of operands
 abbrev pub operand_words : Kinds → Order → List (List ℕ)
 operand_words kinds o =
-    operand_word kinds.first o.first ++ operand_word kinds.second o.second ++ operand_word kinds.third o.third
-    ++ operand_word kinds.wide o.wide
+    operand_word kinds.first o.first
+    ++ (operand_word kinds.second o.second ++ (operand_word kinds.third o.third ++ operand_word kinds.wide o.wide))
 
 -- the words of an order: the verb's, then those of its operands
 abbrev pub order_words : Order → List (List ℕ)
