@@ -14,7 +14,7 @@ use Rattle.parser.specs.declared.heading.TheConstants.{MOST_FRAMES, MOST_PAGES, 
 use Rattle.parser.specs.Words.{◌>>=◌, word_at, flaw, fixed_at, is_number, capped_from, in_range}
 use Rattle.parser.specs.Words.{number_at, small_at, end_at}
 use Rattle.parser.specs.Headings.{field_at, page_size_at, limit_at, memory_at, actors_at, limits_at}
-use Rattle.parser.specs.Headings.{heap_in, layout_in}
+use Rattle.parser.specs.Headings.{sizes_at, heap_in, layout_in}
 use Rattle.parser.proofs.Alike.{AreAlike, IsPlaced, IsLate, IsJudged, IsReadAlike}
 use Rattle.parser.proofs.WordPlaces.{IsBehindWord}
 use Rattle.parser.proofs.Alike.{word_alike, then_alike, done_alike, one_word, one_word_then}
@@ -262,19 +262,27 @@ limits_alike n line other k at =
     (λ history. done_alike line (λ (x : (ℕ × ℕ × ℕ) × ℕ). x.1) n history.1
     ((globals.0, births.0, history.0), history.1) refl)))
 
+sizes_alike : (n : ℕ) (line other : List ℕ) (k : AreAlike n line other) (at : ℕ)
+    → IsReadAlike line (λ (x : Sizes × ℕ). x.1) n at (sizes_at line at) (sizes_at other at)
+unfolding sizes_at
+sizes_alike n line other k at =
+    then_alike line (λ (x : (ℕ × ℕ × ℕ) × ℕ). x.1) (λ (x : Sizes × ℕ). x.1) n at _ _ _ _
+    (memory_alike n line other k at)
+    (λ memory. then_alike line (λ (x : (ℕ × ℕ × ℕ) × ℕ). x.1) (λ (x : Sizes × ℕ). x.1) n memory.1 _ _ _ _
+    (actors_alike n line other k memory.1)
+    (λ actors. then_alike line (λ (x : (ℕ × ℕ × ℕ) × ℕ). x.1) (λ (x : Sizes × ℕ). x.1) n actors.1 _ _ _ _
+    (limits_alike n line other k actors.1)
+    (λ limits. done_alike line (λ (x : Sizes × ℕ). x.1) n limits.1 _ refl)))
+
 pub heap_alike : (n : ℕ) (line other : List ℕ) (k : AreAlike n line other) (at : ℕ)
     → IsReadAlike line (λ (x : Sizes). length line + 1) n at (heap_in line at) (heap_in other at)
 unfolding heap_in
 heap_alike n line other k at =
-    then_alike line (λ (x : (ℕ × ℕ × ℕ) × ℕ). x.1) (λ (x : Sizes). length line + 1) n at _ _ _ _
-    (memory_alike n line other k at)
-    (λ memory. then_alike line (λ (x : (ℕ × ℕ × ℕ) × ℕ). x.1) (λ (x : Sizes). length line + 1) n memory.1 _ _ _ _
-    (actors_alike n line other k memory.1)
-    (λ actors. then_alike line (λ (x : (ℕ × ℕ × ℕ) × ℕ). x.1) (λ (x : Sizes). length line + 1) n actors.1 _ _ _ _
-    (limits_alike n line other k actors.1)
-    (λ limits. then_alike line (λ (x : Unit {0}). length line + 1) (λ (x : Sizes). length line + 1) n limits.1 _ _ _ _
-    (end_alike n line other k limits.1)
-    (λ u. done_alike line (λ (x : Sizes). length line + 1) n (length line + 1) _ refl))))
+    then_alike line (λ (x : Sizes × ℕ). x.1) (λ (x : Sizes). length line + 1) n at _ _ _ _
+    (sizes_alike n line other k at)
+    (λ sizes. then_alike line (λ (x : Unit {0}). length line + 1) (λ (x : Sizes). length line + 1) n sizes.1 _ _ _ _
+    (end_alike n line other k sizes.1)
+    (λ u. done_alike line (λ (x : Sizes). length line + 1) n (length line + 1) _ refl))
 
 -- ---- a layout line
 

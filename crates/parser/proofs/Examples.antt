@@ -3,7 +3,7 @@ use Rattle.std.proofs.Common.{◌≡◌, [], ◌∷◌, ◌++◌, refl}
 use Rattle.std.specs.Prelude.{Err, codes}
 use Rattle.parser.specs.declared.fault.FaultKind.TheVariants as kinds
 use Rattle.parser.specs.Words.{flaw, word_at, word_or, fixed_at, is_number, capped_from, number_at}
-use Rattle.parser.specs.Headings.{page_size_at, memory_at, heap_in}
+use Rattle.parser.specs.Headings.{page_size_at, memory_at, sizes_at, heap_in}
 use Rattle.parser.specs.Reading.{first_word, heap_line, line_in, finished, last_line, lines_in, script_in}
 
 -- no bytes
@@ -20,7 +20,7 @@ no_heap_line = refl
 -- a heap line that ends behind its first word
 no_words : script_in (codes "heap" ++ 10 ∷ [])
     ≡ Err (record { line = 1; column = 5; kind = kinds.UnknownWord })
-unfolding script_in lines_in line_in heap_line first_word word_at heap_in memory_at page_size_at fixed_at word_or
+unfolding script_in lines_in line_in heap_line first_word word_at heap_in sizes_at memory_at page_size_at fixed_at word_or
 no_words = refl
 
 -- a number with a leading zero

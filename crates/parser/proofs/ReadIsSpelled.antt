@@ -116,7 +116,7 @@ heap_step line t h =
         history = sizes.history;
         births_spelled = sizes.births_spelled;
         history_spelled = sizes.history_spelled;
-        line_is = line_by_words line (codes "heap") _ first sizes.spelled;
+        line_is = line_by_words line (codes "heap") _ first sizes.words_are;
       };
       parts = [];
       said_is = refl;

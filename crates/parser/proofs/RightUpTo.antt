@@ -26,7 +26,7 @@ use Rattle.parser.specs.Reading.{ReadSoFar, nothing, is_idle, first_word, heap_l
 use Rattle.parser.specs.Reading.{times_line, end_in, end_line, part_line, later_line, line_after, line_in}
 use Rattle.parser.specs.Spelling.{IsLine, line_of, actor_word, order_words, says_something, times_line_of, IsActor}
 use Rattle.parser.specs.Spelling.{IsCommand}
-use Rattle.parser.specs.Spelling.{size_words, SpellsLimit}
+use Rattle.parser.specs.Spelling.{size_words, SpellsHeap, SpellsLimit}
 use Rattle.parser.specs.Faults.{IsNameOf, HaveNoFault, HasOtherStart, IsRightUpTo}
 use Rattle.parser.proofs.Splitting.{split_cons}
 use Rattle.parser.proofs.Places.{space, words_from, words_inside}
@@ -41,8 +41,7 @@ use Rattle.parser.proofs.AlikeOrders.{judge_name}
 use Rattle.parser.proofs.Breaks.{bind_err, same_flaw, no_err, IsTail, Breaks, here, later, judged_err}
 use Rattle.parser.proofs.Breaks.{number_break, end_break}
 use Rattle.parser.proofs.OrderBreaks.{order_break}
-use Rattle.parser.proofs.HeapBreaks.{heap_breaks}
-use Rattle.parser.proofs.HeapLines.{IsSizes}
+use Rattle.parser.proofs.HeapLines.{IsSizes, heap_breaks}
 use Rattle.model.proofs.Ranges.{page_size_range}
 use Rattle.parser.proofs.Completions.{no_newlines, number_no_newlines, words_no_newlines, taken_have_none}
 use Rattle.parser.proofs.OrderBytes.{thread_no_newlines}
@@ -415,20 +414,22 @@ heap_right before line r f b is h =
           elim (bind_err (heap_in line at) _ f heap.1) [
             | inl e ↦
                 let broken = heap_breaks line at f e in
-                let full = size_words (config_of broken.sizes []) ++ broken.births ++ broken.history in
-                let other = line_of (codes "heap" ∷ full) in
-                let u : ReadSoFar = record nothing { sizes = Some broken.sizes } in
-                let taken : line_in r other ≡ Ok u =
-                subst (λ (x : ReadSoFar). line_in x other ≡ Ok u) (sym is) (heap_taken broken.sizes other broken.range
-                (record {
-                  births = broken.births;
-                  history = broken.history;
-                  births_spelled = broken.births_spelled;
-                  history_spelled = broken.history_spelled;
-                  line_is = refl;
-                }) refl) in
-                mended before line r u f b (codes "heap") at full words broken.breaks (heap_no_newlines broken.sizes
-                broken.births broken.history broken.range broken.births_spelled broken.history_spelled) taken
+                let spelled = broken.is in
+                let z = broken.value in
+                let other = line_of (codes "heap" ∷ broken.words) in
+                let heap : SpellsHeap other (config_of z []) = record {
+                  births = spelled.births;
+                  history = spelled.history;
+                  births_spelled = spelled.births_spelled;
+                  history_spelled = spelled.history_spelled;
+                  line_is = ap (λ (ws : List (List ℕ)). line_of (codes "heap" ∷ ws)) spelled.words_are;
+                } in
+                let u : ReadSoFar = record nothing { sizes = Some z } in
+                let taken : line_in r other ≡ Ok u = subst (λ (x : ReadSoFar). line_in x other ≡ Ok u) (sym is)
+                (heap_taken z other spelled.range heap (rw spelled.words_are refl)) in
+                let own : HasNoNewlines other = rw spelled.words_are (heap_no_newlines z spelled.births
+                spelled.history spelled.range spelled.births_spelled spelled.history_spelled) in
+                mended before line r u f b (codes "heap") at broken.words words broken.breaks own taken
             | inr z ↦ absurd (no_err _ f z.1.1)
           ]
       | inr other ↦ absurd (not_first before line r f b (first_made {A = ReadSoFar} kinds.HeapLineExpected f other.1))

@@ -188,7 +188,7 @@ heap_taken z line range h idle =
       history = h.history;
       births_spelled = h.births_spelled;
       history_spelled = h.history_spelled;
-      spelled = words.rest;
+      words_are = words.rest;
       range = range;
     }) in
     rw (idle, first, read) refl
