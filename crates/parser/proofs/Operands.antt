@@ -50,15 +50,6 @@ operand_again sizes line at Number n ws fits is h = small_again line at n ws is 
 operand_again sizes line at Long n ws fits is h =
     number_again line at 0 18446744073709551615 n ws is (omega arith) (omega (arith, is)) h
 
--- what holds of registers' words and of numbers' holds of an operand's
-operand_each : (P : List ℕ → Type 0) (registers : ℕ) (kind : Kind) (n : ℕ) → registers < 2 ^ 64
-    → ((n : ℕ) → n < 2 ^ 64 → P (register_word n)) → ((n : ℕ) → n < 2 ^ 64 → P (decimal n))
-    → IsOperand registers kind n → AllByRecursion P (operand_word kind n)
-operand_each P registers Nothing n fits named number is = tt
-operand_each P registers Register n fits named number is = (named n (omega (arith, is)), tt)
-operand_each P registers Number n fits named number is = (number n (omega (arith, is)), tt)
-operand_each P registers Long n fits named number is = (number n is, tt)
-
 -- ---- the operands of an order
 
 -- words behind words
@@ -109,19 +100,3 @@ operands_again sizes line at o ws fits is h =
     let c = operand_again sizes line b.0 k.third o.third (w ++ ws) fits is.third (b.2 ∙ append_assoc z w ws) in
     let d = operand_again sizes line c.0 k.wide o.wide ws fits is.wide c.2 in
     (d.0, rw (a.1, b.1, c.1, d.1) refl, d.2)
-
--- what holds of the verb's word, of registers' and of numbers' holds of each word of an order
-pub each_word : (P : List ℕ → Type 0) (registers : ℕ) (o : Order) → registers < 2 ^ 64 → P (row_of o.verb).text
-    → ((n : ℕ) → n < 2 ^ 64 → P (register_word n)) → ((n : ℕ) → n < 2 ^ 64 → P (decimal n)) → IsOrder registers o
-    → AllByRecursion P (order_words o)
-each_word P registers o fits verb named number is =
-    let k = (row_of o.verb).kinds in
-    let each = λ (kind : Kind) (n : ℕ) (own : IsOperand registers kind n).
-    operand_each P registers kind n fits named number own in
-    (
-      verb,
-      all_both P (operand_word k.first o.first) _ (each k.first o.first is.first)
-          (all_both P (operand_word k.second o.second) _ (each k.second o.second is.second)
-          (all_both P (operand_word k.third o.third) (operand_word k.wide o.wide) (each k.third o.third is.third)
-          (each k.wide o.wide is.wide))),
-    )

@@ -43,8 +43,8 @@ use Rattle.parser.proofs.Breaks.{number_break, end_break}
 use Rattle.parser.proofs.OrderBreaks.{order_break}
 use Rattle.parser.proofs.HeapLines.{IsSizes, heap_breaks}
 use Rattle.model.proofs.Ranges.{page_size_range}
-use Rattle.parser.proofs.Completions.{no_newlines, number_no_newlines, words_no_newlines, taken_have_none}
-use Rattle.parser.proofs.OrderBytes.{thread_no_newlines}
+use Rattle.parser.proofs.Completions.{taken_have_none}
+use Rattle.parser.proofs.Plain.{no_newlines, words_no_newlines, number_plain, order_plain, sizes_plain}
 
 -- ---- the words before a fault
 
@@ -181,8 +181,7 @@ times_right before line t f b z ready some first None is h =
     ]
   where
     bytes : (n : ℕ) → n < 2 ^ 64 → HasNoNewlines (times_line_of n)
-    bytes n small = words_no_newlines (codes "times" ∷ decimal n ∷ [])
-        (no_newlines (codes "times") refl, (number_no_newlines n small, tt))
+    bytes n small = words_no_newlines (codes "times" ∷ decimal n ∷ []) (refl, (number_plain n small, tt))
 
 end_right : (before : List (List ℕ)) (line : List ℕ) (t : ReadSoFar) (f : Flaw) (b : IsBroken before line t f)
     (z : Sizes) → IsReady z t → 1 ≤ length t.layouts → (first_word line).0 ≡ codes "end" → (o : Option ℕ)
@@ -270,7 +269,8 @@ thread_right before line r f b z ready some room (Thread t) at words there h =
     (Thread t) ∷ order_words breaks.order)) r.turns ready some
     refl room own (joined_idle 116 (decimal t) (order_words breaks.order) refl) refl in
     mended before line r _ f b (actor_word (Thread t)) at (order_words breaks.order) words breaks.breaks
-    (thread_no_newlines t z.registers breaks.order (omega (arith, there)) few.registers breaks.fits) taken
+    (words_no_newlines (actor_word (Thread t) ∷ order_words breaks.order)
+    (number_plain t (omega (arith, there)), order_plain z.registers breaks.order few.registers breaks.fits)) taken
 
 command_right : (before : List (List ℕ)) (line : List ℕ) (r : ReadSoFar) (f : Flaw) (b : IsBroken before line r f)
     (z : Sizes) → IsReady z r → 1 ≤ length r.layouts → command_line r z line ≡ Err f → IsRightUpTo before b.at.front
@@ -329,78 +329,6 @@ later_right before line r f b z ready h =
           ]
     ]
 
-limit_no_newlines : (name : List ℕ) (most n : ℕ) (words : List (List ℕ)) → HasNoNewlines name → n < 2 ^ 64
-    → SpellsLimit name most n words → AllByRecursion HasNoNewlines words
-limit_no_newlines name most n words own small (inl e) =
-    subst (λ (x : List (List ℕ)). AllByRecursion HasNoNewlines x) (sym e) (own, (number_no_newlines n small, tt))
-limit_no_newlines name most n words own small (inr e) =
-    subst (λ (x : List (List ℕ)). AllByRecursion HasNoNewlines x) (sym e.0) tt
-
-heap_no_newlines : (s : Sizes) (births history : List (List ℕ)) → IsSizes s
-    → SpellsLimit (codes "births") (2 ^ 32) s.births births → SpellsLimit (codes "history") 1000000 s.history history
-    → HasNoNewlines (line_of (codes "heap" ∷ size_words (config_of s []) ++ births ++ history))
-heap_no_newlines s births history r b y =
-    let words = page_size_range s.words r.words in
-    let most = words.1 in
-    let last : AllByRecursion HasNoNewlines (births ++ history) =
-    all_both HasNoNewlines births history
-    (limit_no_newlines (codes "births") (2 ^ 32) s.births births (no_newlines (codes "births") refl)
-    (omega (arith, r.births_most)) b) (limit_no_newlines (codes "history") 1000000 s.history history
-    (no_newlines (codes "history") refl) (omega (arith, r.history_most)) y) in
-    words_no_newlines (codes "heap" ∷ size_words (config_of s []) ++ births ++ history) (
-      no_newlines (codes "heap") refl,
-      (
-        no_newlines (codes "words") refl,
-        (
-          number_no_newlines s.words
-              (omega arith),
-          (
-            no_newlines (codes "frames") refl,
-            (
-              number_no_newlines s.frames (omega
-                  (arith, r.frames_most)),
-              (
-                no_newlines (codes "pages") refl,
-                (
-                  number_no_newlines s.pages (omega
-                      (arith, r.pages_most)),
-                  (
-                    no_newlines (codes "threads") refl,
-                    (
-                      number_no_newlines s.threads (omega
-                          (arith, r.threads_most)),
-                      (
-                        no_newlines (codes "workers") refl,
-                        (
-                          number_no_newlines s.workers
-                              (omega (arith, r.workers_most)),
-                          (
-                            no_newlines (codes "registers") refl,
-                            (
-                              number_no_newlines s.registers (omega (arith, r.registers_most)),
-                              (
-                                no_newlines
-                                    (codes "globals") refl,
-                                (
-                                  number_no_newlines s.globals (omega
-                                      (arith, r.globals_most)),
-                                  last,
-                                ),
-                              ),
-                            ),
-                          ),
-                        ),
-                      ),
-                    ),
-                  ),
-                ),
-              ),
-            ),
-          ),
-        ),
-      ),
-    )
-
 heap_right : (before : List (List ℕ)) (line : List ℕ) (r : ReadSoFar) (f : Flaw) (b : IsBroken before line r f)
     → r ≡ nothing → heap_line nothing line ≡ Err f → IsRightUpTo before b.at.front
 unfolding heap_line
@@ -427,8 +355,7 @@ heap_right before line r f b is h =
                 let u : ReadSoFar = record nothing { sizes = Some z } in
                 let taken : line_in r other ≡ Ok u = subst (λ (x : ReadSoFar). line_in x other ≡ Ok u) (sym is)
                 (heap_taken z other spelled.range heap (rw spelled.words_are refl)) in
-                let own : HasNoNewlines other = rw spelled.words_are (heap_no_newlines z spelled.births
-                spelled.history spelled.range spelled.births_spelled spelled.history_spelled) in
+                let own = words_no_newlines (codes "heap" ∷ broken.words) (refl, sizes_plain z broken.words spelled) in
                 mended before line r u f b (codes "heap") at broken.words words broken.breaks own taken
             | inr z ↦ absurd (no_err _ f z.1.1)
           ]
