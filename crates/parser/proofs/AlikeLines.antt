@@ -45,8 +45,6 @@ taken_from : (line : List ℕ) (n at : ℕ) (r other : Result ReadSoFar Flaw) �
     → IsBehindWord line at → IsTakenAlike line n r other
 taken_from line n at r other h p = record { same = h.same; placed = h.placed p }
 
--- ---- the first word
-
 first_is : (line : List ℕ) → IsWordAt line 0 (first_word line)
 unfolding first_word
 first_is line = let found = finds_word line 0 (omega arith) in
@@ -64,81 +62,8 @@ fault_first line n kind wrong = record {
       (λ front size. subst (λ (x : List ℕ). IsWrongWord kind x (first_word line).0) (sym (no_bytes front size)) wrong);
 }
 
--- what is done with the first word is done with that of both lines
-by_first : (n : ℕ) (line other : List ℕ) (k : AreAlike n line other) (r : Result ReadSoFar Flaw)
-    (f : List ℕ × ℕ → Result ReadSoFar Flaw) → IsTakenAlike line n r (f (first_word line))
-    → IsTakenAlike line n r (f (first_word other))
-by_first n line other k r f h = subst (λ (w : List ℕ × ℕ). IsTakenAlike line n r (f w)) k.first h
-
 other_word : (v w : List ℕ) → bytes_eq v w ≡ false → v ≢ w
 other_word v w h e = let same = (bytes_eq-Decides v w).1 e in absurd cc
-
--- ---- the heap line and layout lines
-
-heap_by : (n : ℕ) (line other : List ℕ) (k : AreAlike n line other) (r : ReadSoFar) (b : Bool)
-    → bytes_eq (first_word line).0 (codes "heap") ≡ b → IsTakenAlike line n
-    (cond b (heap_in line (first_word line).1 >>= (λ sizes. Ok (record r { sizes = Some sizes })))
-    (Err (flaw 0 kinds.HeapLineExpected)))
-    (cond b (heap_in other (first_word line).1 >>= (λ sizes. Ok (record r { sizes = Some sizes })))
-    (Err (flaw 0 kinds.HeapLineExpected)))
-heap_by n line other k r true e =
-    taken_from line n (first_word line).1 _ _ (then_alike line (λ (x : Sizes). length line + 1) (line_end line) n
-    (first_word line).1 _ _ _ _ (heap_alike n line other k (first_word line).1)
-    (λ s. done_alike line (line_end line) n (length line + 1) _ refl)) (first_behind line)
-heap_by n line other k r false e =
-    fault_first line n kinds.HeapLineExpected (refl, other_word (first_word line).0 (codes "heap") e)
-
-heap_taken : (n : ℕ) (line other : List ℕ) (k : AreAlike n line other) (r : ReadSoFar)
-    → IsTakenAlike line n (heap_line r line) (heap_line r other)
-unfolding heap_line
-heap_taken n line other k r = by_first n line other k _
-    (λ (w : List ℕ × ℕ). cond (bytes_eq w.0 (codes "heap"))
-    (heap_in other w.1 >>= (λ sizes. Ok (record r { sizes = Some sizes }))) (Err (flaw 0 kinds.HeapLineExpected)))
-    (heap_by n line other k r (bytes_eq (first_word line).0 (codes "heap")) refl)
-
-layout_taken : (n : ℕ) (line other : List ℕ) (k : AreAlike n line other) (r : ReadSoFar) (sizes : Sizes)
-    → IsTakenAlike line n (layout_line r sizes line) (layout_line r sizes other)
-unfolding layout_line
-layout_taken n line other k r sizes = by_first n line other k _
-    (λ (w : List ℕ × ℕ). layout_in sizes other w.1 >>= (λ layout. Ok (record r { layouts = r.layouts ++ layout ∷ [] })))
-    (taken_from line n (first_word line).1 _ _ (then_alike line (λ (x : Layout). length line + 1) (line_end line) n
-    (first_word line).1 _ _ _ _ (layout_alike n line other k sizes (first_word line).1)
-    (λ s. done_alike line (line_end line) n (length line + 1) _ refl)) (first_behind line))
-
--- ---- blocks
-
-times_by : (n : ℕ) (line other : List ℕ) (k : AreAlike n line other) (r : ReadSoFar) (o : Option ℕ)
-    → IsTakenAlike line n (times_in r o line) (times_in r o other)
-times_by n line other k r (Some turns) = fault_first line n kinds.UnknownWord tt
-times_by n line other k r None = by_first n line other k _
-    (λ (w : List ℕ × ℕ). number_at other w.1 1 MOST_TURNS >>= (λ turns. end_at other turns.1
-    >>= (λ u. Ok (record r { begun = true; turns = Some turns.0; body = [] }))))
-    (taken_from line n (first_word line).1 _ _ (then_alike line (λ (x : ℕ × ℕ). x.1) (line_end line) n
-    (first_word line).1 _ _ _ _ (number_alike n line other k (first_word line).1 1 MOST_TURNS)
-    (λ turns. then_alike line (λ (u : Unit {0}). length line + 1) (line_end line) n turns.1 _ _ _ _
-    (end_alike n line other k turns.1) (λ u. done_alike line (line_end line) n (length line + 1) _ refl)))
-    (first_behind line))
-
-end_by : (n : ℕ) (line other : List ℕ) (k : AreAlike n line other) (r t : ReadSoFar) (b : Bool)
-    → IsTakenAlike line n
-    (cond b (Err (flaw 0 kinds.TooManyCommands)) (end_at line (first_word line).1 >>= (λ u. Ok t)))
-    (cond b (Err (flaw 0 kinds.TooManyCommands)) (end_at other (first_word line).1 >>= (λ u. Ok t)))
-end_by n line other k r t true = fault_first line n kinds.TooManyCommands refl
-end_by n line other k r t false =
-    taken_from line n (first_word line).1 _ _ (then_alike line (λ (u : Unit {0}). length line + 1) (line_end line) n
-    (first_word line).1 _ _ _ _ (end_alike n line other k (first_word line).1)
-    (λ u. done_alike line (line_end line) n (length line + 1) t refl)) (first_behind line)
-
-end_taken : (n : ℕ) (line other : List ℕ) (k : AreAlike n line other) (r : ReadSoFar) (o : Option ℕ)
-    → (first_word line).0 ≡ codes "end" → IsTakenAlike line n (end_in r o line) (end_in r o other)
-end_taken n line other k r None first = fault_first line n kinds.EndWithoutTimes (refl, first)
-end_taken n line other k r (Some turns) first =
-    let t : ReadSoFar = record r { commands = r.commands ++ repeat turns r.body; turns = None; body = [] } in
-    let b = nat_lt MOST_COMMANDS (length r.commands + turns * length r.body) in
-    by_first n line other k _ (λ (w : List ℕ × ℕ). cond b (Err (flaw 0 kinds.TooManyCommands))
-    (end_at other w.1 >>= (λ u. Ok t))) (end_by n line other k r t b)
-
--- ---- a command
 
 judge_full : (actor : Actor) (w : List ℕ × ℕ) (after : ℕ) → after ≡ w.1 → (b : Bool)
     → IsJudged (λ (x : Actor × ℕ). x.1) 0 w (cond b (Err (flaw 0 kinds.TooManyCommands)) (Ok (actor, after)))
@@ -167,88 +92,10 @@ two_steps line n a b f g h =
     (subst (λ (r : Result (Actor × ℕ) Flaw). IsWordAlike line (λ (x : Actor × ℕ). x.1) n 0 r (b >>= (λ x. f x >>= g)))
     (sym (bind_assoc a f g)) h)
 
-actor_room : (n : ℕ) (line other : List ℕ) (k : AreAlike n line other) (sizes : Sizes) (full b : Bool)
-    → IsWordAlike line (λ (x : Actor × ℕ). x.1) n 0 (with_room full (actor_by sizes line b))
-    (with_room full (actor_by sizes other b))
-actor_room n line other k sizes full true =
-    two_steps line n (named_at line 0 119 sizes.workers kinds.NoSuchActor)
-    (named_at other 0 119 sizes.workers kinds.NoSuchActor) (λ (w : ℕ × ℕ). Ok (Worker w.0, w.1)) (checked full)
-    (name_then n line other k (λ (x : Actor × ℕ). x.1) 0 119 sizes.workers kinds.NoSuchActor
-    (λ (w : ℕ × ℕ). checked full (Worker w.0, w.1))
-    (λ front word digits size is number. (no_bytes front size, inr (digits, (is, number))))
-    (λ w x e. judge_full (Worker x.0) w x.1 e full))
-actor_room n line other k sizes full false =
-    two_steps line n (named_at line 0 116 sizes.threads kinds.NoSuchActor)
-    (named_at other 0 116 sizes.threads kinds.NoSuchActor) (λ (t : ℕ × ℕ). Ok (Thread t.0, t.1)) (checked full)
-    (name_then n line other k (λ (x : Actor × ℕ). x.1) 0 116 sizes.threads kinds.NoSuchActor
-    (λ (t : ℕ × ℕ). checked full (Thread t.0, t.1))
-    (λ front word digits size is number. (no_bytes front size, inl (digits, (is, number))))
-    (λ w x e. judge_full (Thread x.0) w x.1 e full))
-
-actor_alike : (n : ℕ) (line other : List ℕ) (k : AreAlike n line other) (sizes : Sizes) (full : Bool)
-    → IsWordAlike line (λ (x : Actor × ℕ). x.1) n 0 (with_room full (actor_at sizes line))
-    (with_room full (actor_at sizes other))
-unfolding actor_at
-actor_alike n line other k sizes full =
-    subst (λ (b : ℕ). IsWordAlike line (λ (x : Actor × ℕ). x.1) n 0
-    (with_room full (actor_by sizes line (first_byte line == 119))) (with_room full (actor_by sizes other (b == 119))))
-    k.byte (actor_room n line other k sizes full (first_byte line == 119))
-
 -- what stands behind an actor
 abbrev order_for : ReadSoFar → Sizes → List ℕ → Actor × ℕ → Result ReadSoFar Flaw
 order_for r sizes line actor = order_at sizes line actor.0 actor.1
     >>= (λ order. Ok (with_command r r.turns (record { actor = actor.0; order = order })))
-
-order_taken : (n : ℕ) (line other : List ℕ) (k : AreAlike n line other) (r : ReadSoFar) (sizes : Sizes)
-    (actor : Actor × ℕ)
-    → IsReadAlike line (line_end line) n actor.1 (order_for r sizes line actor) (order_for r sizes other actor)
-order_taken n line other k r sizes actor =
-    then_alike line (λ (x : Order). length line + 1) (line_end line) n actor.1 _ _ _ _
-    (order_alike n line other k sizes actor.0 actor.1)
-    (λ order. done_alike line (line_end line) n (length line + 1) _ refl)
-
-command_taken : (n : ℕ) (line other : List ℕ) (k : AreAlike n line other) (r : ReadSoFar) (sizes : Sizes)
-    → IsTakenAlike line n (command_line r sizes line) (command_line r sizes other)
-unfolding command_line
-command_taken n line other k r sizes =
-    let full = is_full r.turns r.commands in
-    let place = λ (x : Actor × ℕ). x.1 in
-    let actor = actor_alike n line other k sizes full in
-    let steps = λ (l : List ℕ). test_first (actor_at sizes l) (λ (x : Actor × ℕ). full) (flaw 0 kinds.TooManyCommands)
-    (order_for r sizes l) in
-    let both : IsTakenAlike line n (with_room full (actor_at sizes line) >>= order_for r sizes line)
-    (with_room full (actor_at sizes other) >>= order_for r sizes other) =
-    record {
-      same = (then_alike line place (line_end line) n 0 _ _ _ _ (word_alike line place n 0 _ _ actor)
-          (order_taken n line other k r sizes)).same;
-      placed = then_placed line place (line_end line) n (with_room full (actor_at sizes line)) (order_for r sizes line)
-          (order_for r sizes other) (actor.placed (inl refl)) (order_taken n line other k r sizes);
-    } in
-    subst (λ (x : Result ReadSoFar Flaw). IsTakenAlike line n (actor_at sizes line >>= (λ actor. cond full
-    (Err (flaw 0 kinds.TooManyCommands)) (order_for r sizes line actor))) x) (steps other)
-    (subst (λ (x : Result ReadSoFar Flaw). IsTakenAlike line n x (with_room full (actor_at sizes other)
-    >>= order_for r sizes other)) (steps line) both)
-
--- ---- all lines
-
-part_by : (n : ℕ) (line other : List ℕ) (k : AreAlike n line other) (r : ReadSoFar) (sizes : Sizes) (b c : Bool)
-    → bytes_eq (first_word line).0 (codes "end") ≡ c
-    → IsTakenAlike line n (cond b (times_line r line) (cond c (end_line r line) (command_line r sizes line)))
-    (cond b (times_line r other) (cond c (end_line r other) (command_line r sizes other)))
-unfolding times_line end_line
-part_by n line other k r sizes true c e = times_by n line other k r r.turns
-part_by n line other k r sizes false true e =
-    end_taken n line other k r r.turns ((bytes_eq-Decides (first_word line).0 (codes "end")).0 e)
-part_by n line other k r sizes false false e = command_taken n line other k r sizes
-
-part_taken : (n : ℕ) (line other : List ℕ) (k : AreAlike n line other) (r : ReadSoFar) (sizes : Sizes)
-    → IsTakenAlike line n (part_line r sizes line) (part_line r sizes other)
-unfolding part_line
-part_taken n line other k r sizes = by_first n line other k _
-    (λ (w : List ℕ × ℕ). cond (bytes_eq w.0 (codes "times")) (times_line r other)
-    (cond (bytes_eq w.0 (codes "end")) (end_line r other) (command_line r sizes other)))
-    (part_by n line other k r sizes (bytes_eq (first_word line).0 (codes "times"))
-    (bytes_eq (first_word line).0 (codes "end")) refl)
 
 -- before layout lines, where nothing has begun, only a layout line is taken
 no_layout : (r : ReadSoFar) (word : List ℕ) → (r.begun ≡ true → 1 ≤ length r.layouts) → (length r.layouts == 0) ≡ true
@@ -268,44 +115,187 @@ no_layout r word started none h is = by_begun r.begun refl
         rw (same, e, below) refl in
         absurd cc
 
-later_by : (n : ℕ) (line other : List ℕ) (k : AreAlike n line other) (r : ReadSoFar) (sizes : Sizes)
-    → (r.begun ≡ true → 1 ≤ length r.layouts) → (b c : Bool)
-    → (bytes_eq (first_word line).0 (codes "layout") && not r.begun && nat_lt (length r.layouts) MOST_LAYOUTS) ≡ b
-    → (length r.layouts == 0) ≡ c → IsTakenAlike line n
-    (cond b (layout_line r sizes line) (cond c (Err (flaw 0 kinds.LayoutLineExpected)) (part_line r sizes line)))
-    (cond b (layout_line r sizes other) (cond c (Err (flaw 0 kinds.LayoutLineExpected)) (part_line r sizes other)))
-later_by n line other k r sizes started true c e none = layout_taken n line other k r sizes
-later_by n line other k r sizes started false true e none =
-    fault_first line n kinds.LayoutLineExpected (refl, no_layout r (first_word line).0 started none e)
-later_by n line other k r sizes started false false e none = part_taken n line other k r sizes
+-- ---- two lines
 
-later_taken : (n : ℕ) (line other : List ℕ) (k : AreAlike n line other) (r : ReadSoFar) (sizes : Sizes)
-    → (r.begun ≡ true → 1 ≤ length r.layouts)
-    → IsTakenAlike line n (later_line r sizes line) (later_line r sizes other)
-unfolding later_line
-later_taken n line other k r sizes started = by_first n line other k _
-    (λ (w : List ℕ × ℕ). cond
-    (bytes_eq w.0 (codes "layout") && not r.begun && nat_lt (length r.layouts) MOST_LAYOUTS)
-    (layout_line r sizes other)
-    (cond (length r.layouts == 0) (Err (flaw 0 kinds.LayoutLineExpected)) (part_line r sizes other)))
-    (later_by n line other k r sizes started (bytes_eq (first_word line).0 (codes "layout") && not r.begun
-    && nat_lt (length r.layouts) MOST_LAYOUTS) (length r.layouts == 0) refl refl)
+module _ (n : ℕ) (line other : List ℕ) (k : AreAlike n line other) where
+  -- what is done with the first word is done with that of both lines
+  by_first : (r : Result ReadSoFar Flaw)
+      (f : List ℕ × ℕ → Result ReadSoFar Flaw) → IsTakenAlike line n r (f (first_word line))
+      → IsTakenAlike line n r (f (first_word other))
+  by_first r f h = subst (λ (w : List ℕ × ℕ). IsTakenAlike line n r (f w)) k.first h
 
-after_taken : (n : ℕ) (line other : List ℕ) (k : AreAlike n line other) (r : ReadSoFar) (o : Option Sizes)
-    → (r.begun ≡ true → 1 ≤ length r.layouts) → IsTakenAlike line n (line_after r o line) (line_after r o other)
-after_taken n line other k r None started = heap_taken n line other k r
-after_taken n line other k r (Some sizes) started = later_taken n line other k r sizes started
+  heap_by : (r : ReadSoFar) (b : Bool)
+      → bytes_eq (first_word line).0 (codes "heap") ≡ b → IsTakenAlike line n
+      (cond b (heap_in line (first_word line).1 >>= (λ sizes. Ok (record r { sizes = Some sizes })))
+      (Err (flaw 0 kinds.HeapLineExpected)))
+      (cond b (heap_in other (first_word line).1 >>= (λ sizes. Ok (record r { sizes = Some sizes })))
+      (Err (flaw 0 kinds.HeapLineExpected)))
+  heap_by r true e =
+      taken_from line n (first_word line).1 _ _ (then_alike line (λ (x : Sizes). length line + 1) (line_end line) n
+      (first_word line).1 _ _ _ _ (heap_alike n line other k (first_word line).1)
+      (λ s. done_alike line (line_end line) n (length line + 1) _ refl)) (first_behind line)
+  heap_by r false e =
+      fault_first line n kinds.HeapLineExpected (refl, other_word (first_word line).0 (codes "heap") e)
 
-idle_by : (n : ℕ) (line other : List ℕ) (k : AreAlike n line other) (r : ReadSoFar)
-    → (r.begun ≡ true → 1 ≤ length r.layouts) → (b : Bool)
-    → IsTakenAlike line n (cond b (Ok r) (line_after r r.sizes line)) (cond b (Ok r) (line_after r r.sizes other))
-idle_by n line other k r started true = record { same = inl refl; placed = inl refl }
-idle_by n line other k r started false = after_taken n line other k r r.sizes started
+  heap_taken : (r : ReadSoFar)
+      → IsTakenAlike line n (heap_line r line) (heap_line r other)
+  unfolding heap_line
+  heap_taken r = by_first _
+      (λ (w : List ℕ × ℕ). cond (bytes_eq w.0 (codes "heap"))
+      (heap_in other w.1 >>= (λ sizes. Ok (record r { sizes = Some sizes }))) (Err (flaw 0 kinds.HeapLineExpected)))
+      (heap_by r (bytes_eq (first_word line).0 (codes "heap")) refl)
 
--- lines that are alike are taken alike
-pub line_taken : (n : ℕ) (line other : List ℕ) (k : AreAlike n line other) (r : ReadSoFar)
-    → (r.begun ≡ true → 1 ≤ length r.layouts) → IsTakenAlike line n (line_in r line) (line_in r other)
-unfolding line_in
-line_taken n line other k r started = subst (λ (b : Bool). IsTakenAlike line n
-    (cond (is_idle line) (Ok r) (line_after r r.sizes line)) (cond b (Ok r) (line_after r r.sizes other)))
-    k.idle (idle_by n line other k r started (is_idle line))
+  layout_taken : (r : ReadSoFar) (sizes : Sizes)
+      → IsTakenAlike line n (layout_line r sizes line) (layout_line r sizes other)
+  unfolding layout_line
+  layout_taken r sizes = by_first _
+      (λ (w : List ℕ × ℕ). layout_in sizes other w.1 >>= (λ layout. Ok (record r { layouts = r.layouts ++ layout ∷ [] })))
+      (taken_from line n (first_word line).1 _ _ (then_alike line (λ (x : Layout). length line + 1) (line_end line) n
+      (first_word line).1 _ _ _ _ (layout_alike n line other k sizes (first_word line).1)
+      (λ s. done_alike line (line_end line) n (length line + 1) _ refl)) (first_behind line))
+
+  times_by : (r : ReadSoFar) (o : Option ℕ)
+      → IsTakenAlike line n (times_in r o line) (times_in r o other)
+  times_by r (Some turns) = fault_first line n kinds.UnknownWord tt
+  times_by r None = by_first _
+      (λ (w : List ℕ × ℕ). number_at other w.1 1 MOST_TURNS >>= (λ turns. end_at other turns.1
+      >>= (λ u. Ok (record r { begun = true; turns = Some turns.0; body = [] }))))
+      (taken_from line n (first_word line).1 _ _ (then_alike line (λ (x : ℕ × ℕ). x.1) (line_end line) n
+      (first_word line).1 _ _ _ _ (number_alike n line other k (first_word line).1 1 MOST_TURNS)
+      (λ turns. end_alike n line other k _ turns.1))
+      (first_behind line))
+
+  end_by : (r t : ReadSoFar) (b : Bool)
+      → IsTakenAlike line n
+      (cond b (Err (flaw 0 kinds.TooManyCommands)) (end_at line (first_word line).1 >>= (λ u. Ok t)))
+      (cond b (Err (flaw 0 kinds.TooManyCommands)) (end_at other (first_word line).1 >>= (λ u. Ok t)))
+  end_by r t true = fault_first line n kinds.TooManyCommands refl
+  end_by r t false =
+      taken_from line n (first_word line).1 _ _ (end_alike n line other k t (first_word line).1) (first_behind line)
+
+  end_taken : (r : ReadSoFar) (o : Option ℕ)
+      → (first_word line).0 ≡ codes "end" → IsTakenAlike line n (end_in r o line) (end_in r o other)
+  end_taken r None first = fault_first line n kinds.EndWithoutTimes (refl, first)
+  end_taken r (Some turns) first =
+      let t : ReadSoFar = record r { commands = r.commands ++ repeat turns r.body; turns = None; body = [] } in
+      let b = nat_lt MOST_COMMANDS (length r.commands + turns * length r.body) in
+      by_first _ (λ (w : List ℕ × ℕ). cond b (Err (flaw 0 kinds.TooManyCommands))
+      (end_at other w.1 >>= (λ u. Ok t))) (end_by r t b)
+
+  actor_room : (sizes : Sizes) (full b : Bool)
+      → IsWordAlike line (λ (x : Actor × ℕ). x.1) n 0 (with_room full (actor_by sizes line b))
+      (with_room full (actor_by sizes other b))
+  actor_room sizes full true =
+      two_steps line n (named_at line 0 119 sizes.workers kinds.NoSuchActor)
+      (named_at other 0 119 sizes.workers kinds.NoSuchActor) (λ (w : ℕ × ℕ). Ok (Worker w.0, w.1)) (checked full)
+      (name_then n line other k (λ (x : Actor × ℕ). x.1) 0 119 sizes.workers kinds.NoSuchActor
+      (λ (w : ℕ × ℕ). checked full (Worker w.0, w.1))
+      (λ front word digits size is number. (no_bytes front size, inr (digits, (is, number))))
+      (λ w x e. judge_full (Worker x.0) w x.1 e full))
+  actor_room sizes full false =
+      two_steps line n (named_at line 0 116 sizes.threads kinds.NoSuchActor)
+      (named_at other 0 116 sizes.threads kinds.NoSuchActor) (λ (t : ℕ × ℕ). Ok (Thread t.0, t.1)) (checked full)
+      (name_then n line other k (λ (x : Actor × ℕ). x.1) 0 116 sizes.threads kinds.NoSuchActor
+      (λ (t : ℕ × ℕ). checked full (Thread t.0, t.1))
+      (λ front word digits size is number. (no_bytes front size, inl (digits, (is, number))))
+      (λ w x e. judge_full (Thread x.0) w x.1 e full))
+
+  actor_alike : (sizes : Sizes) (full : Bool)
+      → IsWordAlike line (λ (x : Actor × ℕ). x.1) n 0 (with_room full (actor_at sizes line))
+      (with_room full (actor_at sizes other))
+  unfolding actor_at
+  actor_alike sizes full =
+      subst (λ (b : ℕ). IsWordAlike line (λ (x : Actor × ℕ). x.1) n 0
+      (with_room full (actor_by sizes line (first_byte line == 119))) (with_room full (actor_by sizes other (b == 119))))
+      k.byte (actor_room sizes full (first_byte line == 119))
+
+  order_taken : (r : ReadSoFar) (sizes : Sizes)
+      (actor : Actor × ℕ)
+      → IsReadAlike line (line_end line) n actor.1 (order_for r sizes line actor) (order_for r sizes other actor)
+  order_taken r sizes actor =
+      then_alike line (λ (x : Order). length line + 1) (line_end line) n actor.1 _ _ _ _
+      (order_alike n line other k sizes actor.0 actor.1)
+      (λ order. done_alike line (line_end line) n (length line + 1) _ refl)
+
+  command_taken : (r : ReadSoFar) (sizes : Sizes)
+      → IsTakenAlike line n (command_line r sizes line) (command_line r sizes other)
+  unfolding command_line
+  command_taken r sizes =
+      let full = is_full r.turns r.commands in
+      let place = λ (x : Actor × ℕ). x.1 in
+      let actor = actor_alike sizes full in
+      let steps = λ (l : List ℕ). test_first (actor_at sizes l) (λ (x : Actor × ℕ). full) (flaw 0 kinds.TooManyCommands)
+      (order_for r sizes l) in
+      let both : IsTakenAlike line n (with_room full (actor_at sizes line) >>= order_for r sizes line)
+      (with_room full (actor_at sizes other) >>= order_for r sizes other) =
+      record {
+        same = (then_alike line place (line_end line) n 0 _ _ _ _ (word_alike line place n 0 _ _ actor)
+            (order_taken r sizes)).same;
+        placed = then_placed line place (line_end line) n (with_room full (actor_at sizes line)) (order_for r sizes line)
+            (order_for r sizes other) (actor.placed (inl refl)) (order_taken r sizes);
+      } in
+      subst (λ (x : Result ReadSoFar Flaw). IsTakenAlike line n (actor_at sizes line >>= (λ actor. cond full
+      (Err (flaw 0 kinds.TooManyCommands)) (order_for r sizes line actor))) x) (steps other)
+      (subst (λ (x : Result ReadSoFar Flaw). IsTakenAlike line n x (with_room full (actor_at sizes other)
+      >>= order_for r sizes other)) (steps line) both)
+
+  part_by : (r : ReadSoFar) (sizes : Sizes) (b c : Bool)
+      → bytes_eq (first_word line).0 (codes "end") ≡ c
+      → IsTakenAlike line n (cond b (times_line r line) (cond c (end_line r line) (command_line r sizes line)))
+      (cond b (times_line r other) (cond c (end_line r other) (command_line r sizes other)))
+  unfolding times_line end_line
+  part_by r sizes true c e = times_by r r.turns
+  part_by r sizes false true e =
+      end_taken r r.turns ((bytes_eq-Decides (first_word line).0 (codes "end")).0 e)
+  part_by r sizes false false e = command_taken r sizes
+
+  part_taken : (r : ReadSoFar) (sizes : Sizes)
+      → IsTakenAlike line n (part_line r sizes line) (part_line r sizes other)
+  unfolding part_line
+  part_taken r sizes = by_first _
+      (λ (w : List ℕ × ℕ). cond (bytes_eq w.0 (codes "times")) (times_line r other)
+      (cond (bytes_eq w.0 (codes "end")) (end_line r other) (command_line r sizes other)))
+      (part_by r sizes (bytes_eq (first_word line).0 (codes "times"))
+      (bytes_eq (first_word line).0 (codes "end")) refl)
+
+  later_by : (r : ReadSoFar) (sizes : Sizes)
+      → (r.begun ≡ true → 1 ≤ length r.layouts) → (b c : Bool)
+      → (bytes_eq (first_word line).0 (codes "layout") && not r.begun && nat_lt (length r.layouts) MOST_LAYOUTS) ≡ b
+      → (length r.layouts == 0) ≡ c → IsTakenAlike line n
+      (cond b (layout_line r sizes line) (cond c (Err (flaw 0 kinds.LayoutLineExpected)) (part_line r sizes line)))
+      (cond b (layout_line r sizes other) (cond c (Err (flaw 0 kinds.LayoutLineExpected)) (part_line r sizes other)))
+  later_by r sizes started true c e none = layout_taken r sizes
+  later_by r sizes started false true e none =
+      fault_first line n kinds.LayoutLineExpected (refl, no_layout r (first_word line).0 started none e)
+  later_by r sizes started false false e none = part_taken r sizes
+
+  later_taken : (r : ReadSoFar) (sizes : Sizes)
+      → (r.begun ≡ true → 1 ≤ length r.layouts)
+      → IsTakenAlike line n (later_line r sizes line) (later_line r sizes other)
+  unfolding later_line
+  later_taken r sizes started = by_first _
+      (λ (w : List ℕ × ℕ). cond
+      (bytes_eq w.0 (codes "layout") && not r.begun && nat_lt (length r.layouts) MOST_LAYOUTS)
+      (layout_line r sizes other)
+      (cond (length r.layouts == 0) (Err (flaw 0 kinds.LayoutLineExpected)) (part_line r sizes other)))
+      (later_by r sizes started (bytes_eq (first_word line).0 (codes "layout") && not r.begun
+      && nat_lt (length r.layouts) MOST_LAYOUTS) (length r.layouts == 0) refl refl)
+
+  after_taken : (r : ReadSoFar) (o : Option Sizes)
+      → (r.begun ≡ true → 1 ≤ length r.layouts) → IsTakenAlike line n (line_after r o line) (line_after r o other)
+  after_taken r None started = heap_taken r
+  after_taken r (Some sizes) started = later_taken r sizes started
+
+  idle_by : (r : ReadSoFar)
+      → (r.begun ≡ true → 1 ≤ length r.layouts) → (b : Bool)
+      → IsTakenAlike line n (cond b (Ok r) (line_after r r.sizes line)) (cond b (Ok r) (line_after r r.sizes other))
+  idle_by r started true = record { same = inl refl; placed = inl refl }
+  idle_by r started false = after_taken r r.sizes started
+
+  -- lines that are alike are taken alike
+  pub line_taken : (r : ReadSoFar)
+      → (r.begun ≡ true → 1 ≤ length r.layouts) → IsTakenAlike line n (line_in r line) (line_in r other)
+  unfolding line_in
+  line_taken r started = subst (λ (b : Bool). IsTakenAlike line n
+      (cond (is_idle line) (Ok r) (line_after r r.sizes line)) (cond b (Ok r) (line_after r r.sizes other)))
+      k.idle (idle_by r started (is_idle line))

@@ -18,6 +18,7 @@ use Rattle.parser.specs.Orders.{verb_in, register_at, operand_at, operands_at, o
 use Rattle.parser.specs.Faults.{IsWrongWord}
 use Rattle.parser.proofs.Alike.{AreAlike, IsJudged, IsWordAlike, IsReadAlike, word_alike, then_alike, done_alike}
 use Rattle.parser.proofs.Alike.{one_word, one_word_then}
+use Rattle.parser.proofs.AlikeReads.{Alike, AlikeToEnd, next_alike, last_alike, found_alike}
 use Rattle.parser.proofs.AlikeReads.{number_alike, small_alike, end_alike}
 
 -- ---- names
@@ -66,66 +67,7 @@ pub bind_ok_is : {A : Type 0} (r : Result A Flaw) → (r >>= (λ x. Ok x)) ≡ r
 bind_ok_is (Ok x) = refl
 bind_ok_is (Err d) = refl
 
-register_alike : (n : ℕ) (line other : List ℕ) (k : AreAlike n line other) (sizes : Sizes) (at : ℕ)
-    → IsReadAlike line (λ (x : ℕ × ℕ). x.1) n at (register_at sizes line at) (register_at sizes other at)
-unfolding register_at
-register_alike n line other k sizes at =
-    let place = λ (x : ℕ × ℕ). x.1 in
-    let both = word_alike line place n at _ _ (name_then n line other k place at 114 sizes.registers
-    kinds.NoSuchRegister (λ (x : ℕ × ℕ). Ok x) (λ front word digits size is number. (digits, (is, number)))
-    (λ w x e. e)) in
-    subst (λ (r : Result (ℕ × ℕ) Flaw). IsReadAlike line place n at
-    (named_at line at 114 sizes.registers kinds.NoSuchRegister) r)
-    (bind_ok_is (named_at other at 114 sizes.registers kinds.NoSuchRegister))
-    (subst (λ (r : Result (ℕ × ℕ) Flaw). IsReadAlike line place n at r
-    (named_at other at 114 sizes.registers kinds.NoSuchRegister >>= (λ (x : ℕ × ℕ). Ok x)))
-    (bind_ok_is (named_at line at 114 sizes.registers kinds.NoSuchRegister)) both)
-
--- ---- operands
-
--- an order and the place behind it
-abbrev order_end : Order × ℕ → ℕ
-order_end x = x.1
-
-operand_alike : (n : ℕ) (line other : List ℕ) (k : AreAlike n line other) (sizes : Sizes) (at : ℕ) (kind : Kind)
-    → IsReadAlike line (λ (x : ℕ × ℕ). x.1) n at (operand_at sizes line at kind) (operand_at sizes other at kind)
-unfolding operand_at
-operand_alike n line other k sizes at Nothing = done_alike line (λ (x : ℕ × ℕ). x.1) n at _ refl
-operand_alike n line other k sizes at Register = register_alike n line other k sizes at
-operand_alike n line other k sizes at Number = small_alike n line other k at
-operand_alike n line other k sizes at Long = number_alike n line other k at 0 18446744073709551615
-
--- an operand, and what is read behind it
-operand_then : (n : ℕ) (line other : List ℕ) (k : AreAlike n line other) (sizes : Sizes) (at : ℕ) (kind : Kind)
-    (f g : ℕ × ℕ → Result (Order × ℕ) Flaw) → ((x : ℕ × ℕ) → IsReadAlike line order_end n x.1 (f x) (g x))
-    → IsReadAlike line order_end n at (operand_at sizes line at kind >>= f) (operand_at sizes other at kind >>= g)
-operand_then n line other k sizes at kind f g =
-    then_alike line (λ (x : ℕ × ℕ). x.1) order_end n at _ _ f g (operand_alike n line other k sizes at kind)
-
-operands_alike : (n : ℕ) (line other : List ℕ) (k : AreAlike n line other) (sizes : Sizes) (at : ℕ) (verb : Verb)
-    → IsReadAlike line order_end n at (operands_at sizes line at verb) (operands_at sizes other at verb)
-unfolding operands_at
-operands_alike n line other k sizes at verb =
-    operand_then n line other k sizes at _ _ _ (λ a. operand_then n line other k sizes a.1 _ _ _
-    (λ b. operand_then n line other k sizes b.1 _ _ _ (λ c. operand_then n line other k sizes c.1 _ _ _
-    (λ d. done_alike line order_end n d.1 _ refl))))
-
 -- ---- an order
-
--- what stands behind an order's verb
-abbrev order_behind : Sizes → List ℕ → Verb × ℕ → Result Order Flaw
-order_behind sizes line verb =
-    operands_at sizes line verb.1 verb.0 >>= (λ order. end_at line order.1 >>= (λ u. Ok order.0))
-
-behind_alike : (n : ℕ) (line other : List ℕ) (k : AreAlike n line other) (sizes : Sizes) (verb : Verb × ℕ)
-    → IsReadAlike line (λ (x : Order). length line + 1) n verb.1 (order_behind sizes line verb)
-    (order_behind sizes other verb)
-behind_alike n line other k sizes verb =
-    then_alike line order_end (λ (x : Order). length line + 1) n verb.1 _ _ _ _
-    (operands_alike n line other k sizes verb.1 verb.0)
-    (λ order. then_alike line (λ (u : Unit {0}). length line + 1) (λ (x : Order). length line + 1) n order.1 _ _ _ _
-    (end_alike n line other k order.1)
-    (λ u. done_alike line (λ (x : Order). length line + 1) n (length line + 1) _ refl))
 
 -- a verb and what follows it, as two steps
 verb_first : {B : Type 0} (r : Result (List ℕ × ℕ) Flaw) (test : List ℕ → Option Verb) (f : Flaw)
@@ -145,22 +87,58 @@ judge_verb : (at : ℕ) (w : List ℕ × ℕ) (o : Option Verb)
 judge_verb at w None = (refl, λ front size. tt)
 judge_verb at w (Some verb) = refl
 
-pub order_alike : (n : ℕ) (line other : List ℕ) (k : AreAlike n line other) (sizes : Sizes) (actor : Actor) (at : ℕ)
-    → IsReadAlike line (λ (x : Order). length line + 1) n at (order_at sizes line actor at)
-    (order_at sizes other actor at)
-unfolding order_at
-order_alike n line other k sizes actor at =
-    let end = λ (x : Order). length line + 1 in
-    let f = flaw at kinds.UnknownWord in
-    let judge = λ (w : List ℕ × ℕ). or_flaw (verb_in actor w.0) f >>= (λ verb. Ok (verb, w.1)) in
-    let both = then_alike line (λ (x : Verb × ℕ). x.1) end n at (word_or line at kinds.UnknownWord >>= judge)
-    (word_or other at kinds.UnknownWord >>= judge) (order_behind sizes line) (order_behind sizes other)
-    (word_alike line (λ (x : Verb × ℕ). x.1) n at _ _ (one_word n line other k (λ (x : Verb × ℕ). x.1) at
-    kinds.UnknownWord judge (λ w. judge_verb at w (verb_in actor w.0)) tt))
-    (λ verb. behind_alike n line other k sizes verb) in
-    subst (λ (r : Result Order Flaw). IsReadAlike line end n at (word_or line at kinds.UnknownWord
-    >>= (λ w. or_flaw (verb_in actor w.0) f >>= (λ verb. order_behind sizes line (verb, w.1)))) r)
-    (verb_first (word_or other at kinds.UnknownWord) (verb_in actor) f (order_behind sizes other))
-    (subst (λ (r : Result Order Flaw). IsReadAlike line end n at r ((word_or other at kinds.UnknownWord >>= judge)
-    >>= order_behind sizes other))
-    (verb_first (word_or line at kinds.UnknownWord) (verb_in actor) f (order_behind sizes line)) both)
+-- what stands behind an order's verb
+abbrev order_behind : Sizes → List ℕ → Verb × ℕ → Result Order Flaw
+order_behind sizes line verb =
+    operands_at sizes line verb.1 verb.0 >>= (λ order. end_at line order.1 >>= (λ u. Ok order.0))
+
+module _ (n : ℕ) (line other : List ℕ) (k : AreAlike n line other) (sizes : Sizes) where
+  register_alike : (at : ℕ) → Alike n line other k at (register_at sizes line at) (register_at sizes other at)
+  unfolding register_at
+  register_alike at =
+      let place = λ (x : ℕ × ℕ). x.1 in
+      let both = word_alike line place n at _ _ (name_then n line other k place at 114 sizes.registers
+      kinds.NoSuchRegister (λ (x : ℕ × ℕ). Ok x) (λ front word digits size is number. (digits, (is, number)))
+      (λ w x e. e)) in
+      subst (λ (r : Result (ℕ × ℕ) Flaw). IsReadAlike line place n at
+      (named_at line at 114 sizes.registers kinds.NoSuchRegister) r)
+      (bind_ok_is (named_at other at 114 sizes.registers kinds.NoSuchRegister))
+      (subst (λ (r : Result (ℕ × ℕ) Flaw). IsReadAlike line place n at r
+      (named_at other at 114 sizes.registers kinds.NoSuchRegister >>= (λ (x : ℕ × ℕ). Ok x)))
+      (bind_ok_is (named_at line at 114 sizes.registers kinds.NoSuchRegister)) both)
+
+  operand_alike : (at : ℕ) (kind : Kind)
+      → Alike n line other k at (operand_at sizes line at kind) (operand_at sizes other at kind)
+  unfolding operand_at
+  operand_alike at Nothing = found_alike n line other k 0 at
+  operand_alike at Register = register_alike at
+  operand_alike at Number = small_alike n line other k at
+  operand_alike at Long = number_alike n line other k at 0 18446744073709551615
+
+  operands_alike : (at : ℕ) (verb : Verb)
+      → Alike n line other k at (operands_at sizes line at verb) (operands_at sizes other at verb)
+  unfolding operands_at
+  operands_alike at verb =
+      let next = λ (at : ℕ) (kind : Kind) (f : ℕ × ℕ → Result (Order × ℕ) Flaw) (g : ℕ × ℕ → Result (Order × ℕ) Flaw).
+      next_alike n line other k at (operand_at sizes line at kind) (operand_at sizes other at kind) f g
+      (operand_alike at kind) in
+      next at _ _ _ (λ a. next a.1 _ _ _ (λ b. next b.1 _ _ _ (λ c. next c.1 _ _ _
+      (λ d. found_alike n line other k _ d.1))))
+
+  pub order_alike : (actor : Actor) (at : ℕ)
+      → AlikeToEnd n line other k at (order_at sizes line actor at) (order_at sizes other actor at)
+  unfolding order_at
+  order_alike actor at =
+      let f = flaw at kinds.UnknownWord in
+      let judge = λ (w : List ℕ × ℕ). or_flaw (verb_in actor w.0) f >>= (λ verb. Ok (verb, w.1)) in
+      let read = λ (l : List ℕ). word_or l at kinds.UnknownWord in
+      let verb = word_alike line (λ (x : Verb × ℕ). x.1) n at _ _ (one_word n line other k (λ (x : Verb × ℕ). x.1) at
+      kinds.UnknownWord judge (λ w. judge_verb at w (verb_in actor w.0)) tt) in
+      let both = last_alike n line other k at (read line >>= judge) (read other >>= judge) (order_behind sizes line)
+      (order_behind sizes other) verb (λ verb. last_alike n line other k verb.1 _ _ _ _ (operands_alike verb.1 verb.0)
+      (λ order. end_alike n line other k order.0 order.1)) in
+      subst (λ (r : Result Order Flaw). AlikeToEnd n line other k at (read line
+      >>= (λ w. or_flaw (verb_in actor w.0) f >>= (λ verb. order_behind sizes line (verb, w.1)))) r)
+      (verb_first (read other) (verb_in actor) f (order_behind sizes other))
+      (subst (λ (r : Result Order Flaw). AlikeToEnd n line other k at r ((read other >>= judge)
+      >>= order_behind sizes other)) (verb_first (read line) (verb_in actor) f (order_behind sizes line)) both)
