@@ -37,10 +37,10 @@ use Rattle.parser.proofs.ReadIsSpelled.{Said, line_ok, first_words, few_actors, 
 use Rattle.parser.proofs.TakenLines.{IsReady, heap_taken, times_taken, end_taken, command_taken}
 use Rattle.parser.proofs.Alike.{IsFaultAt, IsJudged, no_bytes, bind_assoc, word_or_some}
 use Rattle.parser.proofs.WordPlaces.{finds_word}
-use Rattle.parser.proofs.AlikeOrders.{judge_name}
+use Rattle.parser.proofs.AlikeLines.{judge_name}
 use Rattle.parser.proofs.Breaks.{bind_err, same_flaw, no_err, IsTail, Breaks, here, later, judged_err}
 use Rattle.parser.proofs.Breaks.{number_break, end_break}
-use Rattle.parser.proofs.OrderBreaks.{order_break}
+use Rattle.parser.proofs.Breaks.{order_break}
 use Rattle.parser.proofs.HeapLines.{IsSizes, heap_breaks}
 use Rattle.model.proofs.Ranges.{page_size_range}
 use Rattle.parser.proofs.Completions.{taken_have_none}
