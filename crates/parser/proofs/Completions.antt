@@ -219,21 +219,14 @@ small_sizes = record {
 small_in_range : IsSizes small_sizes
 small_in_range = record {
   words = refl;
-  frames = omega arith;
-  frames_most = omega arith;
-  pages = omega arith;
-  pages_most = omega arith;
-  threads = omega arith;
-  threads_most = omega arith;
-  workers = omega arith;
-  workers_most = omega arith;
-  registers = omega arith;
-  registers_most = omega arith;
-  globals_most = omega arith;
-  births = omega arith;
-  births_most = omega arith;
-  history = omega arith;
-  history_most = omega arith;
+  frames = (omega arith, omega arith);
+  pages = (omega arith, omega arith);
+  threads = (omega arith, omega arith);
+  workers = (omega arith, omega arith);
+  registers = (omega arith, omega arith);
+  globals = (omega arith, omega arith);
+  births = (omega arith, omega arith);
+  history = (omega arith, omega arith);
 }
 
 -- its heap line

@@ -27,11 +27,14 @@ use Rattle.parser.proofs.Pieces.{bind_ok, fixed_ok, fixed_again, number_ok, numb
 
 -- ---- a number behind its name
 
+-- a number from low to high
+abbrev pub IsWithin : ℕ → ℕ → ℕ → Type 0
+IsWithin low high n = (low ≤ n) × (n ≤ high)
+
 -- a number from low to high is spelled behind its name
 pub record IsField (name : List ℕ) (low high n : ℕ) (ws : List (List ℕ)) : Type 0 where
   pub words_are : ws ≡ name ∷ decimal n ∷ []
-  pub above : low ≤ n
-  pub below : n ≤ high
+  pub within : IsWithin low high n
 
 fixed_break : (line : List ℕ) (at : ℕ) (text : List ℕ) (f : Flaw) → fixed_at line at text kinds.UnknownWord ≡ Err f
     → BreaksBehind line at f []
@@ -49,13 +52,13 @@ field_reader name low high fits some = record {
       let n = number_ok line a.0 low high v fits a.2 in
       record {
         words = name ∷ decimal v.0 ∷ [];
-        is = record { words_are = refl; above = n.above; below = n.below };
+        is = record { words_are = refl; within = (n.above, n.below) };
         spelled = fixed_ok line at name kinds.UnknownWord a.0 a.1 ∙ ap (λ (t : List (List ℕ)). name ∷ t) n.spelled;
       };
-  again = λ line at n ws rest is may h. let below = is.below in
+  again = λ line at n ws rest is may h. let below = is.within.1 in
       let a = fixed_again line at name kinds.UnknownWord (decimal n ∷ rest)
       (h ∙ ap (λ (t : List (List ℕ)). t ++ rest) is.words_are) in
-      let b = number_again line a.0 low high n rest (omega arith) is.above below a.2 in
+      let b = number_again line a.0 low high n rest (omega arith) is.within.0 below a.2 in
       (b.0, rw (a.1, b.1) refl, b.2);
   breaks = λ line at f h. record {
     value = low;
@@ -71,7 +74,7 @@ field_reader name low high fits some = record {
 }
   where
     least : IsField name low high low (name ∷ decimal low ∷ [])
-    least = record { words_are = refl; above = omega arith; below = some }
+    least = record { words_are = refl; within = (omega arith, some) }
 
 -- ---- the words of a page
 
@@ -143,13 +146,12 @@ page_size_reader = record {
 -- a limit is spelled behind its name, or is left out
 pub record IsLimit (name : List ℕ) (most n : ℕ) (ws : List (List ℕ)) : Type 0 where
   pub is : SpellsLimit name most n ws
-  pub above : 1 ≤ n
-  pub below : n ≤ most
+  pub within : IsWithin 1 most n
 
 left_out : (line : List ℕ) (at : ℕ) (name : List ℕ) (most : ℕ) (v : ℕ × ℕ) → 1 ≤ most → (most, at) ≡ v
     → IsReadAt (IsLimit name most) line at v
 left_out line at name most v low e = subst (λ (x : ℕ × ℕ). IsReadAt (IsLimit name most) line at x) e
-    (record { words = []; is = record { is = inr (refl, refl); above = low; below = omega arith }; spelled = refl })
+    (record { words = []; is = record { is = inr (refl, refl); within = (low, omega arith) }; spelled = refl })
 
 limit_in_ok : (line : List ℕ) (at : ℕ) (name : List ℕ) (most : ℕ) (v : ℕ × ℕ) (o : Option (List ℕ × ℕ)) → 1 ≤ most
     → most < 2 ^ 64 → word_at line at ≡ o → limit_in line at name most o ≡ Ok v
@@ -162,7 +164,7 @@ limit_in_ok line at name most v (Some w) low fits e h =
           let same : w.0 ≡ name = (bytes_eq-Decides w.0 name).0 p.0 in
           record {
             words = name ∷ decimal v.0 ∷ [];
-            is = record { is = inl refl; above = n.above; below = n.below };
+            is = record { is = inl refl; within = (n.above, n.below) };
             spelled = word_is line at w e ∙ ap (λ (t : List ℕ). t ∷ words_from line w.1) same
                 ∙ ap (λ (t : List (List ℕ)). name ∷ t) n.spelled;
           }
@@ -230,7 +232,7 @@ limit_reader name most May low fits other = record {
   some = record { value = 1; words = _; is = least };
   ok = λ line at v h. limit_in_ok line at name most v (word_at line at) low fits refl h;
   again = λ line at n ws rest is may h.
-      limit_again line at name most n ws rest is.is fits is.above is.below (other rest may) h;
+      limit_again line at name most n ws rest is.is fits is.within.0 is.within.1 (other rest may) h;
   breaks = λ line at f h. record {
     value = 1;
     words = name ∷ decimal 1 ∷ [];
@@ -240,28 +242,21 @@ limit_reader name most May low fits other = record {
 }
   where
     least : IsLimit name most 1 (name ∷ decimal 1 ∷ [])
-    least = record { is = inl refl; above = omega arith; below = low }
+    least = record { is = inl refl; within = (omega arith, low) }
 
 -- ---- the heap line
 
 -- the numbers of a heap line are in their ranges
 pub record IsSizes (s : Sizes) : Type 0 where
   pub words : is_page_size s.words ≡ true
-  pub frames : 1 ≤ s.frames
-  pub frames_most : s.frames ≤ MOST_FRAMES
-  pub pages : s.frames ≤ s.pages
-  pub pages_most : s.pages ≤ MOST_PAGES
-  pub threads : 1 ≤ s.threads
-  pub threads_most : s.threads ≤ MOST_THREADS
-  pub workers : 1 ≤ s.workers
-  pub workers_most : s.workers ≤ 16
-  pub registers : 1 ≤ s.registers
-  pub registers_most : s.registers ≤ 16
-  pub globals_most : s.globals ≤ 64
-  pub births : 1 ≤ s.births
-  pub births_most : s.births ≤ 2 ^ 32
-  pub history : 1 ≤ s.history
-  pub history_most : s.history ≤ 1000000
+  pub frames : IsWithin 1 MOST_FRAMES s.frames
+  pub pages : IsWithin s.frames MOST_PAGES s.pages
+  pub threads : IsWithin 1 MOST_THREADS s.threads
+  pub workers : IsWithin 1 16 s.workers
+  pub registers : IsWithin 1 16 s.registers
+  pub globals : IsWithin 0 64 s.globals
+  pub births : IsWithin 1 (2 ^ 32) s.births
+  pub history : IsWithin 1 1000000 s.history
 
 -- words spell sizes
 pub record SpellsSizes (s : Sizes) (ws : List (List ℕ)) : Type 0 where
@@ -298,7 +293,7 @@ memory_reader = three_reader page_size_at (λ line at. field_at line at (codes "
     (λ (a : ℕ) (b : ℕ) (c : ℕ). (a, b, c)) (λ (v : Numbers). v.0) (λ (v : Numbers). v.1) (λ (v : Numbers). v.2)
     (λ a b c. refl) (λ a b c. refl) (λ a b c. refl) (λ d. refl) page_size_reader
     (field_reader (codes "frames") 1 MOST_FRAMES (lit< tt) (omega arith))
-    (λ frames ws is. let most = is.below in
+    (λ frames ws is. let most = is.within.1 in
     field_reader (codes "pages") frames MOST_PAGES (lit< tt) (omega arith)) (λ b c ws rest is may. tt)
 
 actors_reader : IsReader actors_at AreActors Any
@@ -359,65 +354,53 @@ from_parts s ws h =
           l.front_is.words_are) refl;
       range = record {
         words = m.front_is.size;
-        frames = m.middle_is.above;
-        frames_most = m.middle_is.below;
-        pages = m.back_is.above;
-        pages_most = m.back_is.below;
-        threads = a.front_is.above;
-        threads_most = a.front_is.below;
-        workers = a.middle_is.above;
-        workers_most = a.middle_is.below;
-        registers = a.back_is.above;
-        registers_most = a.back_is.below;
-        globals_most = l.front_is.below;
-        births = l.middle_is.above;
-        births_most = l.middle_is.below;
-        history = l.back_is.above;
-        history_most = l.back_is.below;
+        frames = m.middle_is.within;
+        pages = m.back_is.within;
+        threads = a.front_is.within;
+        workers = a.middle_is.within;
+        registers = a.back_is.within;
+        globals = l.front_is.within;
+        births = l.middle_is.within;
+        history = l.back_is.within;
       };
     }
 
 by_parts : (s : Sizes) (ws : List (List ℕ)) → SpellsSizes s ws → AreParts s ws
 by_parts s ws h =
     let r = h.range in
-    let field = λ (name : List ℕ) (low high n : ℕ) (above : low ≤ n) (below : n ≤ high).
-    the_field name low high n above below in
     record {
       front = _;
       middle = _;
       back = codes "globals" ∷ decimal s.globals ∷ (h.births ++ h.history);
       front_is = record {
         front = codes "words" ∷ decimal s.words ∷ [];
-        middle = _;
-        back = _;
+        middle = codes "frames" ∷ decimal s.frames ∷ [];
+        back = codes "pages" ∷ decimal s.pages ∷ [];
         front_is = record { words_are = refl; size = r.words };
-        middle_is = field (codes "frames") 1 MOST_FRAMES s.frames r.frames r.frames_most;
-        back_is = field (codes "pages") s.frames MOST_PAGES s.pages r.pages r.pages_most;
+        middle_is = record { words_are = refl; within = r.frames };
+        back_is = record { words_are = refl; within = r.pages };
         words_are = refl;
       };
       middle_is = record {
-        front = _;
-        middle = _;
-        back = _;
-        front_is = field (codes "threads") 1 MOST_THREADS s.threads r.threads r.threads_most;
-        middle_is = field (codes "workers") 1 16 s.workers r.workers r.workers_most;
-        back_is = field (codes "registers") 1 16 s.registers r.registers r.registers_most;
+        front = codes "threads" ∷ decimal s.threads ∷ [];
+        middle = codes "workers" ∷ decimal s.workers ∷ [];
+        back = codes "registers" ∷ decimal s.registers ∷ [];
+        front_is = record { words_are = refl; within = r.threads };
+        middle_is = record { words_are = refl; within = r.workers };
+        back_is = record { words_are = refl; within = r.registers };
         words_are = refl;
       };
       back_is = record {
-        front = _;
+        front = codes "globals" ∷ decimal s.globals ∷ [];
         middle = h.births;
         back = h.history;
-        front_is = field (codes "globals") 0 64 s.globals (omega arith) r.globals_most;
-        middle_is = record { is = h.births_spelled; above = r.births; below = r.births_most };
-        back_is = record { is = h.history_spelled; above = r.history; below = r.history_most };
+        front_is = record { words_are = refl; within = r.globals };
+        middle_is = record { is = h.births_spelled; within = r.births };
+        back_is = record { is = h.history_spelled; within = r.history };
         words_are = refl;
       };
       words_are = h.words_are;
     }
-  where
-    the_field : (name : List ℕ) (low high n : ℕ) → low ≤ n → n ≤ high → IsField name low high n (name ∷ decimal n ∷ [])
-    the_field name low high n above below = record { words_are = refl; above = above; below = below }
 
 pub heap_ok : (line : List ℕ) (at : ℕ) (s : Sizes) → heap_in line at ≡ Ok s → SpellsSizes s (words_from line at)
 unfolding heap_in

@@ -138,12 +138,12 @@ sizes_plain s ws h =
     let r = h.range in
     let most = (page_size_range s.words r.words).1 in
     let limits : ArePlain (h.births ++ h.history) = record { each = all_both IsPlain h.births h.history
-    (limit_plain (codes "births") (2 ^ 32) s.births h.births refl (omega (arith, r.births_most)) h.births_spelled)
-    (limit_plain (codes "history") 1000000 s.history h.history refl (omega (arith, r.history_most)) h.history_spelled) } in
+    (limit_plain (codes "births") (2 ^ 32) s.births h.births refl (omega (arith, r.births.1)) h.births_spelled)
+    (limit_plain (codes "history") 1000000 s.history h.history refl (omega (arith, r.history.1)) h.history_spelled) } in
     rw h.words_are ((named (codes "words") s.words refl (omega arith)
-    (named (codes "frames") s.frames refl (omega (arith, r.frames_most))
-    (named (codes "pages") s.pages refl (omega (arith, r.pages_most))
-    (named (codes "threads") s.threads refl (omega (arith, r.threads_most))
-    (named (codes "workers") s.workers refl (omega (arith, r.workers_most))
-    (named (codes "registers") s.registers refl (omega (arith, r.registers_most))
-    (named (codes "globals") s.globals refl (omega (arith, r.globals_most)) limits))))))).each)
+    (named (codes "frames") s.frames refl (omega (arith, r.frames.1))
+    (named (codes "pages") s.pages refl (omega (arith, r.pages.1))
+    (named (codes "threads") s.threads refl (omega (arith, r.threads.1))
+    (named (codes "workers") s.workers refl (omega (arith, r.workers.1))
+    (named (codes "registers") s.registers refl (omega (arith, r.registers.1))
+    (named (codes "globals") s.globals refl (omega (arith, r.globals.1)) limits))))))).each)

@@ -94,9 +94,9 @@ Said said r = IsBefore said r ⊎ IsBehind said r
 
 pub few_actors : (s : Sizes) → IsSizes s → AreFew s
 few_actors s r = record {
-  threads = omega (arith, r.threads_most);
-  workers = omega (arith, r.workers_most);
-  registers = omega (arith, r.registers_most);
+  threads = omega (arith, r.threads.1);
+  workers = omega (arith, r.workers.1);
+  registers = omega (arith, r.registers.1);
 }
 
 heap_step : (line : List ℕ) (t : ReadSoFar) → heap_line nothing line ≡ Ok t → IsBehind (line ∷ []) t

@@ -262,7 +262,7 @@ thread_right before line r f b z ready some room (Worker w) at words there h =
 thread_right before line r f b z ready some room (Thread t) at words there h =
     let few = few_actors z ready.range in
     let threads = few.threads in
-    let breaks = order_break z line t at f ready.range.registers few.registers h in
+    let breaks = order_break z line t at f ready.range.registers.0 few.registers h in
     let command : Command = record { actor = Thread t; order = breaks.order } in
     let own : IsCommand (config_of z []) command = record { actor = there; own = tt; order = breaks.fits } in
     let taken = command_taken z r command (line_of (actor_word
