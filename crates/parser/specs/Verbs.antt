@@ -50,3 +50,9 @@ verb_of word = find (λ verb. bytes_eq word (row_of verb).text) VERBS
 abbrev pub IsSmall : Kind → Type 0
 IsSmall Long = ⊥
 IsSmall other = Unit {0}
+
+-- an operand has 64 bits
+abbrev pub IsWide : Kind → Type 0
+IsWide Register = ⊥
+IsWide Number = ⊥
+IsWide other = Unit {0}

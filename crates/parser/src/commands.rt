@@ -1,7 +1,8 @@
 //! The actor, the verb and the operands of a command.
 
-ghost use Rattle.std.specs.Prelude.{◌≡◌, ◌==◌, ◌<◌, ◌^◌, IfOk};
-ghost use Rattle.parser.specs.Verbs.{IsSmall};
+ghost use Rattle.std.specs.Prelude.{◌≡◌, ◌==◌};
+ghost use Rattle.parser.specs.declared.heading.Sizes.{Sizes};
+ghost use Rattle.parser.specs.Verbs.{IsSmall, IsWide};
 ghost use Rattle.parser.specs.Orders.{register_at, operand_at, actor_at, first_byte, verb_in, operands_at, order_at};
 
 use crate::fault::{FaultKind, Flaw};
@@ -51,33 +52,31 @@ fn register_at(sizes: &Sizes, line: &[u8], at: usize) -> Result<(u32, usize), Fl
     named_at(line, at, b'r', sizes.registers, FaultKind::NoSuchRegister)
 }
 
-/// An operand of a kind, and the place after it.
-#[tactic(auto, unfolding(crate::specs::Orders::operand_at))]
-fn operand_at(sizes: &Sizes, line: &[u8], at: usize, kind: Kind) -> Result<(u64, usize), Flaw>
-    ensures found { result ≡ operand_at sizes.now line.now at kind }
-    ensures small { IsSmall kind → IfOk result (λ x. x.0 < 2 ^ 32) }
-{
-    match kind {
-        Kind::Nothing => Ok((0, at)),
-        Kind::Register => {
-            let (register, at) = register_at(sizes, line, at)?;
-            Ok((register as u64, at))
-        }
-        Kind::Number => {
-            let (number, at) = small_at(line, at)?;
-            Ok((number as u64, at))
-        }
-        Kind::Long => number_at(line, at, 0, u64::MAX),
-    }
-}
-
 /// An operand of 32 bits, and the place after it.
+#[tactic(auto, unfolding(crate::specs::Orders::operand_at))]
 fn small_operand_at(sizes: &Sizes, line: &[u8], at: usize, kind: Kind) -> Result<(u32, usize), Flaw>
     requires { IsSmall kind }
     ensures { result ≡ operand_at sizes.now line.now at kind }
 {
-    let (number, at) = operand_at(sizes, line, at, kind)?;
-    Ok((number as u32, at))
+    match kind {
+        Kind::Nothing => Ok((0, at)),
+        Kind::Register => register_at(sizes, line, at),
+        Kind::Number => small_at(line, at),
+        Kind::Long => unreachable!(),
+    }
+}
+
+/// An operand of 64 bits, and the place after it.
+#[tactic(auto, unfolding(crate::specs::Orders::operand_at))]
+fn wide_operand_at(line: &[u8], at: usize, kind: Kind) -> Result<(u64, usize), Flaw>
+    requires { IsWide kind }
+    ensures { (sizes : Sizes) → result ≡ operand_at sizes line.now at kind }
+{
+    match kind {
+        Kind::Nothing => Ok((0, at)),
+        Kind::Long => number_at(line, at, 0, u64::MAX),
+        Kind::Register | Kind::Number => unreachable!(),
+    }
 }
 
 /// The order of a verb, with its operands from a place on, and the place after them.
@@ -85,11 +84,11 @@ fn small_operand_at(sizes: &Sizes, line: &[u8], at: usize, kind: Kind) -> Result
 fn operands_at(sizes: &Sizes, line: &[u8], at: usize, verb: Verb) -> Result<(Order, usize), Flaw>
     ensures { result ≡ operands_at sizes.now line.now at verb }
 {
-    let kinds = verb.row().kinds;
+    let kinds = verb.kinds();
     let (first, at) = small_operand_at(sizes, line, at, kinds.first)?;
     let (second, at) = small_operand_at(sizes, line, at, kinds.second)?;
     let (third, at) = small_operand_at(sizes, line, at, kinds.third)?;
-    let (wide, at) = operand_at(sizes, line, at, kinds.wide)?;
+    let (wide, at) = wide_operand_at(line, at, kinds.wide)?;
     let order = Order {
         verb,
         first,

@@ -1,7 +1,7 @@
-//! The commands by their words: one row for each.
+//! The commands' words, and the kinds of their operands.
 
 ghost use Rattle.std.specs.Prelude.{◌≡◌};
-ghost use Rattle.parser.specs.Verbs.{row_of, verb_of, IsSmall};
+ghost use Rattle.parser.specs.Verbs.{row_of, verb_of, IsSmall, IsWide};
 
 /// What an operand is.
 #[derive(Clone, Copy, Debug, PartialEq, Eq)]
@@ -43,30 +43,30 @@ pub enum Verb {
     GetGlobal,
 }
 
-/// All verbs.
+/// All verbs. A word is compared with theirs in this order, so frequent ones stand first.
 const VERBS: [Verb; 22] = [
-    Verb::Take,
-    Verb::Give,
+    Verb::Get,
+    Verb::Set,
+    Verb::Datum,
+    Verb::Store,
+    Verb::Move,
     Verb::New,
     Verb::Load,
+    Verb::Same,
+    Verb::Null,
+    Verb::Clear,
+    Verb::GetGlobal,
+    Verb::StoreGlobal,
     Verb::LoadGlobal,
+    Verb::Take,
+    Verb::Give,
     Verb::Trap,
     Verb::Heal,
     Verb::Finish,
-    Verb::Store,
-    Verb::StoreGlobal,
-    Verb::Datum,
-    Verb::Set,
-    Verb::Same,
-    Verb::Null,
-    Verb::Move,
-    Verb::Clear,
     Verb::Cross,
     Verb::Scrub,
     Verb::Park,
     Verb::Unpark,
-    Verb::Get,
-    Verb::GetGlobal,
 ];
 
 /// The kinds of an order's operands. The first three have 32 bits.
@@ -78,59 +78,65 @@ pub struct Kinds {
     pub wide: Kind,
 }
 
-/// A verb's word, and the kinds of its operands.
-#[derive(Clone, Copy, Debug, PartialEq, Eq)]
-pub struct Row {
-    pub text: &'static [u8],
-    pub kinds: Kinds,
-}
-
-impl Row {
-    fn new(text: &'static [u8], first: Kind, second: Kind, third: Kind, wide: Kind) -> Row
-        ensures text { result.text.now ≡ text.now }
-        ensures kinds { result.kinds ≡ record { first = first; second = second; third = third; wide = wide } }
-    {
-        let kinds = Kinds {
-            first,
-            second,
-            third,
-            wide,
-        };
-        Row { text, kinds }
+fn make_kinds(first: Kind, second: Kind, third: Kind, wide: Kind) -> Kinds
+    ensures { result ≡ record { first = first; second = second; third = third; wide = wide } }
+{
+    Kinds {
+        first,
+        second,
+        third,
+        wide,
     }
 }
 
 impl Verb {
-    /// Its row.
-    pub fn row(self) -> Row
-        ensures text { result.text.now ≡ (row_of self).text }
-        ensures kinds { result.kinds ≡ (row_of self).kinds }
-        ensures small { IsSmall result.kinds.first × (IsSmall result.kinds.second × IsSmall result.kinds.third) }
+    /// Its word.
+    fn text(self) -> &'static [u8]
+        ensures { result.now ≡ (row_of self).text }
+    {
+        match self {
+            Verb::Take => b"take",
+            Verb::Give => b"give",
+            Verb::New => b"new",
+            Verb::Load => b"load",
+            Verb::LoadGlobal => b"loadg",
+            Verb::Trap => b"trap",
+            Verb::Heal => b"heal",
+            Verb::Finish => b"finish",
+            Verb::Store => b"store",
+            Verb::StoreGlobal => b"storeg",
+            Verb::Datum => b"datum",
+            Verb::Set => b"set",
+            Verb::Same => b"same",
+            Verb::Null => b"null",
+            Verb::Move => b"mov",
+            Verb::Clear => b"clear",
+            Verb::Cross => b"cross",
+            Verb::Scrub => b"scrub",
+            Verb::Park => b"park",
+            Verb::Unpark => b"unpark",
+            Verb::Get => b"get",
+            Verb::GetGlobal => b"getg",
+        }
+    }
+
+    /// The kinds of its operands.
+    pub fn kinds(self) -> Kinds
+        ensures value { result ≡ (row_of self).kinds }
+        ensures small { IsSmall result.first × (IsSmall result.second × IsSmall result.third) }
+        ensures wide { IsWide result.wide }
     {
         use Kind::{Long, Nothing, Number, Register};
         match self {
-            Verb::Take => Row::new(b"take", Number, Nothing, Nothing, Nothing),
-            Verb::Give => Row::new(b"give", Nothing, Nothing, Nothing, Nothing),
-            Verb::New => Row::new(b"new", Register, Number, Nothing, Nothing),
-            Verb::Load => Row::new(b"load", Register, Register, Number, Nothing),
-            Verb::LoadGlobal => Row::new(b"loadg", Register, Number, Nothing, Nothing),
-            Verb::Trap => Row::new(b"trap", Nothing, Nothing, Nothing, Nothing),
-            Verb::Heal => Row::new(b"heal", Nothing, Nothing, Nothing, Nothing),
-            Verb::Finish => Row::new(b"finish", Nothing, Nothing, Nothing, Nothing),
-            Verb::Store => Row::new(b"store", Register, Number, Register, Nothing),
-            Verb::StoreGlobal => Row::new(b"storeg", Number, Register, Nothing, Nothing),
-            Verb::Datum => Row::new(b"datum", Register, Number, Nothing, Nothing),
-            Verb::Set => Row::new(b"set", Register, Number, Nothing, Long),
-            Verb::Same => Row::new(b"same", Register, Register, Nothing, Nothing),
-            Verb::Null => Row::new(b"null", Register, Nothing, Nothing, Nothing),
-            Verb::Move => Row::new(b"mov", Register, Register, Nothing, Nothing),
-            Verb::Clear => Row::new(b"clear", Register, Nothing, Nothing, Nothing),
-            Verb::Cross => Row::new(b"cross", Nothing, Nothing, Nothing, Nothing),
-            Verb::Scrub => Row::new(b"scrub", Register, Nothing, Nothing, Nothing),
-            Verb::Park => Row::new(b"park", Nothing, Nothing, Nothing, Nothing),
-            Verb::Unpark => Row::new(b"unpark", Nothing, Nothing, Nothing, Nothing),
-            Verb::Get => Row::new(b"get", Register, Register, Number, Nothing),
-            Verb::GetGlobal => Row::new(b"getg", Register, Number, Nothing, Nothing),
+            Verb::Take => make_kinds(Number, Nothing, Nothing, Nothing),
+            Verb::New | Verb::LoadGlobal | Verb::Datum | Verb::GetGlobal => make_kinds(Register, Number, Nothing, Nothing),
+            Verb::Load | Verb::Get => make_kinds(Register, Register, Number, Nothing),
+            Verb::Store => make_kinds(Register, Number, Register, Nothing),
+            Verb::StoreGlobal => make_kinds(Number, Register, Nothing, Nothing),
+            Verb::Set => make_kinds(Register, Number, Nothing, Long),
+            Verb::Same | Verb::Move => make_kinds(Register, Register, Nothing, Nothing),
+            Verb::Null | Verb::Clear | Verb::Scrub => make_kinds(Register, Nothing, Nothing, Nothing),
+            _ => make_kinds(Nothing, Nothing, Nothing, Nothing),
         }
     }
 }
@@ -140,5 +146,5 @@ impl Verb {
 pub fn verb_of(word: &[u8]) -> Option<Verb>
     ensures { result ≡ verb_of word.now }
 {
-    VERBS.iter().copied().find(|verb| word == verb.row().text)
+    VERBS.iter().copied().find(|verb| word == verb.text())
 }
