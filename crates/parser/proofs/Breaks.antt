@@ -3,7 +3,6 @@ use Rattle.std.proofs.Common.{◌≡◌, ℕ, ◌+◌, ◌^◌, ◌<◌, ◌≤�
 use Rattle.std.proofs.Common.{length, refl, sym, ap, subst, ◌∙◌, arith, inl, inr, append_assoc, Option, Some, None}
 use Rattle.std.proofs.Common.{append-nil}
 use Rattle.std.specs.Prelude.{Result, Ok, Err, ◌⊎◌, ◌||◌, not, nat_le}
-use Rattle.std.specs.Fmt.{decimal}
 use Rattle.std.proofs.lemmas.Bool.{cases_lt}
 use Rattle.std.proofs.lemmas.Bool.Decides.{nat_tests}
 use Rattle.parser.specs.declared.fault.FaultKind.{FaultKind}
@@ -15,7 +14,7 @@ use Rattle.parser.specs.Words.{named_at, end_at, or_flaw}
 use Rattle.parser.specs.declared.verbs.Kind.{Kind}
 use Rattle.parser.specs.declared.verbs.Kind.TheVariants.{Nothing, Register, Number, Long}
 use Rattle.parser.specs.Orders.{register_at, operand_at, operands_at, order_at}
-use Rattle.parser.specs.Spelling.{register_word, operand_word, operand_words, order_words, IsOperand, IsOrder}
+use Rattle.parser.specs.Spelling.{operand_word, operand_words, order_words, IsOperand, IsOrder}
 use Rattle.parser.proofs.Places.{words_from, end_past}
 use Rattle.parser.proofs.Pieces.{bind_ok, or_flaw_ok, word_ok}
 use Rattle.parser.proofs.Alike.{IsJudged, word_or_some, word_or_none, bind_assoc}

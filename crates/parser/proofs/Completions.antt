@@ -1,11 +1,11 @@
 -- Lines that are taken begin a script, as some lines behind them complete it.
-use Rattle.std.proofs.Common.{◌≡◌, ◌≢◌, ℕ, ◌^◌, ◌<◌, ◌≤◌, Bool, true, false, List, [], ◌∷◌, ◌++◌, length}
+use Rattle.std.proofs.Common.{◌≡◌, ℕ, ◌^◌, ◌≤◌, Bool, true, false, List, [], ◌∷◌, ◌++◌, length}
 use Rattle.std.proofs.Common.{Option, Some, None, refl, sym, ap, subst, ◌∙◌, arith, inl, inr, append-nil, append_assoc}
 use Rattle.std.proofs.Common.{length-append}
-use Rattle.std.specs.Prelude.{Ok, ◌==◌, not, codes, map, filter}
+use Rattle.std.specs.Prelude.{Ok, ◌==◌, codes, map, filter}
 use Rattle.std.specs.Fmt.{decimal}
-use Rattle.std.specs.List.{AllByRecursion, list_all, flat_map, repeat}
-use Rattle.std.proofs.lemmas.Bool.{cases_lt, and_parts, not-true}
+use Rattle.std.specs.List.{AllByRecursion, flat_map, repeat}
+use Rattle.std.proofs.lemmas.Bool.{cases_lt}
 use Rattle.std.proofs.lemmas.Bool.Decides.{nat_tests}
 use Rattle.std.proofs.lemmas.List.Elements.{filter-append}
 use Rattle.std.proofs.lemmas.Grind.{flat_map-append}
@@ -14,9 +14,8 @@ use Rattle.model.specs.Configs.{fits_page}
 use Rattle.model.proofs.Ranges.{page_size_range}
 use Rattle.parser.specs.declared.heading.Sizes.{Sizes}
 use Rattle.parser.specs.declared.reading.TheConstants.{MOST_COMMANDS}
-use Rattle.parser.specs.Words.{is_digit}
 use Rattle.parser.specs.Headings.{config_of}
-use Rattle.parser.specs.Reading.{ScriptValue, script_of, ReadSoFar, nothing, newline, line_in, closed, whole}
+use Rattle.parser.specs.Reading.{ScriptValue, script_of, ReadSoFar, nothing, line_in, closed, whole}
 use Rattle.parser.specs.Reading.{finished}
 use Rattle.parser.specs.Spelling.{line_of, layout_line_of, size_words, SpellsHeap, Part, Times, part_lines}
 use Rattle.parser.specs.Spelling.{part_commands, ended, IsPart, says_something, Spells, IsLayout, IsCommand, IsScript}

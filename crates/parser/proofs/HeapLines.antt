@@ -1,6 +1,6 @@
 -- The heap line and the layout lines: what is read is written so, and what is written so is read.
 use Rattle.std.proofs.Common.{◌≡◌, ℕ, ◌+◌, ◌^◌, ◌<◌, ◌≤◌, cond, true, false, nat_lt, List, [], ◌∷◌, ◌++◌, Option}
-use Rattle.std.proofs.Common.{Some, None, refl, sym, ap, subst, ◌∙◌, arith, inl, inr, lit<, lit≤, append-nil}
+use Rattle.std.proofs.Common.{Some, None, refl, sym, ap, subst, ◌∙◌, arith, inl, inr, lit<, lit≤}
 use Rattle.std.specs.Prelude.{Ok, Err, not, codes}
 use Rattle.std.specs.Str.{bytes_eq}
 use Rattle.std.specs.Fmt.{decimal}
@@ -349,9 +349,19 @@ from_parts s ws h =
       history = l.back;
       births_spelled = l.middle_is.is;
       history_spelled = l.back_is.is;
-      words_are = rw (h.words_are, m.words_are, m.front_is.words_are, m.middle_is.words_are, m.back_is.words_are,
-          a.words_are, a.front_is.words_are, a.middle_is.words_are, a.back_is.words_are, l.words_are,
-          l.front_is.words_are) refl;
+      words_are = rw (
+        h.words_are,
+        m.words_are,
+        m.front_is.words_are,
+        m.middle_is.words_are,
+        m.back_is.words_are,
+        a.words_are,
+        a.front_is.words_are,
+        a.middle_is.words_are,
+        a.back_is.words_are,
+        l.words_are,
+        l.front_is.words_are,
+      ) refl;
       range = record {
         words = m.front_is.size;
         frames = m.middle_is.within;

@@ -1,8 +1,6 @@
 -- An order's operands: what is read is written so, and what is written so is read.
-use Rattle.std.proofs.Common.{◌≡◌, ℕ, ◌^◌, ◌<◌, List, [], ◌∷◌, ◌++◌, refl, sym, ap, subst, ◌∙◌, arith, lit<, append_assoc}
+use Rattle.std.proofs.Common.{◌≡◌, ℕ, ◌^◌, ◌<◌, List, ◌++◌, refl, sym, ap, subst, ◌∙◌, arith, lit<, append_assoc}
 use Rattle.std.specs.Prelude.{Ok}
-use Rattle.std.specs.Fmt.{decimal}
-use Rattle.std.specs.List.{AllByRecursion}
 use Rattle.model.proofs.Results.{same_result}
 use Rattle.parser.specs.declared.fault.FaultKind.TheVariants as kinds
 use Rattle.parser.specs.declared.heading.Sizes.{Sizes}
@@ -12,8 +10,7 @@ use Rattle.parser.specs.declared.verbs.Kind.TheVariants.{Nothing, Register, Numb
 use Rattle.parser.specs.declared.verbs.Verb.{Verb}
 use Rattle.parser.specs.Verbs.{row_of}
 use Rattle.parser.specs.Orders.{register_at, operand_at, operands_at}
-use Rattle.parser.specs.Spelling.{register_word, operand_word, operand_words, order_words, IsOperand, IsOrder}
-use Rattle.parser.proofs.Lists.{all_both}
+use Rattle.parser.specs.Spelling.{operand_word, operand_words, IsOperand, IsOrder}
 use Rattle.parser.proofs.Places.{words_from, Reads}
 use Rattle.parser.proofs.Pieces.{bind_ok, number_ok, number_again, small_ok, small_again, named_ok, named_again}
 

@@ -1,12 +1,12 @@
 -- Words of bytes behind the space, and lines made of them.
-use Rattle.std.proofs.Common.{◌≡◌, ℕ, zero, suc, ◌^◌, ◌<◌, ◌≤◌, true, false, List, []}
+use Rattle.std.proofs.Common.{◌≡◌, ℕ, ◌^◌, ◌<◌, true, false, List, []}
 use Rattle.std.proofs.Common.{nat_lt, ◌≢◌, ◌∷◌, ◌++◌, refl, ap, ◌∙◌, arith, inl, inr, append_assoc}
-use Rattle.std.specs.Prelude.{not, codes}
+use Rattle.std.specs.Prelude.{codes}
 use Rattle.std.specs.Fmt.{decimal}
 use Rattle.std.specs.List.{All, AllByRecursion, list_all, slice_split, join_with_byte, flat_map}
 use Rattle.std.proofs.lemmas.Bool.Decides.{nat_tests}
 use Rattle.std.proofs.lemmas.List.Splits.{slice_split_none, slice_split_at}
-use Rattle.std.proofs.lemmas.Bool.{and_parts, not-true}
+use Rattle.std.proofs.lemmas.Bool.{and_parts}
 use Rattle.model.proofs.Ranges.{page_size_range}
 use Rattle.model.specs.declared.steps.Actor.{Actor}
 use Rattle.model.specs.declared.steps.Actor.TheVariants.{Thread, Worker}
@@ -137,9 +137,11 @@ pub sizes_plain : (s : Sizes) (ws : List (List ℕ)) → SpellsSizes s ws → Al
 sizes_plain s ws h =
     let r = h.range in
     let most = (page_size_range s.words r.words).1 in
-    let limits : ArePlain (h.births ++ h.history) = record { each = all_both IsPlain h.births h.history
-    (limit_plain (codes "births") (2 ^ 32) s.births h.births refl (omega (arith, r.births.1)) h.births_spelled)
-    (limit_plain (codes "history") 1000000 s.history h.history refl (omega (arith, r.history.1)) h.history_spelled) } in
+    let limits : ArePlain (h.births ++ h.history) = record {
+      each = all_both IsPlain h.births h.history
+          (limit_plain (codes "births") (2 ^ 32) s.births h.births refl (omega (arith, r.births.1)) h.births_spelled)
+          (limit_plain (codes "history") 1000000 s.history h.history refl (omega (arith, r.history.1)) h.history_spelled);
+    } in
     rw h.words_are ((named (codes "words") s.words refl (omega arith)
     (named (codes "frames") s.frames refl (omega (arith, r.frames.1))
     (named (codes "pages") s.pages refl (omega (arith, r.pages.1))

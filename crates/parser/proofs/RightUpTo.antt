@@ -26,13 +26,13 @@ use Rattle.parser.specs.Reading.{ReadSoFar, nothing, is_idle, first_word, heap_l
 use Rattle.parser.specs.Reading.{times_line, end_in, end_line, part_line, later_line, line_after, line_in}
 use Rattle.parser.specs.Spelling.{IsLine, line_of, actor_word, order_words, says_something, times_line_of, IsActor}
 use Rattle.parser.specs.Spelling.{IsCommand}
-use Rattle.parser.specs.Spelling.{size_words, SpellsHeap, SpellsLimit}
+use Rattle.parser.specs.Spelling.{SpellsHeap}
 use Rattle.parser.specs.Faults.{IsNameOf, HaveNoFault, HasOtherStart, IsRightUpTo}
 use Rattle.parser.proofs.Splitting.{split_cons}
 use Rattle.parser.proofs.Places.{space, words_from, words_inside}
 use Rattle.parser.proofs.Pieces.{one_of, number_ok}
 use Rattle.parser.proofs.ActorsAndOrders.{actor_ok, line_is, first_is}
-use Rattle.parser.proofs.Lists.{all_from, HasNoNewlines, all_push, told, filter_told, all_both}
+use Rattle.parser.proofs.Lists.{all_from, HasNoNewlines, all_push, told, filter_told}
 use Rattle.parser.proofs.ReadIsSpelled.{Said, line_ok, first_words, few_actors, some_layouts}
 use Rattle.parser.proofs.TakenLines.{IsReady, heap_taken, times_taken, end_taken, command_taken}
 use Rattle.parser.proofs.Alike.{IsFaultAt, IsJudged, no_bytes, bind_assoc, word_or_some}
@@ -41,8 +41,7 @@ use Rattle.parser.proofs.AlikeLines.{judge_name}
 use Rattle.parser.proofs.Breaks.{bind_err, same_flaw, no_err, IsTail, Breaks, here, later, judged_err}
 use Rattle.parser.proofs.Breaks.{number_break, end_break}
 use Rattle.parser.proofs.Breaks.{order_break}
-use Rattle.parser.proofs.HeapLines.{IsSizes, heap_breaks}
-use Rattle.model.proofs.Ranges.{page_size_range}
+use Rattle.parser.proofs.HeapLines.{heap_breaks}
 use Rattle.parser.proofs.Completions.{taken_have_none}
 use Rattle.parser.proofs.Plain.{no_newlines, words_no_newlines, number_plain, order_plain, sizes_plain}
 

@@ -12,7 +12,6 @@ use Rattle.layout.specs.declared.shape.Layout.{Layout}
 use Rattle.model.specs.declared.steps.Actor.{Actor}
 use Rattle.model.specs.declared.steps.Actor.TheVariants.{Thread, Worker}
 use Rattle.model.specs.Configs.{fits_page}
-use Rattle.model.proofs.Ranges.{page_size_range}
 use Rattle.parser.specs.declared.heading.Sizes.{Sizes}
 use Rattle.parser.specs.declared.order.Command.{Command}
 use Rattle.parser.specs.declared.reading.TheConstants.{MOST_COMMANDS, MOST_LAYOUTS, MOST_TURNS}

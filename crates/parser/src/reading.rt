@@ -218,13 +218,7 @@ impl Reading {
     }
 
     #[tactic(auto, unfolding(crate::specs::Reading::part_line))]
-    fn part_line(
-        &mut self,
-        sizes: &Sizes,
-        line: &[u8],
-        word: &[u8],
-        at: usize,
-    ) -> Result<(), Stop>
+    fn part_line(&mut self, sizes: &Sizes, line: &[u8], word: &[u8], at: usize) -> Result<(), Stop>
         requires { (word.now, at) ≡ first_word line.now }
         ensures { Follows result self.new (part_line self.old sizes.now line.now) }
     {

@@ -129,13 +129,17 @@ impl Verb {
         use Kind::{Long, Nothing, Number, Register};
         match self {
             Verb::Take => make_kinds(Number, Nothing, Nothing, Nothing),
-            Verb::New | Verb::LoadGlobal | Verb::Datum | Verb::GetGlobal => make_kinds(Register, Number, Nothing, Nothing),
+            Verb::New | Verb::LoadGlobal | Verb::Datum | Verb::GetGlobal => make_kinds(
+                Register, Number, Nothing, Nothing,
+            ),
             Verb::Load | Verb::Get => make_kinds(Register, Register, Number, Nothing),
             Verb::Store => make_kinds(Register, Number, Register, Nothing),
             Verb::StoreGlobal => make_kinds(Number, Register, Nothing, Nothing),
             Verb::Set => make_kinds(Register, Number, Nothing, Long),
             Verb::Same | Verb::Move => make_kinds(Register, Register, Nothing, Nothing),
-            Verb::Null | Verb::Clear | Verb::Scrub => make_kinds(Register, Nothing, Nothing, Nothing),
+            Verb::Null | Verb::Clear | Verb::Scrub => make_kinds(
+                Register, Nothing, Nothing, Nothing,
+            ),
             _ => make_kinds(Nothing, Nothing, Nothing, Nothing),
         }
     }
