@@ -22,8 +22,8 @@ use Rattle.parser.specs.Orders.{verb_in, first_byte, actor_at, operands_at, orde
 use Rattle.parser.specs.Headings.{config_of}
 use Rattle.parser.specs.Spelling.{actor_word, operand_words, order_words, IsActor, IsFor, IsOrder}
 use Rattle.parser.proofs.Places.{words_from, words_whole, Reads}
-use Rattle.parser.proofs.Pieces.{bind_ok, or_flaw_ok, word_ok, word_again}
-use Rattle.parser.proofs.Pieces.{named_ok, named_again, end_ok, end_again, one_of}
+use Rattle.parser.proofs.Places.{bind_ok, or_flaw_ok, word_ok, word_again}
+use Rattle.parser.proofs.Places.{named_ok, named_again, end_ok, end_again, one_of}
 use Rattle.parser.proofs.Operands.{operands_ok, operands_again}
 
 -- ---- verbs

@@ -16,7 +16,7 @@ use Rattle.parser.specs.declared.verbs.Kind.TheVariants.{Nothing, Register, Numb
 use Rattle.parser.specs.Orders.{register_at, operand_at, operands_at, order_at}
 use Rattle.parser.specs.Spelling.{operand_word, operand_words, order_words, IsOperand, IsOrder}
 use Rattle.parser.proofs.Places.{words_from, end_past}
-use Rattle.parser.proofs.Pieces.{bind_ok, or_flaw_ok, word_ok}
+use Rattle.parser.proofs.Places.{bind_ok, or_flaw_ok, word_ok}
 use Rattle.parser.proofs.Alike.{IsJudged, word_or_some, word_or_none, bind_assoc}
 use Rattle.parser.proofs.WordPlaces.{finds_word}
 use Rattle.parser.proofs.AlikeReads.{judge_number}

@@ -23,7 +23,7 @@ use Rattle.parser.proofs.AlikeReads.{judge_fixed}
 use Rattle.parser.proofs.Breaks.{bind_err, same_flaw, no_err, BreaksBehind, Breaks, here, later, at_place}
 use Rattle.parser.proofs.Breaks.{word_break, number_break, number_within}
 use Rattle.parser.proofs.Readers.{IsReadAt, BreaksIn, IsReader, Any, Three, three_reader, whole_ok, whole_again, whole_breaks}
-use Rattle.parser.proofs.Pieces.{bind_ok, fixed_ok, fixed_again, number_ok, number_again, end_ok, end_again, one_of}
+use Rattle.parser.proofs.Places.{bind_ok, fixed_ok, fixed_again, number_ok, number_again, end_ok, end_again, one_of}
 
 -- ---- a number behind its name
 

@@ -12,7 +12,7 @@ use Rattle.parser.specs.Verbs.{row_of}
 use Rattle.parser.specs.Orders.{register_at, operand_at, operands_at}
 use Rattle.parser.specs.Spelling.{operand_word, operand_words, IsOperand, IsOrder}
 use Rattle.parser.proofs.Places.{words_from, Reads}
-use Rattle.parser.proofs.Pieces.{bind_ok, number_ok, number_again, small_ok, small_again, named_ok, named_again}
+use Rattle.parser.proofs.Places.{bind_ok, number_ok, number_again, small_ok, small_again, named_ok, named_again}
 
 -- ---- one operand
 

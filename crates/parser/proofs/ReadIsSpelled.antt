@@ -26,9 +26,9 @@ use Rattle.parser.specs.Reading.{times_line, end_in, end_line, part_line, later_
 use Rattle.parser.specs.Spelling.{line_of, actor_word, order_words, command_line_of, layout_line_of}
 use Rattle.parser.specs.Spelling.{Part, One, Times, times_line_of, part_lines, part_commands, IsPart}
 use Rattle.parser.specs.Spelling.{SpellsHeap, says_something, IsLayout, IsCommand}
-use Rattle.parser.proofs.Splitting.{split_cons}
+use Rattle.parser.proofs.Lists.{split_cons}
 use Rattle.parser.proofs.Places.{words_from, word_is, no_word_is, words_whole}
-use Rattle.parser.proofs.Pieces.{bind_ok, test_ok, number_ok, end_ok, one_of}
+use Rattle.parser.proofs.Places.{bind_ok, test_ok, number_ok, end_ok, one_of}
 use Rattle.parser.proofs.ActorsAndOrders.{AreFew, order_ok, actor_ok, line_is}
 use Rattle.parser.proofs.HeapLines.{IsSizes, heap_ok, layout_ok}
 use Rattle.parser.proofs.Parts.{open_lines, HasTurns, say_one, say_inside, say_times, say_end}

@@ -6,7 +6,7 @@ use Rattle.model.proofs.Results.{same_result}
 use Rattle.parser.specs.declared.fault.Flaw.{Flaw}
 use Rattle.parser.specs.Words.{◌>>=◌, end_at}
 use Rattle.parser.proofs.Places.{words_from, Reads}
-use Rattle.parser.proofs.Pieces.{bind_ok, end_ok, end_again}
+use Rattle.parser.proofs.Places.{bind_ok, end_ok, end_again}
 use Rattle.parser.proofs.Operands.{behind}
 use Rattle.parser.proofs.Breaks.{bind_err, no_err, Breaks, here, later, more_behind, end_break}
 

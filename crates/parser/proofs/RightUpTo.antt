@@ -28,9 +28,9 @@ use Rattle.parser.specs.Spelling.{IsLine, line_of, actor_word, order_words, says
 use Rattle.parser.specs.Spelling.{IsCommand}
 use Rattle.parser.specs.Spelling.{SpellsHeap}
 use Rattle.parser.specs.Faults.{IsNameOf, HaveNoFault, HasOtherStart, IsRightUpTo}
-use Rattle.parser.proofs.Splitting.{split_cons}
+use Rattle.parser.proofs.Lists.{split_cons}
 use Rattle.parser.proofs.Places.{space, words_from, words_inside}
-use Rattle.parser.proofs.Pieces.{one_of, number_ok}
+use Rattle.parser.proofs.Places.{one_of, number_ok}
 use Rattle.parser.proofs.ActorsAndOrders.{actor_ok, line_is, first_is}
 use Rattle.parser.proofs.Lists.{all_from, HasNoNewlines, all_push, told, filter_told}
 use Rattle.parser.proofs.ReadIsSpelled.{Said, line_ok, first_words, few_actors, some_layouts}

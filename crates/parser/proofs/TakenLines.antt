@@ -24,7 +24,7 @@ use Rattle.parser.specs.Spelling.{line_of, actor_word, order_words, command_line
 use Rattle.parser.specs.Spelling.{SpellsHeap, times_line_of, IsLayout, IsActor, IsCommand}
 use Rattle.parser.proofs.Numbers.{decimal_digits}
 use Rattle.parser.proofs.Places.{words_from, words_whole, space, cons_is}
-use Rattle.parser.proofs.Pieces.{number_again, end_again}
+use Rattle.parser.proofs.Places.{number_again, end_again}
 use Rattle.parser.proofs.ActorsAndOrders.{AreFew, order_again, actor_again}
 use Rattle.parser.proofs.HeapLines.{IsSizes, SpellsSizes, heap_again, layout_again}
 use Rattle.parser.proofs.ReadIsSpelled.{first_words, few_actors}
