@@ -1,7 +1,7 @@
 -- Numbers, names, headings and orders are read alike in lines that are alike.
 use Rattle.std.proofs.Common.{◌≡◌, ◌≢◌, ℕ, ◌+◌, ◌<◌, ◌≤◌, Bool, true, false, cond, nat_lt, List, []}
 use Rattle.std.proofs.Common.{length, Some, refl, sym, ap, subst, ◌∙◌, arith, inl, inr}
-use Rattle.std.specs.Prelude.{Result, Ok, Err, ◌||◌, ◌⊎◌, not, nat_le, codes}
+use Rattle.std.specs.Prelude.{Result, Ok, Err, ◌||◌, not, nat_le, codes}
 use Rattle.std.specs.Str.{bytes_eq}
 use Rattle.std.proofs.lemmas.Bool.{cases_lt}
 use Rattle.std.proofs.lemmas.Bool.Decides.{nat_tests}
@@ -11,7 +11,7 @@ use Rattle.parser.specs.declared.fault.FaultKind.TheVariants as kinds
 use Rattle.parser.specs.declared.fault.Flaw.{Flaw}
 use Rattle.parser.specs.declared.heading.Sizes.{Sizes}
 use Rattle.parser.specs.declared.heading.TheConstants.{MOST_FRAMES, MOST_PAGES, MOST_THREADS}
-use Rattle.parser.specs.Words.{◌>>=◌, word_at, flaw, fixed_at, is_number, capped_from, in_range}
+use Rattle.parser.specs.Words.{◌>>=◌, word_at, word_or, flaw, fixed_at, is_number, capped_from, in_range}
 use Rattle.parser.specs.Words.{number_at, small_at, end_at}
 use Rattle.parser.specs.Headings.{field_at, page_size_at, limit_at, memory_at, actors_at, limits_at}
 use Rattle.parser.specs.Headings.{sizes_of, sizes_at, heap_in, layout_in}
@@ -20,7 +20,6 @@ use Rattle.parser.proofs.WordPlaces.{IsBehindWord}
 use Rattle.parser.proofs.Alike.{word_alike, then_alike, done_alike, one_word, one_word_then}
 use Rattle.parser.proofs.WordPlaces.{finds_word, none_past}
 use Rattle.parser.proofs.Alike.{fault_at_word}
-use Rattle.parser.proofs.WordPlaces.{behind_word}
 
 -- ---- how words are judged
 
@@ -94,16 +93,19 @@ end_early line at within = let test : nat_le at (length line) ≡ true = grind (
 
 -- ---- limits and layouts
 
--- a limit, by what stands at its place
-limit_of : (line : List ℕ) (name : List ℕ) (most : ℕ) → List ℕ × ℕ → ℕ → Bool → Result (ℕ × ℕ) Flaw
-limit_of line name most w at b = cond b (number_at line w.1 1 most) (Ok (most, at))
+-- a limit whose name stands at its place is a number behind that name
+pub limit_named : (line : List ℕ) (at : ℕ) (name : List ℕ) (most : ℕ) (w : List ℕ × ℕ) → word_at line at ≡ Some w
+    → bytes_eq w.0 name ≡ true → limit_at line at name most ≡ field_at line at name 1 most
+unfolding limit_at field_at fixed_at word_or
+limit_named line at name most w h same = rw (h, same) refl
 
-limit_found : (line : List ℕ) (at : ℕ) (name : List ℕ) (most : ℕ) (w : List ℕ × ℕ) → word_at line at ≡ Some w
-    → limit_at line at name most ≡ limit_of line name most w at (bytes_eq w.0 name)
-unfolding limit_at limit_of
-limit_found line at name most w h = rw h refl
+-- it is left out where another word stands there, or none
+pub limit_other : (line : List ℕ) (at : ℕ) (name : List ℕ) (most : ℕ) (w : List ℕ × ℕ) → word_at line at ≡ Some w
+    → bytes_eq w.0 name ≡ false → limit_at line at name most ≡ Ok (most, at)
+unfolding limit_at
+limit_other line at name most w h other = rw (h, other) refl
 
-limit_past : (line : List ℕ) (at : ℕ) (name : List ℕ) (most : ℕ) → length line < at
+pub limit_past : (line : List ℕ) (at : ℕ) (name : List ℕ) (most : ℕ) → length line < at
     → limit_at line at name most ≡ Ok (most, at)
 unfolding limit_at
 limit_past line at name most h = rw (none_past line at h) refl
@@ -221,59 +223,40 @@ module _ (n : ℕ) (line other : List ℕ) (k : AreAlike n line other) where
       (λ (x : ℕ × ℕ). cond (not (is_page_size x.0)) (Err (flaw after kinds.NumberOutOfRange)) (Ok x))
       (λ w x e number. judge_size after w x e number (not (is_page_size x.0))))
 
-  limit_same : (name : List ℕ) (most at : ℕ) (w : List ℕ × ℕ) (b : Bool)
-      → (limit_of line name most w at b ≡ limit_of other name most w at b)
-      ⊎ IsLate (λ (x : ℕ × ℕ). x.1) n (limit_of line name most w at b)
-  unfolding limit_of
-  limit_same name most at w true = (number_alike w.1 1 most).same
-  limit_same name most at w false = inl refl
+  -- what is read as something that is read alike, of the other line where the place is early
+  alike_by : {A : Type 0} (at : ℕ) (r s p q : Result (A × ℕ) Flaw) → r ≡ p → (at < n → s ≡ q) → Alike at p q
+      → Alike at r s
+  alike_by {A} at r s p q e d h =
+      let place = λ (x : A × ℕ). x.1 in
+      let late : n ≤ at → IsLate place n r = λ behind. subst (IsLate place n) (sym e) (h.late behind) in
+      record {
+        same = elim (cases_lt at n) [
+          | inl before ↦ elim h.same [
+            | inl same ↦ inl (e ∙ same ∙ sym (d before))
+            | inr l ↦ inr (subst (IsLate place n) (sym e) l)
+          ]
+          | inr behind ↦ inr (late behind)
+        ];
+        late = late;
+        placed = λ spot. subst (IsPlaced line place) (sym e) (h.placed spot);
+      }
 
-  limit_late : (name : List ℕ) (most at : ℕ) (w : List ℕ × ℕ) (b : Bool) → at < w.1 → n ≤ at
-      → IsLate (λ (x : ℕ × ℕ). x.1) n (limit_of line name most w at b)
-  unfolding limit_of
-  limit_late name most at w true behind late = (number_alike w.1 1 most).late (omega arith)
-  limit_late name most at w false behind late = late
-
-  limit_placed : (name : List ℕ) (most at : ℕ) (w : List ℕ × ℕ) (b : Bool) → IsBehindWord line w.1
-      → IsBehindWord line at → IsPlaced line (λ (x : ℕ × ℕ). x.1) (limit_of line name most w at b)
-  unfolding limit_of
-  limit_placed name most at w true behind p = (number_alike w.1 1 most).placed behind
-  limit_placed name most at w false behind p = p
+  limit_by : (name : List ℕ) (most at : ℕ) (w : List ℕ × ℕ) → word_at line at ≡ Some w → (b : Bool)
+      → bytes_eq w.0 name ≡ b → Alike at (limit_at line at name most) (limit_at other at name most)
+  limit_by name most at w found true same =
+      alike_by at _ _ _ _ (limit_named line at name most w found same)
+      (λ before. limit_named other at name most w (sym (k.words at before) ∙ found) same) (field_alike name 1 most at)
+  limit_by name most at w found false differs =
+      alike_by at _ _ _ _ (limit_other line at name most w found differs)
+      (λ before. limit_other other at name most w (sym (k.words at before) ∙ found) differs) (found_alike most at)
 
   limit_alike : (name : List ℕ) (most at : ℕ) → Alike at (limit_at line at name most) (limit_at other at name most)
   limit_alike name most at = elim (cases_lt (length line) at) [
     | inl past ↦
-        let read = limit_past line at name most past in
-        let late : n ≤ at → IsLate (λ (x : ℕ × ℕ). x.1) n (limit_at line at name most) =
-        λ h. subst (IsLate (λ (x : ℕ × ℕ). x.1) n) (sym read) h in
         let long = k.long in
-        record {
-          same = inr (late (omega arith));
-          late = late;
-          placed = λ p. subst (IsPlaced line (λ (x : ℕ × ℕ). x.1)) (sym read) p;
-        }
+        alike_by at _ _ _ _ (limit_past line at name most past) (λ before. absurd (omega arith)) (found_alike most at)
     | inr within ↦
-        let found = finds_word line at within in
-        let w = found.w in
-        let read = limit_found line at name most w found.found in
-        let after = found.is.after_is in
-        let late : n ≤ at → IsLate (λ (x : ℕ × ℕ). x.1) n (limit_at line at name most) =
-        λ h. subst (IsLate (λ (x : ℕ × ℕ). x.1) n) (sym read)
-        (limit_late name most at w (bytes_eq w.0 name) (omega arith) h) in
-        record {
-          same = elim (cases_lt at n) [
-            | inl before ↦
-                let there = limit_found other at name most w (sym (k.words at before) ∙ found.found) in
-                elim (limit_same name most at w (bytes_eq w.0 name)) [
-                  | inl same ↦ inl (read ∙ same ∙ sym there)
-                  | inr l ↦ inr (subst (IsLate (λ (x : ℕ × ℕ). x.1) n) (sym read) l)
-                ]
-            | inr behind ↦ inr (late behind)
-          ];
-          late = late;
-          placed = λ p. subst (IsPlaced line (λ (x : ℕ × ℕ). x.1)) (sym read)
-              (limit_placed name most at w (bytes_eq w.0 name) (behind_word line at w found.is) p);
-        }
+        let found = finds_word line at within in limit_by name most at found.w found.found (bytes_eq found.w.0 name) refl
   ]
 
   memory_alike : (at : ℕ) → Alike at (memory_at line at) (memory_at other at)

@@ -1,11 +1,11 @@
 -- The heap line and the layout lines: what is read is written so, and what is written so is read.
-use Rattle.std.proofs.Common.{◌≡◌, ℕ, ◌+◌, ◌^◌, ◌<◌, ◌≤◌, cond, true, false, nat_lt, List, [], ◌∷◌, ◌++◌, Option}
-use Rattle.std.proofs.Common.{Some, None, refl, sym, ap, subst, ◌∙◌, arith, inl, inr, lit<, lit≤}
-use Rattle.std.specs.Prelude.{Ok, Err, not, codes}
+use Rattle.std.proofs.Common.{◌≡◌, ℕ, ◌+◌, ◌^◌, ◌<◌, ◌≤◌, cond, true, false, nat_lt, List, [], ◌∷◌, ◌++◌}
+use Rattle.std.proofs.Common.{Some, refl, sym, ap, subst, ◌∙◌, arith, inl, inr, lit<, lit≤}
+use Rattle.std.specs.Prelude.{Ok, Err, not, codes, ◌⊎◌, Bool, length}
 use Rattle.std.specs.Str.{bytes_eq}
 use Rattle.std.specs.Fmt.{decimal}
 use Rattle.std.proofs.lemmas.Slice.Eq.{bytes_eq-Decides}
-use Rattle.std.proofs.lemmas.Bool.{ltb-false, le-ltb, not-false}
+use Rattle.std.proofs.lemmas.Bool.{cases_lt, ltb-false, le-ltb, not-false}
 use Rattle.layout.specs.declared.shape.Layout.{Layout}
 use Rattle.model.specs.Configs.{is_page_size}
 use Rattle.model.proofs.Ranges.{page_size_range}
@@ -15,11 +15,12 @@ use Rattle.parser.specs.declared.fault.Flaw.{Flaw}
 use Rattle.parser.specs.declared.heading.Sizes.{Sizes}
 use Rattle.parser.specs.declared.heading.TheConstants.{MOST_FRAMES, MOST_PAGES, MOST_THREADS}
 use Rattle.parser.specs.Words.{flaw, word_at, fixed_at, number_at, end_at}
-use Rattle.parser.specs.Headings.{config_of, field_at, page_size_at, limit_in, limit_at}
+use Rattle.parser.specs.Headings.{config_of, field_at, page_size_at, limit_at}
 use Rattle.parser.specs.Headings.{sizes_of, memory_at, actors_at, limits_at, sizes_at, heap_in, layout_in}
 use Rattle.parser.specs.Spelling.{size_words, SpellsLimit, IsLayout}
-use Rattle.parser.proofs.Places.{words_from, word_is, found_word, Reads}
-use Rattle.parser.proofs.AlikeReads.{judge_fixed}
+use Rattle.parser.proofs.Places.{words_from, found_word, past_end, Reads}
+use Rattle.parser.proofs.AlikeReads.{judge_fixed, limit_named, limit_other, limit_past}
+use Rattle.parser.proofs.WordPlaces.{finds_word}
 use Rattle.parser.proofs.Breaks.{bind_err, same_flaw, no_err, BreaksBehind, Breaks, here, later, at_place}
 use Rattle.parser.proofs.Breaks.{word_break, number_break, number_within}
 use Rattle.parser.proofs.Readers.{IsReadAt, BreaksIn, IsReader, Any, Three, three_reader, whole_ok, whole_again, whole_breaks}
@@ -148,101 +149,77 @@ pub record IsLimit (name : List ℕ) (most n : ℕ) (ws : List (List ℕ)) : Typ
   pub is : SpellsLimit name most n ws
   pub within : IsWithin 1 most n
 
-left_out : (line : List ℕ) (at : ℕ) (name : List ℕ) (most : ℕ) (v : ℕ × ℕ) → 1 ≤ most → (most, at) ≡ v
-    → IsReadAt (IsLimit name most) line at v
-left_out line at name most v low e = subst (λ (x : ℕ × ℕ). IsReadAt (IsLimit name most) line at x) e
-    (record { words = []; is = record { is = inr (refl, refl); within = (low, omega arith) }; spelled = refl })
-
-limit_in_ok : (line : List ℕ) (at : ℕ) (name : List ℕ) (most : ℕ) (v : ℕ × ℕ) (o : Option (List ℕ × ℕ)) → 1 ≤ most
-    → most < 2 ^ 64 → word_at line at ≡ o → limit_in line at name most o ≡ Ok v
-    → IsReadAt (IsLimit name most) line at v
-limit_in_ok line at name most v None low fits e h = left_out line at name most v low (same_result (most, at) v h)
-limit_in_ok line at name most v (Some w) low fits e h =
-    elim (one_of (bytes_eq w.0 name) (number_at line w.1 1 most) (Ok (most, at)) (Ok v) h) [
-      | inl p ↦
-          let n = number_ok line w.1 1 most v fits p.1 in
-          let same : w.0 ≡ name = (bytes_eq-Decides w.0 name).0 p.0 in
-          record {
-            words = name ∷ decimal v.0 ∷ [];
-            is = record { is = inl refl; within = (n.above, n.below) };
-            spelled = word_is line at w e ∙ ap (λ (t : List ℕ). t ∷ words_from line w.1) same
-                ∙ ap (λ (t : List (List ℕ)). name ∷ t) n.spelled;
-          }
-      | inr p ↦ left_out line at name most v low (same_result (most, at) v p.1)
-    ]
-
 -- the words don't begin with this name
 abbrev IsNotHeaded : List ℕ → List (List ℕ) → Type 0
 IsNotHeaded name [] = Unit {0}
 IsNotHeaded name (w ∷ ws) = bytes_eq w name ≡ false
 
-none_left : (line : List ℕ) (at : ℕ) → words_from line at ≡ [] → (o : Option (List ℕ × ℕ)) → word_at line at ≡ o
-    → o ≡ None
-none_left line at h None e = refl
-none_left line at h (Some w) e = let first = word_is line at w e in absurd cc
-
 limit_absent : (line : List ℕ) (at : ℕ) (name : List ℕ) (most : ℕ) (rest : List (List ℕ)) → IsNotHeaded name rest
     → words_from line at ≡ rest → limit_at line at name most ≡ Ok (most, at)
-unfolding limit_at
-limit_absent line at name most [] other h = let none = none_left line at h (word_at line at) refl in rw none refl
-limit_absent line at name most (w ∷ ws) other h = let found = found_word line at w ws h in rw (found.1, other) refl
+limit_absent line at name most [] other h = limit_past line at name most (past_end line at h)
+limit_absent line at name most (w ∷ ws) other h =
+    let found = found_word line at w ws h in limit_other line at name most (w, found.0) found.1 other
 
-limit_present : (line : List ℕ) (at : ℕ) (name : List ℕ) (most n : ℕ) (rest : List (List ℕ)) → most < 2 ^ 64 → 1 ≤ n
-    → n ≤ most → words_from line at ≡ name ∷ decimal n ∷ rest → Reads line (limit_at line at name most) n rest
-unfolding limit_at
-limit_present line at name most n rest fits low high h =
-    let found = found_word line at name (decimal n ∷ rest) h in
-    let same : bytes_eq name name ≡ true = (bytes_eq-Decides name name).1 refl in
-    let b = number_again line found.0 1 most n rest (omega arith) low high found.2 in
-    (b.0, rw (found.1, same, b.1) refl, b.2)
+-- a limit is a number behind its name, or left out
+limit_told : (line : List ℕ) (at : ℕ) (name : List ℕ) (most : ℕ)
+    → (limit_at line at name most ≡ field_at line at name 1 most) ⊎ (limit_at line at name most ≡ Ok (most, at))
+limit_told line at name most = elim (cases_lt (length line) at) [
+  | inl past ↦ inr (limit_past line at name most past)
+  | inr within ↦ let found = finds_word line at within in by_test found.w found.found (bytes_eq found.w.0 name) refl
+]
+  where
+    by_test : (w : List ℕ × ℕ) → word_at line at ≡ Some w → (b : Bool) → bytes_eq w.0 name ≡ b
+        → (limit_at line at name most ≡ field_at line at name 1 most) ⊎ (limit_at line at name most ≡ Ok (most, at))
+    by_test w found true same = inl (limit_named line at name most w found same)
+    by_test w found false other = inr (limit_other line at name most w found other)
 
-limit_again : (line : List ℕ) (at : ℕ) (name : List ℕ) (most n : ℕ) (words rest : List (List ℕ))
-    → SpellsLimit name most n words → most < 2 ^ 64 → 1 ≤ n → n ≤ most → IsNotHeaded name rest
-    → words_from line at ≡ words ++ rest → Reads line (limit_at line at name most) n rest
-limit_again line at name most n words rest (inl e) fits low high other h =
-    limit_present line at name most n rest fits low high (h ∙ ap (λ (t : List (List ℕ)). t ++ rest) e)
-limit_again line at name most n words rest (inr e) fits low high other h =
+limit_again : (line : List ℕ) (at : ℕ) (name : List ℕ) (most n : ℕ) (ws rest : List (List ℕ)) → 1 ≤ most
+    → most < 2 ^ 64 → SpellsLimit name most n ws → IsWithin 1 most n → IsNotHeaded name rest
+    → words_from line at ≡ ws ++ rest → Reads line (limit_at line at name most) n rest
+limit_again line at name most n ws rest low fits (inl e) within other h =
+    let found = found_word line at name (decimal n ∷ rest) (h ∙ ap (λ (t : List (List ℕ)). t ++ rest) e) in
+    let field = limit_named line at name most (name, found.0) found.1 ((bytes_eq-Decides name name).1 refl) in
+    let read = (field_reader name 1 most fits low).again line at n ws rest
+    (record { words_are = e; within = within }) tt h in
+    (read.0, field ∙ read.1, read.2)
+limit_again line at name most n ws rest low fits (inr e) within other h =
     let same : words_from line at ≡ rest = h ∙ ap (λ (t : List (List ℕ)). t ++ rest) e.0 in
     (at, limit_absent line at name most rest other same ∙ ap (λ (t : ℕ). Ok (t, at)) (sym e.1), same)
-
-limit_in_breaks : (line : List ℕ) (at : ℕ) (name : List ℕ) (most : ℕ) (f : Flaw) (o : Option (List ℕ × ℕ))
-    → word_at line at ≡ o → limit_in line at name most o ≡ Err f → Breaks line at f (name ∷ decimal 1 ∷ [])
-limit_in_breaks line at name most f None e h = absurd (no_err _ f h)
-limit_in_breaks line at name most f (Some w) e h =
-    elim (one_of (bytes_eq w.0 name) (number_at line w.1 1 most) (Ok (most, at)) (Err f) h) [
-      | inl p ↦
-          let same : w.0 ≡ name = (bytes_eq-Decides w.0 name).0 p.0 in
-          later line at w.1 f (name ∷ []) (decimal 1 ∷ [])
-          (word_is line at w e ∙ ap (λ (x : List ℕ). x ∷ words_from line w.1) same)
-          (here line w.1 f (decimal 1 ∷ []) (number_break line w.1 1 most f p.1))
-      | inr p ↦ absurd (no_err _ f p.1)
-    ]
-
-limit_breaks : (line : List ℕ) (at : ℕ) (name : List ℕ) (most : ℕ) (f : Flaw) → limit_at line at name most ≡ Err f
-    → Breaks line at f (name ∷ decimal 1 ∷ [])
-unfolding limit_at
-limit_breaks line at name most f h = limit_in_breaks line at name most f (word_at line at) refl h
 
 -- a limit, where only such words follow as don't begin with its name
 limit_reader : (name : List ℕ) (most : ℕ) (May : List (List ℕ) → Type 0) → 1 ≤ most → most < 2 ^ 64
     → ((ws : List (List ℕ)) → May ws → IsNotHeaded name ws)
     → IsReader (λ line at. limit_at line at name most) (IsLimit name most) May
-unfolding limit_at
-limit_reader name most May low fits other = record {
-  some = record { value = 1; words = _; is = least };
-  ok = λ line at v h. limit_in_ok line at name most v (word_at line at) low fits refl h;
-  again = λ line at n ws rest is may h.
-      limit_again line at name most n ws rest is.is fits is.within.0 is.within.1 (other rest may) h;
-  breaks = λ line at f h. record {
-    value = 1;
-    words = name ∷ decimal 1 ∷ [];
-    is = least;
-    breaks = limit_breaks line at name most f h;
-  };
-}
-  where
-    least : IsLimit name most 1 (name ∷ decimal 1 ∷ [])
-    least = record { is = inl refl; within = (omega arith, low) }
+limit_reader name most May low fits other =
+    let field = field_reader name 1 most fits low in
+    record {
+      some = record { value = most; words = []; is = record { is = inr (refl, refl); within = (low, omega arith) } };
+      ok = λ line at v h. elim (limit_told line at name most) [
+        | inl e ↦
+            let p = field.ok line at v (sym e ∙ h) in
+            record {
+              words = p.words;
+              is = record { is = inl p.is.words_are; within = p.is.within };
+              spelled = p.spelled;
+            }
+        | inr e ↦
+            subst (λ (x : ℕ × ℕ). IsReadAt (IsLimit name most) line at x) (same_result (most, at) v (sym e ∙ h))
+            (record { words = []; is = record { is = inr (refl, refl); within = (low, omega arith) }; spelled = refl })
+      ];
+      again = λ line at n ws rest is may h.
+          limit_again line at name most n ws rest low fits is.is is.within (other rest may) h;
+      breaks = λ line at f h. elim (limit_told line at name most) [
+        | inl e ↦
+            let p = field.breaks line at f (sym e ∙ h) in
+            record {
+              value = p.value;
+              words = p.words;
+              is = record { is = inl p.is.words_are; within = p.is.within };
+              breaks = p.breaks;
+            }
+        | inr e ↦ absurd (no_err (most, at) f (sym e ∙ h))
+      ];
+    }
 
 -- ---- the heap line
 
