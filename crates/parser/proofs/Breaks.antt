@@ -23,6 +23,7 @@ use Rattle.parser.proofs.AlikeReads.{judge_number}
 use Rattle.parser.proofs.AlikeLines.{judge_name, bind_ok_is}
 use Rattle.model.specs.declared.steps.Actor.TheVariants.{Thread}
 use Rattle.parser.specs.declared.order.Order.{Order}
+use Rattle.parser.specs.declared.verbs.Kinds.{Kinds}
 use Rattle.parser.specs.declared.verbs.Verb.{Verb}
 use Rattle.parser.specs.declared.verbs.Verb.TheVariants as verbs
 use Rattle.parser.specs.Verbs.{row_of, verb_of}
@@ -213,69 +214,57 @@ operands_break : (sizes : Sizes) (line : List ℕ) (at : ℕ) (f : Flaw) (verb :
     → sizes.registers < 2 ^ 64 → operands_at sizes line at verb ≡ Err f → OperandsBreak sizes.registers line at f verb
 unfolding operands_at
 operands_break sizes line at f verb some fits h =
-    let k = (row_of verb).kinds in
-    let zero = λ (kind : Kind). zero_fits sizes.registers kind some in
     elim (bind_err (operand_at sizes line at k.first) _ f h) [
-      | inl e ↦
-          record {
-            first = 0;
-            second = 0;
-            third = 0;
-            wide = 0;
-            fits = record { first = zero k.first; second = zero k.second; third = zero k.third; wide = zero k.wide };
-            breaks = here line at f _ (operand_break sizes line at k.first f e);
-          }
+      | inl e ↦ all 0 0 0 (zero k.first) (zero k.second) (zero k.third) (here line at f _ (wrong at k.first e))
       | inr a ↦
           let one = operand_ok sizes line at k.first a.0 fits a.1.0 in
           let past_one = later line at a.0.1 f (operand_word k.first a.0.0) in
           elim (bind_err (operand_at sizes line a.0.1 k.second) _ f a.1.1) [
             | inl e ↦
-                record {
-                  first = a.0.0;
-                  second = 0;
-                  third = 0;
-                  wide = 0;
-                  fits = record { first = one.fits; second = zero k.second; third = zero k.third; wide = zero k.wide };
-                  breaks = past_one _ one.spelled (here line a.0.1 f _ (operand_break sizes line a.0.1 k.second f e));
-                }
+                all a.0.0 0 0 one.fits (zero k.second) (zero k.third)
+                (past_one _ one.spelled (here line a.0.1 f _ (wrong a.0.1 k.second e)))
             | inr b ↦
                 let two = operand_ok sizes line a.0.1 k.second b.0 fits b.1.0 in
                 let past_two = later line a.0.1 b.0.1 f (operand_word k.second b.0.0) in
                 elim (bind_err (operand_at sizes line b.0.1 k.third) _ f b.1.1) [
                   | inl e ↦
-                      record {
-                        first = a.0.0;
-                        second = b.0.0;
-                        third = 0;
-                        wide = 0;
-                        fits = record { first = one.fits; second = two.fits; third = zero k.third; wide = zero k.wide };
-                        breaks = past_one _ one.spelled (past_two _ two.spelled
-                            (here line b.0.1 f _ (operand_break sizes line b.0.1 k.third f e)));
-                      }
+                      all a.0.0 b.0.0 0 one.fits two.fits (zero k.third) (past_one _ one.spelled
+                      (past_two _ two.spelled (here line b.0.1 f _ (wrong b.0.1 k.third e))))
                   | inr c ↦
                       let three = operand_ok sizes line b.0.1 k.third c.0 fits c.1.0 in
                       let past_three = later line b.0.1 c.0.1 f (operand_word k.third c.0.0) in
                       elim (bind_err (operand_at sizes line c.0.1 k.wide) _ f c.1.1) [
                         | inl e ↦
-                            record {
-                              first = a.0.0;
-                              second = b.0.0;
-                              third = c.0.0;
-                              wide = 0;
-                              fits = record {
-                                first = one.fits;
-                                second = two.fits;
-                                third = three.fits;
-                                wide = zero k.wide;
-                              };
-                              breaks = past_one _ one.spelled (past_two _ two.spelled (past_three _ three.spelled
-                                  (here line c.0.1 f _ (operand_break sizes line c.0.1 k.wide f e))));
-                            }
+                            all a.0.0 b.0.0 c.0.0 one.fits two.fits three.fits (past_one _ one.spelled
+                            (past_two _ two.spelled (past_three _ three.spelled
+                            (here line c.0.1 f _ (wrong c.0.1 k.wide e)))))
                         | inr d ↦ absurd (no_err _ f d.1.1)
                       ]
                 ]
           ]
     ]
+  where
+    k : Kinds
+    k = (row_of verb).kinds
+
+    zero : (kind : Kind) → IsOperand sizes.registers kind 0
+    zero kind = zero_fits sizes.registers kind some
+
+    wrong : (at : ℕ) (kind : Kind) → operand_at sizes line at kind ≡ Err f → BreaksBehind line at f []
+    wrong at kind e = operand_break sizes line at kind f e
+
+    all : (a b c : ℕ) → IsOperand sizes.registers k.first a → IsOperand sizes.registers k.second b
+        → IsOperand sizes.registers k.third c
+        → Breaks line at f (operand_words k (with_operands verb a b c 0))
+        → OperandsBreak sizes.registers line at f verb
+    all a b c one two three breaks = record {
+      first = a;
+      second = b;
+      third = c;
+      wide = 0;
+      fits = record { first = one; second = two; third = three; wide = zero k.wide };
+      breaks = breaks;
+    }
 
 -- ---- orders
 
