@@ -32,7 +32,8 @@ use Rattle.parser.proofs.Operands.{operands_ok, operands_again}
 found_in : (w : List ℕ) (v : Verb) (vs : List Verb) → find (λ x. bytes_eq w (row_of x).text) vs ≡ Some v
     → w ≡ (row_of v).text
 found_in w v [] h = absurd cc
-found_in w v (x ∷ vs) h = by_test (bytes_eq w (row_of x).text) (bytes_eq-Decides w (row_of x).text).0 (found_in w v vs) h
+found_in w v (x ∷ vs) h = by_test (bytes_eq w (row_of x).text) (bytes_eq-Decides w (row_of x).text).0
+    (found_in w v vs) h
   where
     by_test : (b : Bool) → (b ≡ true → w ≡ (row_of x).text)
         → (find (λ x. bytes_eq w (row_of x).text) vs ≡ Some v → w ≡ (row_of v).text)

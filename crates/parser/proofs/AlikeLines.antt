@@ -274,7 +274,8 @@ module _ (n : ℕ) (line other : List ℕ) (k : AreAlike n line other) where
       → IsTakenAlike line n (layout_line r sizes line) (layout_line r sizes other)
   unfolding layout_line
   layout_taken r sizes = by_first _
-      (λ (w : List ℕ × ℕ). layout_in sizes other w.1 >>= (λ layout. Ok (record r { layouts = r.layouts ++ layout ∷ [] })))
+      (λ (w : List ℕ × ℕ). layout_in sizes other w.1 >>= (λ layout. Ok
+      (record r { layouts = r.layouts ++ layout ∷ [] })))
       (taken_from line n (first_word line).1 _ _ (then_alike line (λ (x : Layout). length line + 1) (line_end line) n
       (first_word line).1 _ _ _ _ (layout_alike n line other k sizes (first_word line).1)
       (λ s. done_alike line (line_end line) n (length line + 1) _ refl)) (first_behind line))
@@ -331,7 +332,8 @@ module _ (n : ℕ) (line other : List ℕ) (k : AreAlike n line other) where
   unfolding actor_at
   actor_alike sizes full =
       subst (λ (b : ℕ). IsWordAlike line (λ (x : Actor × ℕ). x.1) n 0
-      (with_room full (actor_by sizes line (first_byte line == 119))) (with_room full (actor_by sizes other (b == 119))))
+      (with_room full (actor_by sizes line (first_byte line == 119))) (with_room full (actor_by sizes other
+      (b == 119))))
       k.byte (actor_room sizes full (first_byte line == 119))
 
   order_taken : (r : ReadSoFar) (sizes : Sizes)
@@ -356,7 +358,8 @@ module _ (n : ℕ) (line other : List ℕ) (k : AreAlike n line other) where
       record {
         same = (then_alike line place (line_end line) n 0 _ _ _ _ (word_alike line place n 0 _ _ actor)
             (order_taken r sizes)).same;
-        placed = then_placed line place (line_end line) n (with_room full (actor_at sizes line)) (order_for r sizes line)
+        placed = then_placed line place (line_end line) n (with_room full (actor_at sizes line))
+            (order_for r sizes line)
             (order_for r sizes other) (actor.placed (inl refl)) (order_taken r sizes);
       } in
       subst (λ (x : Result ReadSoFar Flaw). IsTakenAlike line n (actor_at sizes line >>= (λ actor. cond full

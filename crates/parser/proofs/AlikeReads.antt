@@ -256,7 +256,8 @@ module _ (n : ℕ) (line other : List ℕ) (k : AreAlike n line other) where
         let long = k.long in
         alike_by at _ _ _ _ (limit_past line at name most past) (λ before. absurd (omega arith)) (found_alike most at)
     | inr within ↦
-        let found = finds_word line at within in limit_by name most at found.w found.found (bytes_eq found.w.0 name) refl
+        let found = finds_word line at within in limit_by name most at found.w found.found
+        (bytes_eq found.w.0 name) refl
   ]
 
   memory_alike : (at : ℕ) → Alike at (memory_at line at) (memory_at other at)

@@ -23,7 +23,8 @@ use Rattle.parser.proofs.AlikeReads.{judge_fixed, limit_named, limit_other, limi
 use Rattle.parser.proofs.WordPlaces.{finds_word}
 use Rattle.parser.proofs.Breaks.{bind_err, same_flaw, no_err, BreaksBehind, Breaks, here, later, at_place}
 use Rattle.parser.proofs.Breaks.{word_break, number_break, number_within}
-use Rattle.parser.proofs.Readers.{IsReadAt, BreaksIn, IsReader, Any, Three, three_reader, whole_ok, whole_again, whole_breaks}
+use Rattle.parser.proofs.Readers.{IsReadAt, BreaksIn, IsReader, Any, Three, three_reader, whole_ok, whole_again}
+use Rattle.parser.proofs.Readers.{whole_breaks}
 use Rattle.parser.proofs.Places.{bind_ok, fixed_ok, fixed_again, number_ok, number_again, end_ok, end_again, one_of}
 
 -- ---- a number behind its name
@@ -391,7 +392,8 @@ by_parts s ws h =
 
 pub heap_ok : (line : List ℕ) (at : ℕ) (s : Sizes) → heap_in line at ≡ Ok s → SpellsSizes s (words_from line at)
 unfolding heap_in
-heap_ok line at s h = from_parts s (words_from line at) (whole_ok sizes_at AreParts IsLast refl parts_reader line at s h)
+heap_ok line at s h = from_parts s (words_from line at)
+    (whole_ok sizes_at AreParts IsLast refl parts_reader line at s h)
 
 pub heap_again : (line : List ℕ) (at : ℕ) (s : Sizes) → SpellsSizes s (words_from line at) → heap_in line at ≡ Ok s
 unfolding heap_in

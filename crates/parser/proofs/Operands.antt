@@ -83,7 +83,8 @@ operands_ok sizes line at verb v fits h =
 
 pub operands_again : (sizes : Sizes) (line : List ℕ) (at : ℕ) (o : Order) (ws : List (List ℕ))
     → sizes.registers < 2 ^ 64 → IsOrder sizes.registers o
-    → words_from line at ≡ operand_words (row_of o.verb).kinds o ++ ws → Reads line (operands_at sizes line at o.verb) o ws
+    → words_from line at ≡ operand_words (row_of o.verb).kinds o ++ ws
+    → Reads line (operands_at sizes line at o.verb) o ws
 unfolding operands_at
 operands_again sizes line at o ws fits is h =
     let k = (row_of o.verb).kinds in

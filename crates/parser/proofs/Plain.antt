@@ -140,7 +140,8 @@ sizes_plain s ws h =
     let limits : ArePlain (h.births ++ h.history) = record {
       each = all_both IsPlain h.births h.history
           (limit_plain (codes "births") (2 ^ 32) s.births h.births refl (omega (arith, r.births.1)) h.births_spelled)
-          (limit_plain (codes "history") 1000000 s.history h.history refl (omega (arith, r.history.1)) h.history_spelled);
+          (limit_plain (codes "history") 1000000 s.history h.history refl (omega
+          (arith, r.history.1)) h.history_spelled);
     } in
     rw h.words_are ((named (codes "words") s.words refl (omega arith)
     (named (codes "frames") s.frames refl (omega (arith, r.frames.1))

@@ -161,7 +161,8 @@ some_layouts ls h = grind (arith, nat_tests)
 -- ---- a line behind the heap line
 
 module _ (said : List (List ℕ)) (r : ReadSoFar) (b : IsBehind said r) (line : List ℕ) where
-  layout_step : (t : ReadSoFar) → (first_word line).0 ≡ codes "layout" → r.begun ≡ false → length r.layouts < MOST_LAYOUTS
+  layout_step : (t : ReadSoFar) → (first_word line).0 ≡ codes "layout" → r.begun ≡ false
+      → length r.layouts < MOST_LAYOUTS
       → layout_line r b.sizes line ≡ Ok t → IsBehind (said ++ line ∷ []) t
   unfolding layout_line
   layout_step t first not_begun few h =
@@ -192,7 +193,8 @@ module _ (said : List (List ℕ)) (r : ReadSoFar) (b : IsBehind said r) (line : 
         count = b.count;
       })
 
-  command_behind : (c : Command) → 1 ≤ length r.layouts → line ≡ command_line_of c → IsCommand (config_of b.sizes []) c → (o : Option ℕ)
+  command_behind : (c : Command) → 1 ≤ length r.layouts → line ≡ command_line_of c
+      → IsCommand (config_of b.sizes []) c → (o : Option ℕ)
       → r.turns ≡ o → is_full o r.commands ≡ false → IsBehind (said ++ line ∷ []) (with_command r o c)
   command_behind c some_layout is own None none room =
       let fits : length r.commands < MOST_COMMANDS = grind (arith, nat_tests) in
@@ -238,7 +240,8 @@ module _ (said : List (List ℕ)) (r : ReadSoFar) (b : IsBehind said r) (line : 
     count = b.count;
   }
 
-  command_step : (t : ReadSoFar) → 1 ≤ length r.layouts → command_line r b.sizes line ≡ Ok t → IsBehind (said ++ line ∷ []) t
+  command_step : (t : ReadSoFar) → 1 ≤ length r.layouts → command_line r b.sizes line ≡ Ok t
+      → IsBehind (said ++ line ∷ []) t
   unfolding command_line
   command_step t some h =
       let few = few_actors b.sizes b.range in
@@ -255,7 +258,8 @@ module _ (said : List (List ℕ)) (r : ReadSoFar) (b : IsBehind said r) (line : 
       subst (λ (x : ReadSoFar). IsBehind (said ++ line ∷ []) x) (same_result (with_command r r.turns command) t o.2)
       (command_behind command some line_is_command own r.turns refl g.0)
 
-  times_behind : (t : ReadSoFar) → 1 ≤ length r.layouts → (first_word line).0 ≡ codes "times" → (o : Option ℕ) → r.turns ≡ o → times_in r o line ≡ Ok t
+  times_behind : (t : ReadSoFar) → 1 ≤ length r.layouts → (first_word line).0 ≡ codes "times" → (o : Option ℕ)
+      → r.turns ≡ o → times_in r o line ≡ Ok t
       → IsBehind (said ++ line ∷ []) t
   times_behind t some_layout first (Some turns) some h = absurd cc
   times_behind t some_layout first None none h =
@@ -288,11 +292,13 @@ module _ (said : List (List ℕ)) (r : ReadSoFar) (b : IsBehind said r) (line : 
         count = b.count;
       })
 
-  times_step : (t : ReadSoFar) → 1 ≤ length r.layouts → (first_word line).0 ≡ codes "times" → times_line r line ≡ Ok t → IsBehind (said ++ line ∷ []) t
+  times_step : (t : ReadSoFar) → 1 ≤ length r.layouts → (first_word line).0 ≡ codes "times" → times_line r line ≡ Ok t
+      → IsBehind (said ++ line ∷ []) t
   unfolding times_line
   times_step t some first h = times_behind t some first r.turns refl h
 
-  end_behind : (t : ReadSoFar) → 1 ≤ length r.layouts → (first_word line).0 ≡ codes "end" → (o : Option ℕ) → r.turns ≡ o → end_in r o line ≡ Ok t
+  end_behind : (t : ReadSoFar) → 1 ≤ length r.layouts → (first_word line).0 ≡ codes "end" → (o : Option ℕ)
+      → r.turns ≡ o → end_in r o line ≡ Ok t
       → IsBehind (said ++ line ∷ []) t
   end_behind t some_layout first None none h = absurd cc
   end_behind t some_layout first (Some turns) some h =
@@ -330,7 +336,8 @@ module _ (said : List (List ℕ)) (r : ReadSoFar) (b : IsBehind said r) (line : 
         count = omega (arith, length-append r.commands (repeat turns r.body), repeated_length turns r.body, fits);
       })
 
-  end_step : (t : ReadSoFar) → 1 ≤ length r.layouts → (first_word line).0 ≡ codes "end" → end_line r line ≡ Ok t → IsBehind (said ++ line ∷ []) t
+  end_step : (t : ReadSoFar) → 1 ≤ length r.layouts → (first_word line).0 ≡ codes "end" → end_line r line ≡ Ok t
+      → IsBehind (said ++ line ∷ []) t
   unfolding end_line
   end_step t some first h = end_behind t some first r.turns refl h
 

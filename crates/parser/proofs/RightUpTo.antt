@@ -172,7 +172,8 @@ joined_idle b w (v ∷ ws) h = h
 -- ---- a wrong line
 
 module _ (before : List (List ℕ)) (line : List ℕ) (r : ReadSoFar) (f : Flaw) (b : IsBroken before line r f) where
-  mended : (u : ReadSoFar) (w : List ℕ) (after : ℕ) (full : List (List ℕ)) → words_from line 0 ≡ w ∷ words_from line after
+  mended : (u : ReadSoFar) (w : List ℕ) (after : ℕ) (full : List (List ℕ))
+      → words_from line 0 ≡ w ∷ words_from line after
       → Breaks line after f full → HasNoNewlines (line_of (w ∷ full)) → line_in r (line_of (w ∷ full)) ≡ Ok u
       → IsRightUpTo before b.at.front
   mended u w after full first breaks own taken =
@@ -243,7 +244,8 @@ module _ (before : List (List ℕ)) (line : List ℕ) (r : ReadSoFar) (f : Flaw)
             ]
       ]
 
-  thread_right : (z : Sizes) → IsReady z r → 1 ≤ length r.layouts → is_full r.turns r.commands ≡ false → (actor : Actor) (at : ℕ)
+  thread_right : (z : Sizes) → IsReady z r → 1 ≤ length r.layouts → is_full r.turns r.commands ≡ false
+      → (actor : Actor) (at : ℕ)
       → words_from line 0 ≡ actor_word actor ∷ words_from line at → IsActor (config_of z []) actor
       → order_at z line actor at ≡ Err f → IsRightUpTo before b.at.front
   thread_right z ready some room (Worker w) at words there h =
@@ -261,7 +263,8 @@ module _ (before : List (List ℕ)) (line : List ℕ) (r : ReadSoFar) (f : Flaw)
       (words_no_newlines (actor_word (Thread t) ∷ order_words breaks.order)
       (number_plain t (omega (arith, there)), order_plain z.registers breaks.order few.registers breaks.fits)) taken
 
-  command_right : (z : Sizes) → IsReady z r → 1 ≤ length r.layouts → command_line r z line ≡ Err f → IsRightUpTo before b.at.front
+  command_right : (z : Sizes) → IsReady z r → 1 ≤ length r.layouts → command_line r z line ≡ Err f
+      → IsRightUpTo before b.at.front
   unfolding command_line
   command_right z ready some h = elim (bind_err (actor_at z line) _ f h) [
     | inl e ↦ absurd (not_first (actor_first z line f e))
@@ -278,7 +281,8 @@ module _ (before : List (List ℕ)) (line : List ℕ) (r : ReadSoFar) (f : Flaw)
         ]
   ]
 
-  part_right : (z : Sizes) → IsReady z r → 1 ≤ length r.layouts → part_line r z line ≡ Err f → IsRightUpTo before b.at.front
+  part_right : (z : Sizes) → IsReady z r → 1 ≤ length r.layouts → part_line r z line ≡ Err f
+      → IsRightUpTo before b.at.front
   unfolding part_line times_line end_line
   part_right z ready some h =
       elim (one_of (bytes_eq (first_word line).0 (codes "times")) _ _ (Err f) h) [
@@ -338,14 +342,16 @@ module _ (before : List (List ℕ)) (line : List ℕ) (r : ReadSoFar) (f : Flaw)
                   let u : ReadSoFar = record nothing { sizes = Some z } in
                   let taken : line_in r other ≡ Ok u = subst (λ (x : ReadSoFar). line_in x other ≡ Ok u) (sym is)
                   (heap_taken z other spelled.range heap (rw spelled.words_are refl)) in
-                  let own = words_no_newlines (codes "heap" ∷ broken.words) (refl, sizes_plain z broken.words spelled) in
+                  let own = words_no_newlines (codes "heap" ∷ broken.words) (refl, sizes_plain z broken.words spelled)
+                  in
                   mended u (codes "heap") at broken.words words broken.breaks own taken
               | inr z ↦ absurd (no_err _ f z.1.1)
             ]
         | inr other ↦ absurd (not_first (first_made {A = ReadSoFar} kinds.HeapLineExpected f other.1))
       ]
 
-  after_right : Said (filter says_something before) r → line_after r r.sizes line ≡ Err f → IsRightUpTo before b.at.front
+  after_right : Said (filter says_something before) r → line_after r r.sizes line ≡ Err f
+      → IsRightUpTo before b.at.front
   after_right (inl empty) h =
       heap_right empty.is (subst (λ (x : ReadSoFar). line_after x x.sizes line ≡ Err f) empty.is h)
   after_right (inr behind) h =

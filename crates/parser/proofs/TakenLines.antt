@@ -139,7 +139,8 @@ times_taken z r n line ready some none low high idle is =
 
 pub end_taken : (z : Sizes) (r : ReadSoFar) (n : ℕ) (line : List ℕ) → IsReady z r → 1 ≤ length r.layouts
     → r.turns ≡ Some n → length r.commands + n * length r.body ≤ MOST_COMMANDS → is_idle line ≡ false
-    → line ≡ codes "end" → line_in r line ≡ Ok (record r { commands = r.commands ++ repeat n r.body; turns = None; body = [] })
+    → line ≡ codes "end" → line_in r line ≡ Ok
+    (record r { commands = r.commands ++ repeat n r.body; turns = None; body = [] })
 unfolding part_line end_line
 end_taken z r n line ready some block room idle is =
     let words = words_are line (codes "end") [] is refl tt in
