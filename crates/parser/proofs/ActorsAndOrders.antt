@@ -1,134 +1,61 @@
 -- Actors and whole orders: what is read is written so, and what is written so is read.
-use Rattle.std.proofs.Common.{◌≡◌, ℕ, ◌^◌, ◌<◌, Bool, true, false, cond, List, [], ◌∷◌, ◌++◌, Option}
+use Rattle.std.proofs.Common.{◌≡◌, ℕ, ◌^◌, ◌<◌, Bool, true, false, cond, List, [], ◌∷◌, ◌++◌}
 use Rattle.std.proofs.Common.{Some, refl, sym, ap, subst, ◌∙◌, arith, inl, inr, append-nil}
-use Rattle.std.specs.Prelude.{Ok, ◌==◌, codes, ◌⊎◌}
+use Rattle.std.specs.Prelude.{Ok, ◌==◌, find}
 use Rattle.std.specs.Str.{bytes_eq}
 use Rattle.std.specs.Fmt.{decimal}
 use Rattle.std.specs.List.{join_with_byte}
 use Rattle.std.proofs.lemmas.List.Splits.{join_with_byte-slice_split}
 use Rattle.std.proofs.lemmas.Slice.Eq.{bytes_eq-Decides}
+use Rattle.std.proofs.lemmas.Option.{same_Some}
 use Rattle.model.specs.declared.steps.Actor.{Actor}
 use Rattle.model.specs.declared.steps.Actor.TheVariants.{Thread, Worker}
 use Rattle.model.proofs.Results.{same_result}
 use Rattle.parser.specs.declared.fault.FaultKind.TheVariants as kinds
 use Rattle.parser.specs.declared.heading.Sizes.{Sizes}
 use Rattle.parser.specs.declared.order.Order.{Order}
-use Rattle.parser.specs.declared.keywords.Keyword.{Keyword}
-use Rattle.parser.specs.declared.keywords.Keyword.TheVariants as keywords
-use Rattle.parser.specs.declared.keywords.Bare.TheVariants as bare
-use Rattle.parser.specs.declared.keywords.OfRegisters.TheVariants as of_registers
-use Rattle.parser.specs.declared.keywords.OfSlot.TheVariants as of_slot
-use Rattle.parser.specs.declared.keywords.OfField.TheVariants as of_field
-use Rattle.parser.specs.declared.keywords.Mixed.TheVariants as mixed
+use Rattle.parser.specs.declared.verbs.Verb.{Verb}
+use Rattle.parser.specs.declared.verbs.TheConstants.{VERBS}
 use Rattle.parser.specs.Words.{or_flaw, flaw, word_or, named_at, end_at}
-use Rattle.parser.specs.Orders.{thread_keyword, register_keyword, slot_keyword, field_keyword, mixed_keyword}
-use Rattle.parser.specs.Orders.{keyword_in, first_byte, actor_at, operands_at, order_at}
+use Rattle.parser.specs.Verbs.{row_of, verb_of}
+use Rattle.parser.specs.Orders.{verb_in, first_byte, actor_at, operands_at, order_at}
 use Rattle.parser.specs.Headings.{config_of}
-use Rattle.parser.specs.Spelling.{actor_word, order_words, IsActor, IsFor, IsOrder}
+use Rattle.parser.specs.Spelling.{actor_word, operand_words, order_words, IsActor, IsFor, IsOrder}
 use Rattle.parser.proofs.Places.{words_from, words_whole, Reads}
-use Rattle.parser.proofs.Pieces.{bind_ok, or_flaw_ok, word_ok, word_again}
-use Rattle.parser.proofs.Pieces.{named_ok, named_again, end_ok, end_again, one_of}
-use Rattle.parser.proofs.Operands.{keyword_text, keyword_of, operand_words, words_are, operands_ok, operands_again}
+use Rattle.parser.proofs.Places.{bind_ok, or_flaw_ok, word_ok, word_again}
+use Rattle.parser.proofs.Places.{named_ok, named_again, end_ok, end_again, one_of}
+use Rattle.parser.proofs.Operands.{operands_ok, operands_again}
 
--- ---- keywords
+-- ---- verbs
 
--- one test of a keyword: the word is its text, or a later test tells
-key_ok : (w text : List ℕ) (this k : Keyword) (rest : Option Keyword)
-    → cond (bytes_eq w text) (Some this) rest ≡ Some k → ((w ≡ text) × (this ≡ k)) ⊎ (rest ≡ Some k)
-key_ok w text this k rest h = chosen (bytes_eq w text) (bytes_eq-Decides w text).0 h
+-- the first verb of a list whose word this is
+found_in : (w : List ℕ) (v : Verb) (vs : List Verb) → find (λ x. bytes_eq w (row_of x).text) vs ≡ Some v
+    → w ≡ (row_of v).text
+found_in w v [] h = absurd cc
+found_in w v (x ∷ vs) h = by_test (bytes_eq w (row_of x).text) (bytes_eq-Decides w (row_of x).text).0
+    (found_in w v vs) h
   where
-    chosen : (b : Bool) → (b ≡ true → w ≡ text) → cond b (Some this) rest ≡ Some k
-        → ((w ≡ text) × (this ≡ k)) ⊎ (rest ≡ Some k)
-    chosen true f e = inl (f refl, cc)
-    chosen false f e = inr e
+    by_test : (b : Bool) → (b ≡ true → w ≡ (row_of x).text)
+        → (find (λ x. bytes_eq w (row_of x).text) vs ≡ Some v → w ≡ (row_of v).text)
+        → cond b (Some x) (find (λ x. bytes_eq w (row_of x).text) vs) ≡ Some v → w ≡ (row_of v).text
+    by_test true first later e = subst (λ (y : Verb). w ≡ (row_of y).text) (same_Some x v e) (first refl)
+    by_test false first later e = later e
 
-named_by : (w text : List ℕ) (this k : Keyword) → keyword_text this ≡ text → (w ≡ text) × (this ≡ k)
-    → w ≡ keyword_text k
-named_by w text this k e p = p.0 ∙ sym e ∙ ap keyword_text p.1
+-- a word that is read as a verb is the verb's
+pub verb_ok : (w : List ℕ) (v : Verb) → verb_of w ≡ Some v → w ≡ (row_of v).text
+unfolding verb_of
+verb_ok w v h = found_in w v VERBS h
 
--- a word is the text of the keyword that this test or a later one tells
-key_or : (w text : List ℕ) (this k : Keyword) (rest : Option Keyword) → keyword_text this ≡ text
-    → (rest ≡ Some k → w ≡ keyword_text k) → cond (bytes_eq w text) (Some this) rest ≡ Some k → w ≡ keyword_text k
-key_or w text this k rest e later h =
-    elim (key_ok w text this k rest h) [ inl p ↦ named_by w text this k e p | inr next ↦ later next ]
+-- a verb's word is read as that verb: no two have one word
+verb_again : (v : Verb) → verb_of (row_of v).text ≡ Some v
+unfolding verb_of
+verb_again v = grind arith
 
-mixed_key_ok : (w : List ℕ) (k : Keyword) → mixed_keyword w ≡ Some k → w ≡ keyword_text k
-unfolding mixed_keyword
-mixed_key_ok w k =
-    key_or w (codes "take") (keywords.Mixed mixed.Take) k _ refl
-    (key_or w (codes "set") (keywords.Mixed mixed.Set) k _ refl
-    (key_or w (codes "store") (keywords.Mixed mixed.Store) k _ refl
-    (key_or w (codes "storeg") (keywords.Mixed mixed.StoreGlobal) k _ refl
-    (λ none. absurd cc))))
-
-field_key_ok : (w : List ℕ) (k : Keyword) → field_keyword w ≡ Some k → w ≡ keyword_text k
-unfolding field_keyword
-field_key_ok w k =
-    key_or w (codes "load") (keywords.Field of_field.Load) k _ refl
-    (key_or w (codes "get") (keywords.Field of_field.Get) k _ refl
-    (mixed_key_ok w k))
-
-slot_key_ok : (w : List ℕ) (k : Keyword) → slot_keyword w ≡ Some k → w ≡ keyword_text k
-unfolding slot_keyword
-slot_key_ok w k =
-    key_or w (codes "new") (keywords.Slot of_slot.New) k _ refl
-    (key_or w (codes "datum") (keywords.Slot of_slot.Datum) k _ refl
-    (key_or w (codes "loadg") (keywords.Slot of_slot.LoadGlobal) k _ refl
-    (key_or w (codes "getg") (keywords.Slot of_slot.GetGlobal) k _ refl
-    (field_key_ok w k))))
-
-register_key_ok : (w : List ℕ) (k : Keyword) → register_keyword w ≡ Some k → w ≡ keyword_text k
-unfolding register_keyword
-register_key_ok w k =
-    key_or w (codes "same") (keywords.Registers of_registers.Same) k _ refl
-    (key_or w (codes "null") (keywords.Registers of_registers.Null) k _ refl
-    (key_or w (codes "mov") (keywords.Registers of_registers.Move) k _ refl
-    (key_or w (codes "clear") (keywords.Registers of_registers.Clear) k _ refl
-    (key_or w (codes "scrub") (keywords.Registers of_registers.Scrub) k _ refl
-    (slot_key_ok w k)))))
-
-pub thread_key_ok : (w : List ℕ) (k : Keyword) → thread_keyword w ≡ Some k → w ≡ keyword_text k
-unfolding thread_keyword
-thread_key_ok w k =
-    key_or w (codes "give") (keywords.Bare bare.Give) k _ refl
-    (key_or w (codes "trap") (keywords.Bare bare.Trap) k _ refl
-    (key_or w (codes "heal") (keywords.Bare bare.Heal) k _ refl
-    (key_or w (codes "finish") (keywords.Bare bare.Finish) k _ refl
-    (key_or w (codes "cross") (keywords.Bare bare.Cross) k _ refl
-    (key_or w (codes "park") (keywords.Bare bare.Park) k _ refl
-    (key_or w (codes "unpark") (keywords.Bare bare.Unpark) k _ refl
-    (register_key_ok w k)))))))
-
-keyword_again : (k : Keyword) → thread_keyword (keyword_text k) ≡ Some k
-unfolding thread_keyword register_keyword slot_keyword field_keyword mixed_keyword
-keyword_again (keywords.Mixed mixed.Take) = refl
-keyword_again (keywords.Bare bare.Give) = refl
-keyword_again (keywords.Slot of_slot.New) = refl
-keyword_again (keywords.Field of_field.Load) = refl
-keyword_again (keywords.Slot of_slot.LoadGlobal) = refl
-keyword_again (keywords.Bare bare.Trap) = refl
-keyword_again (keywords.Bare bare.Heal) = refl
-keyword_again (keywords.Bare bare.Finish) = refl
-keyword_again (keywords.Mixed mixed.Store) = refl
-keyword_again (keywords.Mixed mixed.StoreGlobal) = refl
-keyword_again (keywords.Slot of_slot.Datum) = refl
-keyword_again (keywords.Mixed mixed.Set) = refl
-keyword_again (keywords.Registers of_registers.Same) = refl
-keyword_again (keywords.Registers of_registers.Null) = refl
-keyword_again (keywords.Registers of_registers.Move) = refl
-keyword_again (keywords.Registers of_registers.Clear) = refl
-keyword_again (keywords.Bare bare.Cross) = refl
-keyword_again (keywords.Registers of_registers.Scrub) = refl
-keyword_again (keywords.Bare bare.Park) = refl
-keyword_again (keywords.Bare bare.Unpark) = refl
-keyword_again (keywords.Field of_field.Get) = refl
-keyword_again (keywords.Slot of_slot.GetGlobal) = refl
-
--- who may give the keyword's order
-actor_keyword : (actor : Actor) (w : List ℕ) (k : Keyword) (o : Order) → keyword_in actor w ≡ Some k
-    → IsFor actor o × (w ≡ keyword_text k)
-actor_keyword (Thread t) w k o h = (tt, thread_key_ok w k h)
-actor_keyword (Worker t) w k o h = absurd cc
+-- who may give the verb's order
+actor_verb : (actor : Actor) (w : List ℕ) (v : Verb) (o : Order) → verb_in actor w ≡ Some v
+    → IsFor actor o × (w ≡ (row_of v).text)
+actor_verb (Thread t) w v o h = (tt, verb_ok w v h)
+actor_verb (Worker t) w v o h = absurd cc
 
 -- ---- orders
 
@@ -150,37 +77,37 @@ pub order_ok : (sizes : Sizes) (line : List ℕ) (actor : Actor) (at : ℕ) (o :
 unfolding order_at
 order_ok sizes line actor at o fits h =
     let w = bind_ok (word_or line at kinds.UnknownWord) _ o h in
-    let k = bind_ok (or_flaw (keyword_in actor w.0.0) (flaw at kinds.UnknownWord)) _ o w.2 in
-    let v = bind_ok (operands_at sizes line w.0.1 k.0) _ o k.2 in
+    let verb = bind_ok (or_flaw (verb_in actor w.0.0) (flaw at kinds.UnknownWord)) _ o w.2 in
+    let v = bind_ok (operands_at sizes line w.0.1 verb.0) _ o verb.2 in
     let e = bind_ok (end_at line v.0.1) _ o v.2 in
     let first = word_ok line at kinds.UnknownWord w.0 w.1 in
-    let key = actor_keyword actor w.0.0 k.0 v.0.0
-    (or_flaw_ok (keyword_in actor w.0.0) (flaw at kinds.UnknownWord) k.0 k.1) in
-    let operands = operands_ok sizes line w.0.1 k.0 v.0 fits v.1 in
+    let own = actor_verb actor w.0.0 verb.0 v.0.0
+    (or_flaw_ok (verb_in actor w.0.0) (flaw at kinds.UnknownWord) verb.0 verb.1) in
+    let operands = operands_ok sizes line w.0.1 verb.0 v.0 fits v.1 in
     let last = end_ok line v.0.1 e.0 e.1 in
-    let all : words_from line at ≡ keyword_text (keyword_of v.0.0) ∷ operand_words v.0.0 =
-    whole_order (words_from line at) w.0.0 (keyword_text (keyword_of v.0.0)) (words_from line w.0.1) (words_from line
-    v.0.1) (operand_words v.0.0) first (key.1 ∙ sym (ap keyword_text operands.keyword)) operands.spelled last in
+    let text : w.0.0 ≡ (row_of v.0.0.verb).text =
+    own.1 ∙ sym (ap (λ (x : Verb). (row_of x).text) operands.verb_is) in
     subst (λ (x : Order). IsOrderFrom sizes line actor at x) (same_result v.0.0 o e.2) (record {
-      spelled = all ∙ sym (words_are v.0.0);
-      own = key.0;
+      spelled = whole_order (words_from line at) w.0.0 (row_of v.0.0.verb).text (words_from line w.0.1)
+          (words_from line v.0.1) (operand_words (row_of v.0.0.verb).kinds v.0.0) first text operands.spelled last;
+      own = own.0;
       fits = operands.fits;
     })
 
-in_keyword : (actor : Actor) (o : Order) (k : Keyword) → IsFor actor o → keyword_in actor (keyword_text k) ≡ Some k
-in_keyword (Thread t) o k own = keyword_again k
-in_keyword (Worker t) o k own = absurd own
+in_verb : (actor : Actor) (o : Order) → IsFor actor o → verb_in actor (row_of o.verb).text ≡ Some o.verb
+in_verb (Thread t) o own = verb_again o.verb
+in_verb (Worker t) o own = absurd own
 
 pub order_again : (sizes : Sizes) (line : List ℕ) (actor : Actor) (at : ℕ) (o : Order) → sizes.registers < 2 ^ 64
     → IsFor actor o → IsOrder sizes.registers o → words_from line at ≡ order_words o
     → order_at sizes line actor at ≡ Ok o
 unfolding order_at
 order_again sizes line actor at o fits own is h =
-    let w = word_again line at kinds.UnknownWord (keyword_text (keyword_of o)) (operand_words o) (h ∙ words_are o) in
-    let key = in_keyword actor o (keyword_of o) own in
-    let v = operands_again sizes line w.0 o [] fits is (w.2 ∙ sym (append-nil (operand_words o))) in
+    let operands = operand_words (row_of o.verb).kinds o in
+    let w = word_again line at kinds.UnknownWord (row_of o.verb).text operands h in
+    let v = operands_again sizes line w.0 o [] fits is (w.2 ∙ sym (append-nil operands)) in
     let e = end_again line v.0 v.2 in
-    rw (w.1, key, v.1, e) refl
+    rw (w.1, in_verb actor o own, v.1, e) refl
 
 -- ---- actors
 

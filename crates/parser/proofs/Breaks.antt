@@ -1,25 +1,34 @@
--- Where operands break off, the words before are the first ones of some operands.
-use Rattle.std.proofs.Common.{◌≡◌, ℕ, ◌+◌, ◌^◌, ◌<◌, ◌≤◌, Bool, true, false, cond, nat_lt, List, [], ◌∷◌, ◌++◌, length}
-use Rattle.std.proofs.Common.{refl, sym, ap, subst, ◌∙◌, arith, inl, inr, append_assoc}
+-- Where operands and orders break off, the words before are the first ones of some operands and orders.
+use Rattle.std.proofs.Common.{◌≡◌, ℕ, ◌+◌, ◌^◌, ◌<◌, ◌≤◌, Bool, true, false, cond, nat_lt, List, [], ◌∷◌, ◌++◌}
+use Rattle.std.proofs.Common.{length, refl, sym, ap, subst, ◌∙◌, arith, inl, inr, append_assoc, Option, Some, None}
+use Rattle.std.proofs.Common.{append-nil}
 use Rattle.std.specs.Prelude.{Result, Ok, Err, ◌⊎◌, ◌||◌, not, nat_le}
-use Rattle.std.specs.Fmt.{decimal}
 use Rattle.std.proofs.lemmas.Bool.{cases_lt}
 use Rattle.std.proofs.lemmas.Bool.Decides.{nat_tests}
 use Rattle.parser.specs.declared.fault.FaultKind.{FaultKind}
 use Rattle.parser.specs.declared.fault.FaultKind.TheVariants as kinds
 use Rattle.parser.specs.declared.fault.Flaw.{Flaw}
 use Rattle.parser.specs.declared.heading.Sizes.{Sizes}
-use Rattle.parser.specs.Words.{◌>>=◌, flaw, word_or, is_number, capped_from, in_range, number_at, small_at}
-use Rattle.parser.specs.Words.{named_in, named_at, end_at}
-use Rattle.parser.specs.Orders.{register_at, slot_at, pair_at, field_at}
-use Rattle.parser.specs.Spelling.{register_word}
+use Rattle.parser.specs.Words.{◌>>=◌, flaw, word_or, is_number, capped_from, in_range, number_at, small_at, named_in}
+use Rattle.parser.specs.Words.{named_at, end_at, or_flaw}
+use Rattle.parser.specs.declared.verbs.Kind.{Kind}
+use Rattle.parser.specs.declared.verbs.Kind.TheVariants.{Nothing, Register, Number, Long}
+use Rattle.parser.specs.Orders.{register_at, operand_at, operands_at, order_at}
+use Rattle.parser.specs.Spelling.{operand_word, operand_words, order_words, IsOperand, IsOrder}
 use Rattle.parser.proofs.Places.{words_from, end_past}
-use Rattle.parser.proofs.Pieces.{bind_ok}
-use Rattle.parser.proofs.Operands.{register_ok}
+use Rattle.parser.proofs.Places.{bind_ok, or_flaw_ok, word_ok}
 use Rattle.parser.proofs.Alike.{IsJudged, word_or_some, word_or_none, bind_assoc}
 use Rattle.parser.proofs.WordPlaces.{finds_word}
 use Rattle.parser.proofs.AlikeReads.{judge_number}
-use Rattle.parser.proofs.AlikeOrders.{judge_name, bind_ok_is}
+use Rattle.parser.proofs.AlikeLines.{judge_name, bind_ok_is}
+use Rattle.model.specs.declared.steps.Actor.TheVariants.{Thread}
+use Rattle.parser.specs.declared.order.Order.{Order}
+use Rattle.parser.specs.declared.verbs.Kinds.{Kinds}
+use Rattle.parser.specs.declared.verbs.Verb.{Verb}
+use Rattle.parser.specs.declared.verbs.Verb.TheVariants as verbs
+use Rattle.parser.specs.Verbs.{row_of, verb_of}
+use Rattle.parser.proofs.Operands.{operand_ok, operands_ok, IsOrderAt}
+use Rattle.parser.proofs.ActorsAndOrders.{verb_ok}
 
 -- ---- steps that found a fault
 
@@ -139,11 +148,11 @@ number_within line at low high v h =
     let w = bind_ok (word_or line at kinds.NumberExpected) _ v h in
     word_within line at kinds.NumberExpected w.0 w.1
 
-pub small_break : (line : List ℕ) (at : ℕ) (f : Flaw) → small_at line at ≡ Err f → BreaksBehind line at f []
+small_break : (line : List ℕ) (at : ℕ) (f : Flaw) → small_at line at ≡ Err f → BreaksBehind line at f []
 unfolding small_at
 small_break line at f h = number_break line at 0 4294967295 f h
 
-pub register_break : (sizes : Sizes) (line : List ℕ) (at : ℕ) (f : Flaw) → register_at sizes line at ≡ Err f
+register_break : (sizes : Sizes) (line : List ℕ) (at : ℕ) (f : Flaw) → register_at sizes line at ≡ Err f
     → BreaksBehind line at f []
 unfolding register_at named_at
 register_break sizes line at f h =
@@ -170,120 +179,165 @@ end_break line at f h = by_test (nat_le at (length line)) refl h
         at_place line at f within (ap (λ (x : Flaw). x.column) (sym same))
     by_test false e told = absurd (no_err tt f told)
 
+pub operand_break : (sizes : Sizes) (line : List ℕ) (at : ℕ) (kind : Kind) (f : Flaw)
+    → operand_at sizes line at kind ≡ Err f → BreaksBehind line at f []
+unfolding operand_at
+operand_break sizes line at Nothing f h = absurd (no_err _ f h)
+operand_break sizes line at Register f h = register_break sizes line at f h
+operand_break sizes line at Number f h = small_break line at f h
+operand_break sizes line at Long f h = number_break line at 0 18446744073709551615 f h
+
 -- ---- operands
 
--- a register and a number, of which the fault stands behind the first words
-pub record SlotBreaks (registers : ℕ) (line : List ℕ) (at : ℕ) (f : Flaw) : Type 0 where
-  pub register : ℕ
-  pub number : ℕ
-  pub there : register < registers
-  pub small : number < 2 ^ 32
-  pub breaks : Breaks line at f (register_word register ∷ decimal number ∷ [])
+-- 0 is an operand of each kind
+zero_fits : (registers : ℕ) (kind : Kind) → 1 ≤ registers → IsOperand registers kind 0
+zero_fits registers Nothing some = refl
+zero_fits registers Register some = some
+zero_fits registers Number some = omega arith
+zero_fits registers Long some = omega arith
 
-pub slot_breaks : (sizes : Sizes) (line : List ℕ) (at : ℕ) (f : Flaw) → 1 ≤ sizes.registers → sizes.registers < 2 ^ 64
-    → slot_at sizes line at ≡ Err f → SlotBreaks sizes.registers line at f
-unfolding slot_at
-slot_breaks sizes line at f some fits h = elim (bind_err (register_at sizes line at) _ f h) [
+-- the order of a verb with these operands
+abbrev with_operands : Verb → ℕ → ℕ → ℕ → ℕ → Order
+with_operands verb first second third wide =
+    record { verb = verb; first = first; second = second; third = third; wide = wide }
+
+-- operands of a verb, of which the fault stands behind the first ones
+record OperandsBreak (registers : ℕ) (line : List ℕ) (at : ℕ) (f : Flaw) (verb : Verb) : Type 0 where
+  first : ℕ
+  second : ℕ
+  third : ℕ
+  wide : ℕ
+  fits : IsOrder registers (with_operands verb first second third wide)
+  breaks : Breaks line at f (operand_words (row_of verb).kinds (with_operands verb first second third wide))
+
+operands_break : (sizes : Sizes) (line : List ℕ) (at : ℕ) (f : Flaw) (verb : Verb) → 1 ≤ sizes.registers
+    → sizes.registers < 2 ^ 64 → operands_at sizes line at verb ≡ Err f → OperandsBreak sizes.registers line at f verb
+unfolding operands_at
+operands_break sizes line at f verb some fits h =
+    elim (bind_err (operand_at sizes line at k.first) _ f h) [
+      | inl e ↦ all 0 0 0 (zero k.first) (zero k.second) (zero k.third) (here line at f _ (wrong at k.first e))
+      | inr a ↦
+          let one = operand_ok sizes line at k.first a.0 fits a.1.0 in
+          let past_one = later line at a.0.1 f (operand_word k.first a.0.0) in
+          elim (bind_err (operand_at sizes line a.0.1 k.second) _ f a.1.1) [
+            | inl e ↦
+                all a.0.0 0 0 one.fits (zero k.second) (zero k.third)
+                (past_one _ one.spelled (here line a.0.1 f _ (wrong a.0.1 k.second e)))
+            | inr b ↦
+                let two = operand_ok sizes line a.0.1 k.second b.0 fits b.1.0 in
+                let past_two = later line a.0.1 b.0.1 f (operand_word k.second b.0.0) in
+                elim (bind_err (operand_at sizes line b.0.1 k.third) _ f b.1.1) [
+                  | inl e ↦
+                      all a.0.0 b.0.0 0 one.fits two.fits (zero k.third) (past_one _ one.spelled
+                      (past_two _ two.spelled (here line b.0.1 f _ (wrong b.0.1 k.third e))))
+                  | inr c ↦
+                      let three = operand_ok sizes line b.0.1 k.third c.0 fits c.1.0 in
+                      let past_three = later line b.0.1 c.0.1 f (operand_word k.third c.0.0) in
+                      elim (bind_err (operand_at sizes line c.0.1 k.wide) _ f c.1.1) [
+                        | inl e ↦
+                            all a.0.0 b.0.0 c.0.0 one.fits two.fits three.fits (past_one _ one.spelled
+                            (past_two _ two.spelled (past_three _ three.spelled
+                            (here line c.0.1 f _ (wrong c.0.1 k.wide e)))))
+                        | inr d ↦ absurd (no_err _ f d.1.1)
+                      ]
+                ]
+          ]
+    ]
+  where
+    k : Kinds
+    k = (row_of verb).kinds
+
+    zero : (kind : Kind) → IsOperand sizes.registers kind 0
+    zero kind = zero_fits sizes.registers kind some
+
+    wrong : (at : ℕ) (kind : Kind) → operand_at sizes line at kind ≡ Err f → BreaksBehind line at f []
+    wrong at kind e = operand_break sizes line at kind f e
+
+    all : (a b c : ℕ) → IsOperand sizes.registers k.first a → IsOperand sizes.registers k.second b
+        → IsOperand sizes.registers k.third c
+        → Breaks line at f (operand_words k (with_operands verb a b c 0))
+        → OperandsBreak sizes.registers line at f verb
+    all a b c one two three breaks = record {
+      first = a;
+      second = b;
+      third = c;
+      wide = 0;
+      fits = record { first = one; second = two; third = three; wide = zero k.wide };
+      breaks = breaks;
+    }
+
+-- ---- orders
+
+-- an order, of whose words the fault stands behind the first ones
+pub record OrderBreaks (registers : ℕ) (line : List ℕ) (at : ℕ) (f : Flaw) : Type 0 where
+  pub order : Order
+  pub fits : IsOrder registers order
+  pub breaks : Breaks line at f (order_words order)
+
+-- where no word of an order is known
+unknown_order : (registers : ℕ) (line : List ℕ) (at : ℕ) (f : Flaw) → BreaksBehind line at f []
+    → OrderBreaks registers line at f
+unknown_order registers line at f h =
+    let order = with_operands verbs.Give 0 0 0 0 in
+    record {
+      order = order;
+      fits = record { first = refl; second = refl; third = refl; wide = refl };
+      breaks = here line at f (order_words order) h;
+    }
+
+-- where an operand isn't read
+operands_told : (sizes : Sizes) (line : List ℕ) (at after : ℕ) (f : Flaw) (verb : Verb)
+    → words_from line at ≡ (row_of verb).text ∷ words_from line after → OperandsBreak sizes.registers line after f verb
+    → OrderBreaks sizes.registers line at f
+operands_told sizes line at after f verb first h = record {
+  order = with_operands verb h.first h.second h.third h.wide;
+  fits = h.fits;
+  breaks = later line at after f ((row_of verb).text ∷ []) _ first h.breaks;
+}
+
+-- where more words stand behind the order
+end_told : (sizes : Sizes) (line : List ℕ) (at after end : ℕ) (f : Flaw) (verb : Verb) (order : Order)
+    → words_from line at ≡ (row_of verb).text ∷ words_from line after
+    → IsOrderAt sizes line after verb (order, end) → BreaksBehind line end f [] → OrderBreaks sizes.registers line at f
+end_told sizes line at after end f verb order first operands h =
+    let all : words_from line at ≡ order_words order ++ words_from line end =
+    first ∙ ap (λ (x : Verb). (row_of x).text ∷ words_from line after) (sym operands.verb_is)
+    ∙ ap (λ (x : List (List ℕ)). (row_of order.verb).text ∷ x) operands.spelled in
+    record {
+      order = order;
+      fits = operands.fits;
+      breaks = subst (λ (x : List (List ℕ)). Breaks line at f x) (append-nil (order_words order))
+          (later line at end f (order_words order) [] all (here line end f [] h));
+    }
+
+pub order_break : (sizes : Sizes) (line : List ℕ) (t at : ℕ) (f : Flaw) → 1 ≤ sizes.registers
+    → sizes.registers < 2 ^ 64 → order_at sizes line (Thread t) at ≡ Err f → OrderBreaks sizes.registers line at f
+unfolding order_at
+order_break sizes line t at f some fits h = elim (bind_err (word_or line at kinds.UnknownWord) _ f h) [
   | inl e ↦
-      record {
-        register = 0;
-        number = 0;
-        there = omega arith;
-        small = omega arith;
-        breaks = here line at f (register_word 0 ∷ decimal 0 ∷ []) (register_break sizes line at f e);
-      }
-  | inr a ↦
-      let r = register_ok sizes line at a.0 fits a.1.0 in
-      elim (bind_err (small_at line a.0.1) _ f a.1.1) [
-        | inl e ↦
-            record {
-              register = a.0.0;
-              number = 0;
-              there = r.below;
-              small = omega arith;
-              breaks = later line at a.0.1 f (register_word a.0.0 ∷ []) (decimal 0 ∷ []) r.spelled
-                  (here line a.0.1 f (decimal 0 ∷ []) (small_break line a.0.1 f e));
-            }
-        | inr b ↦ absurd (no_err _ f b.1.1)
-      ]
+      unknown_order sizes.registers line at f (word_break line at kinds.UnknownWord (λ (w : List ℕ × ℕ). w.1)
+      (λ (w : List ℕ × ℕ). Ok w) f (λ w. refl) (bind_ok_is (word_or line at kinds.UnknownWord) ∙ e))
+  | inr w ↦ elim (bind_err (or_flaw (verb_of w.0.0) (flaw at kinds.UnknownWord)) _ f w.1.1) [
+    | inl e ↦
+        unknown_order sizes.registers line at f (at_place line at f (word_within line at kinds.UnknownWord w.0 w.1.0)
+        (no_verb (verb_of w.0.0) e))
+    | inr v ↦
+        let text = verb_ok w.0.0 v.0 (or_flaw_ok (verb_of w.0.0) (flaw at kinds.UnknownWord) v.0 v.1.0) in
+        let first = word_ok line at kinds.UnknownWord w.0 w.1.0
+        ∙ ap (λ (x : List ℕ). x ∷ words_from line w.0.1) text in
+        elim (bind_err (operands_at sizes line w.0.1 v.0) _ f v.1.1) [
+          | inl e ↦ operands_told sizes line at w.0.1 f v.0 first (operands_break sizes line w.0.1 f v.0 some fits e)
+          | inr o ↦
+              let operands = operands_ok sizes line w.0.1 v.0 o.0 fits o.1.0 in
+              elim (bind_err (end_at line o.0.1) _ f o.1.1) [
+                | inl e ↦
+                    end_told sizes line at w.0.1 o.0.1 f v.0 o.0.0 first operands (end_break line o.0.1 f e)
+                | inr u ↦ absurd (no_err _ f u.1.1)
+              ]
+        ]
+  ]
 ]
-
--- two registers, of which the fault stands behind the first words
-pub record PairBreaks (registers : ℕ) (line : List ℕ) (at : ℕ) (f : Flaw) : Type 0 where
-  pub left : ℕ
-  pub right : ℕ
-  pub left_there : left < registers
-  pub right_there : right < registers
-  pub breaks : Breaks line at f (register_word left ∷ register_word right ∷ [])
-
-pub pair_breaks : (sizes : Sizes) (line : List ℕ) (at : ℕ) (f : Flaw) → 1 ≤ sizes.registers → sizes.registers < 2 ^ 64
-    → pair_at sizes line at ≡ Err f → PairBreaks sizes.registers line at f
-unfolding pair_at
-pair_breaks sizes line at f some fits h = elim (bind_err (register_at sizes line at) _ f h) [
-  | inl e ↦
-      record {
-        left = 0;
-        right = 0;
-        left_there = omega arith;
-        right_there = omega arith;
-        breaks = here line at f (register_word 0 ∷ register_word 0 ∷ []) (register_break sizes line at f e);
-      }
-  | inr a ↦
-      let r = register_ok sizes line at a.0 fits a.1.0 in
-      elim (bind_err (register_at sizes line a.0.1) _ f a.1.1) [
-        | inl e ↦
-            record {
-              left = a.0.0;
-              right = 0;
-              left_there = r.below;
-              right_there = omega arith;
-              breaks = later line at a.0.1 f (register_word a.0.0 ∷ []) (register_word 0 ∷ []) r.spelled
-                  (here line a.0.1 f (register_word 0 ∷ []) (register_break sizes line a.0.1 f e));
-            }
-        | inr b ↦ absurd (no_err _ f b.1.1)
-      ]
-]
-
--- two registers and a number, of which the fault stands behind the first words
-pub record FieldBreaks (registers : ℕ) (line : List ℕ) (at : ℕ) (f : Flaw) : Type 0 where
-  pub target : ℕ
-  pub object : ℕ
-  pub number : ℕ
-  pub target_there : target < registers
-  pub object_there : object < registers
-  pub small : number < 2 ^ 32
-  pub breaks : Breaks line at f (register_word target ∷ register_word object ∷ decimal number ∷ [])
-
-pub field_breaks : (sizes : Sizes) (line : List ℕ) (at : ℕ) (f : Flaw) → 1 ≤ sizes.registers → sizes.registers < 2 ^ 64
-    → field_at sizes line at ≡ Err f → FieldBreaks sizes.registers line at f
-unfolding field_at
-field_breaks sizes line at f some fits h = elim (bind_err (register_at sizes line at) _ f h) [
-  | inl e ↦
-      record {
-        target = 0;
-        object = 0;
-        number = 0;
-        target_there = omega arith;
-        object_there = omega arith;
-        small = omega arith;
-        breaks = here line at f (register_word 0 ∷ register_word 0 ∷ decimal 0 ∷ [])
-            (register_break sizes line at f e);
-      }
-  | inr a ↦
-      let r = register_ok sizes line at a.0 fits a.1.0 in
-      elim (bind_err (slot_at sizes line a.0.1) _ f a.1.1) [
-        | inl e ↦
-            let s = slot_breaks sizes line a.0.1 f some fits e in
-            record {
-              target = a.0.0;
-              object = s.register;
-              number = s.number;
-              target_there = r.below;
-              object_there = s.there;
-              small = s.small;
-              breaks = later line at a.0.1 f (register_word a.0.0 ∷ [])
-                  (register_word s.register ∷ decimal s.number ∷ []) r.spelled s.breaks;
-            }
-        | inr b ↦ absurd (no_err _ f b.1.1)
-      ]
-]
+  where
+    no_verb : (o : Option Verb) → or_flaw o (flaw at kinds.UnknownWord) ≡ Err f → f.column ≡ at + 1
+    no_verb None e = ap (λ (x : Flaw). x.column) (sym (same_flaw {A = Verb} (flaw at kinds.UnknownWord) f e))
+    no_verb (Some v) e = absurd (no_err v f e)

@@ -1,11 +1,11 @@
 -- Lines that are taken begin a script, as some lines behind them complete it.
-use Rattle.std.proofs.Common.{◌≡◌, ◌≢◌, ℕ, ◌^◌, ◌<◌, ◌≤◌, Bool, true, false, List, [], ◌∷◌, ◌++◌, length}
+use Rattle.std.proofs.Common.{◌≡◌, ℕ, ◌^◌, ◌≤◌, Bool, true, false, List, [], ◌∷◌, ◌++◌, length}
 use Rattle.std.proofs.Common.{Option, Some, None, refl, sym, ap, subst, ◌∙◌, arith, inl, inr, append-nil, append_assoc}
 use Rattle.std.proofs.Common.{length-append}
-use Rattle.std.specs.Prelude.{Ok, ◌==◌, not, codes, map, filter}
+use Rattle.std.specs.Prelude.{Ok, ◌==◌, codes, map, filter}
 use Rattle.std.specs.Fmt.{decimal}
-use Rattle.std.specs.List.{AllByRecursion, list_all, flat_map, repeat}
-use Rattle.std.proofs.lemmas.Bool.{cases_lt, and_parts, not-true}
+use Rattle.std.specs.List.{AllByRecursion, flat_map, repeat}
+use Rattle.std.proofs.lemmas.Bool.{cases_lt}
 use Rattle.std.proofs.lemmas.Bool.Decides.{nat_tests}
 use Rattle.std.proofs.lemmas.List.Elements.{filter-append}
 use Rattle.std.proofs.lemmas.Grind.{flat_map-append}
@@ -14,18 +14,17 @@ use Rattle.model.specs.Configs.{fits_page}
 use Rattle.model.proofs.Ranges.{page_size_range}
 use Rattle.parser.specs.declared.heading.Sizes.{Sizes}
 use Rattle.parser.specs.declared.reading.TheConstants.{MOST_COMMANDS}
-use Rattle.parser.specs.Words.{is_digit}
 use Rattle.parser.specs.Headings.{config_of}
-use Rattle.parser.specs.Reading.{ScriptValue, script_of, ReadSoFar, nothing, newline, line_in, closed, whole}
+use Rattle.parser.specs.Reading.{ScriptValue, script_of, ReadSoFar, nothing, line_in, closed, whole}
 use Rattle.parser.specs.Reading.{finished}
 use Rattle.parser.specs.Spelling.{line_of, layout_line_of, size_words, SpellsHeap, Part, Times, part_lines}
 use Rattle.parser.specs.Spelling.{part_commands, ended, IsPart, says_something, Spells, IsLayout, IsCommand, IsScript}
 use Rattle.parser.specs.Faults.{text_of, BeginsScript, EndInBlock, HaveNoFault}
 use Rattle.parser.proofs.HeapLines.{IsSizes}
-use Rattle.parser.proofs.Numbers.{decimal_digits}
+use Rattle.parser.proofs.Plain.{no_newlines, words_no_newlines, number_plain, sizes_plain}
 use Rattle.parser.proofs.Ranges.{AreLayouts, config_in_range}
-use Rattle.parser.proofs.Lists.{HasNoNewlines, all_push, all_from, lines_from}
-use Rattle.parser.proofs.Parts.{HasTurns, say_end, more_commands, all_both, all_repeated}
+use Rattle.parser.proofs.Lists.{HasNoNewlines, all_both, all_push, all_from, lines_from}
+use Rattle.parser.proofs.Parts.{HasTurns, say_end, more_commands, all_repeated}
 use Rattle.parser.proofs.ReadIsSpelled.{IsBehind, IsBefore, Said, line_ok, some_layouts}
 use Rattle.parser.proofs.ScriptIsSpelled.{all_said, commands_with, finished_ok}
 use Rattle.parser.proofs.TakenLines.{layout_taken, heap_taken}
@@ -54,35 +53,6 @@ lines_spell lines s each h = record {
   commands_are = h.commands_are;
   said = h.said_is;
 }
-
-pub no_newlines : (line : List ℕ) → list_all (λ b. not (newline b)) line ≡ true → HasNoNewlines line
-no_newlines [] h = tt
-no_newlines (b ∷ bs) h =
-    let p = and_parts (not (newline b)) (list_all (λ c. not (newline c)) bs) h in
-    let no : newline b ≡ false = not-true (newline b) p.0 in
-    let ne : b ≢ 10 = grind (arith, nat_tests) in
-    (ne, no_newlines bs p.1)
-
-digits_no_newlines : (ds : List ℕ) → list_all is_digit ds ≡ true → HasNoNewlines ds
-digits_no_newlines [] h = tt
-digits_no_newlines (b ∷ bs) h =
-    let p = and_parts (is_digit b) (list_all is_digit bs) h in
-    let digit = p.0 in
-    let ne : b ≢ 10 = grind (arith, nat_tests) in
-    (ne, digits_no_newlines bs p.1)
-
-pub number_no_newlines : (n : ℕ) → n < 2 ^ 64 → HasNoNewlines (decimal n)
-number_no_newlines n h = digits_no_newlines (decimal n) (decimal_digits n h)
-
-pub words_no_newlines : (words : List (List ℕ)) → AllByRecursion HasNoNewlines words → HasNoNewlines (line_of words)
-words_no_newlines [] h = tt
-words_no_newlines (w ∷ []) h = h.0
-words_no_newlines (w ∷ v ∷ words) h =
-    all_both (λ b. b ≢ 10) w (32 ∷ line_of (v ∷ words)) h.0 (
-      λ e. absurd (omega arith),
-      words_no_newlines
-          (v ∷ words) h.1,
-    )
 
 -- the text of lines begins what it spells with more lines behind it
 begins_by : (lines more : List (List ℕ)) (s : ScriptValue) → IsScript s → Spells (text_of (lines ++ more)) s
@@ -206,10 +176,8 @@ abbrev small_layout : Layout
 small_layout = record { refs = 0; nums = 0 }
 
 layout_no_newlines : HasNoNewlines (layout_line_of small_layout)
-layout_no_newlines = words_no_newlines (codes "layout" ∷ decimal 0 ∷ decimal 0 ∷ []) (
-  no_newlines (codes "layout") refl,
-  (number_no_newlines 0 (omega arith), (number_no_newlines 0 (omega arith), tt)),
-)
+layout_no_newlines = words_no_newlines (codes "layout" ∷ decimal 0 ∷ decimal 0 ∷ [])
+    (refl, (number_plain 0 (omega arith), (number_plain 0 (omega arith), tt)))
 
 bare_begins : (lines : List (List ℕ)) (r : ReadSoFar) → AllByRecursion HasNoNewlines lines
     → IsBehind (filter says_something lines) r → (length r.layouts == 0) ≡ true → r.begun ≡ false
@@ -250,21 +218,14 @@ small_sizes = record {
 small_in_range : IsSizes small_sizes
 small_in_range = record {
   words = refl;
-  frames = omega arith;
-  frames_most = omega arith;
-  pages = omega arith;
-  pages_most = omega arith;
-  threads = omega arith;
-  threads_most = omega arith;
-  workers = omega arith;
-  workers_most = omega arith;
-  registers = omega arith;
-  registers_most = omega arith;
-  globals_most = omega arith;
-  births = omega arith;
-  births_most = omega arith;
-  history = omega arith;
-  history_most = omega arith;
+  frames = (omega arith, omega arith);
+  pages = (omega arith, omega arith);
+  threads = (omega arith, omega arith);
+  workers = (omega arith, omega arith);
+  registers = (omega arith, omega arith);
+  globals = (omega arith, omega arith);
+  births = (omega arith, omega arith);
+  history = (omega arith, omega arith);
 }
 
 -- its heap line
@@ -280,54 +241,17 @@ small_spelled = record {
   line_is = refl;
 }
 
-heap_no_newlines : HasNoNewlines small_heap
-heap_no_newlines = words_no_newlines (codes "heap" ∷ size_words (config_of small_sizes [])) (
-  no_newlines (codes "heap") refl,
-  (
-    no_newlines (codes "words") refl,
-    (
-      number_no_newlines 16 (omega arith),
-      (
-        no_newlines (codes "frames") refl,
-        (
-          number_no_newlines 1 (omega arith),
-          (
-            no_newlines (codes "pages") refl,
-            (
-              number_no_newlines 1 (omega arith),
-              (
-                no_newlines (codes "threads") refl,
-                (
-                  number_no_newlines 1 (omega arith),
-                  (
-                    no_newlines
-                        (codes "workers") refl,
-                    (
-                      number_no_newlines 1 (omega arith),
-                      (
-                        no_newlines (codes "registers") refl,
-                        (
-                          number_no_newlines 1 (omega arith),
-                          (
-                            no_newlines (codes "globals") refl,
-                            (
-                              number_no_newlines 0
-                                  (omega arith),
-                              tt,
-                            ),
-                          ),
-                        ),
-                      ),
-                    ),
-                  ),
-                ),
-              ),
-            ),
-          ),
-        ),
-      ),
-    ),
-  ),
+small_no_newlines : HasNoNewlines small_heap
+small_no_newlines = words_no_newlines (codes "heap" ∷ size_words (config_of small_sizes [])) (
+  refl,
+  sizes_plain small_sizes (size_words (config_of small_sizes [])) (record {
+    births = [];
+    history = [];
+    births_spelled = inr (refl, refl);
+    history_spelled = inr (refl, refl);
+    words_are = refl;
+    range = small_in_range;
+  }),
 )
 
 behind_heap : (said : List (List ℕ)) (t : ReadSoFar) → t.sizes ≡ Some small_sizes → Said said t → IsBehind said t
@@ -344,7 +268,7 @@ empty_begins lines r each before =
     let so_far : Said (filter says_something (lines ++ small_heap ∷ [])) t =
     subst (λ (x : List (List ℕ)). Said x t) (sym (said_more lines small_heap refl))
     (line_ok (filter says_something lines) r t small_heap (inl before) taken) in
-    let each_line = all_push HasNoNewlines lines small_heap each heap_no_newlines in
+    let each_line = all_push HasNoNewlines lines small_heap each small_no_newlines in
     begins_before lines small_heap (bare_begins (lines ++ small_heap ∷ []) t each_line
     (behind_heap (filter says_something (lines ++ small_heap ∷ [])) t refl so_far) refl refl)
 

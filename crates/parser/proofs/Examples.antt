@@ -1,9 +1,15 @@
--- Small texts with a fault, and parts of lines, worked out by the reading functions.
-use Rattle.std.proofs.Common.{◌≡◌, [], ◌∷◌, ◌++◌, refl}
+-- Small texts with a fault, parts of lines, and the words of orders, worked out.
+use Rattle.std.proofs.Common.{◌≡◌, ℕ, [], ◌∷◌, ◌++◌, None, refl}
 use Rattle.std.specs.Prelude.{Err, codes}
+use Rattle.std.specs.Fmt.{decimal}
 use Rattle.parser.specs.declared.fault.FaultKind.TheVariants as kinds
+use Rattle.parser.specs.declared.order.Order.{Order}
+use Rattle.parser.specs.declared.verbs.Verb.{Verb}
+use Rattle.parser.specs.declared.verbs.Verb.TheVariants as verbs
 use Rattle.parser.specs.Words.{flaw, word_at, word_or, fixed_at, is_number, capped_from, number_at}
-use Rattle.parser.specs.Headings.{page_size_at, memory_at, heap_in}
+use Rattle.parser.specs.Headings.{page_size_at, memory_at, sizes_at, heap_in}
+use Rattle.parser.specs.Verbs.{verb_of}
+use Rattle.parser.specs.Spelling.{register_word, order_words}
 use Rattle.parser.specs.Reading.{first_word, heap_line, line_in, finished, last_line, lines_in, script_in}
 
 -- no bytes
@@ -20,7 +26,7 @@ no_heap_line = refl
 -- a heap line that ends behind its first word
 no_words : script_in (codes "heap" ++ 10 ∷ [])
     ≡ Err (record { line = 1; column = 5; kind = kinds.UnknownWord })
-unfolding script_in lines_in line_in heap_line first_word word_at heap_in memory_at page_size_at fixed_at word_or
+unfolding script_in lines_in line_in heap_line first_word word_at heap_in sizes_at memory_at page_size_at fixed_at word_or
 no_words = refl
 
 -- a number with a leading zero
@@ -37,3 +43,42 @@ no_page_size = refl
 no_newline : script_in (codes "# a") ≡ Err (record { line = 1; column = 4; kind = kinds.NewlineExpected })
 unfolding script_in lines_in last_line line_in
 no_newline = refl
+
+-- ---- the words of orders
+
+abbrev order : Verb → ℕ → ℕ → ℕ → ℕ → Order
+order verb first second third wide =
+    record { verb = verb; first = first; second = second; third = third; wide = wide }
+
+give : order_words (order verbs.Give 0 0 0 0) ≡ codes "give" ∷ []
+give = refl
+
+take_some : (n : ℕ) → order_words (order verbs.Take n 0 0 0) ≡ codes "take" ∷ decimal n ∷ []
+take_some n = refl
+
+clear : (r : ℕ) → order_words (order verbs.Clear r 0 0 0) ≡ codes "clear" ∷ register_word r ∷ []
+clear r = refl
+
+move : (d s : ℕ) → order_words (order verbs.Move d s 0 0) ≡ codes "mov" ∷ register_word d ∷ register_word s ∷ []
+move d s = refl
+
+store_global : (g r : ℕ) → order_words (order verbs.StoreGlobal g r 0 0)
+    ≡ codes "storeg" ∷ decimal g ∷ register_word r ∷ []
+store_global g r = refl
+
+store : (r i s : ℕ) → order_words (order verbs.Store r i s 0)
+    ≡ codes "store" ∷ register_word r ∷ decimal i ∷ register_word s ∷ []
+store r i s = refl
+
+set_datum : (r i v : ℕ) → order_words (order verbs.Set r i 0 v)
+    ≡ codes "set" ∷ register_word r ∷ decimal i ∷ decimal v ∷ []
+set_datum r i v = refl
+
+get : (d r i : ℕ) → order_words (order verbs.Get d r i 0)
+    ≡ codes "get" ∷ register_word d ∷ register_word r ∷ decimal i ∷ []
+get d r i = refl
+
+-- no verb has this word
+no_verb : verb_of (codes "getx") ≡ None
+unfolding verb_of
+no_verb = refl

@@ -19,7 +19,7 @@ use Rattle.parser.specs.Scripts.{IsReadOf}
 use Rattle.parser.specs.Spelling.{says_something}
 use Rattle.parser.specs.Faults.{text_of, IsLineEnd, StandsInLine, StandsAtEnd, LacksNewline, IsFirstFault}
 use Rattle.parser.specs.Faults.{IsMissingBehind, IsWrongWord, TellsFirst}
-use Rattle.parser.proofs.Splitting.{split_cons}
+use Rattle.parser.proofs.Lists.{split_cons}
 use Rattle.parser.proofs.Lists.{HasNoNewlines, all_from, all_front, all_push, split_lines, lines_from, told}
 use Rattle.parser.proofs.Lists.{filter_told}
 use Rattle.parser.proofs.Parts.{all_back}
@@ -30,7 +30,7 @@ use Rattle.parser.proofs.Completions.{open_ends, not_started, taken_have_none}
 use Rattle.parser.proofs.Alike.{IsFaultAt, IsPlaced, alike_self}
 use Rattle.parser.proofs.AlikeLines.{line_taken}
 use Rattle.parser.proofs.RightUpTo.{right_up_to}
-use Rattle.parser.proofs.Never.{never_begins}
+use Rattle.parser.proofs.Stops.{never_begins}
 
 -- ---- the bytes behind a line
 

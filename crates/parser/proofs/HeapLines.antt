@@ -1,416 +1,409 @@
 -- The heap line and the layout lines: what is read is written so, and what is written so is read.
-use Rattle.std.proofs.Common.{◌≡◌, ℕ, ◌+◌, ◌^◌, ◌<◌, ◌≤◌, true, false, nat_lt, List, [], ◌∷◌, ◌++◌, Option}
-use Rattle.std.proofs.Common.{Some, None, refl, sym, ap, subst, ◌∙◌, arith, inl, inr, lit<, lit≤, append-nil}
-use Rattle.std.specs.Prelude.{Ok, not, codes}
+use Rattle.std.proofs.Common.{◌≡◌, ℕ, ◌+◌, ◌^◌, ◌<◌, ◌≤◌, cond, true, false, nat_lt, List, [], ◌∷◌, ◌++◌}
+use Rattle.std.proofs.Common.{Some, refl, sym, ap, subst, ◌∙◌, arith, inl, inr, lit<, lit≤}
+use Rattle.std.specs.Prelude.{Ok, Err, not, codes, ◌⊎◌, Bool, length}
 use Rattle.std.specs.Str.{bytes_eq}
 use Rattle.std.specs.Fmt.{decimal}
 use Rattle.std.proofs.lemmas.Slice.Eq.{bytes_eq-Decides}
-use Rattle.std.proofs.lemmas.Bool.{ltb-false, le-ltb, not-false}
+use Rattle.std.proofs.lemmas.Bool.{cases_lt, ltb-false, le-ltb, not-false}
 use Rattle.layout.specs.declared.shape.Layout.{Layout}
 use Rattle.model.specs.Configs.{is_page_size}
 use Rattle.model.proofs.Ranges.{page_size_range}
 use Rattle.model.proofs.Results.{same_result, not_refused}
 use Rattle.parser.specs.declared.fault.FaultKind.TheVariants as kinds
+use Rattle.parser.specs.declared.fault.Flaw.{Flaw}
 use Rattle.parser.specs.declared.heading.Sizes.{Sizes}
 use Rattle.parser.specs.declared.heading.TheConstants.{MOST_FRAMES, MOST_PAGES, MOST_THREADS}
-use Rattle.parser.specs.Words.{word_at, fixed_at, number_at, end_at}
-use Rattle.parser.specs.Headings.{config_of, field_at, page_size_at, limit_in, limit_at}
-use Rattle.parser.specs.Headings.{memory_at, actors_at, limits_at, heap_in, layout_in}
+use Rattle.parser.specs.Words.{flaw, word_at, fixed_at, number_at, end_at}
+use Rattle.parser.specs.Headings.{config_of, field_at, page_size_at, limit_at}
+use Rattle.parser.specs.Headings.{sizes_of, memory_at, actors_at, limits_at, sizes_at, heap_in, layout_in}
 use Rattle.parser.specs.Spelling.{size_words, SpellsLimit, IsLayout}
-use Rattle.parser.proofs.Places.{words_from, word_is, found_word, Reads}
-use Rattle.parser.proofs.Pieces.{bind_ok, fixed_ok, fixed_again, number_ok, number_again, end_ok, end_again, one_of}
+use Rattle.parser.proofs.Places.{words_from, found_word, past_end, Reads}
+use Rattle.parser.proofs.AlikeReads.{judge_fixed, limit_named, limit_other, limit_past}
+use Rattle.parser.proofs.WordPlaces.{finds_word}
+use Rattle.parser.proofs.Breaks.{bind_err, same_flaw, no_err, BreaksBehind, Breaks, here, later, at_place}
+use Rattle.parser.proofs.Breaks.{word_break, number_break, number_within}
+use Rattle.parser.proofs.Readers.{IsReadAt, BreaksIn, IsReader, Any, Three, three_reader, whole_ok, whole_again}
+use Rattle.parser.proofs.Readers.{whole_breaks}
+use Rattle.parser.proofs.Places.{bind_ok, fixed_ok, fixed_again, number_ok, number_again, end_ok, end_again, one_of}
 
--- a number from low to high stands behind its name
-pub record IsFieldAt (line : List ℕ) (at : ℕ) (name : List ℕ) (low high : ℕ) (v : ℕ × ℕ) : Type 0 where
-  pub spelled : words_from line at ≡ name ∷ decimal v.0 ∷ words_from line v.1
-  pub above : low ≤ v.0
-  pub below : v.0 ≤ high
+-- ---- a number behind its name
 
-pub field_ok : (line : List ℕ) (at : ℕ) (name : List ℕ) (low high : ℕ) (v : ℕ × ℕ) → high < 2 ^ 64
-    → field_at line at name low high ≡ Ok v → IsFieldAt line at name low high v
+-- a number from low to high
+abbrev pub IsWithin : ℕ → ℕ → ℕ → Type 0
+IsWithin low high n = (low ≤ n) × (n ≤ high)
+
+-- a number from low to high is spelled behind its name
+pub record IsField (name : List ℕ) (low high n : ℕ) (ws : List (List ℕ)) : Type 0 where
+  pub words_are : ws ≡ name ∷ decimal n ∷ []
+  pub within : IsWithin low high n
+
+fixed_break : (line : List ℕ) (at : ℕ) (text : List ℕ) (f : Flaw) → fixed_at line at text kinds.UnknownWord ≡ Err f
+    → BreaksBehind line at f []
+unfolding fixed_at
+fixed_break line at text f h = word_break line at kinds.UnknownWord (λ (x : ℕ). x)
+    (λ (w : List ℕ × ℕ). cond (bytes_eq w.0 text) (Ok w.1) (Err (flaw at kinds.UnknownWord))) f
+    (λ w. judge_fixed at text w (bytes_eq w.0 text)) h
+
+field_reader : (name : List ℕ) (low high : ℕ) → high < 2 ^ 64 → low ≤ high
+    → IsReader (λ line at. field_at line at name low high) (IsField name low high) Any
 unfolding field_at
-field_ok line at name low high v fits h =
-    let a = bind_ok (fixed_at line at name kinds.UnknownWord) _ v h in
-    let n = number_ok line a.0 low high v fits a.2 in
-    record {
-      spelled = fixed_ok line at name kinds.UnknownWord a.0 a.1 ∙ ap (λ (t : List (List ℕ)). name ∷ t) n.spelled;
-      above = n.above;
-      below = n.below;
-    }
-
-field_again : (line : List ℕ) (at : ℕ) (name : List ℕ) (low high n : ℕ) (ws : List (List ℕ)) → n < 2 ^ 64 → low ≤ n
-    → n ≤ high → words_from line at ≡ name ∷ decimal n ∷ ws → Reads line (field_at line at name low high) n ws
-unfolding field_at
-field_again line at name low high n ws fits above below h =
-    let a = fixed_again line at name kinds.UnknownWord (decimal n ∷ ws) h in
-    let b = number_again line a.0 low high n ws fits above below a.2 in
-    (b.0, rw (a.1, b.1) refl, b.2)
+field_reader name low high fits some = record {
+  some = record { value = low; words = _; is = least };
+  ok = λ line at v h. let a = bind_ok (fixed_at line at name kinds.UnknownWord) _ v h in
+      let n = number_ok line a.0 low high v fits a.2 in
+      record {
+        words = name ∷ decimal v.0 ∷ [];
+        is = record { words_are = refl; within = (n.above, n.below) };
+        spelled = fixed_ok line at name kinds.UnknownWord a.0 a.1 ∙ ap (λ (t : List (List ℕ)). name ∷ t) n.spelled;
+      };
+  again = λ line at n ws rest is may h. let below = is.within.1 in
+      let a = fixed_again line at name kinds.UnknownWord (decimal n ∷ rest)
+      (h ∙ ap (λ (t : List (List ℕ)). t ++ rest) is.words_are) in
+      let b = number_again line a.0 low high n rest (omega arith) is.within.0 below a.2 in
+      (b.0, rw (a.1, b.1) refl, b.2);
+  breaks = λ line at f h. record {
+    value = low;
+    words = name ∷ decimal low ∷ [];
+    is = least;
+    breaks = elim (bind_err (fixed_at line at name kinds.UnknownWord) _ f h) [
+      | inl e ↦ here line at f (name ∷ decimal low ∷ []) (fixed_break line at name f e)
+      | inr a ↦
+          later line at a.0 f (name ∷ []) (decimal low ∷ []) (fixed_ok line at name kinds.UnknownWord a.0 a.1.0)
+          (here line a.0 f (decimal low ∷ []) (number_break line a.0 low high f a.1.1))
+    ];
+  };
+}
+  where
+    least : IsField name low high low (name ∷ decimal low ∷ [])
+    least = record { words_are = refl; within = (omega arith, some) }
 
 -- ---- the words of a page
 
--- a page size stands behind its name
-pub record IsPageSizeAt (line : List ℕ) (at : ℕ) (v : ℕ × ℕ) : Type 0 where
-  pub spelled : words_from line at ≡ codes "words" ∷ decimal v.0 ∷ words_from line v.1
-  pub is : is_page_size v.0 ≡ true
-  pub below : v.0 ≤ 4096
+-- a page size is spelled behind its name
+pub record IsPageSize (n : ℕ) (ws : List (List ℕ)) : Type 0 where
+  pub words_are : ws ≡ codes "words" ∷ decimal n ∷ []
+  pub size : is_page_size n ≡ true
 
-pub page_size_ok : (line : List ℕ) (at : ℕ) (v : ℕ × ℕ) → page_size_at line at ≡ Ok v → IsPageSizeAt line at v
+size_breaks : (line : List ℕ) (at : ℕ) (f : Flaw) → page_size_at line at ≡ Err f
+    → Breaks line at f (codes "words" ∷ decimal 16 ∷ [])
+unfolding page_size_at
+size_breaks line at f h = elim (bind_err (fixed_at line at (codes "words") kinds.UnknownWord) _ f h) [
+  | inl e ↦ here line at f (codes "words" ∷ decimal 16 ∷ []) (fixed_break line at (codes "words") f e)
+  | inr a ↦
+      let first = fixed_ok line at (codes "words") kinds.UnknownWord a.0 a.1.0 in
+      later line at a.0 f (codes "words" ∷ []) (decimal 16 ∷ []) first (here line a.0 f (decimal 16 ∷ [])
+      (elim (bind_err (number_at line a.0 16 4096) _ f a.1.1) [
+        | inl e ↦ number_break line a.0 16 4096 f e
+        | inr n ↦
+            elim (one_of (not (is_page_size n.0.0)) _ _ (Err f) n.1.1) [
+              | inl wrong ↦
+                  at_place line a.0 f (number_within line a.0 16 4096 n.0 n.1.0) (ap (λ (x : Flaw). x.column)
+                  (sym (same_flaw {A = ℕ × ℕ} (flaw a.0 kinds.NumberOutOfRange) f wrong.1)))
+              | inr right ↦ absurd (no_err _ f right.1)
+            ]
+      ]))
+]
+
+page_size_ok : (line : List ℕ) (at : ℕ) (v : ℕ × ℕ) → page_size_at line at ≡ Ok v → IsReadAt IsPageSize line at v
 unfolding page_size_at
 page_size_ok line at v h =
     let a = bind_ok (fixed_at line at (codes "words") kinds.UnknownWord) _ v h in
     let b = bind_ok (number_at line a.0 16 4096) _ v a.2 in
     let n = number_ok line a.0 16 4096 b.0 (lit< tt) b.1 in
     let g = not_refused (not (is_page_size b.0.0)) _ _ v b.2 in
-    subst (λ (x : ℕ × ℕ). IsPageSizeAt line at x) (same_result b.0 v g.1)
+    subst (λ (x : ℕ × ℕ). IsReadAt IsPageSize line at x) (same_result b.0 v g.1)
     (record {
+      words = codes "words" ∷ decimal b.0.0 ∷ [];
+      is = record { words_are = refl; size = not-false (is_page_size b.0.0) g.0 };
       spelled = fixed_ok line at (codes "words") kinds.UnknownWord a.0 a.1
           ∙ ap (λ (t : List (List ℕ)). codes "words" ∷ t) n.spelled;
-      is = not-false (is_page_size b.0.0) g.0;
-      below = n.below;
     })
 
-page_size_again : (line : List ℕ) (at n : ℕ) (ws : List (List ℕ)) → is_page_size n ≡ true
-    → words_from line at ≡ codes "words" ∷ decimal n ∷ ws → Reads line (page_size_at line at) n ws
+page_size_again : (line : List ℕ) (at n : ℕ) (ws rest : List (List ℕ)) → IsPageSize n ws → Any rest
+    → words_from line at ≡ ws ++ rest → Reads line (page_size_at line at) n rest
 unfolding page_size_at
-page_size_again line at n ws is h =
-    let range = page_size_range n is in
-    let a = fixed_again line at (codes "words") kinds.UnknownWord (decimal n ∷ ws) h in
-    let b = number_again line a.0 16 4096 n ws (omega (arith, range.1)) range.0 range.1 a.2 in
-    (b.0, rw (a.1, b.1, is) refl, b.2)
+page_size_again line at n ws rest is may h =
+    let range = page_size_range n is.size in
+    let a = fixed_again line at (codes "words") kinds.UnknownWord (decimal n ∷ rest)
+    (h ∙ ap (λ (t : List (List ℕ)). t ++ rest) is.words_are) in
+    let b = number_again line a.0 16 4096 n rest (omega (arith, range.1)) range.0 range.1 a.2 in
+    (b.0, rw (a.1, b.1, is.size) refl, b.2)
+
+page_size_reader : IsReader page_size_at IsPageSize Any
+page_size_reader = record {
+  some = record { value = 16; words = _; is = record { words_are = refl; size = refl } };
+  ok = page_size_ok;
+  again = page_size_again;
+  breaks = λ line at f h. record {
+    value = 16;
+    words = codes "words" ∷ decimal 16 ∷ [];
+    is = record { words_are = refl; size = refl };
+    breaks = size_breaks line at f h;
+  };
+}
 
 -- ---- limits
 
--- a limit stands behind its name, or is left out
-pub record IsLimitAt (line : List ℕ) (at : ℕ) (name : List ℕ) (most : ℕ) (v : ℕ × ℕ) : Type 0 where
-  pub words : List (List ℕ)
-  pub is : SpellsLimit name most v.0 words
-  pub spelled : words_from line at ≡ words ++ words_from line v.1
-  pub above : 1 ≤ v.0
-  pub below : v.0 ≤ most
-
-left_out : (line : List ℕ) (at : ℕ) (name : List ℕ) (most : ℕ) (v : ℕ × ℕ) → 1 ≤ most → (most, at) ≡ v
-    → IsLimitAt line at name most v
-left_out line at name most v low e = subst (λ (x : ℕ × ℕ). IsLimitAt line at name most x) e
-    (record { words = []; is = inr (refl, refl); spelled = refl; above = low; below = omega arith })
-
-limit_in_ok : (line : List ℕ) (at : ℕ) (name : List ℕ) (most : ℕ) (v : ℕ × ℕ) (o : Option (List ℕ × ℕ)) → 1 ≤ most
-    → most < 2 ^ 64 → word_at line at ≡ o → limit_in line at name most o ≡ Ok v → IsLimitAt line at name most v
-limit_in_ok line at name most v None low fits e h = left_out line at name most v low (same_result (most, at) v h)
-limit_in_ok line at name most v (Some w) low fits e h =
-    elim (one_of (bytes_eq w.0 name) (number_at line w.1 1 most) (Ok (most, at)) (Ok v) h) [
-      | inl p ↦
-          let n = number_ok line w.1 1 most v fits p.1 in
-          let same : w.0 ≡ name = (bytes_eq-Decides w.0 name).0 p.0 in
-          record {
-            words = name ∷ decimal v.0 ∷ [];
-            is = inl refl;
-            spelled = word_is line at w e ∙ ap (λ (t : List ℕ). t ∷ words_from line w.1) same
-                ∙ ap (λ (t : List (List ℕ)). name ∷ t) n.spelled;
-            above = n.above;
-            below = n.below;
-          }
-      | inr p ↦ left_out line at name most v low (same_result (most, at) v p.1)
-    ]
-
-pub limit_ok : (line : List ℕ) (at : ℕ) (name : List ℕ) (most : ℕ) (v : ℕ × ℕ) → 1 ≤ most → most < 2 ^ 64
-    → limit_at line at name most ≡ Ok v → IsLimitAt line at name most v
-unfolding limit_at
-limit_ok line at name most v low fits h = limit_in_ok line at name most v (word_at line at) low fits refl h
+-- a limit is spelled behind its name, or is left out
+pub record IsLimit (name : List ℕ) (most n : ℕ) (ws : List (List ℕ)) : Type 0 where
+  pub is : SpellsLimit name most n ws
+  pub within : IsWithin 1 most n
 
 -- the words don't begin with this name
 abbrev IsNotHeaded : List ℕ → List (List ℕ) → Type 0
 IsNotHeaded name [] = Unit {0}
 IsNotHeaded name (w ∷ ws) = bytes_eq w name ≡ false
 
-none_left : (line : List ℕ) (at : ℕ) → words_from line at ≡ [] → (o : Option (List ℕ × ℕ)) → word_at line at ≡ o
-    → o ≡ None
-none_left line at h None e = refl
-none_left line at h (Some w) e = let first = word_is line at w e in absurd cc
-
 limit_absent : (line : List ℕ) (at : ℕ) (name : List ℕ) (most : ℕ) (rest : List (List ℕ)) → IsNotHeaded name rest
     → words_from line at ≡ rest → limit_at line at name most ≡ Ok (most, at)
-unfolding limit_at
-limit_absent line at name most [] other h = let none = none_left line at h (word_at line at) refl in rw none refl
-limit_absent line at name most (w ∷ ws) other h = let found = found_word line at w ws h in rw (found.1, other) refl
+limit_absent line at name most [] other h = limit_past line at name most (past_end line at h)
+limit_absent line at name most (w ∷ ws) other h =
+    let found = found_word line at w ws h in limit_other line at name most (w, found.0) found.1 other
 
-limit_present : (line : List ℕ) (at : ℕ) (name : List ℕ) (most n : ℕ) (rest : List (List ℕ)) → most < 2 ^ 64 → 1 ≤ n
-    → n ≤ most → words_from line at ≡ name ∷ decimal n ∷ rest → Reads line (limit_at line at name most) n rest
-unfolding limit_at
-limit_present line at name most n rest fits low high h =
-    let found = found_word line at name (decimal n ∷ rest) h in
-    let same : bytes_eq name name ≡ true = (bytes_eq-Decides name name).1 refl in
-    let b = number_again line found.0 1 most n rest (omega arith) low high found.2 in
-    (b.0, rw (found.1, same, b.1) refl, b.2)
+-- a limit is a number behind its name, or left out
+limit_told : (line : List ℕ) (at : ℕ) (name : List ℕ) (most : ℕ)
+    → (limit_at line at name most ≡ field_at line at name 1 most) ⊎ (limit_at line at name most ≡ Ok (most, at))
+limit_told line at name most = elim (cases_lt (length line) at) [
+  | inl past ↦ inr (limit_past line at name most past)
+  | inr within ↦ let found = finds_word line at within in by_test found.w found.found (bytes_eq found.w.0 name) refl
+]
+  where
+    by_test : (w : List ℕ × ℕ) → word_at line at ≡ Some w → (b : Bool) → bytes_eq w.0 name ≡ b
+        → (limit_at line at name most ≡ field_at line at name 1 most) ⊎ (limit_at line at name most ≡ Ok (most, at))
+    by_test w found true same = inl (limit_named line at name most w found same)
+    by_test w found false other = inr (limit_other line at name most w found other)
 
-limit_again : (line : List ℕ) (at : ℕ) (name : List ℕ) (most n : ℕ) (words rest : List (List ℕ))
-    → SpellsLimit name most n words → most < 2 ^ 64 → 1 ≤ n → n ≤ most → IsNotHeaded name rest
-    → words_from line at ≡ words ++ rest → Reads line (limit_at line at name most) n rest
-limit_again line at name most n words rest (inl e) fits low high other h =
-    limit_present line at name most n rest fits low high (h ∙ ap (λ (t : List (List ℕ)). t ++ rest) e)
-limit_again line at name most n words rest (inr e) fits low high other h =
+limit_again : (line : List ℕ) (at : ℕ) (name : List ℕ) (most n : ℕ) (ws rest : List (List ℕ)) → 1 ≤ most
+    → most < 2 ^ 64 → SpellsLimit name most n ws → IsWithin 1 most n → IsNotHeaded name rest
+    → words_from line at ≡ ws ++ rest → Reads line (limit_at line at name most) n rest
+limit_again line at name most n ws rest low fits (inl e) within other h =
+    let found = found_word line at name (decimal n ∷ rest) (h ∙ ap (λ (t : List (List ℕ)). t ++ rest) e) in
+    let field = limit_named line at name most (name, found.0) found.1 ((bytes_eq-Decides name name).1 refl) in
+    let read = (field_reader name 1 most fits low).again line at n ws rest
+    (record { words_are = e; within = within }) tt h in
+    (read.0, field ∙ read.1, read.2)
+limit_again line at name most n ws rest low fits (inr e) within other h =
     let same : words_from line at ≡ rest = h ∙ ap (λ (t : List (List ℕ)). t ++ rest) e.0 in
     (at, limit_absent line at name most rest other same ∙ ap (λ (t : ℕ). Ok (t, at)) (sym e.1), same)
+
+-- a limit, where only such words follow as don't begin with its name
+limit_reader : (name : List ℕ) (most : ℕ) (May : List (List ℕ) → Type 0) → 1 ≤ most → most < 2 ^ 64
+    → ((ws : List (List ℕ)) → May ws → IsNotHeaded name ws)
+    → IsReader (λ line at. limit_at line at name most) (IsLimit name most) May
+limit_reader name most May low fits other =
+    let field = field_reader name 1 most fits low in
+    record {
+      some = record { value = most; words = []; is = record { is = inr (refl, refl); within = (low, omega arith) } };
+      ok = λ line at v h. elim (limit_told line at name most) [
+        | inl e ↦
+            let p = field.ok line at v (sym e ∙ h) in
+            record {
+              words = p.words;
+              is = record { is = inl p.is.words_are; within = p.is.within };
+              spelled = p.spelled;
+            }
+        | inr e ↦
+            subst (λ (x : ℕ × ℕ). IsReadAt (IsLimit name most) line at x) (same_result (most, at) v (sym e ∙ h))
+            (record { words = []; is = record { is = inr (refl, refl); within = (low, omega arith) }; spelled = refl })
+      ];
+      again = λ line at n ws rest is may h.
+          limit_again line at name most n ws rest low fits is.is is.within (other rest may) h;
+      breaks = λ line at f h. elim (limit_told line at name most) [
+        | inl e ↦
+            let p = field.breaks line at f (sym e ∙ h) in
+            record {
+              value = p.value;
+              words = p.words;
+              is = record { is = inl p.is.words_are; within = p.is.within };
+              breaks = p.breaks;
+            }
+        | inr e ↦ absurd (no_err (most, at) f (sym e ∙ h))
+      ];
+    }
 
 -- ---- the heap line
 
 -- the numbers of a heap line are in their ranges
 pub record IsSizes (s : Sizes) : Type 0 where
   pub words : is_page_size s.words ≡ true
-  pub frames : 1 ≤ s.frames
-  pub frames_most : s.frames ≤ MOST_FRAMES
-  pub pages : s.frames ≤ s.pages
-  pub pages_most : s.pages ≤ MOST_PAGES
-  pub threads : 1 ≤ s.threads
-  pub threads_most : s.threads ≤ MOST_THREADS
-  pub workers : 1 ≤ s.workers
-  pub workers_most : s.workers ≤ 16
-  pub registers : 1 ≤ s.registers
-  pub registers_most : s.registers ≤ 16
-  pub globals_most : s.globals ≤ 64
-  pub births : 1 ≤ s.births
-  pub births_most : s.births ≤ 2 ^ 32
-  pub history : 1 ≤ s.history
-  pub history_most : s.history ≤ 1000000
+  pub frames : IsWithin 1 MOST_FRAMES s.frames
+  pub pages : IsWithin s.frames MOST_PAGES s.pages
+  pub threads : IsWithin 1 MOST_THREADS s.threads
+  pub workers : IsWithin 1 16 s.workers
+  pub registers : IsWithin 1 16 s.registers
+  pub globals : IsWithin 0 64 s.globals
+  pub births : IsWithin 1 (2 ^ 32) s.births
+  pub history : IsWithin 1 1000000 s.history
 
--- the sizes are spelled from a place to the end
-pub record IsHeapAt (line : List ℕ) (at : ℕ) (s : Sizes) : Type 0 where
+-- words spell sizes
+pub record SpellsSizes (s : Sizes) (ws : List (List ℕ)) : Type 0 where
   pub births : List (List ℕ)
   pub history : List (List ℕ)
   pub births_spelled : SpellsLimit (codes "births") (2 ^ 32) s.births births
   pub history_spelled : SpellsLimit (codes "history") 1000000 s.history history
-  pub spelled : words_from line at ≡ size_words (config_of s []) ++ births ++ history
+  pub words_are : ws ≡ size_words (config_of s []) ++ births ++ history
   pub range : IsSizes s
 
-two : (name word : List ℕ) (a b : List (List ℕ)) → a ≡ b → name ∷ word ∷ a ≡ name ∷ word ∷ b
-two name word a b e = ap (λ (t : List (List ℕ)). name ∷ word ∷ t) e
+abbrev Numbers : Type 0
+Numbers = ℕ × ℕ × ℕ
 
--- two numbers behind their names, and what follows
-second : (x : List (List ℕ)) (name1 word1 name2 word2 : List ℕ) (y z : List (List ℕ)) → x ≡ name1 ∷ word1 ∷ y
-    → y ≡ name2 ∷ word2 ∷ z → x ≡ name1 ∷ word1 ∷ name2 ∷ word2 ∷ z
-second x name1 word1 name2 word2 y z p q = p ∙ two name1 word1 y (name2 ∷ word2 ∷ z) q
+abbrev IsMemory : Numbers → List (List ℕ) → Type 0
+IsMemory v ws = Three IsPageSize (IsField (codes "frames") 1 MOST_FRAMES)
+    (λ (frames : ℕ). IsField (codes "pages") frames MOST_PAGES) v.0 v.1 v.2 ws
 
--- three of them
-third : (x : List (List ℕ)) (name1 word1 name2 word2 name3 word3 : List ℕ) (y z t : List (List ℕ))
-    → x ≡ name1 ∷ word1 ∷ y → y ≡ name2 ∷ word2 ∷ z → z ≡ name3 ∷ word3 ∷ t
-    → x ≡ name1 ∷ word1 ∷ name2 ∷ word2 ∷ name3 ∷ word3 ∷ t
-third x name1 word1 name2 word2 name3 word3 y z t p q r =
-    p ∙ two name1 word1 y (name2 ∷ word2 ∷ name3 ∷ word3 ∷ t) (second y name2 word2 name3 word3 z t q r)
+abbrev AreActors : Numbers → List (List ℕ) → Type 0
+AreActors v ws = Three (IsField (codes "threads") 1 MOST_THREADS) (IsField (codes "workers") 1 16)
+    (λ (workers : ℕ). IsField (codes "registers") 1 16) v.0 v.1 v.2 ws
 
-pub record IsMemoryAt (line : List ℕ) (at : ℕ) (v : (ℕ × ℕ × ℕ) × ℕ) : Type 0 where
-  pub spelled : words_from line at ≡ codes "words" ∷ decimal v.0.0 ∷ codes "frames" ∷ decimal v.0.1 ∷ codes "pages"
-      ∷ decimal v.0.2 ∷ words_from line v.1
-  pub words : is_page_size v.0.0 ≡ true
-  pub frames : 1 ≤ v.0.1
-  pub frames_most : v.0.1 ≤ MOST_FRAMES
-  pub pages : v.0.1 ≤ v.0.2
-  pub pages_most : v.0.2 ≤ MOST_PAGES
+abbrev AreLimits : Numbers → List (List ℕ) → Type 0
+AreLimits v ws = Three (IsField (codes "globals") 0 64) (IsLimit (codes "births") 4294967296)
+    (λ (births : ℕ). IsLimit (codes "history") 1000000) v.0 v.1 v.2 ws
 
-pub memory_ok : (line : List ℕ) (at : ℕ) (v : (ℕ × ℕ × ℕ) × ℕ) → memory_at line at ≡ Ok v → IsMemoryAt line at v
+-- nothing follows
+abbrev IsLast : List (List ℕ) → Type 0
+IsLast ws = ws ≡ []
+
+memory_reader : IsReader memory_at IsMemory Any
 unfolding memory_at
-memory_ok line at v h =
-    let w = bind_ok (page_size_at line at) _ v h in
-    let f = bind_ok (field_at line w.0.1 (codes "frames") 1 MOST_FRAMES) _ v w.2 in
-    let p = bind_ok (field_at line f.0.1 (codes "pages") f.0.0 MOST_PAGES) _ v f.2 in
-    let words = page_size_ok line at w.0 w.1 in
-    let frames = field_ok line w.0.1 (codes "frames") 1 MOST_FRAMES f.0 (lit< tt) f.1 in
-    let pages = field_ok line f.0.1 (codes "pages") f.0.0 MOST_PAGES p.0 (lit< tt) p.1 in
-    subst (λ (x : (ℕ × ℕ × ℕ) × ℕ). IsMemoryAt line at x) (same_result ((w.0.0, f.0.0, p.0.0), p.0.1) v p.2) (record {
-      spelled = third (words_from line at) (codes "words") (decimal w.0.0) (codes "frames")
-          (decimal f.0.0) (codes "pages") (decimal p.0.0) (words_from line w.0.1) (words_from line f.0.1)
-          (words_from line p.0.1) words.spelled frames.spelled pages.spelled;
-      words = words.is;
-      frames = frames.above;
-      frames_most = frames.below;
-      pages = pages.above;
-      pages_most = pages.below;
-    })
+memory_reader = three_reader page_size_at (λ line at. field_at line at (codes "frames") 1 MOST_FRAMES)
+    (λ frames line at. field_at line at (codes "pages") frames MOST_PAGES) IsPageSize _ _ Any Any
+    (λ (a : ℕ) (b : ℕ) (c : ℕ). (a, b, c)) (λ (v : Numbers). v.0) (λ (v : Numbers). v.1) (λ (v : Numbers). v.2)
+    (λ a b c. refl) (λ a b c. refl) (λ a b c. refl) (λ d. refl) page_size_reader
+    (field_reader (codes "frames") 1 MOST_FRAMES (lit< tt) (omega arith))
+    (λ frames ws is. let most = is.within.1 in
+    field_reader (codes "pages") frames MOST_PAGES (lit< tt) (omega arith)) (λ b c ws rest is may. tt)
 
-pub record IsActorsAt (line : List ℕ) (at : ℕ) (v : (ℕ × ℕ × ℕ) × ℕ) : Type 0 where
-  pub spelled : words_from line at ≡ codes "threads" ∷ decimal v.0.0 ∷ codes "workers" ∷ decimal v.0.1 ∷ codes "registers"
-      ∷ decimal v.0.2 ∷ words_from line v.1
-  pub threads : 1 ≤ v.0.0
-  pub threads_most : v.0.0 ≤ MOST_THREADS
-  pub workers : 1 ≤ v.0.1
-  pub workers_most : v.0.1 ≤ 16
-  pub registers : 1 ≤ v.0.2
-  pub registers_most : v.0.2 ≤ 16
-
-pub actors_ok : (line : List ℕ) (at : ℕ) (v : (ℕ × ℕ × ℕ) × ℕ) → actors_at line at ≡ Ok v → IsActorsAt line at v
+actors_reader : IsReader actors_at AreActors Any
 unfolding actors_at
-actors_ok line at v h =
-    let t = bind_ok (field_at line at (codes "threads") 1 MOST_THREADS) _ v h in
-    let k = bind_ok (field_at line t.0.1 (codes "workers") 1 16) _ v t.2 in
-    let r = bind_ok (field_at line k.0.1 (codes "registers") 1 16) _ v k.2 in
-    let threads = field_ok line at (codes "threads") 1 MOST_THREADS t.0 (lit< tt) t.1 in
-    let workers = field_ok line t.0.1 (codes "workers") 1 16 k.0 (lit< tt) k.1 in
-    let registers = field_ok line k.0.1 (codes "registers") 1 16 r.0 (lit< tt) r.1 in
-    subst (λ (x : (ℕ × ℕ × ℕ) × ℕ). IsActorsAt line at x) (same_result ((t.0.0, k.0.0, r.0.0), r.0.1) v r.2) (record {
-      spelled = third (words_from line at) (codes "threads") (decimal t.0.0) (codes "workers")
-          (decimal k.0.0) (codes "registers") (decimal r.0.0) (words_from line t.0.1) (words_from line k.0.1)
-          (words_from line r.0.1) threads.spelled workers.spelled registers.spelled;
-      threads = threads.above;
-      threads_most = threads.below;
-      workers = workers.above;
-      workers_most = workers.below;
-      registers = registers.above;
-      registers_most = registers.below;
-    })
+actors_reader = three_reader (λ line at. field_at line at (codes "threads") 1 MOST_THREADS)
+    (λ line at. field_at line at (codes "workers") 1 16) (λ workers line at. field_at line at (codes "registers") 1 16)
+    _ _ _ Any Any (λ (a : ℕ) (b : ℕ) (c : ℕ). (a, b, c)) (λ (v : Numbers). v.0) (λ (v : Numbers). v.1)
+    (λ (v : Numbers). v.2) (λ a b c. refl) (λ a b c. refl) (λ a b c. refl) (λ d. refl)
+    (field_reader (codes "threads") 1 MOST_THREADS (lit< tt) (omega arith))
+    (field_reader (codes "workers") 1 16 (lit< tt) (omega arith))
+    (λ workers ws is. field_reader (codes "registers") 1 16 (lit< tt) (omega arith)) (λ b c ws rest is may. tt)
 
-pub record IsLimitsAt (line : List ℕ) (at : ℕ) (v : (ℕ × ℕ × ℕ) × ℕ) : Type 0 where
-  pub birth_words : List (List ℕ)
-  pub history_words : List (List ℕ)
-  pub births_spelled : SpellsLimit (codes "births") (2 ^ 32) v.0.1 birth_words
-  pub history_spelled : SpellsLimit (codes "history") 1000000 v.0.2 history_words
-  pub spelled :
-      words_from line at ≡ codes "globals" ∷ decimal v.0.0 ∷ (birth_words ++ (history_words ++ words_from line v.1))
-  pub globals_most : v.0.0 ≤ 64
-  pub births : 1 ≤ v.0.1
-  pub births_most : v.0.1 ≤ 2 ^ 32
-  pub history : 1 ≤ v.0.2
-  pub history_most : v.0.2 ≤ 1000000
+-- the words of a history, with nothing behind them, don't begin with births
+not_births : (n : ℕ) (words rest : List (List ℕ)) → SpellsLimit (codes "history") 1000000 n words → IsLast rest
+    → IsNotHeaded (codes "births") (words ++ rest)
+not_births n words rest (inl e) last =
+    subst (λ (x : List (List ℕ)). IsNotHeaded (codes "births") (x ++ rest)) (sym e) refl
+not_births n words rest (inr e) last =
+    subst (λ (x : List (List ℕ)). IsNotHeaded (codes "births") (x ++ rest)) (sym e.0)
+    (subst (IsNotHeaded (codes "births")) (sym last) tt)
 
-pub limits_ok : (line : List ℕ) (at : ℕ) (v : (ℕ × ℕ × ℕ) × ℕ) → limits_at line at ≡ Ok v → IsLimitsAt line at v
+limits_reader : IsReader limits_at AreLimits IsLast
 unfolding limits_at
-limits_ok line at v h =
-    let g = bind_ok (field_at line at (codes "globals") 0 64) _ v h in
-    let b = bind_ok (limit_at line g.0.1 (codes "births") 4294967296) _ v g.2 in
-    let y = bind_ok (limit_at line b.0.1 (codes "history") 1000000) _ v b.2 in
-    let globals = field_ok line at (codes "globals") 0 64 g.0 (lit< tt) g.1 in
-    let births = limit_ok line g.0.1 (codes "births") 4294967296 b.0 (lit≤ tt) (lit< tt) b.1 in
-    let history = limit_ok line b.0.1 (codes "history") 1000000 y.0 (lit≤ tt) (lit< tt) y.1 in
-    subst (λ (x : (ℕ × ℕ × ℕ) × ℕ). IsLimitsAt line at x) (same_result ((g.0.0, b.0.0, y.0.0), y.0.1) v y.2) (record {
-      birth_words = births.words;
-      history_words = history.words;
-      births_spelled = births.is;
-      history_spelled = history.is;
-      spelled = globals.spelled ∙ two (codes "globals") (decimal g.0.0) (words_from line g.0.1)
-          (births.words ++ (history.words ++ words_from line y.0.1)) (behind (words_from line g.0.1) births.words
-          (words_from line b.0.1) (history.words ++ words_from line y.0.1) births.spelled history.spelled);
-      globals_most = globals.below;
-      births = births.above;
-      births_most = births.below;
-      history = history.above;
-      history_most = history.below;
-    })
-  where
-    behind : (x front y z : List (List ℕ)) → x ≡ front ++ y → y ≡ z → x ≡ front ++ z
-    behind x front y z p q = p ∙ ap (λ (t : List (List ℕ)). front ++ t) q
+limits_reader = three_reader (λ line at. field_at line at (codes "globals") 0 64)
+    (λ line at. limit_at line at (codes "births") 4294967296)
+    (λ births line at. limit_at line at (codes "history") 1000000) _ _ _ (IsNotHeaded (codes "births")) IsLast
+    (λ (a : ℕ) (b : ℕ) (c : ℕ). (a, b, c)) (λ (v : Numbers). v.0) (λ (v : Numbers). v.1) (λ (v : Numbers). v.2)
+    (λ a b c. refl) (λ a b c. refl) (λ a b c. refl) (λ d. refl)
+    (field_reader (codes "globals") 0 64 (lit< tt) (omega arith))
+    (limit_reader (codes "births") 4294967296 (IsNotHeaded (codes "births")) (lit≤ tt) (lit< tt) (λ ws may. may))
+    (λ births ws is. limit_reader (codes "history") 1000000 IsLast (lit≤ tt) (lit< tt) (λ rest last. rw last tt))
+    (λ b c ws rest is may. not_births c ws rest is.is may)
 
-abbrev sizes_of : (ℕ × ℕ × ℕ) × ℕ → (ℕ × ℕ × ℕ) × ℕ → (ℕ × ℕ × ℕ) × ℕ → Sizes
-sizes_of m a l = record {
-  words = m.0.0;
-  frames = m.0.1;
-  pages = m.0.2;
-  threads = a.0.0;
-  workers = a.0.1;
-  registers = a.0.2;
-  globals = l.0.0;
-  births = l.0.1;
-  history = l.0.2;
-}
+abbrev AreParts : Sizes → List (List ℕ) → Type 0
+AreParts s ws = Three IsMemory AreActors (λ (actors : Numbers). AreLimits) (s.words, s.frames, s.pages)
+    (s.threads, s.workers, s.registers) (s.globals, s.births, s.history) ws
 
-six : (u v w x y z : List ℕ) (a b : List (List ℕ)) → a ≡ b → u ∷ v ∷ w ∷ x ∷ y ∷ z ∷ a ≡ u ∷ v ∷ w ∷ x ∷ y ∷ z ∷ b
-six u v w x y z a b e = ap (λ (t : List (List ℕ)). u ∷ v ∷ w ∷ x ∷ y ∷ z ∷ t) e
+parts_reader : IsReader sizes_at AreParts IsLast
+unfolding sizes_at
+parts_reader = three_reader memory_at actors_at (λ actors. limits_at) IsMemory AreActors (λ actors. AreLimits) Any
+    IsLast sizes_of (λ (s : Sizes). (s.words, s.frames, s.pages)) (λ (s : Sizes). (s.threads, s.workers, s.registers))
+    (λ (s : Sizes). (s.globals, s.births, s.history)) (λ a b c. refl) (λ a b c. refl) (λ a b c. refl) (λ d. refl)
+    memory_reader actors_reader (λ actors ws is. limits_reader) (λ b c ws rest is may. tt)
 
-last_words : (a b c : List (List ℕ)) → c ≡ [] → a ++ (b ++ c) ≡ a ++ b
-last_words a b c e = ap (λ (t : List (List ℕ)). a ++ (b ++ t)) e ∙ ap (λ (t : List (List ℕ)). a ++ t) (append-nil b)
+-- sizes by parts, and as a whole
+from_parts : (s : Sizes) (ws : List (List ℕ)) → AreParts s ws → SpellsSizes s ws
+from_parts s ws h =
+    let m = h.front_is in
+    let a = h.middle_is in
+    let l = h.back_is in
+    record {
+      births = l.middle;
+      history = l.back;
+      births_spelled = l.middle_is.is;
+      history_spelled = l.back_is.is;
+      words_are = rw (
+        h.words_are,
+        m.words_are,
+        m.front_is.words_are,
+        m.middle_is.words_are,
+        m.back_is.words_are,
+        a.words_are,
+        a.front_is.words_are,
+        a.middle_is.words_are,
+        a.back_is.words_are,
+        l.words_are,
+        l.front_is.words_are,
+      ) refl;
+      range = record {
+        words = m.front_is.size;
+        frames = m.middle_is.within;
+        pages = m.back_is.within;
+        threads = a.front_is.within;
+        workers = a.middle_is.within;
+        registers = a.back_is.within;
+        globals = l.front_is.within;
+        births = l.middle_is.within;
+        history = l.back_is.within;
+      };
+    }
 
-from_parts : (line : List ℕ) (at : ℕ) (m a l : (ℕ × ℕ × ℕ) × ℕ) → IsMemoryAt line at m → IsActorsAt line m.1 a
-    → IsLimitsAt line a.1 l → words_from line l.1 ≡ [] → IsHeapAt line at (sizes_of m a l)
-from_parts line at m a l memory actors limits last = record {
-  births = limits.birth_words;
-  history = limits.history_words;
-  births_spelled = limits.births_spelled;
-  history_spelled = limits.history_spelled;
-  spelled = memory.spelled ∙ six _ _ _ _ _ _ _ _ (actors.spelled ∙ six _ _ _ _ _ _ _ _ (limits.spelled
-      ∙ two _ _ _ _ (last_words limits.birth_words limits.history_words (words_from line l.1) last)));
-  range = record {
-    words = memory.words;
-    frames = memory.frames;
-    frames_most = memory.frames_most;
-    pages = memory.pages;
-    pages_most = memory.pages_most;
-    threads = actors.threads;
-    threads_most = actors.threads_most;
-    workers = actors.workers;
-    workers_most = actors.workers_most;
-    registers = actors.registers;
-    registers_most = actors.registers_most;
-    globals_most = limits.globals_most;
-    births = limits.births;
-    births_most = limits.births_most;
-    history = limits.history;
-    history_most = limits.history_most;
-  };
-}
+by_parts : (s : Sizes) (ws : List (List ℕ)) → SpellsSizes s ws → AreParts s ws
+by_parts s ws h =
+    let r = h.range in
+    record {
+      front = _;
+      middle = _;
+      back = codes "globals" ∷ decimal s.globals ∷ (h.births ++ h.history);
+      front_is = record {
+        front = codes "words" ∷ decimal s.words ∷ [];
+        middle = codes "frames" ∷ decimal s.frames ∷ [];
+        back = codes "pages" ∷ decimal s.pages ∷ [];
+        front_is = record { words_are = refl; size = r.words };
+        middle_is = record { words_are = refl; within = r.frames };
+        back_is = record { words_are = refl; within = r.pages };
+        words_are = refl;
+      };
+      middle_is = record {
+        front = codes "threads" ∷ decimal s.threads ∷ [];
+        middle = codes "workers" ∷ decimal s.workers ∷ [];
+        back = codes "registers" ∷ decimal s.registers ∷ [];
+        front_is = record { words_are = refl; within = r.threads };
+        middle_is = record { words_are = refl; within = r.workers };
+        back_is = record { words_are = refl; within = r.registers };
+        words_are = refl;
+      };
+      back_is = record {
+        front = codes "globals" ∷ decimal s.globals ∷ [];
+        middle = h.births;
+        back = h.history;
+        front_is = record { words_are = refl; within = r.globals };
+        middle_is = record { is = h.births_spelled; within = r.births };
+        back_is = record { is = h.history_spelled; within = r.history };
+        words_are = refl;
+      };
+      words_are = h.words_are;
+    }
 
-pub heap_ok : (line : List ℕ) (at : ℕ) (s : Sizes) → heap_in line at ≡ Ok s → IsHeapAt line at s
+pub heap_ok : (line : List ℕ) (at : ℕ) (s : Sizes) → heap_in line at ≡ Ok s → SpellsSizes s (words_from line at)
 unfolding heap_in
-heap_ok line at s h =
-    let m = bind_ok (memory_at line at) _ s h in
-    let a = bind_ok (actors_at line m.0.1) _ s m.2 in
-    let l = bind_ok (limits_at line a.0.1) _ s a.2 in
-    let e = bind_ok (end_at line l.0.1) _ s l.2 in
-    subst (λ (x : Sizes). IsHeapAt line at x) (same_result (sizes_of m.0 a.0 l.0) s e.2)
-    (from_parts line at m.0 a.0 l.0 (memory_ok line at m.0 m.1) (actors_ok line m.0.1 a.0 a.1)
-    (limits_ok line a.0.1 l.0 l.1) (end_ok line l.0.1 e.0 e.1))
+heap_ok line at s h = from_parts s (words_from line at)
+    (whole_ok sizes_at AreParts IsLast refl parts_reader line at s h)
 
-not_births : (n : ℕ) (words : List (List ℕ)) → SpellsLimit (codes "history") 1000000 n words
-    → IsNotHeaded (codes "births") words
-not_births n words (inl e) = rw e refl
-not_births n words (inr e) = rw e.0 tt
-
-memory_again : (line : List ℕ) (at : ℕ) (s : Sizes) (ws : List (List ℕ)) → IsSizes s → words_from line at
-    ≡ codes "words" ∷ decimal s.words ∷ codes "frames" ∷ decimal s.frames ∷ codes "pages" ∷ decimal s.pages ∷ ws
-    → Reads line (memory_at line at) (s.words, s.frames, s.pages) ws
-unfolding memory_at
-memory_again line at s ws range h =
-    let w = page_size_again line at s.words
-    (codes "frames" ∷ decimal s.frames ∷ codes "pages" ∷ decimal s.pages ∷ ws) range.words h in
-    let f = field_again line w.0 (codes "frames") 1 MOST_FRAMES s.frames (codes "pages" ∷ decimal s.pages ∷ ws)
-    (omega (arith, range.frames_most)) range.frames range.frames_most w.2 in
-    let p = field_again line f.0 (codes "pages") s.frames MOST_PAGES s.pages ws
-    (omega (arith, range.pages_most)) range.pages range.pages_most f.2 in
-    (p.0, rw (w.1, f.1, p.1) refl, p.2)
-
-actors_again : (line : List ℕ) (at : ℕ) (s : Sizes) (ws : List (List ℕ)) → IsSizes s → words_from line at ≡ codes
-    "threads" ∷ decimal s.threads ∷ codes "workers" ∷ decimal s.workers ∷ codes "registers" ∷ decimal s.registers ∷ ws
-    → Reads line (actors_at line at) (s.threads, s.workers, s.registers) ws
-unfolding actors_at
-actors_again line at s ws range h =
-    let t = field_again line at (codes "threads") 1 MOST_THREADS s.threads
-    (codes "workers" ∷ decimal s.workers ∷ codes "registers" ∷ decimal s.registers ∷ ws)
-    (omega (arith, range.threads_most)) range.threads range.threads_most h in
-    let k = field_again line t.0 (codes "workers") 1 16 s.workers (codes "registers" ∷ decimal s.registers ∷ ws)
-    (omega (arith, range.workers_most)) range.workers range.workers_most t.2 in
-    let r = field_again line k.0 (codes "registers") 1 16 s.registers ws
-    (omega (arith, range.registers_most)) range.registers range.registers_most k.2 in
-    (r.0, rw (t.1, k.1, r.1) refl, r.2)
-
-limits_again : (line : List ℕ) (at : ℕ) (s : Sizes) (births history : List (List ℕ)) → IsSizes s
-    → SpellsLimit (codes "births") (2 ^ 32) s.births births → SpellsLimit (codes "history") 1000000 s.history history
-    → words_from line at ≡ codes "globals" ∷ decimal s.globals ∷ (births ++ history)
-    → Reads line (limits_at line at) (s.globals, s.births, s.history) []
-unfolding limits_at
-limits_again line at s births history range birth_is history_is h =
-    let g = field_again line at (codes "globals") 0 64 s.globals (births ++ history)
-    (omega (arith, range.globals_most)) (omega arith) range.globals_most h in
-    let b = limit_again line g.0 (codes "births") 4294967296 s.births births history birth_is
-    (lit< tt) range.births range.births_most (not_births s.history history history_is) g.2 in
-    let y = limit_again line b.0 (codes "history") 1000000 s.history history [] history_is
-    (lit< tt) range.history range.history_most tt (b.2 ∙ sym (append-nil history)) in
-    (y.0, rw (g.1, b.1, y.1) refl, y.2)
-
-pub heap_again : (line : List ℕ) (at : ℕ) (s : Sizes) → IsHeapAt line at s → heap_in line at ≡ Ok s
+pub heap_again : (line : List ℕ) (at : ℕ) (s : Sizes) → SpellsSizes s (words_from line at) → heap_in line at ≡ Ok s
 unfolding heap_in
 heap_again line at s h =
-    let last = codes "globals" ∷ decimal s.globals ∷ (h.births ++ h.history) in
-    let m = memory_again line at s (codes "threads" ∷ decimal s.threads ∷ codes "workers" ∷ decimal s.workers
-    ∷ codes "registers" ∷ decimal s.registers ∷ last) h.range h.spelled in
-    let a = actors_again line m.0 s last h.range m.2 in
-    let l = limits_again line a.0 s h.births h.history h.range h.births_spelled h.history_spelled a.2 in
-    let e = end_again line l.0 l.2 in
-    rw (m.1, a.1, l.1, e) refl
+    whole_again sizes_at AreParts IsLast refl parts_reader line at s (by_parts s (words_from line at) h)
+
+pub heap_breaks : (line : List ℕ) (at : ℕ) (f : Flaw) → heap_in line at ≡ Err f → BreaksIn SpellsSizes line at f
+unfolding heap_in
+heap_breaks line at f h = let b = whole_breaks sizes_at AreParts IsLast refl parts_reader line at f h in
+    record { value = b.value; words = b.words; is = from_parts b.value b.words b.is; breaks = b.breaks }
 
 -- ---- layout lines
 

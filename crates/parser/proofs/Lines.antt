@@ -4,7 +4,7 @@ use Rattle.std.specs.Prelude.{Ok, Err}
 use Rattle.std.specs.List.{slice_split}
 use Rattle.parser.specs.declared.fault.LineFault.{LineFault}
 use Rattle.parser.specs.Reading.{newline, CutsLine, ReadSoFar, lines_in, last_line, goes_on, in_line, line_in}
-use Rattle.parser.proofs.Splitting.{IsCons, split_cons, split_some, split_none}
+use Rattle.parser.proofs.Lists.{IsCons, split_cons, split_some, split_none}
 
 -- a line that isn't the last leads on
 pub lines_cons : (n : ℕ) (s : ReadSoFar) (line : List ℕ) (lines : List (List ℕ)) → IsCons lines

@@ -1,11 +1,16 @@
--- Lists of lines.
-use Rattle.std.proofs.Common.{◌≡◌, ◌≢◌, ℕ, zero, suc, Bool, true, false, cond, List, [], ◌∷◌}
-use Rattle.std.proofs.Common.{◌++◌, refl, sym, ap, ◌∙◌, arith, append_assoc, append-nil}
+-- Lists of lines, and lists that are cut at each element that passes a test.
+use Rattle.std.proofs.Common.{◌≡◌, ◌≢◌, ℕ, zero, suc, Bool, true, false, cond, List, [], ◌∷◌, ◌++◌, refl, sym, ap}
+use Rattle.std.proofs.Common.{◌∙◌, arith, append_assoc, append-nil, ◌+◌, ◌<◌, ◌≤◌, length, take, drop, Some, None}
+use Rattle.std.proofs.Common.{position}
 use Rattle.std.specs.Prelude.{filter}
-use Rattle.std.specs.List.{All, AllByRecursion, join_with_byte, flat_map, slice_split, onto_first}
+use Rattle.std.specs.List.{All, AllByRecursion, join_with_byte, flat_map, slice_split, onto_first, position_or_len}
 use Rattle.std.proofs.lemmas.Bool.Decides.{nat_tests}
 use Rattle.parser.specs.Reading.{newline}
 use Rattle.parser.specs.Spelling.{ended, IsLine}
+use Rattle.std.proofs.lemmas.List.Splits.{slice_split_first, slice_split_none}
+use Rattle.std.proofs.lemmas.List.Quantifiers.{position-Some}
+use Rattle.std.proofs.lemmas.List.Sums.{position_or_len_is, fails_before_first}
+use Rattle.model.proofs.Lists.{none_far}
 
 -- what holds by recursion holds at each index
 pub all_from : {A : Type 0} (P : A → Type 0) (xs : List A) → AllByRecursion P xs → All P xs
@@ -38,6 +43,11 @@ pub all_push : {A : Type 0} (P : A → Type 0) (xs : List A) (x : A) → AllByRe
     → AllByRecursion P (xs ++ x ∷ [])
 all_push P [] x h p = (p, tt)
 all_push P (y ∷ ys) x h p = (h.0, all_push P ys x h.1 p)
+
+pub all_both : {A : Type 0} (P : A → Type 0) (xs ys : List A) → AllByRecursion P xs → AllByRecursion P ys
+    → AllByRecursion P (xs ++ ys)
+all_both P [] ys h k = k
+all_both P (x ∷ xs) ys h k = (h.0, all_both P xs ys h.1 k)
 
 pub all_front : {A : Type 0} (P : A → Type 0) (xs ys : List A) → AllByRecursion P (xs ++ ys) → AllByRecursion P xs
 all_front P [] ys h = tt
@@ -75,3 +85,35 @@ part_lines x xs false e h =
 pub split_lines : (bytes : List ℕ) → AllByRecursion HasNoNewlines (slice_split newline bytes)
 split_lines [] = (tt, tt)
 split_lines (x ∷ xs) = part_lines x xs (newline x) refl (split_lines xs)
+
+-- what is cut has a first part
+pub record IsCons (xs : List (List ℕ)) : Type 0 where
+  pub first : List ℕ
+  pub others : List (List ℕ)
+  pub is : xs ≡ first ∷ others
+
+onto_cons : (x : ℕ) (parts : List (List ℕ)) → IsCons (onto_first x parts)
+onto_cons x [] = record { first = x ∷ []; others = []; is = refl }
+onto_cons x (part ∷ parts) = record { first = x ∷ part; others = parts; is = refl }
+
+pub split_cons : (p : ℕ → Bool) (xs : List ℕ) → IsCons (slice_split p xs)
+split_cons p [] = record { first = []; others = []; is = refl }
+split_cons p (x ∷ xs) = elim (p x) as (λ b. IsCons (cond b ([] ∷ slice_split p xs) (onto_first x (slice_split p xs))))
+    [ true ↦ record { first = []; others = slice_split p xs; is = refl } | false ↦ onto_cons x (slice_split p xs) ]
+
+-- the first part ends where the first element passes
+pub split_some : (p : ℕ → Bool) (xs : List ℕ) (end : ℕ) → position p xs ≡ Some end
+    → slice_split p xs ≡ take end xs ∷ slice_split p (drop (end + 1) xs)
+split_some p xs end h =
+    let facts = position-Some p xs end 0 h in
+    let at : position_or_len p xs ≡ end =
+    position_or_len_is p xs end 0 (omega (arith, facts.0)) facts.2 (λ _. facts.1) in
+    let within : position_or_len p xs < length xs = rw at facts.0 in
+    rw at at (slice_split_first p xs 0 within)
+
+-- where none passes there is one part
+pub split_none : (p : ℕ → Bool) (xs : List ℕ) → position p xs ≡ None → slice_split p xs ≡ xs ∷ []
+split_none p xs h =
+    let far : length xs ≤ position_or_len p xs = none_far (position_or_len p xs) (length xs) h in
+    let none : All (λ x. p x ≡ false) xs = λ k d le. fails_before_first p xs k d (omega (arith, far, le)) in
+    slice_split_none p xs none

@@ -12,7 +12,7 @@ use Rattle.parser.specs.Faults.{text_of, BeginsScript, HaveNoFault, IsLineEnd, I
 use Rattle.parser.specs.Faults.{StandsAtEnd, LacksNewline, IsFirstFault, HasNoLargeBlock, FaultsShareLine}
 use Rattle.parser.proofs.Lists.{HasNoNewlines, all_to, lines_to}
 use Rattle.parser.proofs.Completions.{begins_front}
-use Rattle.parser.proofs.Never.{text_split, line_more}
+use Rattle.parser.proofs.Stops.{text_split, line_more}
 
 -- the lines of a text around a fault
 record HasPlace (bytes : List ℕ) (fault : LineFault) : Type 0 where

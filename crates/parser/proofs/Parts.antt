@@ -1,14 +1,15 @@
--- Parts of a script: the lines that say them, and the commands that they stand for.
-use Rattle.std.proofs.Common.{◌≡◌, ℕ, zero, suc, ◌+◌, ◌*◌, ◌≤◌, List, [], ◌∷◌, ◌++◌, length, Option, Some}
-use Rattle.std.proofs.Common.{None, refl, sym, ap, ◌∙◌, arith, append-nil, append_assoc, length-append}
-use Rattle.std.specs.Prelude.{codes, map}
+-- Lines and commands of parts, and commands that stand several times over.
+use Rattle.std.proofs.Common.{◌≡◌, ℕ, zero, suc, ◌+◌, ◌*◌, ◌≤◌, List, [], ◌∷◌, ◌++◌, length, Option, Some, None, refl}
+use Rattle.std.proofs.Common.{sym, ap, ◌∙◌, arith, append-nil, append_assoc, length-append, true}
+use Rattle.std.specs.Prelude.{codes, map, ◌==◌}
 use Rattle.std.specs.List.{AllByRecursion, flat_map, repeat}
 use Rattle.std.proofs.lemmas.List.{map-append}
 use Rattle.std.proofs.lemmas.Grind.{flat_map-append}
 use Rattle.parser.specs.declared.order.Command.{Command}
 use Rattle.parser.specs.declared.reading.TheConstants.{MOST_TURNS}
 use Rattle.parser.specs.Spelling.{command_line_of, Part, One, Times, times_line_of, part_lines, part_commands}
-use Rattle.parser.proofs.Lists.{all_front}
+use Rattle.parser.proofs.Lists.{all_front, all_both}
+use Rattle.std.proofs.lemmas.Bool.Decides.{nat_tests}
 
 -- the lines of the open block so far
 abbrev pub open_lines : Option ℕ → List Command → List (List ℕ)
@@ -103,11 +104,6 @@ pub more_commands : (parts : List Part) (p : Part) (cs : List Command) → cs �
     cs ++ part_commands p ≡ flat_map part_commands (parts ++ p ∷ [])
 more_commands parts p cs h = rw (h, flat_map-append part_commands parts (p ∷ []), append-nil (part_commands p)) refl
 
-pub all_both : {A : Type 0} (P : A → Type 0) (xs ys : List A) → AllByRecursion P xs → AllByRecursion P ys
-    → AllByRecursion P (xs ++ ys)
-all_both P [] ys h k = k
-all_both P (x ∷ xs) ys h k = (h.0, all_both P xs ys h.1 k)
-
 pub all_repeated : (P : Command → Type 0) (n : ℕ) (cs : List Command) → AllByRecursion P cs
     → AllByRecursion P (repeat n cs)
 all_repeated P zero cs h = tt
@@ -133,3 +129,25 @@ pub all_of_repeated : (P : Command → Type 0) (n : ℕ) (cs : List Command) →
     → AllByRecursion P cs
 all_of_repeated P zero cs some h = absurd (omega arith)
 all_of_repeated P (suc n) cs some h = all_front P cs (repeat n cs) h
+
+-- no commands stay none, however often they stand
+none_repeated : (n : ℕ) → repeat {A = Command} n [] ≡ []
+none_repeated zero = refl
+none_repeated (suc n) = none_repeated n
+
+pub add_none : (n : ℕ) (cs body : List Command) → (length body == 0) ≡ true → cs ≡ cs ++ repeat n body
+add_none n cs [] h = sym (append-nil cs) ∙ ap (λ (xs : List Command). cs ++ xs) (sym (none_repeated n))
+add_none n cs (c ∷ body) h = absurd (grind (arith, nat_tests))
+
+turned : (n : ℕ) (cs : List Command) → repeat n cs ++ cs ≡ cs ++ repeat n cs
+turned zero cs = sym (append-nil cs)
+turned (suc n) cs = append_assoc cs (repeat n cs) cs ∙ ap (λ (xs : List Command). cs ++ xs) (turned n cs)
+
+once_more : (n : ℕ) (cs : List Command) → repeat n cs ++ cs ≡ repeat (n + 1) cs
+once_more n cs = let e : suc n ≡ n + 1 = omega arith in turned n cs ∙ ap (λ k. repeat k cs) e
+
+-- one turn more behind the turns so far
+pub add_turn : (n : ℕ) (before cs so_far new : List Command) → so_far ≡ before ++ repeat n cs → new ≡ so_far ++ cs
+    → new ≡ before ++ repeat (n + 1) cs
+add_turn n before cs so_far new h k = k ∙ ap (λ (xs : List Command). xs ++ cs) h ∙ append_assoc before (repeat n cs) cs
+    ∙ ap (λ (xs : List Command). before ++ xs) (once_more n cs)

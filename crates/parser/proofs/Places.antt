@@ -1,16 +1,25 @@
--- A place stands for the words from there to the end of the line.
-use Rattle.std.proofs.Common.{◌≡◌, ℕ, ◌+◌, ◌<◌, ◌≤◌, Bool, true, false, cond, nat_lt, List, [], ◌∷◌, length}
-use Rattle.std.proofs.Common.{drop, Option, Some, None, position, refl, sym, ap, subst, ◌∙◌, arith, inl, inr}
-use Rattle.std.specs.Prelude.{Result, Ok, ◌==◌}
+-- A place stands for the words from there to the end of the line: what is read there is written so, and the other way.
+use Rattle.std.proofs.Common.{◌≡◌, ℕ, ◌+◌, ◌<◌, ◌≤◌, Bool, true, false, cond, nat_lt, List, [], ◌∷◌, length, drop}
+use Rattle.std.proofs.Common.{Option, Some, None, position, refl, sym, ap, subst, ◌∙◌, arith, inl, inr, ◌-◌, ◌^◌}
+use Rattle.std.proofs.Common.{lit<, ◌⊎◌}
+use Rattle.std.specs.Prelude.{Result, Ok, ◌==◌, Err, ◌||◌, not, nat_le}
 use Rattle.std.specs.List.{slice_split}
-use Rattle.std.proofs.lemmas.Bool.{ltb-false, le-ltb, lt-ltb, cases_lt}
-use Rattle.std.proofs.lemmas.Bool.Decides.{nat_tests}
+use Rattle.std.proofs.lemmas.Bool.{ltb-false, le-ltb, lt-ltb, cases_lt, or_parts, not-false, leb-false}
+use Rattle.std.proofs.lemmas.Bool.Decides.{nat_tests, Decides-eqb}
 use Rattle.std.proofs.lemmas.List.{drop-drop, length-drop}
 use Rattle.std.proofs.lemmas.List.Quantifiers.{position-Some}
 use Rattle.std.proofs.lemmas.Option.{same_Some}
 use Rattle.parser.specs.declared.fault.Flaw.{Flaw}
-use Rattle.parser.specs.Words.{cut_at, word_at}
-use Rattle.parser.proofs.Splitting.{split_some, split_none, split_cons}
+use Rattle.parser.specs.Words.{cut_at, word_at, ◌>>=◌, flaw, or_flaw, word_or, fixed_at, is_number, capped_from}
+use Rattle.parser.specs.Words.{in_range, number_at, small_at, named_in, named_at, end_at}
+use Rattle.parser.proofs.Lists.{split_some, split_none, split_cons}
+use Rattle.std.specs.Str.{bytes_eq}
+use Rattle.std.specs.Fmt.{decimal}
+use Rattle.std.proofs.lemmas.Slice.Eq.{bytes_eq-Decides}
+use Rattle.parser.specs.declared.fault.FaultKind.{FaultKind}
+use Rattle.parser.specs.declared.fault.FaultKind.TheVariants as kinds
+use Rattle.parser.proofs.Numbers.{number_spelled, number_read}
+use Rattle.model.proofs.Results.{same_result, not_refused}
 
 -- the byte between words
 abbrev pub space : ℕ → Bool
@@ -110,3 +119,186 @@ past_end line at h =
 -- past the end no words are left
 pub end_past : (line : List ℕ) (at : ℕ) → length line < at → words_from line at ≡ []
 end_past line at h = words_past line at (lt-ltb (length line) at h)
+
+-- the value of a step that found no fault
+pub bind_ok : {A B : Type 0} (r : Result A Flaw) (f : A → Result B Flaw) (y : B) → (r >>= f) ≡ Ok y
+    → (x : A) × (r ≡ Ok x) × (f x ≡ Ok y)
+bind_ok (Ok x) f y e = (x, refl, e)
+bind_ok (Err d) f y e = absurd cc
+
+-- a test without which there would have been a fault did hold
+pub test_ok : {A : Type 0} (b : Bool) (d : Flaw) (r : Result A Flaw) (y : A) → cond b r (Err d) ≡ Ok y
+    → (b ≡ true) × (r ≡ Ok y)
+test_ok true d r y e = (refl, e)
+test_ok false d r y e = absurd cc
+
+-- what a choice came to is one of the two
+pub one_of : {A : Type 0} (b : Bool) (x y z : A) → cond b x y ≡ z → ((b ≡ true) × (x ≡ z)) ⊎ ((b ≡ false) × (y ≡ z))
+one_of true x y z h = inl (refl, h)
+one_of false x y z h = inr (refl, h)
+
+pub or_flaw_ok : {A : Type 0} (o : Option A) (d : Flaw) (x : A) → or_flaw o d ≡ Ok x → o ≡ Some x
+or_flaw_ok None d x e = absurd cc
+or_flaw_ok (Some y) d x e = ap Some (same_result y x e)
+
+-- ---- words
+
+pub word_ok : (line : List ℕ) (at : ℕ) (kind : FaultKind) (w : List ℕ × ℕ) → word_or line at kind ≡ Ok w
+    → words_from line at ≡ w.0 ∷ words_from line w.1
+unfolding word_or
+word_ok line at kind w h = word_is line at w (or_flaw_ok (word_at line at) (flaw (length line) kind) w h)
+
+pub word_again : (line : List ℕ) (at : ℕ) (kind : FaultKind) (w : List ℕ) (ws : List (List ℕ))
+    → words_from line at ≡ w ∷ ws → Reads line (word_or line at kind) w ws
+unfolding word_or
+word_again line at kind w ws h = let found = found_word line at w ws h in (found.0, rw found.1 refl, found.2)
+
+pub fixed_ok : (line : List ℕ) (at : ℕ) (text : List ℕ) (kind : FaultKind) (after : ℕ)
+    → fixed_at line at text kind ≡ Ok after → words_from line at ≡ text ∷ words_from line after
+unfolding fixed_at
+fixed_ok line at text kind after h =
+    let b = bind_ok (word_or line at kind) (λ w. cond (bytes_eq w.0 text) (Ok w.1) (Err (flaw at kind))) after h in
+    let w = b.0 in
+    let t = test_ok (bytes_eq w.0 text) (flaw at kind) (Ok w.1) after b.2 in
+    let same : w.0 ≡ text = (bytes_eq-Decides w.0 text).0 t.0 in
+    let place : w.1 ≡ after = same_result w.1 after t.1 in
+    word_ok line at kind w b.1 ∙ ap (λ (x : List ℕ). x ∷ words_from line w.1) same
+    ∙ ap (λ (x : ℕ). text ∷ words_from line x) place
+
+-- where a word stands that has to, the place behind it is read
+pub fixed_again : (line : List ℕ) (at : ℕ) (text : List ℕ) (kind : FaultKind) (ws : List (List ℕ))
+    → words_from line at ≡ text ∷ ws
+    → (after : ℕ) × (fixed_at line at text kind ≡ Ok after) × (words_from line after ≡ ws)
+unfolding fixed_at
+fixed_again line at text kind ws h =
+    let w = word_again line at kind text ws h in
+    let same : bytes_eq text text ≡ true = (bytes_eq-Decides text text).1 refl in
+    (w.0, rw (w.1, same) refl, w.2)
+
+-- ---- numbers
+
+-- a number from low to high is the word at a place
+pub record IsNumberAt (line : List ℕ) (at low high : ℕ) (v : ℕ × ℕ) : Type 0 where
+  pub spelled : words_from line at ≡ decimal v.0 ∷ words_from line v.1
+  pub above : low ≤ v.0
+  pub below : v.0 ≤ high
+
+pub number_ok : (line : List ℕ) (at low high : ℕ) (v : ℕ × ℕ) → high < 2 ^ 64 → number_at line at low high ≡ Ok v
+    → IsNumberAt line at low high v
+unfolding number_at
+number_ok line at low high v fits h =
+    let b = bind_ok (word_or line at kinds.NumberExpected) (λ w. cond (not (is_number w.0))
+    (Err (flaw at kinds.NumberExpected)) (in_range (capped_from 0 w.0) w.1 at low high)) v h in
+    let w = b.0 in
+    let n = capped_from 0 w.0 in
+    let form = not_refused (not (is_number w.0)) (flaw at kinds.NumberExpected) (in_range n w.1 at low high) v b.2 in
+    let range = not_refused (nat_lt n low || nat_lt high n) (flaw at kinds.NumberOutOfRange) (Ok (n, w.1)) v form.1 in
+    let sides = or_parts (nat_lt n low) (nat_lt high n) range.0 in
+    let low_side : low ≤ n = grind (arith, nat_tests) in
+    let high_side : n ≤ high = grind (arith, nat_tests) in
+    let number : is_number w.0 ≡ true = grind arith in
+    let spelled : words_from line at ≡ decimal n ∷ words_from line w.1 = word_ok line at kinds.NumberExpected w b.1
+    ∙ ap (λ (x : List ℕ). x ∷ words_from line w.1) (sym (number_spelled w.0 number (omega arith))) in
+    let pair : (n, w.1) ≡ v = same_result (n, w.1) v range.1 in
+    subst (λ (x : ℕ × ℕ). IsNumberAt line at low high x) pair (record {
+      spelled = spelled;
+      above = low_side;
+      below = high_side;
+    })
+
+outside_not : (n low high : ℕ) → low ≤ n → n ≤ high → (nat_lt n low || nat_lt high n) ≡ false
+outside_not n low high a b = grind (arith, nat_tests)
+
+pub number_again : (line : List ℕ) (at low high n : ℕ) (ws : List (List ℕ)) → n < 2 ^ 64 → low ≤ n → n ≤ high
+    → words_from line at ≡ decimal n ∷ ws → Reads line (number_at line at low high) n ws
+unfolding number_at
+number_again line at low high n ws fits above below h =
+    let w = word_again line at kinds.NumberExpected (decimal n) ws h in
+    let read = number_read n fits in
+    let range = outside_not n low high above below in
+    (w.0, rw (w.1, read.0, read.1, range) refl, w.2)
+
+pub small_ok : (line : List ℕ) (at : ℕ) (v : ℕ × ℕ) → small_at line at ≡ Ok v → IsNumberAt line at 0 (2 ^ 32 - 1) v
+unfolding small_at
+small_ok line at v h = number_ok line at 0 4294967295 v (lit< tt) h
+
+pub small_again : (line : List ℕ) (at n : ℕ) (ws : List (List ℕ)) → n < 2 ^ 32 → words_from line at ≡ decimal n ∷ ws
+    → Reads line (small_at line at) n ws
+unfolding small_at
+small_again line at n ws small h = number_again line at 0 4294967295 n ws (omega arith) (omega arith) (omega arith) h
+
+-- ---- names
+
+-- a word is a letter and a number below count
+record IsNamed (word : List ℕ) (after letter count : ℕ) (v : ℕ × ℕ) : Type 0 where
+  spelled : word ≡ letter ∷ decimal v.0
+  place : after ≡ v.1
+  below : v.0 < count
+
+named_in_ok : (word : List ℕ) (after at letter count : ℕ) (missing : FaultKind) (v : ℕ × ℕ) → count < 2 ^ 64
+    → named_in word after at letter count missing ≡ Ok v → IsNamed word after letter count v
+named_in_ok [] after at letter count missing v fits h = absurd cc
+named_in_ok (b ∷ bs) after at letter count missing v fits h =
+    let n = capped_from 0 bs in
+    let form = not_refused (not (b == letter) || not (is_number bs)) (flaw at kinds.UnknownWord)
+    (cond (nat_le count n) (Err (flaw at missing)) (Ok (n, after))) v h in
+    let range = not_refused (nat_le count n) (flaw at missing) (Ok (n, after)) v form.1 in
+    let sides = or_parts (not (b == letter)) (not (is_number bs)) form.0 in
+    let first : b ≡ letter = not_not_eq b letter sides.0 in
+    let number : is_number bs ≡ true = not-false (is_number bs) sides.1 in
+    let below : n < count = leb-false count n range.0 in
+    let spelled : decimal n ≡ bs = number_spelled bs number (omega arith) in
+    let pair : (n, after) ≡ v = same_result (n, after) v range.1 in
+    subst (λ (x : ℕ × ℕ). IsNamed (b ∷ bs) after letter count x) pair (record {
+      spelled = ap (λ (x : ℕ). x ∷ bs) first ∙ ap (λ (x : List ℕ). letter ∷ x) (sym spelled);
+      place = refl;
+      below = below;
+    })
+  where
+    not_not_eq : (a b : ℕ) → not (a == b) ≡ false → a ≡ b
+    not_not_eq a b h = (Decides-eqb a b).0 (not-false (a == b) h)
+
+-- a letter and a number below count are the word at a place
+pub record IsNameAt (line : List ℕ) (at letter count : ℕ) (v : ℕ × ℕ) : Type 0 where
+  pub spelled : words_from line at ≡ (letter ∷ decimal v.0) ∷ words_from line v.1
+  pub below : v.0 < count
+
+pub named_ok : (line : List ℕ) (at letter count : ℕ) (missing : FaultKind) (v : ℕ × ℕ) → count < 2 ^ 64
+    → named_at line at letter count missing ≡ Ok v → IsNameAt line at letter count v
+unfolding named_at
+named_ok line at letter count missing v fits h =
+    let b = bind_ok (word_or line at kinds.UnknownWord) (λ w. named_in w.0 w.1 at letter count missing) v h in
+    let w = b.0 in
+    let named = named_in_ok w.0 w.1 at letter count missing v fits b.2 in
+    record {
+      spelled = word_ok line at kinds.UnknownWord w b.1 ∙ ap (λ (x : List ℕ). x ∷ words_from line w.1) named.spelled
+          ∙ ap (λ (x : ℕ). (letter ∷ decimal v.0) ∷ words_from line x) named.place;
+      below = named.below;
+    }
+
+pub named_again : (line : List ℕ) (at letter count : ℕ) (missing : FaultKind) (n : ℕ) (ws : List (List ℕ))
+    → n < 2 ^ 64 → n < count → words_from line at ≡ (letter ∷ decimal n) ∷ ws
+    → Reads line (named_at line at letter count missing) n ws
+unfolding named_at
+named_again line at letter count missing n ws fits below h =
+    let w = word_again line at kinds.UnknownWord (letter ∷ decimal n) ws h in
+    let read = number_read n fits in
+    let same : (letter == letter) ≡ true = (Decides-eqb letter letter).1 refl in
+    let there : nat_le count n ≡ false = grind (arith, nat_tests) in
+    (w.0, rw (w.1, same, read.0, read.1, there) refl, w.2)
+
+-- ---- the end
+
+pub end_ok : (line : List ℕ) (at : ℕ) (u : Unit {0}) → end_at line at ≡ Ok u → words_from line at ≡ []
+unfolding end_at
+end_ok line at u h =
+    let past = not_refused (nat_le at (length line)) (flaw at kinds.EndOfLineExpected) (Ok tt) u h in
+    let fails = past.0 in
+    end_past line at (grind (arith, nat_tests))
+
+pub end_again : (line : List ℕ) (at : ℕ) → words_from line at ≡ [] → end_at line at ≡ Ok tt
+unfolding end_at
+end_again line at h =
+    let past = past_end line at h in
+    let test : nat_le at (length line) ≡ false = grind (arith, nat_tests) in
+    rw test refl

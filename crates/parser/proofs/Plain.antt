@@ -1,58 +1,77 @@
--- Words without spaces, and lines made of them.
-use Rattle.std.proofs.Common.{◌≡◌, ℕ, zero, suc, ◌^◌, ◌<◌, ◌≤◌, true, false, List, []}
-use Rattle.std.proofs.Common.{◌∷◌, ◌++◌, refl, ap, ◌∙◌, arith, inl, inr, append_assoc}
-use Rattle.std.specs.Prelude.{not, codes}
+-- Words of bytes behind the space, and lines made of them.
+use Rattle.std.proofs.Common.{◌≡◌, ℕ, ◌^◌, ◌<◌, true, false, List, []}
+use Rattle.std.proofs.Common.{nat_lt, ◌≢◌, ◌∷◌, ◌++◌, refl, ap, ◌∙◌, arith, inl, inr, append_assoc}
+use Rattle.std.specs.Prelude.{codes}
 use Rattle.std.specs.Fmt.{decimal}
 use Rattle.std.specs.List.{All, AllByRecursion, list_all, slice_split, join_with_byte, flat_map}
 use Rattle.std.proofs.lemmas.Bool.Decides.{nat_tests}
 use Rattle.std.proofs.lemmas.List.Splits.{slice_split_none, slice_split_at}
-use Rattle.std.proofs.lemmas.Bool.{and_parts, not-true}
+use Rattle.std.proofs.lemmas.Bool.{and_parts}
+use Rattle.model.proofs.Ranges.{page_size_range}
 use Rattle.model.specs.declared.steps.Actor.{Actor}
 use Rattle.model.specs.declared.steps.Actor.TheVariants.{Thread, Worker}
 use Rattle.parser.specs.declared.heading.Sizes.{Sizes}
 use Rattle.parser.specs.declared.order.Order.{Order}
-use Rattle.parser.specs.declared.order.Order.TheVariants as orders
+use Rattle.parser.specs.declared.verbs.Kind.{Kind}
+use Rattle.parser.specs.declared.verbs.Kind.TheVariants.{Nothing, Register, Number, Long}
+use Rattle.parser.specs.declared.verbs.Verb.{Verb}
 use Rattle.parser.specs.Words.{is_digit}
+use Rattle.parser.specs.Verbs.{row_of}
 use Rattle.parser.specs.Headings.{config_of}
 use Rattle.parser.specs.Reading.{newline}
-use Rattle.parser.specs.Spelling.{actor_word, register_word, order_words}
-use Rattle.parser.specs.Spelling.{size_words, SpellsLimit, ended, IsActor, IsOrder}
-use Rattle.parser.proofs.Lists.{HasNoNewlines}
+use Rattle.parser.specs.Spelling.{line_of, actor_word, operand_word, order_words, SpellsLimit, ended}
+use Rattle.parser.specs.Spelling.{IsActor, IsOperand, IsOrder}
+use Rattle.parser.proofs.Lists.{HasNoNewlines, all_both, all_from}
 use Rattle.parser.proofs.Numbers.{decimal_digits}
 use Rattle.parser.proofs.Places.{space}
 use Rattle.parser.proofs.ActorsAndOrders.{AreFew}
-use Rattle.parser.proofs.HeapLines.{IsSizes}
+use Rattle.parser.proofs.HeapLines.{SpellsSizes}
 
--- no space stands in a word
+-- each byte of a word stands behind the space: none is a space or a newline
 abbrev pub IsPlain : List ℕ → Type 0
-IsPlain w = list_all (λ b. not (space b)) w ≡ true
-
-by_index : (P : ℕ → Type 0) (xs : List ℕ) → AllByRecursion P xs → All P xs
-by_index P [] h k d lt = absurd (omega arith)
-by_index P (x ∷ xs) h zero d lt = h.0
-by_index P (x ∷ xs) h (suc k) d lt = by_index P xs h.1 k d (omega arith)
+IsPlain w = list_all (λ b. nat_lt 32 b) w ≡ true
 
 no_spaces : (w : List ℕ) → IsPlain w → AllByRecursion (λ b. space b ≡ false) w
 no_spaces [] h = tt
-no_spaces (b ∷ bs) h = let p = and_parts (not (space b)) (list_all (λ b. not (space b)) bs) h in
-    (not-true (space b) p.0, no_spaces bs p.1)
+no_spaces (b ∷ bs) h =
+    let p = and_parts (nat_lt 32 b) (list_all (λ c. nat_lt 32 c) bs) h in
+    let high = p.0 in
+    let no : space b ≡ false = grind (arith, nat_tests) in
+    (no, no_spaces bs p.1)
 
 -- words without spaces are the parts of their line
 pub words_split : (w : List ℕ) (ws : List (List ℕ)) → IsPlain w → AllByRecursion IsPlain ws
     → slice_split space (join_with_byte 32 (w ∷ ws)) ≡ w ∷ ws
-words_split w [] first h = slice_split_none space w (by_index (λ b. space b ≡ false) w (no_spaces w first))
+words_split w [] first h = slice_split_none space w (all_from (λ b. space b ≡ false) w (no_spaces w first))
 words_split w (v ∷ vs) first h =
-    slice_split_at space w 32 (join_with_byte 32 (v ∷ vs)) (by_index (λ b. space b ≡ false) w (no_spaces w first)) refl
+    slice_split_at space w 32 (join_with_byte 32 (v ∷ vs)) (all_from (λ b. space b ≡ false) w (no_spaces w first)) refl
     ∙ ap (λ (t : List (List ℕ)). w ∷ t) (words_split v vs h.0 h.1)
 
-no_newlines : (line : List ℕ) → HasNoNewlines line → AllByRecursion (λ b. newline b ≡ false) line
+-- ---- newlines
+
+pub no_newlines : (w : List ℕ) → IsPlain w → HasNoNewlines w
 no_newlines [] h = tt
 no_newlines (b ∷ bs) h =
-    let ne = h.0 in let first : newline b ≡ false = grind (arith, nat_tests) in (first, no_newlines bs h.1)
+    let p = and_parts (nat_lt 32 b) (list_all (λ c. nat_lt 32 c) bs) h in
+    let high = p.0 in
+    let ne : b ≢ 10 = grind (arith, nat_tests) in
+    (ne, no_newlines bs p.1)
+
+pub words_no_newlines : (words : List (List ℕ)) → AllByRecursion IsPlain words → HasNoNewlines (line_of words)
+words_no_newlines [] h = tt
+words_no_newlines (w ∷ []) h = no_newlines w h.0
+words_no_newlines (w ∷ v ∷ words) h =
+    let rest = words_no_newlines (v ∷ words) h.1 in
+    all_both (λ b. b ≢ 10) w (32 ∷ line_of (v ∷ words)) (no_newlines w h.0) (λ e. absurd (omega arith), rest)
+
+none_end : (line : List ℕ) → HasNoNewlines line → AllByRecursion (λ b. newline b ≡ false) line
+none_end [] h = tt
+none_end (b ∷ bs) h =
+    let ne = h.0 in let first : newline b ≡ false = grind (arith, nat_tests) in (first, none_end bs h.1)
 
 -- no byte of a line ends it
 pub none_ends : (line : List ℕ) → HasNoNewlines line → All (λ b. newline b ≡ false) line
-none_ends line h = by_index (λ b. newline b ≡ false) line (no_newlines line h)
+none_ends line h = all_from (λ b. newline b ≡ false) line (none_end line h)
 
 -- lines that each end in a newline are the parts of their bytes, with an empty one behind them
 pub lines_split : (lines : List (List ℕ)) → AllByRecursion HasNoNewlines lines
@@ -60,123 +79,74 @@ pub lines_split : (lines : List (List ℕ)) → AllByRecursion HasNoNewlines lin
 lines_split [] h = refl
 lines_split (line ∷ lines) h =
     ap (slice_split newline) (append_assoc line (10 ∷ []) (flat_map ended lines))
-    ∙ slice_split_at newline line 10 (flat_map ended lines)
-    (by_index (λ b. newline b ≡ false) line (no_newlines line h.0)) refl
+    ∙ slice_split_at newline line 10 (flat_map ended lines) (none_ends line h.0) refl
     ∙ ap (λ (t : List (List ℕ)). line ∷ t) (lines_split lines h.1)
 
-digit_plain : (b : ℕ) → is_digit b ≡ true → not (space b) ≡ true
-digit_plain b h = grind (arith, nat_tests)
+-- ---- words of lines
 
 digits_plain : (ds : List ℕ) → list_all is_digit ds ≡ true → IsPlain ds
 digits_plain [] h = refl
 digits_plain (b ∷ bs) h =
-    let p = and_parts (is_digit b) (list_all is_digit bs) h in rw (digit_plain b p.0) (digits_plain bs p.1)
+    let p = and_parts (is_digit b) (list_all is_digit bs) h in
+    let digit = p.0 in
+    let high : nat_lt 32 b ≡ true = grind (arith, nat_tests) in
+    rw high (digits_plain bs p.1)
 
-decimal_plain : (n : ℕ) → n < 2 ^ 64 → IsPlain (decimal n)
-decimal_plain n h = digits_plain (decimal n) (decimal_digits n h)
-
-pub small_plain : (n : ℕ) → n < 2 ^ 32 → IsPlain (decimal n)
-small_plain n h = decimal_plain n (omega arith)
-
-register_plain : (count n : ℕ) → count < 2 ^ 64 → n < count → IsPlain (register_word n)
-register_plain count n few h = decimal_plain n (omega arith)
+pub number_plain : (n : ℕ) → n < 2 ^ 64 → IsPlain (decimal n)
+number_plain n h = digits_plain (decimal n) (decimal_digits n h)
 
 pub actor_plain : (sizes : Sizes) (a : Actor) → AreFew sizes → IsActor (config_of sizes []) a → IsPlain (actor_word a)
-actor_plain sizes (Thread t) few h = decimal_plain t (omega (arith, few.threads, h))
-actor_plain sizes (Worker w) few h = decimal_plain w (omega (arith, few.workers, h))
+actor_plain sizes (Thread t) few h = number_plain t (omega (arith, few.threads, h))
+actor_plain sizes (Worker w) few h = number_plain w (omega (arith, few.workers, h))
 
-pub order_plain : (count : ℕ) (o : Order) → count < 2 ^ 64 → IsOrder count o → AllByRecursion IsPlain (order_words o)
-order_plain count (orders.Take n) few h = (refl, (small_plain n h, tt))
-order_plain count orders.Give few h = (refl, tt)
-order_plain count (orders.New target layout) few h =
-    (refl, (register_plain count target few h.0, (small_plain layout h.1, tt)))
-order_plain count (orders.Load target object index) few h = (
-  refl,
-  (register_plain count target few h.0.0, (register_plain count object few h.0.1, (small_plain index h.1, tt))),
-)
-order_plain count (orders.LoadGlobal target global) few h =
-    (refl, (register_plain count target few h.0, (small_plain global h.1, tt)))
-order_plain count orders.Trap few h = (refl, tt)
-order_plain count orders.Heal few h = (refl, tt)
-order_plain count orders.Finish few h = (refl, tt)
-order_plain count (orders.Store object index source) few h = (
-  refl,
-  (register_plain count object few h.0.0, (small_plain index h.0.1, (register_plain count source few h.1, tt))),
-)
-order_plain count (orders.StoreGlobal global source) few h =
-    (refl, (small_plain global h.0, (register_plain count source few h.1, tt)))
-order_plain count (orders.Datum object index) few h =
-    (refl, (register_plain count object few h.0, (small_plain index h.1, tt)))
-order_plain count (orders.Set object index value) few h =
-    (refl, (register_plain count object few h.0.0, (small_plain index h.0.1, (decimal_plain value h.1, tt))))
-order_plain count (orders.Same left right) few h =
-    (refl, (register_plain count left few h.0, (register_plain count right few h.1, tt)))
-order_plain count (orders.Null r) few h = (refl, (register_plain count r few h, tt))
-order_plain count (orders.Move target source) few h =
-    (refl, (register_plain count target few h.0, (register_plain count source few h.1, tt)))
-order_plain count (orders.Clear r) few h = (refl, (register_plain count r few h, tt))
-order_plain count orders.Cross few h = (refl, tt)
-order_plain count (orders.Scrub r) few h = (refl, (register_plain count r few h, tt))
-order_plain count orders.Park few h = (refl, tt)
-order_plain count orders.Unpark few h = (refl, tt)
-order_plain count (orders.Get target object index) few h = (
-  refl,
-  (register_plain count target few h.0.0, (register_plain count object few h.0.1, (small_plain index h.1, tt))),
-)
-order_plain count (orders.GetGlobal target global) few h =
-    (refl, (register_plain count target few h.0, (small_plain global h.1, tt)))
+operand_plain : (registers : ℕ) (kind : Kind) (n : ℕ) → registers < 2 ^ 64 → IsOperand registers kind n
+    → AllByRecursion IsPlain (operand_word kind n)
+operand_plain registers Nothing n fits is = tt
+operand_plain registers Register n fits is = (number_plain n (omega (arith, is)), tt)
+operand_plain registers Number n fits is = (number_plain n (omega (arith, is)), tt)
+operand_plain registers Long n fits is = (number_plain n is, tt)
 
-all_append : (xs ys : List (List ℕ)) → AllByRecursion IsPlain xs → AllByRecursion IsPlain ys
-    → AllByRecursion IsPlain (xs ++ ys)
-all_append [] ys h g = g
-all_append (x ∷ xs) ys h g = (h.0, all_append xs ys h.1 g)
+text_plain : (verb : Verb) → IsPlain (row_of verb).text
+text_plain verb = grind arith
+
+pub order_plain : (registers : ℕ) (o : Order) → registers < 2 ^ 64 → IsOrder registers o
+    → AllByRecursion IsPlain (order_words o)
+order_plain registers o fits is =
+    let k = (row_of o.verb).kinds in
+    let each = λ (kind : Kind) (n : ℕ) (own : IsOperand registers kind n). operand_plain registers kind n fits own in
+    let last = all_both IsPlain (operand_word k.third o.third) (operand_word k.wide o.wide)
+    (each k.third o.third is.third) (each k.wide o.wide is.wide) in
+    let operands = all_both IsPlain (operand_word k.first o.first) _ (each k.first o.first is.first)
+    (all_both IsPlain (operand_word k.second o.second) _ (each k.second o.second is.second) last) in
+    (text_plain o.verb, operands)
+
+record ArePlain (ws : List (List ℕ)) : Type 0 where
+  each : AllByRecursion IsPlain ws
+
+-- a number behind its name
+named : (name : List ℕ) (n : ℕ) {rest : List (List ℕ)} → IsPlain name → n < 2 ^ 64 → ArePlain rest
+    → ArePlain (name ∷ decimal n ∷ rest)
+named name n plain small h = record { each = (plain, (number_plain n small, h.each)) }
 
 limit_plain : (name : List ℕ) (most n : ℕ) (words : List (List ℕ)) → IsPlain name → n < 2 ^ 64
     → SpellsLimit name most n words → AllByRecursion IsPlain words
-limit_plain name most n words named small (inl e) = rw e (named, (decimal_plain n small, tt))
-limit_plain name most n words named small (inr e) = rw e.0 tt
+limit_plain name most n words plain small (inl e) = rw e (plain, (number_plain n small, tt))
+limit_plain name most n words plain small (inr e) = rw e.0 tt
 
-pub heap_plain : (s : Sizes) (births history : List (List ℕ)) → IsSizes s → s.words ≤ 4096
-    → SpellsLimit (codes "births") (2 ^ 32) s.births births → SpellsLimit (codes "history") 1000000 s.history history
-    → AllByRecursion IsPlain (size_words (config_of s []) ++ births ++ history)
-heap_plain s births history r words b y =
-    let tail : AllByRecursion IsPlain (births ++ history) =
-    all_append births history
-    (limit_plain (codes "births") (2 ^ 32) s.births births refl (omega (arith, r.births_most)) b)
-    (limit_plain (codes "history") 1000000 s.history history refl (omega (arith, r.history_most)) y) in (
-      refl,
-      (
-        small_plain s.words (omega arith),
-        (
-          refl,
-          (
-            small_plain s.frames (omega (arith, r.frames_most)),
-            (
-              refl,
-              (
-                small_plain s.pages (omega (arith, r.pages_most)),
-                (
-                  refl,
-                  (
-                    small_plain s.threads (omega (arith, r.threads_most)),
-                    (
-                      refl,
-                      (
-                        small_plain s.workers (omega (arith, r.workers_most)),
-                        (
-                          refl,
-                          (
-                            small_plain s.registers (omega (arith, r.registers_most)),
-                            (refl, (small_plain s.globals (omega (arith, r.globals_most)), tail)),
-                          ),
-                        ),
-                      ),
-                    ),
-                  ),
-                ),
-              ),
-            ),
-          ),
-        ),
-      ),
-    )
+pub sizes_plain : (s : Sizes) (ws : List (List ℕ)) → SpellsSizes s ws → AllByRecursion IsPlain ws
+sizes_plain s ws h =
+    let r = h.range in
+    let most = (page_size_range s.words r.words).1 in
+    let limits : ArePlain (h.births ++ h.history) = record {
+      each = all_both IsPlain h.births h.history
+          (limit_plain (codes "births") (2 ^ 32) s.births h.births refl (omega (arith, r.births.1)) h.births_spelled)
+          (limit_plain (codes "history") 1000000 s.history h.history refl (omega
+          (arith, r.history.1)) h.history_spelled);
+    } in
+    rw h.words_are ((named (codes "words") s.words refl (omega arith)
+    (named (codes "frames") s.frames refl (omega (arith, r.frames.1))
+    (named (codes "pages") s.pages refl (omega (arith, r.pages.1))
+    (named (codes "threads") s.threads refl (omega (arith, r.threads.1))
+    (named (codes "workers") s.workers refl (omega (arith, r.workers.1))
+    (named (codes "registers") s.registers refl (omega (arith, r.registers.1))
+    (named (codes "globals") s.globals refl (omega (arith, r.globals.1)) limits))))))).each)

@@ -10,7 +10,7 @@ use Rattle.model.specs.Configs.{is_page_size, is_outside, fits_page, first_fault
 use Rattle.model.proofs.Ranges.{no_fault, within}
 use Rattle.parser.specs.declared.heading.Sizes.{Sizes}
 use Rattle.parser.specs.Headings.{config_of}
-use Rattle.parser.proofs.HeapLines.{IsSizes}
+use Rattle.parser.proofs.HeapLines.{IsWithin, IsSizes}
 
 -- the sizes in a configuration
 abbrev pub sizes_in : Config → Sizes
@@ -32,21 +32,21 @@ pub record AreLayouts (words : ℕ) (ls : List Layout) : Type 0 where
   pub few : length ls ≤ 64
   pub room : list_all (fits_page words) ls ≡ true
 
-inside : (n low high : ℕ) → low ≤ n → n ≤ high → is_outside n low high ≡ false
-inside n low high a b = grind (arith, nat_tests)
+inside : (n low high : ℕ) → IsWithin low high n → is_outside n low high ≡ false
+inside n low high h = let low_side = h.0 in let high_side = h.1 in grind (arith, nat_tests)
 
 pub config_in_range : (s : Sizes) (ls : List Layout) → IsSizes s → AreLayouts s.words ls → IsConfig (config_of s ls)
 unfolding first_fault
 config_in_range s ls r l =
-    let frames = inside s.frames 1 4096 r.frames r.frames_most in
-    let pages = inside s.pages s.frames 65535 r.pages r.pages_most in
-    let threads = inside s.threads 1 64 r.threads r.threads_most in
-    let workers = inside s.workers 1 16 r.workers r.workers_most in
-    let registers = inside s.registers 1 16 r.registers r.registers_most in
-    let globals = inside s.globals 0 64 (omega arith) r.globals_most in
-    let count = inside (length ls) 1 64 l.some l.few in
-    let births = inside s.births 1 (2 ^ 32) r.births r.births_most in
-    let history = inside s.history 1 1000000 r.history r.history_most in
+    let frames = inside s.frames 1 4096 r.frames in
+    let pages = inside s.pages s.frames 65535 r.pages in
+    let threads = inside s.threads 1 64 r.threads in
+    let workers = inside s.workers 1 16 r.workers in
+    let registers = inside s.registers 1 16 r.registers in
+    let globals = inside s.globals 0 64 r.globals in
+    let count = inside (length ls) 1 64 (l.some, l.few) in
+    let births = inside s.births 1 (2 ^ 32) r.births in
+    let history = inside s.history 1 1000000 r.history in
     rw (r.words, frames, pages, threads, workers, registers, globals, count, l.room, births, history) refl
 
 -- the first three fields and those behind them
@@ -69,32 +69,17 @@ config_tells c h =
     let y = no_fault (is_outside c.history 1 1000000) _ _ b.1 in
     let both = or_parts (is_outside (length c.layouts) 1 64) (not (list_all (fits_page c.words) c.layouts)) l.0 in
     let count = within (length c.layouts) 1 64 both.0 in
-    let frames = within c.frames 1 4096 f.0 in
-    let pages = within c.pages c.frames 65535 p.0 in
-    let threads = within c.threads 1 64 t.0 in
-    let workers = within c.workers 1 16 k.0 in
-    let registers = within c.registers 1 16 r.0 in
-    let globals = within c.globals 0 64 g.0 in
-    let births = within c.births 1 (2 ^ 32) b.0 in
-    let history = within c.history 1 1000000 y.0 in
     record {
       sizes = record {
         words = not-false (is_page_size c.words) w.0;
-        frames = frames.0;
-        frames_most = frames.1;
-        pages = pages.0;
-        pages_most = pages.1;
-        threads = threads.0;
-        threads_most = threads.1;
-        workers = workers.0;
-        workers_most = workers.1;
-        registers = registers.0;
-        registers_most = registers.1;
-        globals_most = globals.1;
-        births = births.0;
-        births_most = births.1;
-        history = history.0;
-        history_most = history.1;
+        frames = within c.frames 1 4096 f.0;
+        pages = within c.pages c.frames 65535 p.0;
+        threads = within c.threads 1 64 t.0;
+        workers = within c.workers 1 16 k.0;
+        registers = within c.registers 1 16 r.0;
+        globals = within c.globals 0 64 g.0;
+        births = within c.births 1 (2 ^ 32) b.0;
+        history = within c.history 1 1000000 y.0;
       };
       layouts = record {
         some = count.0;

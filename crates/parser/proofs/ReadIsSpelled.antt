@@ -26,14 +26,14 @@ use Rattle.parser.specs.Reading.{times_line, end_in, end_line, part_line, later_
 use Rattle.parser.specs.Spelling.{line_of, actor_word, order_words, command_line_of, layout_line_of}
 use Rattle.parser.specs.Spelling.{Part, One, Times, times_line_of, part_lines, part_commands, IsPart}
 use Rattle.parser.specs.Spelling.{SpellsHeap, says_something, IsLayout, IsCommand}
-use Rattle.parser.proofs.Splitting.{split_cons}
+use Rattle.parser.proofs.Lists.{split_cons}
 use Rattle.parser.proofs.Places.{words_from, word_is, no_word_is, words_whole}
-use Rattle.parser.proofs.Pieces.{bind_ok, test_ok, number_ok, end_ok, one_of}
+use Rattle.parser.proofs.Places.{bind_ok, test_ok, number_ok, end_ok, one_of}
 use Rattle.parser.proofs.ActorsAndOrders.{AreFew, order_ok, actor_ok, line_is}
 use Rattle.parser.proofs.HeapLines.{IsSizes, heap_ok, layout_ok}
 use Rattle.parser.proofs.Parts.{open_lines, HasTurns, say_one, say_inside, say_times, say_end}
-use Rattle.parser.proofs.Parts.{more_commands, all_both, all_repeated, repeated_length}
-use Rattle.parser.proofs.Lists.{all_push, told}
+use Rattle.parser.proofs.Parts.{more_commands, all_repeated, repeated_length}
+use Rattle.parser.proofs.Lists.{all_push, told, all_both}
 
 -- ---- the first word
 
@@ -94,9 +94,9 @@ Said said r = IsBefore said r ⊎ IsBehind said r
 
 pub few_actors : (s : Sizes) → IsSizes s → AreFew s
 few_actors s r = record {
-  threads = omega (arith, r.threads_most);
-  workers = omega (arith, r.workers_most);
-  registers = omega (arith, r.registers_most);
+  threads = omega (arith, r.threads.1);
+  workers = omega (arith, r.workers.1);
+  registers = omega (arith, r.registers.1);
 }
 
 heap_step : (line : List ℕ) (t : ReadSoFar) → heap_line nothing line ≡ Ok t → IsBehind (line ∷ []) t
@@ -116,7 +116,7 @@ heap_step line t h =
         history = sizes.history;
         births_spelled = sizes.births_spelled;
         history_spelled = sizes.history_spelled;
-        line_is = line_by_words line (codes "heap") _ first sizes.spelled;
+        line_is = line_by_words line (codes "heap") _ first sizes.words_are;
       };
       parts = [];
       said_is = refl;
@@ -155,226 +155,219 @@ room_more words ls l h room =
     let fits : fits_page words l ≡ true = grind (arith, nat_tests) in
     list_all-append (fits_page words) ls (l ∷ []) ∙ (rw (h, fits) refl)
 
-layout_step : (said : List (List ℕ)) (r t : ReadSoFar) (b : IsBehind said r) (line : List ℕ)
-    → (first_word line).0 ≡ codes "layout" → r.begun ≡ false → length r.layouts < MOST_LAYOUTS
-    → layout_line r b.sizes line ≡ Ok t → IsBehind (said ++ line ∷ []) t
-unfolding layout_line
-layout_step said r t b line first not_begun few h =
-    let fresh = b.fresh not_begun in
-    let l = bind_ok (layout_in b.sizes line (first_word line).1) _ t h in
-    let layout = layout_ok b.sizes line (first_word line).1 l.0 l.1 in
-    let line_is_layout : line ≡ layout_line_of l.0 = line_by_words line (codes "layout") _ first layout.spelled in
-    subst (λ (x : ReadSoFar). IsBehind (said ++ line ∷ []) x)
-    (same_result (record r { layouts = r.layouts ++ l.0 ∷ [] }) t l.2) (record {
-      sizes = b.sizes;
-      sizes_is = b.sizes_is;
-      heap = b.heap;
-      heap_spelled = b.heap_spelled;
-      parts = b.parts;
-      said_is = add_layout b.heap r.layouts l.0 said line b.parts r.turns r.body fresh.no_parts fresh.no_block
-          line_is_layout b.said_is;
-      commands_are = b.commands_are;
-      turns = b.turns;
-      block_turns = b.block_turns;
-      fresh = λ _. record { no_parts = fresh.no_parts; no_block = fresh.no_block };
-      started = λ _. omega (arith, length-append r.layouts (l.0 ∷ []));
-      range = b.range;
-      layouts = all_push IsLayout r.layouts l.0 b.layouts layout.is;
-      room = room_more b.sizes.words r.layouts l.0 b.room layout.room;
-      few = omega (arith, length-append r.layouts (l.0 ∷ []));
-      commands = b.commands;
-      body = b.body;
-      count = b.count;
-    })
-
--- ---- commands and blocks
-
-command_behind : (said : List (List ℕ)) (r : ReadSoFar) (b : IsBehind said r) (c : Command) (line : List ℕ)
-    → 1 ≤ length r.layouts → line ≡ command_line_of c → IsCommand (config_of b.sizes []) c → (o : Option ℕ)
-    → r.turns ≡ o → is_full o r.commands ≡ false → IsBehind (said ++ line ∷ []) (with_command r o c)
-command_behind said r b c line some_layout is own None none room =
-    let fits : length r.commands < MOST_COMMANDS = grind (arith, nat_tests) in
-    record {
-      sizes = b.sizes;
-      sizes_is = b.sizes_is;
-      heap = b.heap;
-      heap_spelled = b.heap_spelled;
-      parts = b.parts ++ One c ∷ [];
-      said_is = say_one (b.heap ∷ map layout_line_of r.layouts) b.parts c said line r.turns r.body none is b.said_is;
-      commands_are = more_commands b.parts (One c) r.commands b.commands_are;
-      turns = all_push IsPart b.parts (One c) b.turns tt;
-      block_turns = b.block_turns;
-      fresh = λ e. absurd cc;
-      started = λ _. some_layout;
-      range = b.range;
-      layouts = b.layouts;
-      room = b.room;
-      few = b.few;
-      commands = all_push (IsCommand (config_of b.sizes [])) r.commands c b.commands own;
-      body = b.body;
-      count = omega (arith, length-append r.commands (c ∷ []));
-    }
-command_behind said r b c line some_layout is own (Some turns) some room = record {
-  sizes = b.sizes;
-  sizes_is = b.sizes_is;
-  heap = b.heap;
-  heap_spelled = b.heap_spelled;
-  parts = b.parts;
-  said_is = say_inside (b.heap ∷ map layout_line_of r.layouts) b.parts turns c said line r.turns r.body some is
-      b.said_is;
-  commands_are = b.commands_are;
-  turns = b.turns;
-  block_turns = b.block_turns;
-  fresh = λ e. let none = (b.fresh e).no_block in absurd cc;
-  started = λ _. some_layout;
-  range = b.range;
-  layouts = b.layouts;
-  room = b.room;
-  few = b.few;
-  commands = b.commands;
-  body = all_push (IsCommand (config_of b.sizes [])) r.body c b.body own;
-  count = b.count;
-}
-
-command_step : (said : List (List ℕ)) (r t : ReadSoFar) (b : IsBehind said r) (line : List ℕ)
-    → 1 ≤ length r.layouts
-    → command_line r b.sizes line ≡ Ok t → IsBehind (said ++ line ∷ []) t
-unfolding command_line
-command_step said r t b line some h =
-    let few = few_actors b.sizes b.range in
-    let a = bind_ok (actor_at b.sizes line) _ t h in
-    let g = not_refused (is_full r.turns r.commands) _ _ t a.2 in
-    let o = bind_ok (order_at b.sizes line a.0.0 a.0.1) _ t g.1 in
-    let actor = actor_ok b.sizes line a.0 few a.1 in
-    let order = order_ok b.sizes line a.0.0 a.0.1 o.0 few.registers o.1 in
-    let command : Command = record { actor = a.0.0; order = o.0 } in
-    let line_is_command : line ≡ command_line_of command = line_is line (actor_word a.0.0 ∷ order_words o.0)
-    (actor.spelled ∙ ap (λ (t : List (List ℕ)). actor_word a.0.0 ∷ t) order.spelled) in
-    let own : IsCommand (config_of b.sizes []) command =
-    record { actor = actor.there; own = order.own; order = order.fits } in
-    subst (λ (x : ReadSoFar). IsBehind (said ++ line ∷ []) x) (same_result (with_command r r.turns command) t o.2)
-    (command_behind said r b command line some line_is_command own r.turns refl g.0)
-
-times_behind : (said : List (List ℕ)) (r t : ReadSoFar) (b : IsBehind said r) (line : List ℕ)
-    → 1 ≤ length r.layouts
-    → (first_word line).0 ≡ codes "times" → (o : Option ℕ) → r.turns ≡ o → times_in r o line ≡ Ok t
-    → IsBehind (said ++ line ∷ []) t
-times_behind said r t b line some_layout first (Some turns) some h = absurd cc
-times_behind said r t b line some_layout first None none h =
-    let n = bind_ok (number_at line (first_word line).1 1 MOST_TURNS) _ t h in
-    let e = bind_ok (end_at line n.0.1) _ t n.2 in
-    let number = number_ok line (first_word line).1 1 MOST_TURNS n.0 (lit< tt) n.1 in
-    let last = end_ok line n.0.1 e.0 e.1 in
-    let line_is_times : line ≡ times_line_of n.0.0 = line_by_words line (codes "times") _ first
-    (number.spelled ∙ ap (λ (x : List (List ℕ)). decimal n.0.0 ∷ x) last) in
-    subst (λ (x : ReadSoFar). IsBehind (said ++ line ∷ []) x)
-    (same_result (record r { begun = true; turns = Some n.0.0; body = [] }) t e.2) (record {
-      sizes = b.sizes;
-      sizes_is = b.sizes_is;
-      heap = b.heap;
-      heap_spelled = b.heap_spelled;
-      parts = b.parts;
-      said_is = say_times (b.heap ∷ map layout_line_of r.layouts) b.parts n.0.0 said line r.turns r.body none
-          line_is_times b.said_is;
-      commands_are = b.commands_are;
-      turns = b.turns;
-      block_turns = (number.above, number.below);
-      fresh = λ f. absurd cc;
-      started = λ _. some_layout;
-      range = b.range;
-      layouts = b.layouts;
-      room = b.room;
-      few = b.few;
-      commands = b.commands;
-      body = tt;
-      count = b.count;
-    })
-
-times_step : (said : List (List ℕ)) (r t : ReadSoFar) (b : IsBehind said r) (line : List ℕ)
-    → 1 ≤ length r.layouts
-    → (first_word line).0 ≡ codes "times" → times_line r line ≡ Ok t → IsBehind (said ++ line ∷ []) t
-unfolding times_line
-times_step said r t b line some first h = times_behind said r t b line some first r.turns refl h
-
-end_behind : (said : List (List ℕ)) (r t : ReadSoFar) (b : IsBehind said r) (line : List ℕ)
-    → 1 ≤ length r.layouts
-    → (first_word line).0 ≡ codes "end" → (o : Option ℕ) → r.turns ≡ o → end_in r o line ≡ Ok t
-    → IsBehind (said ++ line ∷ []) t
-end_behind said r t b line some_layout first None none h = absurd cc
-end_behind said r t b line some_layout first (Some turns) some h =
-    let g = not_refused (nat_lt MOST_COMMANDS (length r.commands + turns * length r.body)) _ _ t h in
-    let e = bind_ok (end_at line (first_word line).1) _ t g.1 in
-    let last = end_ok line (first_word line).1 e.0 e.1 in
-    let line_is_end : line ≡ codes "end" = line_by_words line (codes "end") _ first last in
-    let has : HasTurns (Some turns) = subst HasTurns some b.block_turns in
-    let fits : length r.commands + turns * length r.body ≤ MOST_COMMANDS =
-    ltb-false MOST_COMMANDS (length r.commands + turns * length r.body) g.0 in
-    subst (λ (x : ReadSoFar). IsBehind (said ++ line ∷ []) x) (same_result (record r {
-      commands = r.commands ++ repeat turns r.body;
-      turns = None;
-      body = [];
-    }) t e.2) (record {
-      sizes = b.sizes;
-      sizes_is = b.sizes_is;
-      heap = b.heap;
-      heap_spelled = b.heap_spelled;
-      parts = b.parts ++ Times turns r.body ∷ [];
-      said_is = say_end (b.heap ∷ map layout_line_of r.layouts) b.parts turns said line r.turns r.body some
-          line_is_end b.said_is;
-      commands_are = more_commands b.parts (Times turns r.body) r.commands b.commands_are;
-      turns = all_push IsPart b.parts (Times turns r.body) b.turns has;
-      block_turns = tt;
-      fresh = λ f. let none = (b.fresh f).no_block in absurd cc;
-      started = λ _. some_layout;
-      range = b.range;
-      layouts = b.layouts;
-      room = b.room;
-      few = b.few;
-      commands = all_both (IsCommand (config_of b.sizes [])) r.commands (repeat turns r.body) b.commands
-          (all_repeated (IsCommand (config_of b.sizes [])) turns r.body b.body);
-      body = tt;
-      count = omega (arith, length-append r.commands (repeat turns r.body), repeated_length turns r.body, fits);
-    })
-
-end_step : (said : List (List ℕ)) (r t : ReadSoFar) (b : IsBehind said r) (line : List ℕ)
-    → 1 ≤ length r.layouts
-    → (first_word line).0 ≡ codes "end" → end_line r line ≡ Ok t → IsBehind (said ++ line ∷ []) t
-unfolding end_line
-end_step said r t b line some first h = end_behind said r t b line some first r.turns refl h
-
-part_step : (said : List (List ℕ)) (r t : ReadSoFar) (b : IsBehind said r) (line : List ℕ)
-    → 1 ≤ length r.layouts
-    → part_line r b.sizes line ≡ Ok t → IsBehind (said ++ line ∷ []) t
-unfolding part_line
-part_step said r t b line some h =
-    elim (one_of (bytes_eq (first_word line).0 (codes "times")) _ _ (Ok t) h) [
-      | inl p ↦ times_step said r t b line some ((bytes_eq-Decides (first_word line).0 (codes "times")).0 p.0) p.1
-      | inr p ↦
-          elim (one_of (bytes_eq (first_word line).0 (codes "end")) _ _ (Ok t) p.1) [
-            | inl q ↦ end_step said r t b line some ((bytes_eq-Decides (first_word line).0 (codes "end")).0 q.0) q.1
-            | inr q ↦ command_step said r t b line some q.1
-          ]
-    ]
-
 pub some_layouts : (ls : List Layout) → (length ls == 0) ≡ false → 1 ≤ length ls
 some_layouts ls h = grind (arith, nat_tests)
 
-later_step : (said : List (List ℕ)) (r t : ReadSoFar) (b : IsBehind said r) (line : List ℕ)
-    → later_line r b.sizes line ≡ Ok t → IsBehind (said ++ line ∷ []) t
-unfolding later_line
-later_step said r t b line h =
-    elim (one_of (bytes_eq (first_word line).0 (codes "layout") && not r.begun
-    && nat_lt (length r.layouts) MOST_LAYOUTS) _ _ (Ok t) h) [
-      | inl p ↦
-          let most = and_parts (bytes_eq (first_word line).0 (codes "layout") && not r.begun)
-          (nat_lt (length r.layouts) MOST_LAYOUTS) p.0 in
-          let first = and_parts (bytes_eq (first_word line).0 (codes "layout")) (not r.begun) most.0 in
-          let few : length r.layouts < MOST_LAYOUTS = ltb-true (length r.layouts) MOST_LAYOUTS most.1 in
-          layout_step said r t b line ((bytes_eq-Decides (first_word line).0 (codes "layout")).0 first.0)
-          (not-true r.begun first.1) few p.1
-      | inr p ↦ let g = not_refused (length r.layouts == 0) _ _ t p.1 in
-          part_step said r t b line (some_layouts r.layouts g.0) g.1
-    ]
+-- ---- a line behind the heap line
+
+module _ (said : List (List ℕ)) (r : ReadSoFar) (b : IsBehind said r) (line : List ℕ) where
+  layout_step : (t : ReadSoFar) → (first_word line).0 ≡ codes "layout" → r.begun ≡ false
+      → length r.layouts < MOST_LAYOUTS
+      → layout_line r b.sizes line ≡ Ok t → IsBehind (said ++ line ∷ []) t
+  unfolding layout_line
+  layout_step t first not_begun few h =
+      let fresh = b.fresh not_begun in
+      let l = bind_ok (layout_in b.sizes line (first_word line).1) _ t h in
+      let layout = layout_ok b.sizes line (first_word line).1 l.0 l.1 in
+      let line_is_layout : line ≡ layout_line_of l.0 = line_by_words line (codes "layout") _ first layout.spelled in
+      subst (λ (x : ReadSoFar). IsBehind (said ++ line ∷ []) x)
+      (same_result (record r { layouts = r.layouts ++ l.0 ∷ [] }) t l.2) (record {
+        sizes = b.sizes;
+        sizes_is = b.sizes_is;
+        heap = b.heap;
+        heap_spelled = b.heap_spelled;
+        parts = b.parts;
+        said_is = add_layout b.heap r.layouts l.0 said line b.parts r.turns r.body fresh.no_parts fresh.no_block
+            line_is_layout b.said_is;
+        commands_are = b.commands_are;
+        turns = b.turns;
+        block_turns = b.block_turns;
+        fresh = λ _. record { no_parts = fresh.no_parts; no_block = fresh.no_block };
+        started = λ _. omega (arith, length-append r.layouts (l.0 ∷ []));
+        range = b.range;
+        layouts = all_push IsLayout r.layouts l.0 b.layouts layout.is;
+        room = room_more b.sizes.words r.layouts l.0 b.room layout.room;
+        few = omega (arith, length-append r.layouts (l.0 ∷ []));
+        commands = b.commands;
+        body = b.body;
+        count = b.count;
+      })
+
+  command_behind : (c : Command) → 1 ≤ length r.layouts → line ≡ command_line_of c
+      → IsCommand (config_of b.sizes []) c → (o : Option ℕ)
+      → r.turns ≡ o → is_full o r.commands ≡ false → IsBehind (said ++ line ∷ []) (with_command r o c)
+  command_behind c some_layout is own None none room =
+      let fits : length r.commands < MOST_COMMANDS = grind (arith, nat_tests) in
+      record {
+        sizes = b.sizes;
+        sizes_is = b.sizes_is;
+        heap = b.heap;
+        heap_spelled = b.heap_spelled;
+        parts = b.parts ++ One c ∷ [];
+        said_is = say_one (b.heap ∷ map layout_line_of r.layouts) b.parts c said line r.turns r.body none is b.said_is;
+        commands_are = more_commands b.parts (One c) r.commands b.commands_are;
+        turns = all_push IsPart b.parts (One c) b.turns tt;
+        block_turns = b.block_turns;
+        fresh = λ e. absurd cc;
+        started = λ _. some_layout;
+        range = b.range;
+        layouts = b.layouts;
+        room = b.room;
+        few = b.few;
+        commands = all_push (IsCommand (config_of b.sizes [])) r.commands c b.commands own;
+        body = b.body;
+        count = omega (arith, length-append r.commands (c ∷ []));
+      }
+  command_behind c some_layout is own (Some turns) some room = record {
+    sizes = b.sizes;
+    sizes_is = b.sizes_is;
+    heap = b.heap;
+    heap_spelled = b.heap_spelled;
+    parts = b.parts;
+    said_is = say_inside (b.heap ∷ map layout_line_of r.layouts) b.parts turns c said line r.turns r.body some is
+        b.said_is;
+    commands_are = b.commands_are;
+    turns = b.turns;
+    block_turns = b.block_turns;
+    fresh = λ e. let none = (b.fresh e).no_block in absurd cc;
+    started = λ _. some_layout;
+    range = b.range;
+    layouts = b.layouts;
+    room = b.room;
+    few = b.few;
+    commands = b.commands;
+    body = all_push (IsCommand (config_of b.sizes [])) r.body c b.body own;
+    count = b.count;
+  }
+
+  command_step : (t : ReadSoFar) → 1 ≤ length r.layouts → command_line r b.sizes line ≡ Ok t
+      → IsBehind (said ++ line ∷ []) t
+  unfolding command_line
+  command_step t some h =
+      let few = few_actors b.sizes b.range in
+      let a = bind_ok (actor_at b.sizes line) _ t h in
+      let g = not_refused (is_full r.turns r.commands) _ _ t a.2 in
+      let o = bind_ok (order_at b.sizes line a.0.0 a.0.1) _ t g.1 in
+      let actor = actor_ok b.sizes line a.0 few a.1 in
+      let order = order_ok b.sizes line a.0.0 a.0.1 o.0 few.registers o.1 in
+      let command : Command = record { actor = a.0.0; order = o.0 } in
+      let line_is_command : line ≡ command_line_of command = line_is line (actor_word a.0.0 ∷ order_words o.0)
+      (actor.spelled ∙ ap (λ (t : List (List ℕ)). actor_word a.0.0 ∷ t) order.spelled) in
+      let own : IsCommand (config_of b.sizes []) command =
+      record { actor = actor.there; own = order.own; order = order.fits } in
+      subst (λ (x : ReadSoFar). IsBehind (said ++ line ∷ []) x) (same_result (with_command r r.turns command) t o.2)
+      (command_behind command some line_is_command own r.turns refl g.0)
+
+  times_behind : (t : ReadSoFar) → 1 ≤ length r.layouts → (first_word line).0 ≡ codes "times" → (o : Option ℕ)
+      → r.turns ≡ o → times_in r o line ≡ Ok t
+      → IsBehind (said ++ line ∷ []) t
+  times_behind t some_layout first (Some turns) some h = absurd cc
+  times_behind t some_layout first None none h =
+      let n = bind_ok (number_at line (first_word line).1 1 MOST_TURNS) _ t h in
+      let e = bind_ok (end_at line n.0.1) _ t n.2 in
+      let number = number_ok line (first_word line).1 1 MOST_TURNS n.0 (lit< tt) n.1 in
+      let last = end_ok line n.0.1 e.0 e.1 in
+      let line_is_times : line ≡ times_line_of n.0.0 = line_by_words line (codes "times") _ first
+      (number.spelled ∙ ap (λ (x : List (List ℕ)). decimal n.0.0 ∷ x) last) in
+      subst (λ (x : ReadSoFar). IsBehind (said ++ line ∷ []) x)
+      (same_result (record r { begun = true; turns = Some n.0.0; body = [] }) t e.2) (record {
+        sizes = b.sizes;
+        sizes_is = b.sizes_is;
+        heap = b.heap;
+        heap_spelled = b.heap_spelled;
+        parts = b.parts;
+        said_is = say_times (b.heap ∷ map layout_line_of r.layouts) b.parts n.0.0 said line r.turns r.body none
+            line_is_times b.said_is;
+        commands_are = b.commands_are;
+        turns = b.turns;
+        block_turns = (number.above, number.below);
+        fresh = λ f. absurd cc;
+        started = λ _. some_layout;
+        range = b.range;
+        layouts = b.layouts;
+        room = b.room;
+        few = b.few;
+        commands = b.commands;
+        body = tt;
+        count = b.count;
+      })
+
+  times_step : (t : ReadSoFar) → 1 ≤ length r.layouts → (first_word line).0 ≡ codes "times" → times_line r line ≡ Ok t
+      → IsBehind (said ++ line ∷ []) t
+  unfolding times_line
+  times_step t some first h = times_behind t some first r.turns refl h
+
+  end_behind : (t : ReadSoFar) → 1 ≤ length r.layouts → (first_word line).0 ≡ codes "end" → (o : Option ℕ)
+      → r.turns ≡ o → end_in r o line ≡ Ok t
+      → IsBehind (said ++ line ∷ []) t
+  end_behind t some_layout first None none h = absurd cc
+  end_behind t some_layout first (Some turns) some h =
+      let g = not_refused (nat_lt MOST_COMMANDS (length r.commands + turns * length r.body)) _ _ t h in
+      let e = bind_ok (end_at line (first_word line).1) _ t g.1 in
+      let last = end_ok line (first_word line).1 e.0 e.1 in
+      let line_is_end : line ≡ codes "end" = line_by_words line (codes "end") _ first last in
+      let has : HasTurns (Some turns) = subst HasTurns some b.block_turns in
+      let fits : length r.commands + turns * length r.body ≤ MOST_COMMANDS =
+      ltb-false MOST_COMMANDS (length r.commands + turns * length r.body) g.0 in
+      subst (λ (x : ReadSoFar). IsBehind (said ++ line ∷ []) x) (same_result (record r {
+        commands = r.commands ++ repeat turns r.body;
+        turns = None;
+        body = [];
+      }) t e.2) (record {
+        sizes = b.sizes;
+        sizes_is = b.sizes_is;
+        heap = b.heap;
+        heap_spelled = b.heap_spelled;
+        parts = b.parts ++ Times turns r.body ∷ [];
+        said_is = say_end (b.heap ∷ map layout_line_of r.layouts) b.parts turns said line r.turns r.body some
+            line_is_end b.said_is;
+        commands_are = more_commands b.parts (Times turns r.body) r.commands b.commands_are;
+        turns = all_push IsPart b.parts (Times turns r.body) b.turns has;
+        block_turns = tt;
+        fresh = λ f. let none = (b.fresh f).no_block in absurd cc;
+        started = λ _. some_layout;
+        range = b.range;
+        layouts = b.layouts;
+        room = b.room;
+        few = b.few;
+        commands = all_both (IsCommand (config_of b.sizes [])) r.commands (repeat turns r.body) b.commands
+            (all_repeated (IsCommand (config_of b.sizes [])) turns r.body b.body);
+        body = tt;
+        count = omega (arith, length-append r.commands (repeat turns r.body), repeated_length turns r.body, fits);
+      })
+
+  end_step : (t : ReadSoFar) → 1 ≤ length r.layouts → (first_word line).0 ≡ codes "end" → end_line r line ≡ Ok t
+      → IsBehind (said ++ line ∷ []) t
+  unfolding end_line
+  end_step t some first h = end_behind t some first r.turns refl h
+
+  part_step : (t : ReadSoFar) → 1 ≤ length r.layouts → part_line r b.sizes line ≡ Ok t → IsBehind (said ++ line ∷ []) t
+  unfolding part_line
+  part_step t some h =
+      elim (one_of (bytes_eq (first_word line).0 (codes "times")) _ _ (Ok t) h) [
+        | inl p ↦ times_step t some ((bytes_eq-Decides (first_word line).0 (codes "times")).0 p.0) p.1
+        | inr p ↦
+            elim (one_of (bytes_eq (first_word line).0 (codes "end")) _ _ (Ok t) p.1) [
+              | inl q ↦ end_step t some ((bytes_eq-Decides (first_word line).0 (codes "end")).0 q.0) q.1
+              | inr q ↦ command_step t some q.1
+            ]
+      ]
+
+  later_step : (t : ReadSoFar) → later_line r b.sizes line ≡ Ok t → IsBehind (said ++ line ∷ []) t
+  unfolding later_line
+  later_step t h =
+      elim (one_of (bytes_eq (first_word line).0 (codes "layout") && not r.begun
+      && nat_lt (length r.layouts) MOST_LAYOUTS) _ _ (Ok t) h) [
+        | inl p ↦
+            let most = and_parts (bytes_eq (first_word line).0 (codes "layout") && not r.begun)
+            (nat_lt (length r.layouts) MOST_LAYOUTS) p.0 in
+            let first = and_parts (bytes_eq (first_word line).0 (codes "layout")) (not r.begun) most.0 in
+            let few : length r.layouts < MOST_LAYOUTS = ltb-true (length r.layouts) MOST_LAYOUTS most.1 in
+            layout_step t ((bytes_eq-Decides (first_word line).0 (codes "layout")).0 first.0)
+            (not-true r.begun first.1) few p.1
+        | inr p ↦ let g = not_refused (length r.layouts == 0) _ _ t p.1 in
+            part_step t (some_layouts r.layouts g.0) g.1
+      ]
 
 -- ---- a line
 
@@ -387,7 +380,7 @@ line_step said r t line (inl before) idle h =
 line_step said r t line (inr behind) idle h =
     let later : later_line r behind.sizes line ≡ Ok t =
     subst (λ (o : Option Sizes). line_after r o line ≡ Ok t) behind.sizes_is h in
-    inr (later_step said r t behind line later)
+    inr (later_step said r behind line t later)
 
 pub line_ok : (said : List (List ℕ)) (r t : ReadSoFar) (line : List ℕ) → Said said r → line_in r line ≡ Ok t
     → Said (said ++ told says_something line) t

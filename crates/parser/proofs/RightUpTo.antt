@@ -26,29 +26,24 @@ use Rattle.parser.specs.Reading.{ReadSoFar, nothing, is_idle, first_word, heap_l
 use Rattle.parser.specs.Reading.{times_line, end_in, end_line, part_line, later_line, line_after, line_in}
 use Rattle.parser.specs.Spelling.{IsLine, line_of, actor_word, order_words, says_something, times_line_of, IsActor}
 use Rattle.parser.specs.Spelling.{IsCommand}
-use Rattle.parser.specs.Spelling.{size_words, SpellsLimit}
+use Rattle.parser.specs.Spelling.{SpellsHeap}
 use Rattle.parser.specs.Faults.{IsNameOf, HaveNoFault, HasOtherStart, IsRightUpTo}
-use Rattle.parser.proofs.Splitting.{split_cons}
+use Rattle.parser.proofs.Lists.{split_cons}
 use Rattle.parser.proofs.Places.{space, words_from, words_inside}
-use Rattle.parser.proofs.Pieces.{one_of, number_ok}
+use Rattle.parser.proofs.Places.{one_of, number_ok}
 use Rattle.parser.proofs.ActorsAndOrders.{actor_ok, line_is, first_is}
 use Rattle.parser.proofs.Lists.{all_from, HasNoNewlines, all_push, told, filter_told}
 use Rattle.parser.proofs.ReadIsSpelled.{Said, line_ok, first_words, few_actors, some_layouts}
 use Rattle.parser.proofs.TakenLines.{IsReady, heap_taken, times_taken, end_taken, command_taken}
 use Rattle.parser.proofs.Alike.{IsFaultAt, IsJudged, no_bytes, bind_assoc, word_or_some}
 use Rattle.parser.proofs.WordPlaces.{finds_word}
-use Rattle.parser.proofs.AlikeOrders.{judge_name}
+use Rattle.parser.proofs.AlikeLines.{judge_name}
 use Rattle.parser.proofs.Breaks.{bind_err, same_flaw, no_err, IsTail, Breaks, here, later, judged_err}
 use Rattle.parser.proofs.Breaks.{number_break, end_break}
-use Rattle.parser.proofs.OrderBreaks.{order_break}
-use Rattle.parser.proofs.HeapBreaks.{heap_breaks}
-use Rattle.parser.proofs.HeapLines.{IsSizes}
-use Rattle.parser.proofs.Parts.{all_both}
-use Rattle.model.proofs.Ranges.{page_size_range}
-use Rattle.parser.proofs.Completions.{no_newlines, number_no_newlines, words_no_newlines, taken_have_none}
-use Rattle.parser.proofs.OrderBytes.{thread_no_newlines}
-
--- ---- the words before a fault
+use Rattle.parser.proofs.Breaks.{order_break}
+use Rattle.parser.proofs.HeapLines.{heap_breaks}
+use Rattle.parser.proofs.Completions.{taken_have_none}
+use Rattle.parser.proofs.Plain.{no_newlines, words_no_newlines, number_plain, order_plain, sizes_plain}
 
 join_more : (w : List ℕ) (ws : List (List ℕ)) (v : List ℕ) (vs : List (List ℕ))
     → join_with_byte 32 ((w ∷ ws) ++ v ∷ vs) ≡ join_with_byte 32 (w ∷ ws) ++ 32 ∷ join_with_byte 32 (v ∷ vs)
@@ -103,8 +98,6 @@ front_of line f p w ws tail e (inl there) =
     inl (same_front line p.front (p.word ++ p.back) (words ++ 32 ∷ []) (drop place line) p.is.line_is spaced
     (omega arith))
 
--- ---- a line in the place of a wrong one
-
 -- a wrong line behind lines that are taken: its fault stands behind its first word
 record IsBroken (before : List (List ℕ)) (line : List ℕ) (t : ReadSoFar) (f : Flaw) : Type 0 where
   each : AllByRecursion HasNoNewlines before
@@ -121,29 +114,6 @@ said_behind before line t u so_far h =
     ∙ sym (filter-append says_something before (line ∷ [])))
     (line_ok (filter says_something before) t u line so_far h)
 
-mended : (before : List (List ℕ)) (line : List ℕ) (t u : ReadSoFar) (f : Flaw) (b : IsBroken before line t f)
-    (w : List ℕ) (after : ℕ) (full : List (List ℕ)) → words_from line 0 ≡ w ∷ words_from line after
-    → Breaks line after f full → HasNoNewlines (line_of (w ∷ full)) → line_in t (line_of (w ∷ full)) ≡ Ok u
-    → IsRightUpTo before b.at.front
-mended before line t u f b w after full first breaks own taken =
-    let other = line_of (w ∷ full) in
-    let none = taken_have_none (before ++ other ∷ []) u (all_push HasNoNewlines before other b.each own)
-    (said_behind before other t u b.so_far taken) in
-    record {
-      words = w ∷ breaks.firsts;
-      more = breaks.lasts;
-      front_is = front_of line f b.at w breaks.firsts breaks.behind.tail
-          (first ∙ ap (λ (x : List (List ℕ)). w ∷ x) breaks.behind.words) breaks.behind.place;
-      is_line = subst (λ (x : List (List ℕ)). IsLine (line_of (w ∷ x))) breaks.full_is
-          (all_from (λ b. b ≢ 10) other own);
-      faultless = subst (λ (x : List (List ℕ)). HaveNoFault (before ++ line_of (w ∷ x) ∷ [])) breaks.full_is none;
-    }
-
--- no fault at column 1 stands behind a first word
-not_first : (before : List (List ℕ)) (line : List ℕ) (t : ReadSoFar) (f : Flaw) → IsBroken before line t f
-    → f.column ≡ 1 → ⊥
-not_first before line t f b column = let place = b.at.column in b.some (no_bytes b.at.front (omega arith))
-
 -- a fault that was made at column 1
 first_made : {A : Type 0} (kind : FaultKind) (f : Flaw) → ◌≡◌ {A = Result A Flaw} (Err (flaw 0 kind)) (Err f)
     → f.column ≡ 1
@@ -152,63 +122,6 @@ first_made {A} kind f h = ap (λ (x : Flaw). x.column) (sym (same_flaw {A = A} (
 first_letter : (line : List ℕ) (b : ℕ) (w : List ℕ) → (first_word line).0 ≡ b ∷ w → first_byte line ≡ b
 first_letter line b w h = first_is line b w (words_from line (first_word line).1)
     (first_words line ∙ ap (λ (x : List ℕ). x ∷ words_from line (first_word line).1) h)
-
--- ---- blocks
-
-times_right : (before : List (List ℕ)) (line : List ℕ) (t : ReadSoFar) (f : Flaw) (b : IsBroken before line t f)
-    (z : Sizes) → IsReady z t → 1 ≤ length t.layouts → (first_word line).0 ≡ codes "times" → (o : Option ℕ)
-    → t.turns ≡ o → times_in t o line ≡ Err f → IsRightUpTo before b.at.front
-times_right before line t f b z ready some first (Some turns) is h =
-    absurd (not_first before line t f b (first_made {A = ReadSoFar} kinds.UnknownWord f h))
-times_right before line t f b z ready some first None is h =
-    let at = (first_word line).1 in
-    let words : words_from line 0 ≡ codes "times" ∷ words_from line at =
-    first_words line ∙ ap (λ (x : List ℕ). x ∷ words_from line at) first in
-    elim (bind_err (number_at line at 1 MOST_TURNS) _ f h) [
-      | inl e ↦
-          let taken = times_taken z t 1 (times_line_of 1) ready some is (omega arith) (omega arith) refl refl in
-          mended before line t _ f b (codes "times") at (decimal 1 ∷ []) words
-          (here line at f (decimal 1 ∷ []) (number_break line at 1 MOST_TURNS f e)) (bytes 1 (omega arith)) taken
-      | inr n ↦
-          let number = number_ok line at 1 MOST_TURNS n.0 (omega arith) n.1.0 in
-          let most = number.below in
-          let taken = times_taken z t n.0.0 (times_line_of n.0.0) ready some is number.above number.below refl refl in
-          elim (bind_err (end_at line n.0.1) _ f n.1.1) [
-            | inl e ↦
-                mended before line t _ f b (codes "times") at (decimal n.0.0 ∷ []) words
-                (later line at n.0.1 f (decimal n.0.0 ∷ []) [] number.spelled
-                (here line n.0.1 f [] (end_break line n.0.1 f e))) (bytes n.0.0 (omega arith)) taken
-            | inr u ↦ absurd (no_err _ f u.1.1)
-          ]
-    ]
-  where
-    bytes : (n : ℕ) → n < 2 ^ 64 → HasNoNewlines (times_line_of n)
-    bytes n small = words_no_newlines (codes "times" ∷ decimal n ∷ [])
-        (no_newlines (codes "times") refl, (number_no_newlines n small, tt))
-
-end_right : (before : List (List ℕ)) (line : List ℕ) (t : ReadSoFar) (f : Flaw) (b : IsBroken before line t f)
-    (z : Sizes) → IsReady z t → 1 ≤ length t.layouts → (first_word line).0 ≡ codes "end" → (o : Option ℕ)
-    → t.turns ≡ o → end_in t o line ≡ Err f → IsRightUpTo before b.at.front
-end_right before line t f b z ready some first None is h =
-    absurd (not_first before line t f b (first_made {A = ReadSoFar} kinds.EndWithoutTimes f h))
-end_right before line t f b z ready some first (Some turns) is h =
-    let at = (first_word line).1 in
-    let count = length t.commands + turns * length t.body in
-    let words : words_from line 0 ≡ codes "end" ∷ words_from line at =
-    first_words line ∙ ap (λ (x : List ℕ). x ∷ words_from line at) first in
-    elim (one_of (nat_lt MOST_COMMANDS count) _ _ (Err f) h) [
-      | inl many ↦ absurd (not_first before line t f b (first_made {A = ReadSoFar} kinds.TooManyCommands f many.1))
-      | inr few ↦
-          elim (bind_err (end_at line at) _ f few.1) [
-            | inl e ↦
-                mended before line t _ f b (codes "end") at [] words (here line at f [] (end_break line at f e))
-                (no_newlines (codes "end") refl)
-                (end_taken z t turns (codes "end") ready some is (ltb-false MOST_COMMANDS count few.0) refl refl)
-            | inr u ↦ absurd (no_err _ f u.1.1)
-          ]
-    ]
-
--- ---- commands
 
 first_judged : {A : Type 0} (line : List ℕ) (kind : FaultKind) (place : A → ℕ) (judge : List ℕ × ℕ → Result A Flaw)
     (f : Flaw) → ((w : List ℕ × ℕ) → IsJudged place 0 w (judge w)) → (word_or line 0 kind >>= judge) ≡ Err f
@@ -256,192 +169,194 @@ joined_idle : (b : ℕ) (w : List ℕ) (ws : List (List ℕ)) → (b == 35) ≡ 
 joined_idle b w [] h = h
 joined_idle b w (v ∷ ws) h = h
 
-thread_right : (before : List (List ℕ)) (line : List ℕ) (r : ReadSoFar) (f : Flaw) (b : IsBroken before line r f)
-    (z : Sizes) → IsReady z r → 1 ≤ length r.layouts → is_full r.turns r.commands ≡ false → (actor : Actor) (at : ℕ)
-    → words_from line 0 ≡ actor_word actor ∷ words_from line at → IsActor (config_of z []) actor
-    → order_at z line actor at ≡ Err f → IsRightUpTo before b.at.front
-thread_right before line r f b z ready some room (Worker w) at words there h =
-    absurd (b.start.1 (first_is line 119 (decimal w) (words_from line at) words))
-thread_right before line r f b z ready some room (Thread t) at words there h =
-    let few = few_actors z ready.range in
-    let threads = few.threads in
-    let breaks = order_break z line t at f ready.range.registers few.registers h in
-    let command : Command = record { actor = Thread t; order = breaks.order } in
-    let own : IsCommand (config_of z []) command = record { actor = there; own = tt; order = breaks.fits } in
-    let taken = command_taken z r command (line_of (actor_word
-    (Thread t) ∷ order_words breaks.order)) r.turns ready some
-    refl room own (joined_idle 116 (decimal t) (order_words breaks.order) refl) refl in
-    mended before line r _ f b (actor_word (Thread t)) at (order_words breaks.order) words breaks.breaks
-    (thread_no_newlines t z.registers breaks.order (omega (arith, there)) few.registers breaks.fits) taken
+-- ---- a wrong line
 
-command_right : (before : List (List ℕ)) (line : List ℕ) (r : ReadSoFar) (f : Flaw) (b : IsBroken before line r f)
-    (z : Sizes) → IsReady z r → 1 ≤ length r.layouts → command_line r z line ≡ Err f → IsRightUpTo before b.at.front
-unfolding command_line
-command_right before line r f b z ready some h = elim (bind_err (actor_at z line) _ f h) [
-  | inl e ↦ absurd (not_first before line r f b (actor_first z line f e))
-  | inr a ↦
-      let actor = actor_ok z line a.0 (few_actors z ready.range) a.1.0 in
-      elim (one_of (is_full r.turns r.commands) _ _ (Err f) a.1.1) [
-        | inl full ↦ absurd (not_first before line r f b (first_made {A = ReadSoFar} kinds.TooManyCommands f full.1))
-        | inr room ↦
-            elim (bind_err (order_at z line a.0.0 a.0.1) _ f room.1) [
+module _ (before : List (List ℕ)) (line : List ℕ) (r : ReadSoFar) (f : Flaw) (b : IsBroken before line r f) where
+  mended : (u : ReadSoFar) (w : List ℕ) (after : ℕ) (full : List (List ℕ))
+      → words_from line 0 ≡ w ∷ words_from line after
+      → Breaks line after f full → HasNoNewlines (line_of (w ∷ full)) → line_in r (line_of (w ∷ full)) ≡ Ok u
+      → IsRightUpTo before b.at.front
+  mended u w after full first breaks own taken =
+      let other = line_of (w ∷ full) in
+      let none = taken_have_none (before ++ other ∷ []) u (all_push HasNoNewlines before other b.each own)
+      (said_behind before other r u b.so_far taken) in
+      record {
+        words = w ∷ breaks.firsts;
+        more = breaks.lasts;
+        front_is = front_of line f b.at w breaks.firsts breaks.behind.tail
+            (first ∙ ap (λ (x : List (List ℕ)). w ∷ x) breaks.behind.words) breaks.behind.place;
+        is_line = subst (λ (x : List (List ℕ)). IsLine (line_of (w ∷ x))) breaks.full_is
+            (all_from (λ b. b ≢ 10) other own);
+        faultless = subst (λ (x : List (List ℕ)). HaveNoFault (before ++ line_of (w ∷ x) ∷ [])) breaks.full_is none;
+      }
+
+  -- no fault at column 1 stands behind a first word
+  not_first : f.column ≡ 1 → ⊥
+  not_first column = let place = b.at.column in b.some (no_bytes b.at.front (omega arith))
+
+  times_right : (z : Sizes) → IsReady z r → 1 ≤ length r.layouts → (first_word line).0 ≡ codes "times" → (o : Option ℕ)
+      → r.turns ≡ o → times_in r o line ≡ Err f → IsRightUpTo before b.at.front
+  times_right z ready some first (Some turns) is h =
+      absurd (not_first (first_made {A = ReadSoFar} kinds.UnknownWord f h))
+  times_right z ready some first None is h =
+      let at = (first_word line).1 in
+      let words : words_from line 0 ≡ codes "times" ∷ words_from line at =
+      first_words line ∙ ap (λ (x : List ℕ). x ∷ words_from line at) first in
+      elim (bind_err (number_at line at 1 MOST_TURNS) _ f h) [
+        | inl e ↦
+            let taken = times_taken z r 1 (times_line_of 1) ready some is (omega arith) (omega arith) refl refl in
+            mended _ (codes "times") at (decimal 1 ∷ []) words
+            (here line at f (decimal 1 ∷ []) (number_break line at 1 MOST_TURNS f e)) (bytes 1 (omega arith)) taken
+        | inr n ↦
+            let number = number_ok line at 1 MOST_TURNS n.0 (omega arith) n.1.0 in
+            let most = number.below in
+            let taken = times_taken z r n.0.0 (times_line_of n.0.0) ready some is number.above number.below refl refl in
+            elim (bind_err (end_at line n.0.1) _ f n.1.1) [
               | inl e ↦
-                  thread_right before line r f b z ready some room.0 a.0.0 a.0.1 actor.spelled actor.there e
-              | inr o ↦ absurd (no_err _ f o.1.1)
+                  mended _ (codes "times") at (decimal n.0.0 ∷ []) words
+                  (later line at n.0.1 f (decimal n.0.0 ∷ []) [] number.spelled
+                  (here line n.0.1 f [] (end_break line n.0.1 f e))) (bytes n.0.0 (omega arith)) taken
+              | inr u ↦ absurd (no_err _ f u.1.1)
             ]
       ]
-]
+    where
+      bytes : (n : ℕ) → n < 2 ^ 64 → HasNoNewlines (times_line_of n)
+      bytes n small = words_no_newlines (codes "times" ∷ decimal n ∷ []) (refl, (number_plain n small, tt))
 
--- ---- all lines
+  end_right : (z : Sizes) → IsReady z r → 1 ≤ length r.layouts → (first_word line).0 ≡ codes "end" → (o : Option ℕ)
+      → r.turns ≡ o → end_in r o line ≡ Err f → IsRightUpTo before b.at.front
+  end_right z ready some first None is h =
+      absurd (not_first (first_made {A = ReadSoFar} kinds.EndWithoutTimes f h))
+  end_right z ready some first (Some turns) is h =
+      let at = (first_word line).1 in
+      let count = length r.commands + turns * length r.body in
+      let words : words_from line 0 ≡ codes "end" ∷ words_from line at =
+      first_words line ∙ ap (λ (x : List ℕ). x ∷ words_from line at) first in
+      elim (one_of (nat_lt MOST_COMMANDS count) _ _ (Err f) h) [
+        | inl many ↦ absurd (not_first (first_made {A = ReadSoFar} kinds.TooManyCommands f many.1))
+        | inr few ↦
+            elim (bind_err (end_at line at) _ f few.1) [
+              | inl e ↦
+                  mended _ (codes "end") at [] words (here line at f [] (end_break line at f e))
+                  (no_newlines (codes "end") refl)
+                  (end_taken z r turns (codes "end") ready some is (ltb-false MOST_COMMANDS count few.0) refl refl)
+              | inr u ↦ absurd (no_err _ f u.1.1)
+            ]
+      ]
 
-part_right : (before : List (List ℕ)) (line : List ℕ) (r : ReadSoFar) (f : Flaw) (b : IsBroken before line r f)
-    (z : Sizes) → IsReady z r → 1 ≤ length r.layouts → part_line r z line ≡ Err f → IsRightUpTo before b.at.front
-unfolding part_line times_line end_line
-part_right before line r f b z ready some h =
-    elim (one_of (bytes_eq (first_word line).0 (codes "times")) _ _ (Err f) h) [
-      | inl times ↦
-          times_right before line r f b z ready some ((bytes_eq-Decides (first_word line).0 (codes "times")).0 times.0)
-          r.turns refl times.1
-      | inr other ↦
-          elim (one_of (bytes_eq (first_word line).0 (codes "end")) _ _ (Err f) other.1) [
-            | inl last ↦
-                end_right before line r f b z ready some ((bytes_eq-Decides (first_word line).0 (codes "end")).0 last.0)
-                r.turns refl last.1
-            | inr command ↦ command_right before line r f b z ready some command.1
-          ]
-    ]
+  thread_right : (z : Sizes) → IsReady z r → 1 ≤ length r.layouts → is_full r.turns r.commands ≡ false
+      → (actor : Actor) (at : ℕ)
+      → words_from line 0 ≡ actor_word actor ∷ words_from line at → IsActor (config_of z []) actor
+      → order_at z line actor at ≡ Err f → IsRightUpTo before b.at.front
+  thread_right z ready some room (Worker w) at words there h =
+      absurd (b.start.1 (first_is line 119 (decimal w) (words_from line at) words))
+  thread_right z ready some room (Thread t) at words there h =
+      let few = few_actors z ready.range in
+      let threads = few.threads in
+      let breaks = order_break z line t at f ready.range.registers.0 few.registers h in
+      let command : Command = record { actor = Thread t; order = breaks.order } in
+      let own : IsCommand (config_of z []) command = record { actor = there; own = tt; order = breaks.fits } in
+      let taken = command_taken z r command (line_of (actor_word
+      (Thread t) ∷ order_words breaks.order)) r.turns ready some
+      refl room own (joined_idle 116 (decimal t) (order_words breaks.order) refl) refl in
+      mended _ (actor_word (Thread t)) at (order_words breaks.order) words breaks.breaks
+      (words_no_newlines (actor_word (Thread t) ∷ order_words breaks.order)
+      (number_plain t (omega (arith, there)), order_plain z.registers breaks.order few.registers breaks.fits)) taken
 
-later_right : (before : List (List ℕ)) (line : List ℕ) (r : ReadSoFar) (f : Flaw) (b : IsBroken before line r f)
-    (z : Sizes) → IsReady z r → later_line r z line ≡ Err f → IsRightUpTo before b.at.front
-unfolding later_line
-later_right before line r f b z ready h =
-    elim (one_of (bytes_eq (first_word line).0 (codes "layout") && not r.begun
-    && nat_lt (length r.layouts) MOST_LAYOUTS) _ _ (Err f) h) [
-      | inl layout ↦
-          let most = and_parts (bytes_eq (first_word line).0 (codes "layout") && not r.begun)
-          (nat_lt (length r.layouts) MOST_LAYOUTS) layout.0 in
-          let first = and_parts (bytes_eq (first_word line).0 (codes "layout")) (not r.begun) most.0 in
-          absurd (b.start.0 (first_letter line 108 (codes "ayout")
-          ((bytes_eq-Decides (first_word line).0 (codes "layout")).0 first.0)))
-      | inr other ↦
-          elim (one_of (length r.layouts == 0) _ _ (Err f) other.1) [
-            | inl none ↦
-                absurd (not_first before line r f b (first_made {A = ReadSoFar} kinds.LayoutLineExpected f none.1))
-            | inr some ↦ part_right before line r f b z ready (some_layouts r.layouts some.0) some.1
-          ]
-    ]
+  command_right : (z : Sizes) → IsReady z r → 1 ≤ length r.layouts → command_line r z line ≡ Err f
+      → IsRightUpTo before b.at.front
+  unfolding command_line
+  command_right z ready some h = elim (bind_err (actor_at z line) _ f h) [
+    | inl e ↦ absurd (not_first (actor_first z line f e))
+    | inr a ↦
+        let actor = actor_ok z line a.0 (few_actors z ready.range) a.1.0 in
+        elim (one_of (is_full r.turns r.commands) _ _ (Err f) a.1.1) [
+          | inl full ↦ absurd (not_first (first_made {A = ReadSoFar} kinds.TooManyCommands f full.1))
+          | inr room ↦
+              elim (bind_err (order_at z line a.0.0 a.0.1) _ f room.1) [
+                | inl e ↦
+                    thread_right z ready some room.0 a.0.0 a.0.1 actor.spelled actor.there e
+                | inr o ↦ absurd (no_err _ f o.1.1)
+              ]
+        ]
+  ]
 
-limit_no_newlines : (name : List ℕ) (most n : ℕ) (words : List (List ℕ)) → HasNoNewlines name → n < 2 ^ 64
-    → SpellsLimit name most n words → AllByRecursion HasNoNewlines words
-limit_no_newlines name most n words own small (inl e) =
-    subst (λ (x : List (List ℕ)). AllByRecursion HasNoNewlines x) (sym e) (own, (number_no_newlines n small, tt))
-limit_no_newlines name most n words own small (inr e) =
-    subst (λ (x : List (List ℕ)). AllByRecursion HasNoNewlines x) (sym e.0) tt
+  part_right : (z : Sizes) → IsReady z r → 1 ≤ length r.layouts → part_line r z line ≡ Err f
+      → IsRightUpTo before b.at.front
+  unfolding part_line times_line end_line
+  part_right z ready some h =
+      elim (one_of (bytes_eq (first_word line).0 (codes "times")) _ _ (Err f) h) [
+        | inl times ↦
+            times_right z ready some ((bytes_eq-Decides (first_word line).0 (codes "times")).0 times.0)
+            r.turns refl times.1
+        | inr other ↦
+            elim (one_of (bytes_eq (first_word line).0 (codes "end")) _ _ (Err f) other.1) [
+              | inl last ↦
+                  end_right z ready some ((bytes_eq-Decides (first_word line).0 (codes "end")).0 last.0)
+                  r.turns refl last.1
+              | inr command ↦ command_right z ready some command.1
+            ]
+      ]
 
-heap_no_newlines : (s : Sizes) (births history : List (List ℕ)) → IsSizes s
-    → SpellsLimit (codes "births") (2 ^ 32) s.births births → SpellsLimit (codes "history") 1000000 s.history history
-    → HasNoNewlines (line_of (codes "heap" ∷ size_words (config_of s []) ++ births ++ history))
-heap_no_newlines s births history r b y =
-    let words = page_size_range s.words r.words in
-    let most = words.1 in
-    let last : AllByRecursion HasNoNewlines (births ++ history) =
-    all_both HasNoNewlines births history
-    (limit_no_newlines (codes "births") (2 ^ 32) s.births births (no_newlines (codes "births") refl)
-    (omega (arith, r.births_most)) b) (limit_no_newlines (codes "history") 1000000 s.history history
-    (no_newlines (codes "history") refl) (omega (arith, r.history_most)) y) in
-    words_no_newlines (codes "heap" ∷ size_words (config_of s []) ++ births ++ history) (
-      no_newlines (codes "heap") refl,
-      (
-        no_newlines (codes "words") refl,
-        (
-          number_no_newlines s.words
-              (omega arith),
-          (
-            no_newlines (codes "frames") refl,
-            (
-              number_no_newlines s.frames (omega
-                  (arith, r.frames_most)),
-              (
-                no_newlines (codes "pages") refl,
-                (
-                  number_no_newlines s.pages (omega
-                      (arith, r.pages_most)),
-                  (
-                    no_newlines (codes "threads") refl,
-                    (
-                      number_no_newlines s.threads (omega
-                          (arith, r.threads_most)),
-                      (
-                        no_newlines (codes "workers") refl,
-                        (
-                          number_no_newlines s.workers
-                              (omega (arith, r.workers_most)),
-                          (
-                            no_newlines (codes "registers") refl,
-                            (
-                              number_no_newlines s.registers (omega (arith, r.registers_most)),
-                              (
-                                no_newlines
-                                    (codes "globals") refl,
-                                (
-                                  number_no_newlines s.globals (omega
-                                      (arith, r.globals_most)),
-                                  last,
-                                ),
-                              ),
-                            ),
-                          ),
-                        ),
-                      ),
-                    ),
-                  ),
-                ),
-              ),
-            ),
-          ),
-        ),
-      ),
-    )
+  later_right : (z : Sizes) → IsReady z r → later_line r z line ≡ Err f → IsRightUpTo before b.at.front
+  unfolding later_line
+  later_right z ready h =
+      elim (one_of (bytes_eq (first_word line).0 (codes "layout") && not r.begun
+      && nat_lt (length r.layouts) MOST_LAYOUTS) _ _ (Err f) h) [
+        | inl layout ↦
+            let most = and_parts (bytes_eq (first_word line).0 (codes "layout") && not r.begun)
+            (nat_lt (length r.layouts) MOST_LAYOUTS) layout.0 in
+            let first = and_parts (bytes_eq (first_word line).0 (codes "layout")) (not r.begun) most.0 in
+            absurd (b.start.0 (first_letter line 108 (codes "ayout")
+            ((bytes_eq-Decides (first_word line).0 (codes "layout")).0 first.0)))
+        | inr other ↦
+            elim (one_of (length r.layouts == 0) _ _ (Err f) other.1) [
+              | inl none ↦
+                  absurd (not_first (first_made {A = ReadSoFar} kinds.LayoutLineExpected f none.1))
+              | inr some ↦ part_right z ready (some_layouts r.layouts some.0) some.1
+            ]
+      ]
 
-heap_right : (before : List (List ℕ)) (line : List ℕ) (r : ReadSoFar) (f : Flaw) (b : IsBroken before line r f)
-    → r ≡ nothing → heap_line nothing line ≡ Err f → IsRightUpTo before b.at.front
-unfolding heap_line
-heap_right before line r f b is h =
-    elim (one_of (bytes_eq (first_word line).0 (codes "heap")) _ _ (Err f) h) [
-      | inl heap ↦
-          let at = (first_word line).1 in
-          let first = (bytes_eq-Decides (first_word line).0 (codes "heap")).0 heap.0 in
-          let words : words_from line 0 ≡ codes "heap" ∷ words_from line at =
-          first_words line ∙ ap (λ (x : List ℕ). x ∷ words_from line at) first in
-          elim (bind_err (heap_in line at) _ f heap.1) [
-            | inl e ↦
-                let broken = heap_breaks line at f e in
-                let full = size_words (config_of broken.sizes []) ++ broken.births ++ broken.history in
-                let other = line_of (codes "heap" ∷ full) in
-                let u : ReadSoFar = record nothing { sizes = Some broken.sizes } in
-                let taken : line_in r other ≡ Ok u =
-                subst (λ (x : ReadSoFar). line_in x other ≡ Ok u) (sym is) (heap_taken broken.sizes other broken.range
-                (record {
-                  births = broken.births;
-                  history = broken.history;
-                  births_spelled = broken.births_spelled;
-                  history_spelled = broken.history_spelled;
-                  line_is = refl;
-                }) refl) in
-                mended before line r u f b (codes "heap") at full words broken.breaks (heap_no_newlines broken.sizes
-                broken.births broken.history broken.range broken.births_spelled broken.history_spelled) taken
-            | inr z ↦ absurd (no_err _ f z.1.1)
-          ]
-      | inr other ↦ absurd (not_first before line r f b (first_made {A = ReadSoFar} kinds.HeapLineExpected f other.1))
-    ]
+  heap_right : r ≡ nothing → heap_line nothing line ≡ Err f → IsRightUpTo before b.at.front
+  unfolding heap_line
+  heap_right is h =
+      elim (one_of (bytes_eq (first_word line).0 (codes "heap")) _ _ (Err f) h) [
+        | inl heap ↦
+            let at = (first_word line).1 in
+            let first = (bytes_eq-Decides (first_word line).0 (codes "heap")).0 heap.0 in
+            let words : words_from line 0 ≡ codes "heap" ∷ words_from line at =
+            first_words line ∙ ap (λ (x : List ℕ). x ∷ words_from line at) first in
+            elim (bind_err (heap_in line at) _ f heap.1) [
+              | inl e ↦
+                  let broken = heap_breaks line at f e in
+                  let spelled = broken.is in
+                  let z = broken.value in
+                  let other = line_of (codes "heap" ∷ broken.words) in
+                  let heap : SpellsHeap other (config_of z []) = record {
+                    births = spelled.births;
+                    history = spelled.history;
+                    births_spelled = spelled.births_spelled;
+                    history_spelled = spelled.history_spelled;
+                    line_is = ap (λ (ws : List (List ℕ)). line_of (codes "heap" ∷ ws)) spelled.words_are;
+                  } in
+                  let u : ReadSoFar = record nothing { sizes = Some z } in
+                  let taken : line_in r other ≡ Ok u = subst (λ (x : ReadSoFar). line_in x other ≡ Ok u) (sym is)
+                  (heap_taken z other spelled.range heap (rw spelled.words_are refl)) in
+                  let own = words_no_newlines (codes "heap" ∷ broken.words) (refl, sizes_plain z broken.words spelled)
+                  in
+                  mended u (codes "heap") at broken.words words broken.breaks own taken
+              | inr z ↦ absurd (no_err _ f z.1.1)
+            ]
+        | inr other ↦ absurd (not_first (first_made {A = ReadSoFar} kinds.HeapLineExpected f other.1))
+      ]
 
-after_right : (before : List (List ℕ)) (line : List ℕ) (r : ReadSoFar) (f : Flaw) (b : IsBroken before line r f)
-    → Said (filter says_something before) r → line_after r r.sizes line ≡ Err f → IsRightUpTo before b.at.front
-after_right before line r f b (inl empty) h =
-    heap_right before line r f b empty.is (subst (λ (x : ReadSoFar). line_after x x.sizes line ≡ Err f) empty.is h)
-after_right before line r f b (inr behind) h =
-    later_right before line r f b behind.sizes (record { sizes_is = behind.sizes_is; range = behind.range })
-    (subst (λ (o : Option Sizes). line_after r o line ≡ Err f) behind.sizes_is h)
+  after_right : Said (filter says_something before) r → line_after r r.sizes line ≡ Err f
+      → IsRightUpTo before b.at.front
+  after_right (inl empty) h =
+      heap_right empty.is (subst (λ (x : ReadSoFar). line_after x x.sizes line ≡ Err f) empty.is h)
+  after_right (inr behind) h =
+      later_right behind.sizes (record { sizes_is = behind.sizes_is; range = behind.range })
+      (subst (λ (o : Option Sizes). line_after r o line ≡ Err f) behind.sizes_is h)
 
 -- a line of a thread, or of a block, is right up to its fault's word
 pub right_up_to : (before : List (List ℕ)) (line : List ℕ) (r : ReadSoFar) (f : Flaw)

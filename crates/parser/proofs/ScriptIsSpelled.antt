@@ -17,7 +17,7 @@ use Rattle.parser.specs.Reading.{ScriptValue, script_of, ReadSoFar, nothing, new
 use Rattle.parser.specs.Reading.{goes_on, fault_at_start, closed, whole, finished, last_line, lines_in, script_in}
 use Rattle.parser.specs.Spelling.{layout_line_of, Part, part_lines, part_commands, IsPart}
 use Rattle.parser.specs.Spelling.{SpellsHeap, says_something, Spells, IsLayout, IsCommand, IsScript}
-use Rattle.parser.proofs.Splitting.{split_cons}
+use Rattle.parser.proofs.Lists.{split_cons}
 use Rattle.parser.proofs.Ranges.{AreLayouts, config_in_range}
 use Rattle.parser.proofs.Parts.{open_lines}
 use Rattle.parser.proofs.Lists.{all_front, told, filter_told, joined_lines}

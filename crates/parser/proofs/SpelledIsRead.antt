@@ -20,7 +20,7 @@ use Rattle.parser.specs.Reading.{closed, whole, finished, last_line, lines_in, s
 use Rattle.parser.specs.Spelling.{command_line_of, layout_line_of}
 use Rattle.parser.specs.Spelling.{SpellsHeap, Part, One, Times, times_line_of, part_lines, part_commands}
 use Rattle.parser.specs.Spelling.{IsPart, says_something, Spells, IsLayout, IsActor, IsCommand, IsScript}
-use Rattle.parser.proofs.Splitting.{IsCons}
+use Rattle.parser.proofs.Lists.{IsCons}
 use Rattle.parser.proofs.Places.{cons_is}
 use Rattle.parser.proofs.HeapLines.{IsSizes}
 use Rattle.parser.proofs.Ranges.{sizes_in, config_tells}

@@ -1,5 +1,5 @@
 -- A line that is spelled right, and within all limits, is taken.
-use Rattle.std.proofs.Common.{◌≡◌, ℕ, ◌+◌, ◌*◌, ◌^◌, ◌<◌, ◌≤◌, Bool, true, false, nat_lt, List}
+use Rattle.std.proofs.Common.{◌≡◌, ℕ, ◌+◌, ◌*◌, ◌^◌, ◌<◌, ◌≤◌, Bool, true, false, nat_lt, List, subst}
 use Rattle.std.proofs.Common.{[], ◌∷◌, ◌++◌, length, Option, Some, None, refl, sym, ap, ◌∙◌, arith}
 use Rattle.std.specs.Prelude.{Ok, ◌==◌, codes}
 use Rattle.std.specs.Str.{bytes_eq}
@@ -12,7 +12,6 @@ use Rattle.layout.specs.declared.shape.Layout.{Layout}
 use Rattle.model.specs.declared.steps.Actor.{Actor}
 use Rattle.model.specs.declared.steps.Actor.TheVariants.{Thread, Worker}
 use Rattle.model.specs.Configs.{fits_page}
-use Rattle.model.proofs.Ranges.{page_size_range}
 use Rattle.parser.specs.declared.heading.Sizes.{Sizes}
 use Rattle.parser.specs.declared.order.Command.{Command}
 use Rattle.parser.specs.declared.reading.TheConstants.{MOST_COMMANDS, MOST_LAYOUTS, MOST_TURNS}
@@ -25,11 +24,11 @@ use Rattle.parser.specs.Spelling.{line_of, actor_word, order_words, command_line
 use Rattle.parser.specs.Spelling.{SpellsHeap, times_line_of, IsLayout, IsActor, IsCommand}
 use Rattle.parser.proofs.Numbers.{decimal_digits}
 use Rattle.parser.proofs.Places.{words_from, words_whole, space, cons_is}
-use Rattle.parser.proofs.Pieces.{number_again, end_again}
+use Rattle.parser.proofs.Places.{number_again, end_again}
 use Rattle.parser.proofs.ActorsAndOrders.{AreFew, order_again, actor_again}
-use Rattle.parser.proofs.HeapLines.{IsSizes, heap_again, layout_again}
+use Rattle.parser.proofs.HeapLines.{IsSizes, SpellsSizes, heap_again, layout_again}
 use Rattle.parser.proofs.ReadIsSpelled.{first_words, few_actors}
-use Rattle.parser.proofs.Plain.{IsPlain, words_split, small_plain, actor_plain, order_plain, heap_plain}
+use Rattle.parser.proofs.Plain.{IsPlain, words_split, number_plain, actor_plain, order_plain, sizes_plain}
 
 -- a line of plain words has this first word and these behind it
 record HasWords (line w : List ℕ) (ws : List (List ℕ)) : Type 0 where
@@ -127,7 +126,7 @@ pub times_taken : (z : Sizes) (r : ReadSoFar) (n : ℕ) (line : List ℕ) → Is
     → line_in r line ≡ Ok (record r { begun = true; turns = Some n; body = [] })
 unfolding part_line times_line
 times_taken z r n line ready some none low high idle is =
-    let words = words_are line (codes "times") (decimal n ∷ []) is refl (small_plain n (omega (arith, high)), tt) in
+    let words = words_are line (codes "times") (decimal n ∷ []) is refl (number_plain n (omega (arith, high)), tt) in
     let times : bytes_eq (first_word line).0 (codes "times") ≡ true =
     ap (λ (w : List ℕ). bytes_eq w (codes "times")) words.first in
     let number = number_again line (first_word line).1 1 MOST_TURNS n [] (omega (arith, high)) low high words.rest in
@@ -140,7 +139,8 @@ times_taken z r n line ready some none low high idle is =
 
 pub end_taken : (z : Sizes) (r : ReadSoFar) (n : ℕ) (line : List ℕ) → IsReady z r → 1 ≤ length r.layouts
     → r.turns ≡ Some n → length r.commands + n * length r.body ≤ MOST_COMMANDS → is_idle line ≡ false
-    → line ≡ codes "end" → line_in r line ≡ Ok (record r { commands = r.commands ++ repeat n r.body; turns = None; body = [] })
+    → line ≡ codes "end" → line_in r line ≡ Ok
+    (record r { commands = r.commands ++ repeat n r.body; turns = None; body = [] })
 unfolding part_line end_line
 end_taken z r n line ready some block room idle is =
     let words = words_are line (codes "end") [] is refl tt in
@@ -166,7 +166,7 @@ layout_taken z r l line ready not_begun few h room idle is =
     let refs = h.refs in
     let nums = h.nums in
     let words = words_are line (codes "layout") (decimal l.refs ∷ decimal l.nums ∷ []) is refl
-    (small_plain l.refs (omega arith), (small_plain l.nums (omega arith), tt)) in
+    (number_plain l.refs (omega arith), (number_plain l.nums (omega arith), tt)) in
     let layout : bytes_eq (first_word line).0 (codes "layout") ≡ true =
     ap (λ (w : List ℕ). bytes_eq w (codes "layout")) words.first in
     let below : nat_lt (length r.layouts) MOST_LAYOUTS ≡ true = lt-ltb (length r.layouts) MOST_LAYOUTS few in
@@ -178,17 +178,17 @@ pub heap_taken : (z : Sizes) (line : List ℕ) → IsSizes z → SpellsHeap line
     line_in nothing line ≡ Ok (record nothing { sizes = Some z })
 unfolding line_in heap_line
 heap_taken z line range h idle =
-    let words_range = page_size_range z.words range.words in
-    let words = words_are line (codes "heap") (size_words (config_of z []) ++ h.births ++ h.history) h.line_is refl
-    (heap_plain z h.births h.history range words_range.1 h.births_spelled h.history_spelled) in
-    let first : bytes_eq (first_word line).0 (codes "heap") ≡ true =
-    ap (λ (w : List ℕ). bytes_eq w (codes "heap")) words.first in
-    let read = heap_again line (first_word line).1 z (record {
+    let sizes : SpellsSizes z (size_words (config_of z []) ++ h.births ++ h.history) = record {
       births = h.births;
       history = h.history;
       births_spelled = h.births_spelled;
       history_spelled = h.history_spelled;
-      spelled = words.rest;
+      words_are = refl;
       range = range;
-    }) in
+    } in
+    let words = words_are line (codes "heap") (size_words (config_of z []) ++ h.births ++ h.history) h.line_is refl
+    (sizes_plain z _ sizes) in
+    let first : bytes_eq (first_word line).0 (codes "heap") ≡ true =
+    ap (λ (w : List ℕ). bytes_eq w (codes "heap")) words.first in
+    let read = heap_again line (first_word line).1 z (subst (SpellsSizes z) (sym words.rest) sizes) in
     rw (idle, first, read) refl

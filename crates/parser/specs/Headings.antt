@@ -71,24 +71,34 @@ limits_at line at = do
   history ← limit_at line births.1 (codes "history") 1000000
   Ok ((globals.0, births.0, history.0), history.1)
 
--- the numbers of a heap line, from the place behind its first word on
-unfoldable pub heap_in : List ℕ → ℕ → Result Sizes Flaw
-heap_in line at = do
+-- sizes by their parts
+abbrev pub sizes_of : ℕ × ℕ × ℕ → ℕ × ℕ × ℕ → ℕ × ℕ × ℕ → Sizes
+sizes_of memory actors limits = record {
+  words = memory.0;
+  frames = memory.1;
+  pages = memory.2;
+  threads = actors.0;
+  workers = actors.1;
+  registers = actors.2;
+  globals = limits.0;
+  births = limits.1;
+  history = limits.2;
+}
+
+-- the numbers of a heap line
+unfoldable pub sizes_at : List ℕ → ℕ → Result (Sizes × ℕ) Flaw
+sizes_at line at = do
   memory ← memory_at line at
   actors ← actors_at line memory.1
   limits ← limits_at line actors.1
-  _ ← end_at line limits.1
-  Ok (record {
-    words = memory.0.0;
-    frames = memory.0.1;
-    pages = memory.0.2;
-    threads = actors.0.0;
-    workers = actors.0.1;
-    registers = actors.0.2;
-    globals = limits.0.0;
-    births = limits.0.1;
-    history = limits.0.2;
-  })
+  Ok (sizes_of memory.0 actors.0 limits.0, limits.1)
+
+-- they stand from the place behind the line's first word to its end
+unfoldable pub heap_in : List ℕ → ℕ → Result Sizes Flaw
+heap_in line at = do
+  sizes ← sizes_at line at
+  _ ← end_at line sizes.1
+  Ok sizes.0
 
 -- a layout, from the place behind the line's first word on
 unfoldable pub layout_in : Sizes → List ℕ → ℕ → Result Layout Flaw

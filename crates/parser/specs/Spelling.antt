@@ -8,9 +8,12 @@ use Rattle.model.specs.declared.steps.Actor.{Actor}
 use Rattle.model.specs.declared.steps.Actor.TheVariants.{Thread, Worker}
 use Rattle.model.specs.Configs.{IsConfig}
 use Rattle.parser.specs.declared.order.Order.{Order}
-use Rattle.parser.specs.declared.order.Order.TheVariants as orders
 use Rattle.parser.specs.declared.order.Command.{Command}
+use Rattle.parser.specs.declared.verbs.Kind.{Kind}
+use Rattle.parser.specs.declared.verbs.Kind.TheVariants.{Nothing, Register, Number, Long}
+use Rattle.parser.specs.declared.verbs.Kinds.{Kinds}
 use Rattle.parser.specs.declared.reading.TheConstants.{MOST_COMMANDS, MOST_TURNS}
+use Rattle.parser.specs.Verbs.{row_of}
 use Rattle.parser.specs.Reading.{ScriptValue, is_idle}
 
 -- the line of words, with one space between each two
@@ -26,33 +29,22 @@ actor_word (Worker w) = codes "w" ++ decimal w
 abbrev pub register_word : ℕ → List ℕ
 register_word r = codes "r" ++ decimal r
 
--- the words of an order: its name, then what it names
+-- the words of an operand, by its kind
+abbrev pub operand_word : Kind → ℕ → List (List ℕ)
+operand_word Nothing n = []
+operand_word Register n = register_word n ∷ []
+operand_word Number n = decimal n ∷ []
+operand_word Long n = decimal n ∷ []
+
+-- the words of operands
+abbrev pub operand_words : Kinds → Order → List (List ℕ)
+operand_words kinds o =
+    operand_word kinds.first o.first
+    ++ (operand_word kinds.second o.second ++ (operand_word kinds.third o.third ++ operand_word kinds.wide o.wide))
+
+-- the words of an order: the verb's, then those of its operands
 abbrev pub order_words : Order → List (List ℕ)
-order_words (orders.Take n) = codes "take" ∷ decimal n ∷ []
-order_words orders.Give = codes "give" ∷ []
-order_words (orders.New target layout) = codes "new" ∷ register_word target ∷ decimal layout ∷ []
-order_words (orders.Load target object index) =
-    codes "load" ∷ register_word target ∷ register_word object ∷ decimal index ∷ []
-order_words (orders.LoadGlobal target global) = codes "loadg" ∷ register_word target ∷ decimal global ∷ []
-order_words orders.Trap = codes "trap" ∷ []
-order_words orders.Heal = codes "heal" ∷ []
-order_words orders.Finish = codes "finish" ∷ []
-order_words (orders.Store object index source) =
-    codes "store" ∷ register_word object ∷ decimal index ∷ register_word source ∷ []
-order_words (orders.StoreGlobal global source) = codes "storeg" ∷ decimal global ∷ register_word source ∷ []
-order_words (orders.Datum object index) = codes "datum" ∷ register_word object ∷ decimal index ∷ []
-order_words (orders.Set object index value) = codes "set" ∷ register_word object ∷ decimal index ∷ decimal value ∷ []
-order_words (orders.Same left right) = codes "same" ∷ register_word left ∷ register_word right ∷ []
-order_words (orders.Null r) = codes "null" ∷ register_word r ∷ []
-order_words (orders.Move target source) = codes "mov" ∷ register_word target ∷ register_word source ∷ []
-order_words (orders.Clear r) = codes "clear" ∷ register_word r ∷ []
-order_words orders.Cross = codes "cross" ∷ []
-order_words (orders.Scrub r) = codes "scrub" ∷ register_word r ∷ []
-order_words orders.Park = codes "park" ∷ []
-order_words orders.Unpark = codes "unpark" ∷ []
-order_words (orders.Get target object index) =
-    codes "get" ∷ register_word target ∷ register_word object ∷ decimal index ∷ []
-order_words (orders.GetGlobal target global) = codes "getg" ∷ register_word target ∷ decimal global ∷ []
+order_words o = (row_of o.verb).text ∷ operand_words (row_of o.verb).kinds o
 
 -- the line of a command
 abbrev pub command_line_of : Command → List ℕ
@@ -146,30 +138,19 @@ abbrev pub IsFor : Actor → Order → Type 0
 IsFor (Thread t) order = Unit {0}
 IsFor (Worker w) order = ⊥
 
--- an order's registers are there, and its other numbers fit
-abbrev pub IsOrder : ℕ → Order → Type 0
-IsOrder registers (orders.Take n) = n < 2 ^ 32
-IsOrder registers orders.Give = Unit {0}
-IsOrder registers (orders.New target layout) = (target < registers) × (layout < 2 ^ 32)
-IsOrder registers (orders.Load target object index) = ((target < registers) × (object < registers)) × (index < 2 ^ 32)
-IsOrder registers (orders.LoadGlobal target global) = (target < registers) × (global < 2 ^ 32)
-IsOrder registers orders.Trap = Unit {0}
-IsOrder registers orders.Heal = Unit {0}
-IsOrder registers orders.Finish = Unit {0}
-IsOrder registers (orders.Store object index source) = ((object < registers) × (index < 2 ^ 32)) × (source < registers)
-IsOrder registers (orders.StoreGlobal global source) = (global < 2 ^ 32) × (source < registers)
-IsOrder registers (orders.Datum object index) = (object < registers) × (index < 2 ^ 32)
-IsOrder registers (orders.Set object index value) = ((object < registers) × (index < 2 ^ 32)) × (value < 2 ^ 64)
-IsOrder registers (orders.Same left right) = (left < registers) × (right < registers)
-IsOrder registers (orders.Null r) = r < registers
-IsOrder registers (orders.Move target source) = (target < registers) × (source < registers)
-IsOrder registers (orders.Clear r) = r < registers
-IsOrder registers orders.Cross = Unit {0}
-IsOrder registers (orders.Scrub r) = r < registers
-IsOrder registers orders.Park = Unit {0}
-IsOrder registers orders.Unpark = Unit {0}
-IsOrder registers (orders.Get target object index) = ((target < registers) × (object < registers)) × (index < 2 ^ 32)
-IsOrder registers (orders.GetGlobal target global) = (target < registers) × (global < 2 ^ 32)
+-- an operand is one of its kind: a register is there, and a number fits
+abbrev pub IsOperand : ℕ → Kind → ℕ → Type 0
+IsOperand registers Nothing n = n ≡ 0
+IsOperand registers Register n = n < registers
+IsOperand registers Number n = n < 2 ^ 32
+IsOperand registers Long n = n < 2 ^ 64
+
+-- each operand of an order is one of its kind
+pub record IsOrder (registers : ℕ) (o : Order) : Type 0 where
+  pub first : IsOperand registers (row_of o.verb).kinds.first o.first
+  pub second : IsOperand registers (row_of o.verb).kinds.second o.second
+  pub third : IsOperand registers (row_of o.verb).kinds.third o.third
+  pub wide : IsOperand registers (row_of o.verb).kinds.wide o.wide
 
 -- a command is one of the configuration
 pub record IsCommand (config : Config) (c : Command) : Type 0 where

@@ -2,7 +2,7 @@
 
 ghost use Rattle.std.specs.Prelude.{◌≡◌, ◌==◌, ◌≤◌, IfOk};
 ghost use Rattle.model.specs.Configs.{is_page_size};
-ghost use Rattle.parser.specs.Headings.{field_at, page_size_at, limit_at, memory_at, actors_at, limits_at, heap_in, layout_in, config_of};
+ghost use Rattle.parser.specs.Headings.{field_at, page_size_at, limit_at, memory_at, actors_at, limits_at, sizes_at, heap_in, layout_in, config_of};
 
 use crate::fault::{FaultKind, Flaw};
 use crate::words::{end_at, fixed_at, number_at, word_at};
@@ -142,16 +142,15 @@ fn limits_at(line: &[u8], at: usize) -> Result<((u32, u64, u64), usize), Flaw>
     Ok(((globals as u32, births, history), at))
 }
 
-/// What the heap line says behind its first word.
-#[tactic(auto, unfolding(crate::specs::Headings::heap_in))]
-pub fn heap_in(line: &[u8], at: usize) -> Result<Sizes, Flaw>
-    ensures { result ≡ heap_in line.now at }
+/// The numbers of a heap line, and the place after them.
+#[tactic(auto, unfolding(crate::specs::Headings::sizes_at))]
+fn sizes_at(line: &[u8], at: usize) -> Result<(Sizes, usize), Flaw>
+    ensures { result ≡ sizes_at line.now at }
 {
     let ((words, frames, pages), at) = memory_at(line, at)?;
     let ((threads, workers, registers), at) = actors_at(line, at)?;
     let ((globals, births, history), at) = limits_at(line, at)?;
-    end_at(line, at)?;
-    Ok(Sizes {
+    let sizes = Sizes {
         words,
         frames,
         pages,
@@ -161,7 +160,18 @@ pub fn heap_in(line: &[u8], at: usize) -> Result<Sizes, Flaw>
         globals,
         births,
         history,
-    })
+    };
+    Ok((sizes, at))
+}
+
+/// What the heap line says behind its first word.
+#[tactic(auto, unfolding(crate::specs::Headings::heap_in))]
+pub fn heap_in(line: &[u8], at: usize) -> Result<Sizes, Flaw>
+    ensures { result ≡ heap_in line.now at }
+{
+    let (sizes, at) = sizes_at(line, at)?;
+    end_at(line, at)?;
+    Ok(sizes)
 }
 
 /// What a layout line says behind its first word.

@@ -4,12 +4,13 @@
 mod commands;
 mod fault;
 mod heading;
-mod keywords;
 mod order;
 mod reading;
 mod script;
+mod verbs;
 mod words;
 
 pub use fault::{FaultKind, LineFault, ParseFault};
-pub use order::{Command, Order};
+pub use order::{Command, Order, Then};
 pub use script::{MOST_BYTES, Script, one_first_line, one_reading, parse};
+pub use verbs::Verb;

@@ -1,95 +1,22 @@
 //! Commands of a script.
 
 ghost use Rattle.std.specs.Prelude.{◌≡◌};
-ghost use Rattle.parser.specs.Orders.{step_of, is_get};
+ghost use Rattle.parser.specs.Orders.{step_of, then_of};
 
+use crate::verbs::Verb;
 use model::{Actor, Step};
 
-/// What a command asks for. Registers count from 0 and are there; other numbers that a step can
-/// refuse are as the script has them. Scripts and their orders are ours.
+/// What a command asks for: its verb, and the verb's operands in the order of their words. One that
+/// the verb hasn't is 0. Registers count from 0 and are there; other numbers that a step can refuse
+/// are as the script has them. Scripts and their orders are ours.
 #[derive(Clone, Copy, Debug, PartialEq, Eq)]
-pub enum Order {
-    /// `take n`
-    Take(u32),
-    /// `give`
-    Give,
-    /// `new rD L`
-    New {
-        target: u32,
-        layout: u32,
-    },
-    /// `load rD rO i`
-    Load {
-        target: u32,
-        object: u32,
-        index: u32,
-    },
-    /// `loadg rD g`
-    LoadGlobal {
-        target: u32,
-        global: u32,
-    },
-    /// `trap`
-    Trap,
-    /// `heal`
-    Heal,
-    /// `finish`
-    Finish,
-    /// `store rO i rS`
-    Store {
-        object: u32,
-        index: u32,
-        source: u32,
-    },
-    /// `storeg g rS`
-    StoreGlobal {
-        global: u32,
-        source: u32,
-    },
-    /// `datum rO j`
-    Datum {
-        object: u32,
-        index: u32,
-    },
-    /// `set rO j v`
-    Set {
-        object: u32,
-        index: u32,
-        value: u64,
-    },
-    /// `same rA rB`
-    Same {
-        left: u32,
-        right: u32,
-    },
-    /// `null rA`
-    Null(u32),
-    /// `mov rD rS`
-    Move {
-        target: u32,
-        source: u32,
-    },
-    /// `clear rD`
-    Clear(u32),
-    /// `cross`
-    Cross,
-    /// `scrub rX`
-    Scrub(u32),
-    /// `park`
-    Park,
-    /// `unpark`
-    Unpark,
-    /// `get rD rO i`: a field is loaded, and the load goes on to its end.
-    Get {
-        target: u32,
-        object: u32,
-        index: u32,
-    },
-    /// `getg rD g`: a global is loaded, and the load goes on to its end.
-    GetGlobal {
-        target: u32,
-        global: u32,
-    },
+pub struct Order {
+    pub verb: Verb,
+    pub first: u32,
+    pub second: u32,
+    pub third: u32,
+    /// The operand of 64 bits.
+    pub wide: u64,
 }
 
 /// One command of a script.
@@ -101,78 +28,93 @@ pub struct Command {
     pub order: Order,
 }
 
+/// What follows an order's step.
+#[derive(Clone, Copy, Debug, PartialEq, Eq)]
+pub enum Then {
+    /// Nothing: the order is one step.
+    Nothing,
+    /// The other steps of the load that it opens, to its end.
+    LoadsEnd,
+}
+
 impl Order {
     /// The step that it asks for; of `get` and `getg` the first step, which opens the load.
     pub fn step(self) -> Step
         ensures { result ≡ step_of self }
     {
-        match self {
-            Order::Take(words) => Step::Take(words),
-            Order::Give => Step::GiveBack,
-            Order::New { target, layout } => Step::New { target, layout },
-            Order::Load {
-                target,
-                object,
-                index,
-            } => load(target, object, index),
-            Order::LoadGlobal { target, global } => Step::LoadGlobal { target, global },
-            Order::Trap => Step::Trap,
-            Order::Heal => Step::Heal,
-            Order::Finish => Step::Finish,
-            Order::Store {
-                object,
-                index,
-                source,
-            } => store(object, index, source),
-            Order::StoreGlobal { global, source } => Step::StoreGlobal { global, source },
-            Order::Datum { object, index } => Step::Datum { object, index },
-            Order::Set {
-                object,
-                index,
-                value,
-            } => set_datum(object, index, value),
-            Order::Same { left, right } => Step::Same { left, right },
-            Order::Null(register) => Step::IsNull(register),
-            Order::Move { target, source } => Step::CopyReg { target, source },
-            Order::Clear(register) => Step::ClearReg(register),
-            Order::Cross => Step::Cross,
-            Order::Scrub(register) => Step::Scrub(register),
-            Order::Park => Step::Park,
-            Order::Unpark => Step::Unpark,
-            Order::Get {
-                target,
-                object,
-                index,
-            } => load(target, object, index),
-            Order::GetGlobal { target, global } => Step::LoadGlobal { target, global },
+        let (first, second, third) = (self.first, self.second, self.third);
+        match self.verb {
+            Verb::Take => Step::Take(first),
+            Verb::Give => Step::GiveBack,
+            Verb::New => Step::New {
+                target: first,
+                layout: second,
+            },
+            Verb::Load | Verb::Get => load(first, second, third),
+            Verb::LoadGlobal | Verb::GetGlobal => load_global(first, second),
+            Verb::Trap => Step::Trap,
+            Verb::Heal => Step::Heal,
+            Verb::Finish => Step::Finish,
+            Verb::Store => store(first, second, third),
+            Verb::StoreGlobal => Step::StoreGlobal {
+                global: first,
+                source: second,
+            },
+            Verb::Datum => Step::Datum {
+                object: first,
+                index: second,
+            },
+            Verb::Set => set_datum(first, second, self.wide),
+            Verb::Same => Step::Same {
+                left: first,
+                right: second,
+            },
+            Verb::Null => Step::IsNull(first),
+            Verb::Move => Step::CopyReg {
+                target: first,
+                source: second,
+            },
+            Verb::Clear => Step::ClearReg(first),
+            Verb::Cross => Step::Cross,
+            Verb::Scrub => Step::Scrub(first),
+            Verb::Park => Step::Park,
+            Verb::Unpark => Step::Unpark,
         }
     }
 
-    /// Whether the order goes on to the load's end, once its first step is done: it is `get` or
-    /// `getg`.
-    pub fn is_get(self) -> bool
-        ensures { result ≡ is_get self }
+    /// What follows the step, once it is done.
+    pub fn then(self) -> Then
+        ensures { result ≡ then_of self }
     {
-        matches!(self, Order::Get { .. } | Order::GetGlobal { .. })
+        match self.verb {
+            Verb::Get | Verb::GetGlobal => Then::LoadsEnd,
+            _ => Then::Nothing,
+        }
     }
 }
 
-fn load(target: u32, object: u32, index: u32) -> Step
-    ensures { result ≡ Step.Load target object index }
+fn load(target: u32, object: u32, field: u32) -> Step
+    ensures { result ≡ Step.Load target object field }
 {
     Step::Load {
         target,
         object,
-        field: index,
+        field,
     }
 }
 
-fn store(object: u32, index: u32, source: u32) -> Step
-    ensures { result ≡ Step.Store object index source }
+fn load_global(target: u32, global: u32) -> Step
+    ensures { result ≡ Step.LoadGlobal target global }
+{
+    Step::LoadGlobal { target, global }
+}
+
+fn store(object: u32, field: u32, source: u32) -> Step
+    ensures { result ≡ Step.Store object field source }
 {
     Step::Store {
         object,
-        field: index,
+        field,
         source,
     }
 }

@@ -142,10 +142,10 @@ impl Reading {
     }
 
     #[tactic(auto, unfolding(crate::specs::Reading::layout_line))]
-    fn layout_line(&mut self, sizes: &Sizes, line: &[u8]) -> Result<(), Stop>
+    fn layout_line(&mut self, sizes: &Sizes, line: &[u8], at: usize) -> Result<(), Stop>
+        requires { at ≡ (first_word line.now).1 }
         ensures { Follows result self.new (layout_line self.old sizes.now line.now) }
     {
-        let (_, at) = first_word(line);
         let layout = layout_in(sizes, line, at)?;
         self.layouts.push(layout)?;
         Ok(())
@@ -183,13 +183,13 @@ impl Reading {
 
     /// A block begins.
     #[tactic(auto, unfolding(crate::specs::Reading::times_line))]
-    fn times_line(&mut self, line: &[u8]) -> Result<(), Stop>
+    fn times_line(&mut self, line: &[u8], at: usize) -> Result<(), Stop>
+        requires { at ≡ (first_word line.now).1 }
         ensures { Follows result self.new (times_line self.old line.now) }
     {
         if self.turns.is_some() {
             return Err(flaw(FaultKind::UnknownWord));
         }
-        let (_, at) = first_word(line);
         let (turns, at) = number_at(line, at, 1, MOST_TURNS)?;
         end_at(line, at)?;
         self.begun = true;
@@ -200,7 +200,8 @@ impl Reading {
 
     /// A block ends: its commands stand as often as it says.
     #[tactic(auto, unfolding(crate::specs::Reading::end_line))]
-    fn end_line(&mut self, line: &[u8]) -> Result<(), Stop>
+    fn end_line(&mut self, line: &[u8], at: usize) -> Result<(), Stop>
+        requires { at ≡ (first_word line.now).1 }
         ensures { Follows result self.new (end_line self.old line.now) }
     {
         let Some(turns) = self.turns else {
@@ -209,7 +210,6 @@ impl Reading {
         if passes_limit(self.commands.len(), turns, self.body.len()) {
             return Err(flaw(FaultKind::TooManyCommands));
         }
-        let (_, at) = first_word(line);
         end_at(line, at)?;
         add_turns(&mut self.commands, turns, &self.body)?;
         self.turns = None;
@@ -218,14 +218,14 @@ impl Reading {
     }
 
     #[tactic(auto, unfolding(crate::specs::Reading::part_line))]
-    fn part_line(&mut self, sizes: &Sizes, line: &[u8]) -> Result<(), Stop>
+    fn part_line(&mut self, sizes: &Sizes, line: &[u8], word: &[u8], at: usize) -> Result<(), Stop>
+        requires { (word.now, at) ≡ first_word line.now }
         ensures { Follows result self.new (part_line self.old sizes.now line.now) }
     {
-        let (word, _) = first_word(line);
         if word == b"times".as_slice() {
-            self.times_line(line)
+            self.times_line(line, at)
         } else if word == b"end".as_slice() {
-            self.end_line(line)
+            self.end_line(line, at)
         } else {
             self.command_line(sizes, line)
         }
@@ -235,13 +235,13 @@ impl Reading {
     fn later_line(&mut self, sizes: &Sizes, line: &[u8]) -> Result<(), Stop>
         ensures { Follows result self.new (later_line self.old sizes.now line.now) }
     {
-        let (word, _) = first_word(line);
+        let (word, at) = first_word(line);
         if word == b"layout".as_slice() && !self.begun && self.layouts.len() < MOST_LAYOUTS {
-            self.layout_line(sizes, line)
+            self.layout_line(sizes, line, at)
         } else if self.layouts.len() == 0 {
             Err(flaw(FaultKind::LayoutLineExpected))
         } else {
-            self.part_line(sizes, line)
+            self.part_line(sizes, line, word, at)
         }
     }
 

@@ -10,7 +10,9 @@ use Rattle.cycle.specs.declared.book.Entry.{Entry}
 use Rattle.cycle.specs.Books.{BookState, first_book}
 use Rattle.cycle.specs.Loads.{Told, whole_load, one_step}
 use Rattle.parser.specs.declared.order.Command.{Command}
-use Rattle.parser.specs.Orders.{step_of, is_get}
+use Rattle.parser.specs.declared.order.Then.{Then}
+use Rattle.parser.specs.declared.order.Then.TheVariants as thens
+use Rattle.parser.specs.Orders.{step_of, then_of}
 use Rattle.parser.specs.Reading.{ScriptValue}
 use Rattle.text.specs.declared.report.Activity.{Activity}
 use Rattle.text.specs.declared.report.Activity.TheVariants as activities
@@ -83,9 +85,14 @@ report_text h history =
 
 -- the commands
 
--- what a command does to a book, and what its steps say: those of a whole load, or of one step
+-- what a command does to a book, by what follows its step
+abbrev pub done_with : BookState → Command → Then → Told
+done_with b c thens.Nothing = one_step b c.actor (step_of c.order)
+done_with b c thens.LoadsEnd = whole_load b c.actor (step_of c.order)
+
+-- what a command does to a book, and what its steps say: one step, or those of a whole load
 unfoldable pub done : BookState → Command → Told
-done b c = if is_get c.order then whole_load b c.actor (step_of c.order) else one_step b c.actor (step_of c.order)
+done b c = done_with b c (then_of c.order)
 
 -- the lines of commands, of which the first is number n
 unfoldable pub lines_text : ℕ → BookState → List Command → List ℕ

@@ -8,7 +8,7 @@ ghost use Rattle.script.specs.Output.{done};
 use crate::fault::RunFault;
 use cycle::Book;
 use model::{Answer, Refusal};
-use parser::Command;
+use parser::{Command, Then};
 
 /// A command that is one step.
 fn do_step(
@@ -53,9 +53,8 @@ pub fn do_command(
     ensures book { OnOk result (book.new ≡ (done book.old command.now).book) }
 {
     replies.clear();
-    if command.order.is_get() {
-        do_load(book, command, replies)
-    } else {
-        do_step(book, command, replies)
+    match command.order.then() {
+        Then::Nothing => do_step(book, command, replies),
+        Then::LoadsEnd => do_load(book, command, replies),
     }
 }

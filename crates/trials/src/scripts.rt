@@ -6,7 +6,7 @@
 use crate::configs::sizes;
 use layout::Layout;
 use model::{Actor, Config};
-use parser::{Command, Order, ParseFault, Script, parse};
+use parser::{Command, Order, ParseFault, Script, Verb, parse};
 use std::alloc::{AllocError, Global};
 use std::process::Abort;
 use std::test::Fail;
@@ -55,6 +55,17 @@ fn faults(rt: HostRuntime) -> Result<(), Fail> {
     Ok(())
 }
 
+/// An order of three operands or fewer, each of 32 bits.
+fn order(verb: Verb, first: u32, second: u32, third: u32) -> Order {
+    Order {
+        verb,
+        first,
+        second,
+        third,
+        wide: 0,
+    }
+}
+
 /// The script's commands are these orders of thread 0.
 fn has_orders(rt: &impl Abort, script: &Script, orders: &[Order]) {
     let commands = script.commands();
@@ -70,24 +81,24 @@ fn blocks_written_out(rt: HostRuntime) -> Result<(), Fail> {
     let rest = "t0 give\ntimes 2\nt0 trap\n\n# a comment\nt0 heal\nend\ntimes 9\nend\n\
         times 1\nt0 finish\nend\nt0 cross\n";
     let orders = [
-        Order::Give,
-        Order::Trap,
-        Order::Heal,
-        Order::Trap,
-        Order::Heal,
-        Order::Finish,
-        Order::Cross,
+        order(Verb::Give, 0, 0, 0),
+        order(Verb::Trap, 0, 0, 0),
+        order(Verb::Heal, 0, 0, 0),
+        order(Verb::Trap, 0, 0, 0),
+        order(Verb::Heal, 0, 0, 0),
+        order(Verb::Finish, 0, 0, 0),
+        order(Verb::Cross, 0, 0, 0),
     ];
     let script = parse_parts(rt.alloc(), HEAD, rest)?;
     has_orders(&rt, &script, &orders);
     Ok(())
 }
 
-/// The first step of an order, and whether a load that ends follows.
+/// The first step of an order, and what follows it.
 fn step_text(alloc: Global, order: Order) -> Result<String, AllocError> {
     let step = order.step();
-    let is_get = order.is_get();
-    format!(in alloc; "{step:?} {is_get}")
+    let then = order.then();
+    format!(in alloc; "{step:?} {then:?}")
 }
 
 /// The orders' steps have these texts.
@@ -104,15 +115,15 @@ fn steps_of_orders(rt: HostRuntime) -> Result<(), Fail> {
     let rest = "t0 load r0 r1 2\nt0 loadg r1 3\nt0 store r1 2 r0\nt0 storeg 3 r1\n\
         t0 scrub r1\nt0 park\nt0 unpark\nt0 get r0 r1 2\nt0 getg r1 3\n";
     let texts = [
-        "Load { target: 0, object: 1, field: 2 } false",
-        "LoadGlobal { target: 1, global: 3 } false",
-        "Store { object: 1, field: 2, source: 0 } false",
-        "StoreGlobal { global: 3, source: 1 } false",
-        "Scrub(1) false",
-        "Park false",
-        "Unpark false",
-        "Load { target: 0, object: 1, field: 2 } true",
-        "LoadGlobal { target: 1, global: 3 } true",
+        "Load { target: 0, object: 1, field: 2 } Nothing",
+        "LoadGlobal { target: 1, global: 3 } Nothing",
+        "Store { object: 1, field: 2, source: 0 } Nothing",
+        "StoreGlobal { global: 3, source: 1 } Nothing",
+        "Scrub(1) Nothing",
+        "Park Nothing",
+        "Unpark Nothing",
+        "Load { target: 0, object: 1, field: 2 } LoadsEnd",
+        "LoadGlobal { target: 1, global: 3 } LoadsEnd",
     ];
     let script = parse_parts(rt.alloc(), HEAD, rest)?;
     assert!(rt; has_steps(rt.alloc(), &script, &texts)?);
@@ -149,29 +160,23 @@ fn a_configuration(rt: HostRuntime) -> Result<(), Fail> {
 fn orders_of_data(rt: HostRuntime) -> Result<(), Fail> {
     let rest = "\n# all commands\nt0 take 16\nt0 new r1 0\n\nt0 datum r1 3\n\
         t0 set r1 0 18446744073709551615\nt0 same r0 r1\nt0 null r0\nt0 mov r0 r1\n#\nt0 clear r1\nt0 give\n";
+    let set = Order {
+        verb: Verb::Set,
+        first: 1,
+        second: 0,
+        third: 0,
+        wide: u64::MAX,
+    };
     let orders = [
-        Order::Take(16),
-        Order::New {
-            target: 1,
-            layout: 0,
-        },
-        Order::Datum {
-            object: 1,
-            index: 3,
-        },
-        Order::Set {
-            object: 1,
-            index: 0,
-            value: u64::MAX,
-        },
-        Order::Same { left: 0, right: 1 },
-        Order::Null(0),
-        Order::Move {
-            target: 0,
-            source: 1,
-        },
-        Order::Clear(1),
-        Order::Give,
+        order(Verb::Take, 16, 0, 0),
+        order(Verb::New, 1, 0, 0),
+        order(Verb::Datum, 1, 3, 0),
+        set,
+        order(Verb::Same, 0, 1, 0),
+        order(Verb::Null, 0, 0, 0),
+        order(Verb::Move, 0, 1, 0),
+        order(Verb::Clear, 1, 0, 0),
+        order(Verb::Give, 0, 0, 0),
     ];
     let script = parse_parts(rt.alloc(), HEAD, rest)?;
     has_orders(&rt, &script, &orders);

@@ -12,7 +12,8 @@ returns-in_err-config-clause-only c =
     spelled_read c.args.bytes.now c.from_residual.result s h valid spells
 
 pub returns-in_err-config-clause-first : goal.returns-in_err-config-clause-first
-returns-in_err-config-clause-first c = let h : IsReadOf c.from_residual.result (script_in c.args.bytes.now) = search rules in
+returns-in_err-config-clause-first c = let h : IsReadOf c.from_residual.result
+    (script_in c.args.bytes.now) = search rules in
     first_told c.args.bytes.now c.from_residual.result h
 
 pub invariant_of-result : goal.invariant_of-result

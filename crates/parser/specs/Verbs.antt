@@ -1,0 +1,58 @@
+-- The commands: their words and operands, in one table.
+use Rattle.std.specs.Prelude.{ℕ, List, Option, codes, find}
+use Rattle.std.specs.Str.{bytes_eq}
+use Rattle.parser.specs.declared.verbs.Verb.{Verb}
+use Rattle.parser.specs.declared.verbs.Verb.TheVariants as verbs
+use Rattle.parser.specs.declared.verbs.Kind.{Kind}
+use Rattle.parser.specs.declared.verbs.Kind.TheVariants.{Nothing, Register, Number, Long}
+use Rattle.parser.specs.declared.verbs.Kinds.{Kinds}
+use Rattle.parser.specs.declared.verbs.TheConstants.{VERBS}
+
+-- a verb's word, and the kinds of its operands
+pub record Row : Type 0 where
+  pub text : List ℕ
+  pub kinds : Kinds
+
+abbrev pub row : List ℕ → Kind → Kind → Kind → Kind → Row
+row text first second third wide =
+    record { text = text; kinds = record { first = first; second = second; third = third; wide = wide } }
+
+-- a command's word, and what stands behind it: up to three operands of 32 bits, then up to one of 64
+abbrev pub row_of : Verb → Row
+row_of verbs.Take = row (codes "take") Number Nothing Nothing Nothing
+row_of verbs.Give = row (codes "give") Nothing Nothing Nothing Nothing
+row_of verbs.New = row (codes "new") Register Number Nothing Nothing
+row_of verbs.Load = row (codes "load") Register Register Number Nothing
+row_of verbs.LoadGlobal = row (codes "loadg") Register Number Nothing Nothing
+row_of verbs.Trap = row (codes "trap") Nothing Nothing Nothing Nothing
+row_of verbs.Heal = row (codes "heal") Nothing Nothing Nothing Nothing
+row_of verbs.Finish = row (codes "finish") Nothing Nothing Nothing Nothing
+row_of verbs.Store = row (codes "store") Register Number Register Nothing
+row_of verbs.StoreGlobal = row (codes "storeg") Number Register Nothing Nothing
+row_of verbs.Datum = row (codes "datum") Register Number Nothing Nothing
+row_of verbs.Set = row (codes "set") Register Number Nothing Long
+row_of verbs.Same = row (codes "same") Register Register Nothing Nothing
+row_of verbs.Null = row (codes "null") Register Nothing Nothing Nothing
+row_of verbs.Move = row (codes "mov") Register Register Nothing Nothing
+row_of verbs.Clear = row (codes "clear") Register Nothing Nothing Nothing
+row_of verbs.Cross = row (codes "cross") Nothing Nothing Nothing Nothing
+row_of verbs.Scrub = row (codes "scrub") Register Nothing Nothing Nothing
+row_of verbs.Park = row (codes "park") Nothing Nothing Nothing Nothing
+row_of verbs.Unpark = row (codes "unpark") Nothing Nothing Nothing Nothing
+row_of verbs.Get = row (codes "get") Register Register Number Nothing
+row_of verbs.GetGlobal = row (codes "getg") Register Number Nothing Nothing
+
+-- the verb that a word is
+unfoldable pub verb_of : List ℕ → Option Verb
+verb_of word = find (λ verb. bytes_eq word (row_of verb).text) VERBS
+
+-- an operand has 32 bits
+abbrev pub IsSmall : Kind → Type 0
+IsSmall Long = ⊥
+IsSmall other = Unit {0}
+
+-- an operand has 64 bits
+abbrev pub IsWide : Kind → Type 0
+IsWide Register = ⊥
+IsWide Number = ⊥
+IsWide other = Unit {0}

@@ -1,0 +1,154 @@
+//! The commands' words, and the kinds of their operands.
+
+ghost use Rattle.std.specs.Prelude.{◌≡◌};
+ghost use Rattle.parser.specs.Verbs.{row_of, verb_of, IsSmall, IsWide};
+
+/// What an operand is.
+#[derive(Clone, Copy, Debug, PartialEq, Eq)]
+pub enum Kind {
+    /// There is none.
+    Nothing,
+    /// A register that is there.
+    Register,
+    /// A number of 32 bits.
+    Number,
+    /// A number of 64 bits.
+    Long,
+}
+
+/// What a command does.
+#[derive(Clone, Copy, Debug, PartialEq, Eq)]
+pub enum Verb {
+    Take,
+    Give,
+    New,
+    Load,
+    LoadGlobal,
+    Trap,
+    Heal,
+    Finish,
+    Store,
+    StoreGlobal,
+    Datum,
+    Set,
+    Same,
+    Null,
+    Move,
+    Clear,
+    Cross,
+    Scrub,
+    Park,
+    Unpark,
+    Get,
+    GetGlobal,
+}
+
+/// All verbs. A word is compared with theirs in this order, so frequent ones stand first.
+const VERBS: [Verb; 22] = [
+    Verb::Get,
+    Verb::Set,
+    Verb::Datum,
+    Verb::Store,
+    Verb::Move,
+    Verb::New,
+    Verb::Load,
+    Verb::Same,
+    Verb::Null,
+    Verb::Clear,
+    Verb::GetGlobal,
+    Verb::StoreGlobal,
+    Verb::LoadGlobal,
+    Verb::Take,
+    Verb::Give,
+    Verb::Trap,
+    Verb::Heal,
+    Verb::Finish,
+    Verb::Cross,
+    Verb::Scrub,
+    Verb::Park,
+    Verb::Unpark,
+];
+
+/// The kinds of an order's operands. The first three have 32 bits.
+#[derive(Clone, Copy, Debug, PartialEq, Eq)]
+pub struct Kinds {
+    pub first: Kind,
+    pub second: Kind,
+    pub third: Kind,
+    pub wide: Kind,
+}
+
+fn make_kinds(first: Kind, second: Kind, third: Kind, wide: Kind) -> Kinds
+    ensures { result ≡ record { first = first; second = second; third = third; wide = wide } }
+{
+    Kinds {
+        first,
+        second,
+        third,
+        wide,
+    }
+}
+
+impl Verb {
+    /// Its word.
+    fn text(self) -> &'static [u8]
+        ensures { result.now ≡ (row_of self).text }
+    {
+        match self {
+            Verb::Take => b"take",
+            Verb::Give => b"give",
+            Verb::New => b"new",
+            Verb::Load => b"load",
+            Verb::LoadGlobal => b"loadg",
+            Verb::Trap => b"trap",
+            Verb::Heal => b"heal",
+            Verb::Finish => b"finish",
+            Verb::Store => b"store",
+            Verb::StoreGlobal => b"storeg",
+            Verb::Datum => b"datum",
+            Verb::Set => b"set",
+            Verb::Same => b"same",
+            Verb::Null => b"null",
+            Verb::Move => b"mov",
+            Verb::Clear => b"clear",
+            Verb::Cross => b"cross",
+            Verb::Scrub => b"scrub",
+            Verb::Park => b"park",
+            Verb::Unpark => b"unpark",
+            Verb::Get => b"get",
+            Verb::GetGlobal => b"getg",
+        }
+    }
+
+    /// The kinds of its operands.
+    pub fn kinds(self) -> Kinds
+        ensures value { result ≡ (row_of self).kinds }
+        ensures small { IsSmall result.first × (IsSmall result.second × IsSmall result.third) }
+        ensures wide { IsWide result.wide }
+    {
+        use Kind::{Long, Nothing, Number, Register};
+        match self {
+            Verb::Take => make_kinds(Number, Nothing, Nothing, Nothing),
+            Verb::New | Verb::LoadGlobal | Verb::Datum | Verb::GetGlobal => make_kinds(
+                Register, Number, Nothing, Nothing,
+            ),
+            Verb::Load | Verb::Get => make_kinds(Register, Register, Number, Nothing),
+            Verb::Store => make_kinds(Register, Number, Register, Nothing),
+            Verb::StoreGlobal => make_kinds(Number, Register, Nothing, Nothing),
+            Verb::Set => make_kinds(Register, Number, Nothing, Long),
+            Verb::Same | Verb::Move => make_kinds(Register, Register, Nothing, Nothing),
+            Verb::Null | Verb::Clear | Verb::Scrub => make_kinds(
+                Register, Nothing, Nothing, Nothing,
+            ),
+            _ => make_kinds(Nothing, Nothing, Nothing, Nothing),
+        }
+    }
+}
+
+/// The verb that a word is.
+#[tactic(auto, unfolding(crate::specs::Verbs::verb_of))]
+pub fn verb_of(word: &[u8]) -> Option<Verb>
+    ensures { result ≡ verb_of word.now }
+{
+    VERBS.iter().copied().find(|verb| word == verb.text())
+}
