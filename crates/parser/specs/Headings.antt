@@ -7,7 +7,8 @@ use Rattle.model.specs.Configs.{is_page_size}
 use Rattle.parser.specs.declared.fault.FaultKind.TheVariants as kinds
 use Rattle.parser.specs.declared.fault.Flaw.{Flaw}
 use Rattle.parser.specs.declared.heading.Sizes.{Sizes}
-use Rattle.parser.specs.declared.heading.TheConstants.{MOST_FRAMES, MOST_PAGES, MOST_THREADS}
+use Rattle.model.specs.declared.limits.TheConstants.{MOST_WORDS, MOST_FRAMES, MOST_PAGES, MOST_THREADS}
+use Rattle.model.specs.declared.limits.TheConstants.{MOST_WORKERS, MOST_REGISTERS, MOST_GLOBALS, MOST_BIRTHS, MOST_HISTORY}
 use Rattle.parser.specs.Words.{◌>>=◌, flaw, word_at, fixed_at, number_at, end_at}
 
 -- the configuration of sizes, with layouts
@@ -35,7 +36,7 @@ field_at line at name low high = do
 unfoldable pub page_size_at : List ℕ → ℕ → Result (ℕ × ℕ) Flaw
 page_size_at line at = do
   after ← fixed_at line at (codes "words") kinds.UnknownWord
-  n ← number_at line after 16 4096
+  n ← number_at line after 16 MOST_WORDS
   if not (is_page_size n.0) then Err (flaw after kinds.NumberOutOfRange) else Ok n
 
 -- a limit behind its name, where the word is that name, else its greatest value
@@ -59,16 +60,16 @@ memory_at line at = do
 unfoldable pub actors_at : List ℕ → ℕ → Result ((ℕ × ℕ × ℕ) × ℕ) Flaw
 actors_at line at = do
   threads ← field_at line at (codes "threads") 1 MOST_THREADS
-  workers ← field_at line threads.1 (codes "workers") 1 16
-  registers ← field_at line workers.1 (codes "registers") 1 16
+  workers ← field_at line threads.1 (codes "workers") 1 MOST_WORKERS
+  registers ← field_at line workers.1 (codes "registers") 1 MOST_REGISTERS
   Ok ((threads.0, workers.0, registers.0), registers.1)
 
 -- the globals, the births and the history
 unfoldable pub limits_at : List ℕ → ℕ → Result ((ℕ × ℕ × ℕ) × ℕ) Flaw
 limits_at line at = do
-  globals ← field_at line at (codes "globals") 0 64
-  births ← limit_at line globals.1 (codes "births") 4294967296
-  history ← limit_at line births.1 (codes "history") 1000000
+  globals ← field_at line at (codes "globals") 0 MOST_GLOBALS
+  births ← limit_at line globals.1 (codes "births") MOST_BIRTHS
+  history ← limit_at line births.1 (codes "history") MOST_HISTORY
   Ok ((globals.0, births.0, history.0), history.1)
 
 -- sizes by their parts

@@ -12,6 +12,7 @@ use Rattle.parser.specs.declared.order.Command.{Command}
 use Rattle.parser.specs.declared.verbs.Kind.{Kind}
 use Rattle.parser.specs.declared.verbs.Kind.TheVariants.{Nothing, Register, Number, Long}
 use Rattle.parser.specs.declared.verbs.Kinds.{Kinds}
+use Rattle.model.specs.declared.limits.TheConstants.{MOST_BIRTHS, MOST_HISTORY}
 use Rattle.parser.specs.declared.reading.TheConstants.{MOST_COMMANDS, MOST_TURNS}
 use Rattle.parser.specs.Verbs.{row_of}
 use Rattle.parser.specs.Reading.{ScriptValue, is_idle}
@@ -69,8 +70,8 @@ SpellsLimit name most limit words = (words ≡ name ∷ decimal limit ∷ []) �
 pub record SpellsHeap (line : List ℕ) (config : Config) : Type 0 where
   pub births : List (List ℕ)
   pub history : List (List ℕ)
-  pub births_spelled : SpellsLimit (codes "births") (2 ^ 32) config.births births
-  pub history_spelled : SpellsLimit (codes "history") 1000000 config.history history
+  pub births_spelled : SpellsLimit (codes "births") MOST_BIRTHS config.births births
+  pub history_spelled : SpellsLimit (codes "history") MOST_HISTORY config.history history
   pub line_is : line ≡ line_of (codes "heap" ∷ size_words config ++ births ++ history)
 
 -- a part of a script: one command, or a block of commands that is done so many times over

@@ -1,22 +1,17 @@
 //! The heap line and the layout lines.
 
 ghost use Rattle.std.specs.Prelude.{◌≡◌, ◌==◌, ◌≤◌, IfOk};
+ghost use Rattle.model.specs.declared.limits.TheConstants.{MOST_WORDS};
 ghost use Rattle.model.specs.Configs.{is_page_size};
 ghost use Rattle.parser.specs.Headings.{field_at, page_size_at, limit_at, memory_at, actors_at, limits_at, sizes_at, heap_in, layout_in, config_of};
 
 use crate::fault::{FaultKind, Flaw};
 use crate::words::{end_at, fixed_at, number_at, word_at};
 use layout::{Layout, Layouts};
-use model::Config;
-
-/// The most frames that a heap line may ask for.
-pub const MOST_FRAMES: u64 = 4096;
-
-/// The most pages that a heap line may ask for.
-pub const MOST_PAGES: u64 = 65_535;
-
-/// The most threads that a heap line may ask for.
-pub const MOST_THREADS: u64 = 64;
+use model::{
+    Config, MOST_BIRTHS, MOST_FRAMES, MOST_GLOBALS, MOST_HISTORY, MOST_PAGES, MOST_REGISTERS,
+    MOST_THREADS, MOST_WORDS, MOST_WORKERS,
+};
 
 /// The numbers of a heap line, those that are left out among them.
 #[derive(Clone, Copy, Debug, PartialEq, Eq)]
@@ -81,10 +76,10 @@ fn field_at(line: &[u8], at: usize, name: &[u8], low: u64, high: u64) -> Result<
 #[tactic(auto, unfolding(crate::specs::Headings::page_size_at))]
 fn page_size_at(line: &[u8], at: usize) -> Result<(u64, usize), Flaw>
     ensures found { result ≡ page_size_at line.now at }
-    ensures range { IfOk result (λ x. x.0 ≤ 4096) }
+    ensures range { IfOk result (λ x. x.0 ≤ MOST_WORDS) }
 {
     let after = fixed_at(line, at, b"words", FaultKind::UnknownWord)?;
-    let (words, end) = number_at(line, after, 16, 4096)?;
+    let (words, end) = number_at(line, after, 16, MOST_WORDS as u64)?;
     if !is_page_size(words) {
         return Err(Flaw {
             column: after + 1,
@@ -115,8 +110,8 @@ fn memory_at(line: &[u8], at: usize) -> Result<((u32, u32, u32), usize), Flaw>
     ensures { result ≡ memory_at line.now at }
 {
     let (words, at) = page_size_at(line, at)?;
-    let (frames, at) = field_at(line, at, b"frames", 1, MOST_FRAMES)?;
-    let (pages, at) = field_at(line, at, b"pages", frames, MOST_PAGES)?;
+    let (frames, at) = field_at(line, at, b"frames", 1, MOST_FRAMES as u64)?;
+    let (pages, at) = field_at(line, at, b"pages", frames, MOST_PAGES as u64)?;
     Ok(((words as u32, frames as u32, pages as u32), at))
 }
 
@@ -125,9 +120,9 @@ fn memory_at(line: &[u8], at: usize) -> Result<((u32, u32, u32), usize), Flaw>
 fn actors_at(line: &[u8], at: usize) -> Result<((u32, u32, u32), usize), Flaw>
     ensures { result ≡ actors_at line.now at }
 {
-    let (threads, at) = field_at(line, at, b"threads", 1, MOST_THREADS)?;
-    let (workers, at) = field_at(line, at, b"workers", 1, 16)?;
-    let (registers, at) = field_at(line, at, b"registers", 1, 16)?;
+    let (threads, at) = field_at(line, at, b"threads", 1, MOST_THREADS as u64)?;
+    let (workers, at) = field_at(line, at, b"workers", 1, MOST_WORKERS as u64)?;
+    let (registers, at) = field_at(line, at, b"registers", 1, MOST_REGISTERS as u64)?;
     Ok(((threads as u32, workers as u32, registers as u32), at))
 }
 
@@ -136,9 +131,9 @@ fn actors_at(line: &[u8], at: usize) -> Result<((u32, u32, u32), usize), Flaw>
 fn limits_at(line: &[u8], at: usize) -> Result<((u32, u64, u64), usize), Flaw>
     ensures { result ≡ limits_at line.now at }
 {
-    let (globals, at) = field_at(line, at, b"globals", 0, 64)?;
-    let (births, at) = limit_at(line, at, b"births", 1 << 32)?;
-    let (history, at) = limit_at(line, at, b"history", 1_000_000)?;
+    let (globals, at) = field_at(line, at, b"globals", 0, MOST_GLOBALS as u64)?;
+    let (births, at) = limit_at(line, at, b"births", MOST_BIRTHS)?;
+    let (history, at) = limit_at(line, at, b"history", MOST_HISTORY)?;
     Ok(((globals as u32, births, history), at))
 }
 

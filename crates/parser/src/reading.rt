@@ -10,7 +10,7 @@ use crate::heading::{Sizes, heap_in, layout_in};
 use crate::order::Command;
 use crate::words::{end_at, number_at, word_at};
 use layout::Layout;
-use model::Config;
+use model::{Config, MOST_LAYOUTS};
 use std::alloc::{AllocError, AllocFailed, Global};
 use std::marker::Model;
 
@@ -19,9 +19,6 @@ pub const MOST_COMMANDS: usize = 200_000;
 
 /// The most turns of a block.
 pub const MOST_TURNS: u64 = 100_000;
-
-/// The most layouts of a script.
-pub const MOST_LAYOUTS: usize = 64;
 
 /// What was read so far.
 #[derive(Drop)]
