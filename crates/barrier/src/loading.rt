@@ -28,13 +28,7 @@ fn new_barrier(target: u32, place: Place, word: Word) -> Barrier
 ///
 /// Refused as `Heap::usable` is for the object; `BadIndex` where it has no such reference.
 #[tactic(auto, unfolding(model::specs::Loads::load_outcome))]
-pub fn load(
-    heap: &mut Heap,
-    thread: u32,
-    target: u32,
-    object: u32,
-    field: u32,
-) -> Reply
+pub fn load(heap: &mut Heap, thread: u32, target: u32, object: u32, field: u32) -> Reply
     requires { Passes heap.old thread (steps.Load target object field) }
     ensures { Does heap.old result heap.new (load_outcome heap.old thread target object field) }
 {
@@ -56,12 +50,7 @@ pub fn load(
 /// A thread begins to load a global for a register. Threads, registers and globals count from 0.
 /// Refuses nothing.
 #[tactic(auto, unfolding(model::specs::Loads::load_global_outcome))]
-pub fn load_global(
-    heap: &mut Heap,
-    thread: u32,
-    target: u32,
-    global: u32,
-) -> Reply
+pub fn load_global(heap: &mut Heap, thread: u32, target: u32, global: u32) -> Reply
     requires { Passes heap.old thread (steps.LoadGlobal target global) }
     ensures { Does heap.old result heap.new (load_global_outcome heap.old thread target global) }
 {

@@ -50,11 +50,7 @@ impl Book {
     }
 
     /// The load ends.
-    fn finish_load(
-        &mut self,
-        actor: Actor,
-        replies: &mut Vec<Reply>,
-    ) -> Result<Reply, AllocError>
+    fn finish_load(&mut self, actor: Actor, replies: &mut Vec<Reply>) -> Result<Reply, AllocError>
         ensures steps { OnOk result (Leaves (finish_load self.old actor) replies.old.items self.new replies.new.items) }
         ensures last { IfOk result (EndsIn replies.new.items) }
     {
@@ -86,11 +82,7 @@ impl Book {
     /// and puts all behind others.
     ///
     /// The error is want of memory; the steps before it are done, and this call may be asked again.
-    pub fn end_load(
-        &mut self,
-        actor: Actor,
-        replies: &mut Vec<Reply>,
-    ) -> Result<Reply, AllocError>
+    pub fn end_load(&mut self, actor: Actor, replies: &mut Vec<Reply>) -> Result<Reply, AllocError>
         ensures steps { OnOk result (Leaves (end_load self.old actor) replies.old.items self.new replies.new.items) }
         ensures last { IfOk result (EndsIn replies.new.items) }
     {

@@ -43,14 +43,14 @@ same_bits n words row len each =
 pub bit_of_past : (words : List ℕ) (i : ℕ) → 64 * length words ≤ i → bit_of words i ≡ false
 bit_of_past words i h =
     ap (λ x. eqb (bit_at x (i % 64)) 1) (get_or_past words (i / 64) 0 (omega arith))
-        ∙ ap (λ x. eqb x 1) (bit_at-zero (i % 64))
+    ∙ ap (λ x. eqb x 1) (bit_at-zero (i % 64))
 
 pub bit_of_zeros : (m i : ℕ) → bit_of (replicate m 0) i ≡ false
 bit_of_zeros m i =
     elim (cases_lt (i / 64) m) [
       | inl within ↦
           ap (λ x. eqb (bit_at x (i % 64)) 1) (get_or-replicate m (i / 64) 0 0 within)
-              ∙ ap (λ x. eqb x 1) (bit_at-zero (i % 64))
+          ∙ ap (λ x. eqb x 1) (bit_at-zero (i % 64))
       | inr past ↦ bit_of_past (replicate m 0) i (omega (arith, length-replicate {A = ℕ} m 0))
     ]
 
@@ -188,21 +188,37 @@ put_flipped words n total k bit row within other =
     let was : one (get_or (bits_of n words) k false) ≡ one (not bit) =
     ap one (get_or-bits_of n words k within ∙ other_of _ _ old) in
     let counts : set_count (set (bits_of n words) k bit) + one (get_or (bits_of n words) k false) ≡ set_count
-        (bits_of n words) + one bit =
+    (bits_of n words) + one bit =
     sum_by-set one (bits_of n words) k bit false (omega arith) in
     let now : set_count (bits_of n (flipped words k)) + one (not bit) ≡ total + one bit =
     let e : set_count (bits_of n (flipped words k)) ≡ set_count (set (bits_of n words) k bit) =
-        ap set_count is in omega (arith, row.counted) in
+    ap set_count is in omega (arith, row.counted) in
     let most : set_count (bits_of n (flipped words k)) ≤ n = set_count_le n (flipped words k) in
     let long : length (flipped words k) ≡ div_ceil n 64 = length-set words _ _ ∙ row.room in
     record {
       is = is;
       more = λ e. let a : one bit ≡ 1 = ap one e in let z : one (not bit) ≡ 0 =
-          ap (λ b. one (not b)) e in (omega arith, record { short = row.short; room = long; rest = rest; counted =
-          omega arith });
+          ap (λ b. one (not b)) e in (
+            omega arith,
+            record {
+              short = row.short;
+              room = long;
+              rest = rest;
+              counted =
+                  omega arith;
+            },
+          );
       less = λ e. let a : one bit ≡ 0 = ap one e in let z : one (not bit) ≡ 1 =
-          ap (λ b. one (not b)) e in (omega arith, record { short = row.short; room = long; rest = rest; counted =
-          omega arith });
+          ap (λ b. one (not b)) e in (
+            omega arith,
+            record {
+              short = row.short;
+              room = long;
+              rest = rest;
+              counted =
+                  omega arith;
+            },
+          );
     }
 
 -- the same, where the word that was read is `word`
@@ -244,7 +260,7 @@ pub record Found (words : List ℕ) (n i k : ℕ) : Type 0 where
 pub found : (words : List ℕ) (n total i k word mask : ℕ) → IsRow words n total → Masks mask i k
     → word ≡ get_or words k 0 → mask < 2 ^ 64
     → 0 < bit_and word mask → ClearFrom words i (64 * k)
-        → Found words n i (k * 64 + trailing_zeros w64 (bit_and word mask))
+    → Found words n i (k * 64 + trailing_zeros w64 (bit_and word mask))
 found words n total i k word mask row masks read small some clear =
     let w : ℕ = bit_and word mask in
     let lowest = bit_at-trailing_zeros w64 w some (omega (arith, and_le_r word mask)) in
@@ -259,7 +275,7 @@ found words n total i k word mask row masks read small some clear =
     let at : (j : ℕ) → j < 64 → bit_of words (k * 64 + j) ≡ eqb (bit_at word j) 1 =
     λ j h. let q : (k * 64 + j) / 64 ≡ k = omega arith in let r : (k * 64 + j) % 64 ≡ j = omega arith in
     ap (λ x. eqb (bit_at (get_or words x 0) ((k * 64 + j) % 64)) 1) q
-        ∙ ap (λ x. eqb (bit_at (get_or words k 0) x) 1) r ∙ ap (λ x. eqb (bit_at x j) 1) (sym read) in
+    ∙ ap (λ x. eqb (bit_at (get_or words k 0) x) 1) r ∙ ap (λ x. eqb (bit_at x j) 1) (sym read) in
     let here : bit_of words (k * 64 + b) ≡ true = at b b_in ∙ eq-eqb _ 1 (omega (arith, lowest.1, bit_at-lt word b)) in
     let within : k * 64 + b < n =
     elim (cases_lt (k * 64 + b) n) [
@@ -280,8 +296,8 @@ found words n total i k word mask row masks read small some clear =
                   let e : k * 64 + c ≡ j = omega arith in
                   ap (bit_of words) (sym e) ∙ at c (omega arith)
                   ∙ ne_eqb _ 1 (let z = lowest.2 c (omega arith) in let m =
-                      masks.high c (omega arith) (omega arith) in let f =
-                      bit_at_and word mask c in omega (arith, z, m, f))
+                  masks.high c (omega arith) (omega arith) in let f =
+                  bit_at_and word mask c in omega (arith, z, m, f))
             ]);
       };
     }
@@ -298,7 +314,7 @@ skipped words i k word mask masks read none clear j from below =
           let m : bit_at mask c ≡ 1 = masks.high c (omega arith) (omega arith) in
           let f : bit_at (bit_and word mask) c ≡ min (bit_at word c) (bit_at mask c) = bit_at_and word mask c in
           ap (λ x. eqb (bit_at (get_or words x 0) c) 1) q ∙ ap (λ x. eqb (bit_at x c) 1) (sym read)
-              ∙ ne_eqb _ 1 (omega arith)
+          ∙ ne_eqb _ 1 (omega arith)
     ]
 
 -- where the loop has passed all words
@@ -322,14 +338,14 @@ ones_of_bit (suc (suc b)) h = absurd (omega arith)
 -- the bits of a word below bit r
 pub count_part : (words : List ℕ) (k r : ℕ) → r ≤ 64
     → set_count (bits_of (64 * k + r) words) ≡ set_count (bits_of (64 * k) words) + count_ones
-        (get_or words k 0 % 2 ^ r)
+    (get_or words k 0 % 2 ^ r)
 unfolding set_count bits_of
 count_part words k zero h =
     let n : 64 * k + 0 ≡ 64 * k = omega arith in
     let e : get_or words k 0 % 2 ^ 0 ≡ 0 = omega arith in
     let z : count_ones (get_or words k 0 % 2 ^ 0) ≡ 0 = ap count_ones e ∙ ones_of_bit 0 (omega arith) in
     let f : set_count (bits_of (64 * k + 0) words) ≡ set_count (bits_of (64 * k) words) =
-        ap (λ x. set_count (bits_of x words)) n in
+    ap (λ x. set_count (bits_of x words)) n in
     omega arith
 count_part words k (suc r) h =
     let word : ℕ = get_or words k 0 in
@@ -359,22 +375,22 @@ count_word words k word read small =
     let c : count_ones (get_or words k 0 % 2 ^ 64) ≡ count_ones word = ap count_ones e in
     let n : 64 * (k + 1) ≡ 64 * k + 64 = omega arith in
     let f : set_count (bits_of (64 * (k + 1)) words) ≡ set_count (bits_of (64 * k + 64) words) =
-        ap (λ x. set_count (bits_of x words)) n in
+    ap (λ x. set_count (bits_of x words)) n in
     f ∙ count_part words k 64 (omega arith) ∙ ap (λ x. set_count (bits_of (64 * k) words) + x) c
 
 -- the bits below a place
 pub count_below : (words : List ℕ) (i word : ℕ) → word ≡ get_or words (i / 64) 0
     → set_count (bits_of i words) ≡ set_count (bits_of (64 * (i / 64)) words) + count_ones (bit_and word (1 * 2 ^
-        (i % 64) % 2 ^ 64 - 1))
+    (i % 64) % 2 ^ 64 - 1))
 count_below words i word read =
     let n : i ≡ 64 * (i / 64) + i % 64 = omega arith in
     let f : set_count (bits_of i words) ≡ set_count (bits_of (64 * (i / 64) + i % 64) words) =
-        ap (λ x. set_count (bits_of x words)) n in
+    ap (λ x. set_count (bits_of x words)) n in
     let m : bit_and word (1 * 2 ^ (i % 64) % 2 ^ 64 - 1) ≡ get_or words (i / 64) 0 % 2 ^ (i % 64) =
     ap (λ x. bit_and word (x - 1)) (one_shl (i % 64) 64 (omega arith)) ∙ and_mask word (i % 64)
-        ∙ ap (λ x. x % 2 ^ (i % 64)) read in
+    ∙ ap (λ x. x % 2 ^ (i % 64)) read in
     f ∙ count_part words (i / 64) (i % 64) (omega arith)
-        ∙ ap (λ x. set_count (bits_of (64 * (i / 64)) words) + count_ones x) (sym m)
+    ∙ ap (λ x. set_count (bits_of (64 * (i / 64)) words) + count_ones x) (sym m)
 
 -- the rank is the count of the bits below
 pub rank_is : (n : ℕ) (words : List ℕ) (row : List Bool) (i c : ℕ) → i ≤ n → bits_of n words ≡ row
@@ -399,7 +415,7 @@ pub test_is : (n total : ℕ) (words : List ℕ) (row : List Bool) (i word : ℕ
     → eqb (bit_and (word / 2 ^ (i % 64)) 1) 1 ≡ get_or row i false
 test_is n total words row i word is view read =
     ap (λ x. eqb x 1) (shr_and_one word (i % 64)) ∙ ap (λ x. eqb (bit_at x (i % 64)) 1) read
-        ∙ bit_is n total words row is view i
+    ∙ bit_is n total words row is view i
 
 pub test_past : (n total : ℕ) (words : List ℕ) (row : List Bool) (i : ℕ) → IsRow words n total
     → bits_of n words ≡ row → n ≤ i → get_or row i false ≡ false
@@ -416,8 +432,11 @@ none_set n words row is view j =
     ap (λ r. get_or r j false) (blank_is n words row is view)
     ∙ (elim (cases_lt j (length row)) [
       | inl within ↦ get_or-replicate (length row) j false false within
-      | inr past ↦ get_or_past (replicate (length row) false) j false (omega (arith, length-replicate
-          (length row) false))
+      | inr past ↦ get_or_past (replicate (length row) false) j false (omega (
+        arith,
+        length-replicate
+            (length row) false,
+      ))
     ])
 
 pub blanked : (n m : ℕ) (words : List ℕ) (row : List Bool) → bits_of n words ≡ row
@@ -447,14 +466,14 @@ pub put_is : (n total : ℕ) (words : List ℕ) (row : List Bool) (i word : ℕ)
     → Put words (set words (i / 64) (bit_xor word (1 * 2 ^ (i % 64) % 2 ^ 64))) n total i bit
 put_is n total words row i word was bit is view within read other at =
     put_read words n total i word bit is within (λ e. differs was bit other (read
-        ∙ ap (λ r. get_or r i false) (sym view) ∙ e))
+    ∙ ap (λ r. get_or r i false) (sym view) ∙ e))
     (get_or_read words (i / 64) word (omega (arith, is.room)) at 0)
 
 pub next_is : (n total : ℕ) (words : List ℕ) (row : List Bool) (i k word mask : ℕ) → IsRow words n total
     → bits_of n words ≡ row → Masks mask i k
     → word ≡ get_or words k word → k < length words → mask < 2 ^ 64 → 0 < bit_and word mask → ClearFrom words i (64 * k)
     → (k * 64 + count_trailing_zeros 64 (bit_and word mask) < 2 ^ 32)
-        × IsFirstFrom row i (k * 64 + count_trailing_zeros 64 (bit_and word mask))
+    × IsFirstFrom row i (k * 64 + count_trailing_zeros 64 (bit_and word mask))
 next_is n total words row i k word mask is view masks at within small some clear =
     let f = found words n total i k word mask is masks (get_or_read words k word within at 0) small some clear in
     let within : k * 64 + count_trailing_zeros 64 (bit_and word mask) < n = f.within in
@@ -475,13 +494,13 @@ rank_more words k word below so_far at within small =
 pub rank_rest : (n total : ℕ) (words : List ℕ) (row : List Bool) (i k word below : ℕ) → IsRow words n total
     → bits_of n words ≡ row → i < n
     → i / 64 ≤ k → k ≤ i / 64 → below ≡ set_count (bits_of (64 * k) words) → word ≡ get_or words (i / 64) word
-        → i / 64 < length words
+    → i / 64 < length words
     → (below + count_ones (bit_and word (1 * 2 ^ (i % 64) % 2 ^ 64 - 1)) < 2 ^ 32)
     × (below + count_ones (bit_and word (1 * 2 ^ (i % 64) % 2 ^ 64 - 1)) ≡ count_by (λ b. b) (take i row))
 rank_rest n total words row i k word below is view inside high low so_far at within =
     let all : k ≡ i / 64 = omega arith in
     let done : below ≡ set_count (bits_of (64 * (i / 64)) words) = so_far
-        ∙ ap (λ x. set_count (bits_of (64 * x) words)) all in
+    ∙ ap (λ x. set_count (bits_of (64 * x) words)) all in
     let le : i ≤ n = omega arith in
     let e = count_below words i word (get_or_read words (i / 64) word within at 0) in
     (omega (arith, set_count_le i words, is.short), rank_is n words row i _ le view (omega arith))

@@ -133,7 +133,10 @@ impl Config {
             Some(ConfigFault::Registers)
         } else if self.globals > MOST_GLOBALS {
             Some(ConfigFault::Globals)
-        } else if layouts.is_empty() || layouts.len() > MOST_LAYOUTS || !all_fit(layouts, self.words) {
+        } else if layouts.is_empty()
+            || layouts.len() > MOST_LAYOUTS
+            || !all_fit(layouts, self.words)
+        {
             Some(ConfigFault::Layouts)
         } else if self.births < 1 || self.births > MOST_BIRTHS {
             Some(ConfigFault::Births)

@@ -1,6 +1,6 @@
 -- Steps on registers alone: what they hold, what the plain heap answers, and registers that are written.
 use Rattle.std.proofs.Common.{◌≡◌, ◌↔◌, inl, inr, ℕ, Bool, true, false, nat_eq, is_none, Option, Some, None, refl}
-use Rattle.std.proofs.Common.{sym, ◌∙◌, ap, ap₂, eq-eqb, ne_eqb, ◌-◌}
+use Rattle.std.proofs.Common.{sym, ◌∙◌, ap, ap₂, eq-eqb, ne_eqb}
 use Rattle.std.proofs.lemmas.Option.{same_Some}
 use Rattle.std.proofs.lemmas.Bool.{eqb-true, eqb-false}
 use Rattle.model.specs.declared.steps.Actor.TheVariants.{Thread}

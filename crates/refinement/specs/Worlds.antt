@@ -1,6 +1,6 @@
 -- The heap by addresses that a heap's state stands for: its objects, read off the words of its pages, and all else read
 -- off its records.
-use Rattle.std.specs.Prelude.{ℕ, ◌+◌, ◌/◌, ◌%◌, ◌^◌, ◌==◌, zero, suc, Bool, true, false, List, [], ◌∷◌, length, take, drop, map, get_or, Option, Some, None, option_map, nat_le, nat_lt, slice_get, if◌then◌else◌}
+use Rattle.std.specs.Prelude.{ℕ, ◌+◌, ◌/◌, ◌%◌, ◌^◌, ◌==◌, Bool, true, false, List, [], ◌∷◌, length, take, drop, map, Option, Some, None, option_map, nat_le, nat_lt, slice_get, if◌then◌else◌}
 use Rattle.refword.specs.Words.{read_word}
 use Rattle.layout.specs.declared.shape.Layout.{Layout}
 use Rattle.layout.specs.Objects.{size_of}

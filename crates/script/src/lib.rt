@@ -7,6 +7,8 @@ mod reporting;
 mod schedule;
 
 pub use fault::RunFault;
-pub use parser::{Command, FaultKind, LineFault, MOST_BYTES, Order, ParseFault, Script, Then, Verb, parse};
+pub use parser::{
+    Command, FaultKind, LineFault, MOST_BYTES, Order, ParseFault, Script, Then, Verb, parse,
+};
 pub use reporting::report;
 pub use schedule::by_schedule;

@@ -52,7 +52,10 @@ impl fmt::Display for HeadLine {
     fn fmt<W: fmt::Write>(&self, f: &mut fmt::Formatter<W>) -> fmt::Result {
         let (phase, nmt) = (PhaseText(self.phase), BitText(self.nmt));
         let (births, used, frames) = (self.births, self.used, self.frames);
-        write!(f, "phase {phase} nmt {nmt} births {births} frames {used}/{frames}")
+        write!(
+            f,
+            "phase {phase} nmt {nmt} births {births} frames {used}/{frames}"
+        )
     }
 }
 

@@ -61,13 +61,7 @@ impl Heap {
 
     /// Writes a data word, by its number from 0. Refused as `datum` is.
     #[tactic(auto, unfolding(model::specs::Data::set_datum_outcome))]
-    pub fn set_datum(
-        &mut self,
-        thread: u32,
-        object: u32,
-        index: u32,
-        value: u64,
-    ) -> Reply
+    pub fn set_datum(&mut self, thread: u32, object: u32, index: u32, value: u64) -> Reply
         requires { Passes self.old thread (steps.SetDatum object index value) }
         ensures { Does self.old result self.new (set_datum_outcome self.old thread object index value) }
     {

@@ -64,13 +64,7 @@ impl Heap {
     /// Refused as `usable` is for the object; `BadIndex` where it has no such reference; as
     /// `usable_or_null` is for the source.
     #[tactic(auto, unfolding(model::specs::References::store_outcome))]
-    pub fn store_reference(
-        &mut self,
-        thread: u32,
-        object: u32,
-        field: u32,
-        source: u32,
-    ) -> Reply
+    pub fn store_reference(&mut self, thread: u32, object: u32, field: u32, source: u32) -> Reply
         requires { Passes self.old thread (steps.Store object field source) }
         ensures { Does self.old result self.new (store_outcome self.old thread object field source) }
     {
@@ -87,12 +81,7 @@ impl Heap {
     /// Stores a register's word in a global, by the global's number from 0. Refused as
     /// `usable_or_null` is.
     #[tactic(auto, unfolding(model::specs::References::store_global_outcome))]
-    pub fn store_global(
-        &mut self,
-        thread: u32,
-        global: u32,
-        register: u32,
-    ) -> Reply
+    pub fn store_global(&mut self, thread: u32, global: u32, register: u32) -> Reply
         requires { Passes self.old thread (steps.StoreGlobal global register) }
         ensures { Does self.old result self.new (store_global_outcome self.old thread global register) }
     {

@@ -109,12 +109,7 @@ impl Heap {
 
     /// A register gets another one's word. Refuses nothing.
     #[tactic(auto, unfolding(model::specs::Registers::copy_register_outcome))]
-    pub fn copy_register(
-        &mut self,
-        thread: u32,
-        target: u32,
-        source: u32,
-    ) -> Reply
+    pub fn copy_register(&mut self, thread: u32, target: u32, source: u32) -> Reply
         requires { Passes self.old thread (steps.CopyReg target source) }
         ensures { Does self.old result self.new (copy_register_outcome self.old thread target source) }
     {

@@ -6,7 +6,7 @@ pub invariant_of-self : goal.invariant_of-self
 invariant_of-self c =
     let items : c.fill.new.self.items ≡ replicate (length c.self.inside.words.items) 0 = search rules in
     rw items (blank_row_is c.self.inside.len
-        (length c.self.inside.words.items) c.self.invariant.short c.self.invariant.room)
+    (length c.self.inside.words.items) c.self.invariant.short c.self.invariant.room)
 
 pub returns-then-self-ne0 : goal.returns-then-self-ne0
 returns-then-self-ne0 c =

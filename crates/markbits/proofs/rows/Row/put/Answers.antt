@@ -7,38 +7,38 @@ use Rattle.markbits.proofs.rows.Row.put.Goals.{else-offset-self-via-else-offset-
 pub overflow_add-self : goal.overflow_add-self
 overflow_add-self c =
     let put = put_is _ _ _ _ _ _ _ _ c.self.invariant c.self.view_is c.if-offset-self.true c.test.ensures
-        c.if-test-bit.true c.index_mut.ensures.value in
+    c.if-test-bit.true c.index_mut.ensures.value in
     let most = (put.more c.if-bit.true).0 in
     omega arith
 
 pub invariant_of-self : goal.invariant_of-self
 invariant_of-self c =
     let put = put_is _ _ _ _ _ _ _ _ c.self.invariant c.self.view_is c.if-offset-self.true c.test.ensures
-        c.if-test-bit.true c.index_mut.ensures.value in
+    c.if-test-bit.true c.index_mut.ensures.value in
     (put.more c.if-bit.true).1
 
 pub returns-then-bit : goal.returns-then-bit
 returns-then-bit c =
     let put = put_is _ _ _ _ _ _ _ _ c.self.invariant c.self.view_is c.if-offset-self.true c.test.ensures
-        c.if-test-bit.true c.index_mut.ensures.value in
+    c.if-test-bit.true c.index_mut.ensures.value in
     rw (← c.self.view_is) put.is
 
 pub overflow_sub-self : goal.overflow_sub-self
 overflow_sub-self c =
     let put = put_is _ _ _ _ _ _ _ _ c.self.invariant c.self.view_is c.if-offset-self.true c.test.ensures
-        c.if-test-bit.true c.index_mut.ensures.value in
+    c.if-test-bit.true c.index_mut.ensures.value in
     (put.less c.if-bit.false).0
 
 pub invariant_of-self-else-bit : goal.invariant_of-self-else-bit
 invariant_of-self-else-bit c =
     let put = put_is _ _ _ _ _ _ _ _ c.self.invariant c.self.view_is c.if-offset-self.true c.test.ensures
-        c.if-test-bit.true c.index_mut.ensures.value in
+    c.if-test-bit.true c.index_mut.ensures.value in
     (put.less c.if-bit.false).1
 
 pub returns-else-bit : goal.returns-else-bit
 returns-else-bit c =
     let put = put_is _ _ _ _ _ _ _ _ c.self.invariant c.self.view_is c.if-offset-self.true c.test.ensures
-        c.if-test-bit.true c.index_mut.ensures.value in
+    c.if-test-bit.true c.index_mut.ensures.value in
     rw (← c.self.view_is) put.is
 
 pub returns-else-offset-self : goal.returns-else-offset-self

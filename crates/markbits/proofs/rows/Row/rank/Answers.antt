@@ -11,25 +11,25 @@ loop-index-init c = set_count_none c.self.inside.words.items
 pub loop-index-preserved : goal.loop-index-preserved
 loop-index-preserved c =
     (rank_more c.self.inside.words.items c.loop-index.index c.index-word.result.now c.loop-index.below
-        c.loop-index.invariant c.index-word.ensures
+    c.loop-index.invariant c.index-word.ensures
     (omega (arith, c.self.inside.words.ok.0, c.self.invariant.room)) (omega arith)).0
 
 pub overflow_add-below : goal.overflow_add-below
 overflow_add-below c =
     let low = (rank_more c.self.inside.words.items c.loop-index.index c.index-word.result.now c.loop-index.below
-        c.loop-index.invariant c.index-word.ensures
+    c.loop-index.invariant c.index-word.ensures
     (omega (arith, c.self.inside.words.ok.0, c.self.invariant.room)) (omega arith)).1 in
     omega arith
 
 pub overflow_add-result : goal.overflow_add-result
 overflow_add-result c =
     let low = (rank_rest _ _ _ _ c.args.offset c.loop-index.index _ c.loop-index.below c.self.invariant
-        c.self.view_is c.if-offset-self.false c.loop-index-test.false
+    c.self.view_is c.if-offset-self.false c.loop-index-test.false
     c.loop-index.auto.index-end c.loop-index.invariant c.index.ensures (omega (arith, c.self.invariant.room))).0 in
     omega arith
 
 pub returns : goal.returns
 returns c =
     (rank_rest _ _ _ _ c.args.offset c.loop-index.index _ c.loop-index.below c.self.invariant c.self.view_is
-        c.if-offset-self.false c.loop-index-test.false
+    c.if-offset-self.false c.loop-index-test.false
     c.loop-index.auto.index-end c.loop-index.invariant c.index.ensures (omega (arith, c.self.invariant.room))).1

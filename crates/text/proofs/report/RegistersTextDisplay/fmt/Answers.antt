@@ -1,4 +1,4 @@
-use Rattle.std.proofs.Common.{◌++◌, ◌∙◌, ap, refl, take, ℕ, Bool, Option, subst}
+use Rattle.std.proofs.Common.{◌++◌, ◌∙◌, ap, refl, take, subst}
 use Rattle.std.specs.Fmt.{HasWritten}
 use Rattle.std.proofs.Output.{writes_in_calls_nil}
 use Rattle.std.proofs.lemmas.Grind.{put_two}
