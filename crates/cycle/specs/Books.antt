@@ -1,5 +1,6 @@
 -- Books: a heap and the history of its accepted steps.
-use Rattle.std.specs.Prelude.{◌≡◌, Bool, false, List, [], ◌∷◌, ◌++◌, length, nat_le, Result, Ok, Err, Some, None, if◌then◌else◌, ◌⊎◌}
+use Rattle.std.specs.Prelude.{◌≡◌, Bool, false, List, [], ◌∷◌, ◌++◌, length, nat_le, Result, Ok, Err, Some, None}
+use Rattle.std.specs.Prelude.{if◌then◌else◌, ◌⊎◌}
 use Rattle.model.specs.declared.config.Config.{Config}
 use Rattle.model.specs.declared.steps.Actor.{Actor}
 use Rattle.model.specs.declared.steps.Step.{Step}
@@ -50,7 +51,8 @@ enter_accepted b actor step (Ok x) =
 
 -- a full history refuses; else the heap's outcome, an accepted step entering the history with its answer
 unfoldable pub act_outcome : BookState → Actor → Step → BookOutcome
-act_outcome b actor step = if is_full b then Err refusals.HistoryFull else enter_accepted b actor step (outcome b.heap actor step)
+act_outcome b actor step =
+    if is_full b then Err refusals.HistoryFull else enter_accepted b actor step (outcome b.heap actor step)
 
 -- a call did what the outcome says, or, where the history is not full, memory ran out; a refused one changed nothing
 abbrev pub Acts : BookState → Reply → BookState → BookOutcome → Type 0

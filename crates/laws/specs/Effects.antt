@@ -1,9 +1,11 @@
 -- What steps do to the plain heap, and what some of them do to the heap by addresses.
 use Rattle.std.specs.Prelude.{ℕ, ◌+◌, zero, suc, Bool, false, not, cond, Option, Some, None, set}
 use Rattle.model.specs.Phases.{may_nmt_trap, same_bit}
-use Rattle.laws.specs.AddressHeap.{AddressHeap, HeapObject, Word, Null, To, put_at, OpenBarrier, WorkerScan, LoadPlace, field}
+use Rattle.laws.specs.AddressHeap.{AddressHeap, HeapObject, Word, Null, To, put_at, OpenBarrier, WorkerScan}
+use Rattle.laws.specs.AddressHeap.{LoadPlace, field}
 use Rattle.laws.specs.BirthHeap.{BirthHeap, ref}
-use Rattle.laws.specs.Edits.{plain_set_object, plain_set_pending, plain_end_load, set_object, mark_word, marked_word, set_scan}
+use Rattle.laws.specs.Edits.{plain_set_object, plain_set_pending, plain_end_load, set_object, mark_word, marked_word}
+use Rattle.laws.specs.Edits.{set_scan}
 
 -- field j of a birth becomes x, if there is a birth
 abbrev pub store_at : Option ℕ → ℕ → Option ℕ → BirthHeap → BirthHeap

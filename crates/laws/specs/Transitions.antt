@@ -8,10 +8,16 @@ use Rattle.model.specs.declared.records.PageState.{PageState}
 use Rattle.model.specs.declared.records.PageState.TheVariants.{Unused, Open, Closed, From}
 use Rattle.model.specs.Stores.{is_protected}
 use Rattle.model.specs.Phases.{is_marking}
-use Rattle.laws.specs.AddressHeap.{AddressHeap, HeapObject, Null, To, SideEntry, Planned, Copied, OpenBarrier, AtField, AtGlobal, WorkerScan, field}
+use Rattle.laws.specs.AddressHeap.{AddressHeap, HeapObject, Null, To, SideEntry, Planned, Copied, OpenBarrier}
+use Rattle.laws.specs.AddressHeap.{AtField, AtGlobal, WorkerScan, field}
 use Rattle.laws.specs.BirthHeap.{BirthHeap}
-use Rattle.laws.specs.Edits.{set_object, set_barrier, plain_set_pending, end_load, set_global, plain_set_global, copy_object, mark_word, marked_word, end_global_scan, set_scan, end_scan, start_mark, cross_checkpoint, release_page, protect_pages, open_page, set_parked, add_object, plain_born, end_mark}
-use Rattle.laws.specs.Effects.{plain_store, plain_datum, plain_load_field, plain_finish, plain_set_register, set_register, with_field, with_datum, new_barrier, nmt_trap_due, mark_registers, scan_field}
+use Rattle.laws.specs.Edits.{set_object, set_barrier, plain_set_pending, end_load, set_global, plain_set_global}
+use Rattle.laws.specs.Edits.{copy_object, mark_word, marked_word, end_global_scan, set_scan, end_scan, start_mark}
+use Rattle.laws.specs.Edits.{cross_checkpoint, release_page, protect_pages, open_page, set_parked, add_object}
+use Rattle.laws.specs.Edits.{plain_born, end_mark}
+use Rattle.laws.specs.Effects.{plain_store, plain_datum, plain_load_field, plain_finish, plain_set_register}
+use Rattle.laws.specs.Effects.{set_register, with_field, with_datum, new_barrier, nmt_trap_due, mark_registers}
+use Rattle.laws.specs.Effects.{scan_field}
 
 -- the address of a usable register: its page isn't protected, or the thread has still to cross (ours)
 abbrev pub IsUsable : AddressHeap → ℕ → ℕ → Type 0
@@ -105,7 +111,8 @@ pub data Transition (w : AddressHeap) (p p0 : BirthHeap) : AddressHeap → Birth
       → Transition w p p0 (set_barrier t (new_barrier d (AtField a j) (field o j)) w) (plain_load_field t d r j p) p0
   -- thread t begins to load global g, for register d
   LoadGlobal : (t d g : ℕ) → w.is_global g ≡ true → w.parked t ≡ false
-      → Transition w p p0 (set_barrier t (new_barrier d (AtGlobal g) (w.global g)) w) (plain_set_pending t (d, p.global g) p) p0
+      → Transition w p p0 (set_barrier t (new_barrier d (AtGlobal g) (w.global g)) w) (plain_set_pending t
+          (d, p.global g) p) p0
   -- a GC trap, whose object was copied: the word is forwarded (the paper's read barrier)
   TrapMoved : (t : ℕ) (k : OpenBarrier) (a n : ℕ) (b : Bool) → w.barrier t ≡ Some k → k.now ≡ To a b
       → w.side_entry a ≡ Copied n
@@ -191,7 +198,8 @@ pub data Transition (w : AddressHeap) (p p0 : BirthHeap) : AddressHeap → Birth
       → Transition w p p0 (end_scan k s.address w) p p0
   -- a worker marks global g, and writes it back clean (the paper's Mark phase)
   ScanGlobal : (g : ℕ) → w.is_global g ≡ true → IsScanning w
-      → Transition w p p0 (end_global_scan g (set_global g (marked_word w (w.global g)) (mark_word (w.global g) w))) p p0
+      → Transition w p p0 (end_global_scan g (set_global g (marked_word w (w.global g)) (mark_word
+          (w.global g) w))) p p0
   -- a mark ends (ours); lent is true of the addresses of pages in which a buffer is lent
   EndMark : (lent : ℕ → Bool) → MayEndMark w
       → Transition w p p0 (end_mark lent w) p p0

@@ -1,2 +1,3 @@
+pub mod RowBits
 pub mod RowWords
 pub mod ManyRows

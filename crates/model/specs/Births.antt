@@ -1,5 +1,6 @@
 -- New objects.
-use Rattle.std.specs.Prelude.{ℕ, ◌+◌, ◌-◌, Bool, true, List, ◌∷◌, replicate, Some, slice_get, slice_set, if◌then◌else◌, ◌*◌, Ok, Err, nat_lt, nat_le}
+use Rattle.std.specs.Prelude.{ℕ, ◌+◌, ◌-◌, Bool, true, List, ◌∷◌, replicate, Some, slice_get, slice_set}
+use Rattle.std.specs.Prelude.{if◌then◌else◌, ◌*◌, Ok, Err, nat_lt, nat_le}
 use Rattle.layout.specs.declared.shape.Layout.{Layout}
 use Rattle.layout.specs.Objects.{header_bits, size_of}
 use Rattle.model.specs.declared.records.Buffer.{Buffer}
@@ -36,7 +37,8 @@ place_object h t target number l b = record h {
   starts = change_at h.starts (b.page - 1) (put_bit b.next true);
   mark = change_at h.mark (b.page - 1) (put_bit b.next (is_marking h.phase));
   todo = change_at h.todo (b.page - 1) (put_bit b.next (is_mark_crossing h.phase));
-  threads = change_at h.threads t (hand_object target (Some (b.page * h.store.words + b.next, h.nmt)) (used_buffer b (size_of l)));
+  threads = change_at h.threads t
+      (hand_object target (Some (b.page * h.store.words + b.next, h.nmt)) (used_buffer b (size_of l)));
   births = h.births + 1;
 }
 

@@ -1,5 +1,6 @@
 -- Buffers that are taken and given back.
-use Rattle.std.specs.Prelude.{ℕ, ◌-◌, ◌==◌, Bool, false, List, length, replicate, Option, Some, None, slice_get, if◌then◌else◌, is_some, Result, Ok, Err}
+use Rattle.std.specs.Prelude.{ℕ, ◌-◌, ◌==◌, Bool, false, List, length, replicate, Option, Some, None, slice_get}
+use Rattle.std.specs.Prelude.{if◌then◌else◌, is_some, Result, Ok, Err}
 use Rattle.model.specs.declared.records.Buffer.{Buffer}
 use Rattle.model.specs.Stores.{StoreState, take_buffer}
 use Rattle.model.specs.declared.steps.Answer.TheVariants as answers
@@ -54,7 +55,8 @@ take_result h t (Err NoPages) = Err refusals.NoPages
 
 -- the row of Take
 unfoldable pub take_outcome : HeapState → ℕ → ℕ → Outcome
-take_outcome h t n = if is_some (buffer_of_thread h t) then Err refusals.HasBuffer else take_result h t (take_buffer h.store n)
+take_outcome h t n =
+    if is_some (buffer_of_thread h t) then Err refusals.HasBuffer else take_result h t (take_buffer h.store n)
 
 -- the row of GiveBack
 unfoldable pub give_back_outcome : HeapState → ℕ → Outcome

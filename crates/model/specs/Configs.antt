@@ -1,10 +1,12 @@
 -- The configurations that a heap may be made with.
-use Rattle.std.specs.Prelude.{◌≡◌, ◌⊎◌, ℕ, ◌*◌, ◌≤◌, min, List, ◌==◌, ◌||◌, not, Bool, true, length, Option, Some, None, nat_le, nat_lt, if◌then◌else◌}
+use Rattle.std.specs.Prelude.{◌≡◌, ◌⊎◌, ℕ, ◌*◌, ◌≤◌, min, List, ◌==◌, ◌||◌, not, Bool, true, length, Option, Some}
+use Rattle.std.specs.Prelude.{None, nat_le, nat_lt, if◌then◌else◌}
 use Rattle.std.specs.List.{list_all}
 use Rattle.layout.specs.declared.shape.Layout.{Layout}
 use Rattle.layout.specs.Objects.{size_of}
 use Rattle.model.specs.declared.config.Config.{Config}
-use Rattle.model.specs.declared.limits.TheConstants.{MOST_WORDS, MOST_FRAMES, MOST_PAGES, MOST_THREADS, MOST_WORKERS, MOST_REGISTERS}
+use Rattle.model.specs.declared.limits.TheConstants.{MOST_WORDS, MOST_FRAMES, MOST_PAGES, MOST_THREADS, MOST_WORKERS}
+use Rattle.model.specs.declared.limits.TheConstants.{MOST_REGISTERS}
 use Rattle.model.specs.declared.limits.TheConstants.{MOST_GLOBALS, MOST_LAYOUTS, MOST_BIRTHS, MOST_HISTORY}
 use Rattle.model.specs.declared.config.ConfigFault.{ConfigFault}
 use Rattle.model.specs.declared.config.ConfigFault.TheVariants as faults
@@ -33,7 +35,8 @@ first_fault c =
     (if is_outside c.workers 1 MOST_WORKERS then Some faults.Workers else
     (if is_outside c.registers 1 MOST_REGISTERS then Some faults.Registers else
     (if is_outside c.globals 0 MOST_GLOBALS then Some faults.Globals else
-    (if is_outside (length c.layouts) 1 MOST_LAYOUTS || not (list_all (fits_page c.words) c.layouts) then Some faults.Layouts else
+    (if is_outside (length c.layouts) 1 MOST_LAYOUTS || not (list_all (fits_page c.words) c.layouts)
+        then Some faults.Layouts else
     (if is_outside c.births 1 MOST_BIRTHS then Some faults.Births else
     (if is_outside c.history 1 MOST_HISTORY then Some faults.History else None)))))))))
 

@@ -1,5 +1,7 @@
 -- Pages, and the frames that are their memory.
-use Rattle.std.specs.Prelude.{◌≡◌, ℕ, ◌+◌, ◌-◌, ◌*◌, ◌/◌, ◌%◌, ◌==◌, ◌&&◌, Bool, true, false, List, ◌++◌, length, take, drop, replicate, Option, Some, None, is_none, option_and_then, Result, Ok, Err, nat_le, nat_lt, slice_get, slice_set, position, if◌then◌else◌}
+use Rattle.std.specs.Prelude.{◌≡◌, ℕ, ◌+◌, ◌-◌, ◌*◌, ◌/◌, ◌%◌, ◌==◌, ◌&&◌, Bool, true, false, List, ◌++◌, length}
+use Rattle.std.specs.Prelude.{take, drop, replicate, Option, Some, None, is_none, option_and_then, Result, Ok, Err}
+use Rattle.std.specs.Prelude.{nat_le, nat_lt, slice_get, slice_set, position, if◌then◌else◌}
 use Rattle.model.specs.declared.records.Page.{Page}
 use Rattle.model.specs.declared.records.PageState.{PageState}
 use Rattle.model.specs.declared.records.PageState.TheVariants.{Unused, Open, From, Gone}

@@ -184,7 +184,8 @@ open_keeps s i f p h e u g =
         omega (arith, same, zero_before, h.balanced.leaving)
 
 -- the store that there is at first
-pub first_is_store : (words frames pages : ℕ) → 0 < words → words ≤ MOST_WORDS → frames ≤ MOST_FRAMES → pages ≤ MOST_PAGES
+pub first_is_store : (words frames pages : ℕ) → 0 < words → words ≤ MOST_WORDS → frames ≤ MOST_FRAMES
+    → pages ≤ MOST_PAGES
     → IsStore (first_store words frames pages)
 unfolding first_store
 first_is_store words frames pages low high frames_high pages_high =
@@ -355,7 +356,8 @@ some_is (Some x) f e = search rules
 
 -- the parts of the store that there is at first
 pub first_inside : (words frames pages : ℕ) (ps : List Page) (fs : List (List ℕ)) (os : List (Option ℕ)) → 0 < words
-    → words ≤ MOST_WORDS → frames ≤ MOST_FRAMES → pages ≤ MOST_PAGES → ps ≡ replicate (record_count frames pages) blank_page
+    → words ≤ MOST_WORDS → frames ≤ MOST_FRAMES → pages ≤ MOST_PAGES
+        → ps ≡ replicate (record_count frames pages) blank_page
     → fs ≡ replicate frames (replicate words 0) → os ≡ replicate frames None
     → IsStore (record { words = words; count = pages; pages = ps; frames = fs; owners = os })
 unfolding first_store

@@ -125,7 +125,8 @@ same_ok x y e = cc
 err_ok : (r : Room) (y : StoreState × Buffer) → ◌≡◌ {A = Taken} (Err r) (Ok y) → ⊥
 err_ok r y e = cc
 
-taken_given : (s : StoreState) (n i : ℕ) → page_with_room s.words n s.pages ≡ Some i → take_buffer s n ≡ Ok (give_words s i n)
+taken_given : (s : StoreState) (n i : ℕ) → page_with_room s.words n s.pages ≡ Some i
+    → take_buffer s n ≡ Ok (give_words s i n)
 unfolding take_buffer
 taken_given s n i a = rw a refl
 

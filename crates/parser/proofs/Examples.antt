@@ -26,7 +26,8 @@ no_heap_line = refl
 -- a heap line that ends behind its first word
 no_words : script_in (codes "heap" ++ 10 ∷ [])
     ≡ Err (record { line = 1; column = 5; kind = kinds.UnknownWord })
-unfolding script_in lines_in line_in heap_line first_word word_at heap_in sizes_at memory_at page_size_at fixed_at word_or
+unfolding script_in lines_in line_in heap_line first_word word_at heap_in sizes_at memory_at page_size_at fixed_at
+    word_or
 no_words = refl
 
 -- a number with a leading zero

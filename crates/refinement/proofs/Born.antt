@@ -370,7 +370,9 @@ module _ {h : HeapState} (s : IsStore h.store) (l : IsLaid h) {t target number :
     where
       rows : (xs : List (List Bool)) → AreRowsOf h.store xs → (bit : Bool)
           → AreRowsOf after.store (change_at xs (b.page - 1) (put_bit b.next bit))
-      rows xs r bit = let k = rows_changed (length h.store.pages) h.store.words xs (b.page - 1) (put_bit b.next bit) r (length_put b.next bit) in
+      rows xs r bit = let k =
+          rows_changed (length h.store.pages) h.store.words xs (b.page - 1) (put_bit b.next bit) r
+          (length_put b.next bit) in
           record { pages = k.pages; words = k.words }
 
   pub born_carries : Carries h after (add_object address fresh t target)
@@ -381,7 +383,8 @@ module _ {h : HeapState} (s : IsStore h.store) (l : IsLaid h) {t target number :
     laid = λ z. born_laid;
     given = λ z. z;
     words = λ w. record {
-      threads = each_changed (HoldsWords h.config.registers) h.threads t (hand_object target (Some (address, h.nmt)) rest)
+      threads = each_changed (HoldsWords h.config.registers) h.threads t (hand_object target (Some
+          (address, h.nmt)) rest)
           w.threads (λ y. handed_holds_words h.config.registers target (Some (address, h.nmt)) rest y
           (buffer_address h.store b s m.lies (omega (arith, m.room))));
       globals = w.globals;

@@ -130,7 +130,8 @@ row_there rows i row e = row_read rows i ∙ ap row_of e
 pub bit_put : (w : ℕ) (rows : List (List Bool)) (i a : ℕ) (b : Bool) (row : List Bool)
     → a / w ≡ suc i → slice_get rows i ≡ Some row → a % w < length row → (x : ℕ)
     → bit_at (change_at rows i (put_bit (a % w) b)) w x ≡ put (bit_at rows w) a b x
-bit_put w rows i a b row p e h = put_all (λ x y. bit_at (change_at rows i (put_bit (a % w) b)) w x ≡ y) (bit_at rows w) a
+bit_put w rows i a b row p e h =
+    put_all (λ x y. bit_at (change_at rows i (put_bit (a % w) b)) w x ≡ y) (bit_at rows w) a
     b (on_page a p ∙ put_same (λ j. get_or row j false) (a % w) b) (λ x d. elsewhere x d (cases_eq (x / w) (suc i)))
   where
     on_page : (x : ℕ) → x / w ≡ suc i

@@ -28,7 +28,8 @@ pub record NamesObject (h : HeapState) (p : PlainHeap) (t r a : ℕ) : Type 0 wh
   pub reads : ReadsPlain (world_of h) (births_of p) t r a object
   pub holds : At (world_of h) (births_of p) a object
 
-pub names_object : {h : HeapState} {p p0 : PlainHeap} → Holds h p p0 → (t r a : ℕ) → IsUsed h t r a → NamesObject h p t r a
+pub names_object : {h : HeapState} {p p0 : PlainHeap} → Holds h p p0 → (t r a : ℕ) → IsUsed h t r a
+    → NamesObject h p t r a
 unfolding name_of
 names_object {h = h} {p = p} {p0 = p0} k t r a u =
     let word : as_word (register_of h t r) ≡ To a u.bit = ap as_word u.word in

@@ -8,8 +8,10 @@ use Rattle.std.proofs.lemmas.Option.{slice_get_within}
 use mathlib.Core.Path.{fun_ext}
 use Rattle.layout.specs.declared.shape.Layout.{Layout}
 use Rattle.model.specs.States.{HeapState, flat, change_at, ThreadState}
-use Rattle.model.specs.Plain.{PlainHeap, PlainThread, Object, name_of, name_in, name_register, set_name, add_birth, blank_object}
-use Rattle.model.specs.Plain.{store_field, set_field, write_datum, set_datum, Pending, pending_in, begin_load, start_load}
+use Rattle.model.specs.Plain.{PlainHeap, PlainThread, Object, name_of, name_in, name_register, set_name, add_birth}
+use Rattle.model.specs.Plain.{blank_object}
+use Rattle.model.specs.Plain.{store_field, set_field, write_datum, set_datum, Pending, pending_in, begin_load}
+use Rattle.model.specs.Plain.{start_load}
 use Rattle.model.specs.Plain.{finish_pending, end_load}
 use Rattle.model.specs.Owning.{Each}
 use Rattle.model.proofs.Lists.{get_set_same, get_set_other, get_within, each_changed}
@@ -148,7 +150,8 @@ pub born_follows : {h : HeapState} {p p0 : PlainHeap} → Holds h p p0 → (t : 
 unfolding name_register
 born_follows {h = h} {p = p} k t x at r number o l is low =
     let (y, there, size) = plain_thread k t x at in
-    subst (λ z. Follows h p (add_birth p t r number z) (plain_born number (replicate l.refs None) (replicate l.nums 0) t r
+    subst (λ z. Follows h p (add_birth p t r number z) (plain_born number (replicate l.refs None)
+        (replicate l.nums 0) t r
     (births_of p))) (sym is) (record {
       roots = changed_roots h p _ t (set_name r (Some (length p.objects))) refl refl
           (λ y. length-set y.registers r (Some (length p.objects)));

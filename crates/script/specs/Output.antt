@@ -1,5 +1,6 @@
 -- What a run of a script prints.
-use Rattle.std.specs.Prelude.{ℕ, ◌+◌, Bool, List, [], ◌∷◌, ◌++◌, length, count_by, is_some, Option, Some, None, slice_get, if◌then◌else◌}
+use Rattle.std.specs.Prelude.{ℕ, ◌+◌, Bool, List, [], ◌∷◌, ◌++◌, length, count_by, is_some, Option, Some, None}
+use Rattle.std.specs.Prelude.{slice_get, if◌then◌else◌}
 use Rattle.model.specs.declared.steps.Answer.{Answer}
 use Rattle.model.specs.declared.steps.Answer.TheVariants as answers
 use Rattle.model.specs.declared.records.Global.{Global}
@@ -50,7 +51,8 @@ page_line h i p =
 
 -- what a thread does
 abbrev pub activity_of : ThreadState → Activity
-activity_of t = if t.parked then activities.Parked else (if is_some t.barrier then activities.Loading else activities.Running)
+activity_of t = if t.parked then activities.Parked else
+    (if is_some t.barrier then activities.Loading else activities.Running)
 
 -- the line of thread n
 abbrev pub thread_line : ℕ → ℕ → ThreadState → List ℕ

@@ -51,4 +51,5 @@ global_line page_words n w = codes "global " ++ decimal n ++ codes " " ++ word_t
 
 -- the line of mark number k, which ended
 abbrev pub cycle_line : ℕ → ℕ → ℕ → List ℕ
-cycle_line k live retired = codes "cycle " ++ decimal k ++ codes " live " ++ decimal live ++ codes " retired " ++ decimal retired
+cycle_line k live retired =
+    codes "cycle " ++ decimal k ++ codes " live " ++ decimal live ++ codes " retired " ++ decimal retired

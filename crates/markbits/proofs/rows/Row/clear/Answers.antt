@@ -1,5 +1,6 @@
 use Rattle.std.proofs.Common.{◌≡◌, length, replicate, rules}
-use Rattle.markbits.proofs.RowWords.{blank_row_is, blank_is, blanked}
+use Rattle.markbits.proofs.RowBits.{blank_row_is}
+use Rattle.markbits.proofs.RowWords.{blank_is, blanked}
 use Rattle.markbits.proofs.rows.Row.clear.Goals as goal
 
 pub invariant_of-self : goal.invariant_of-self

@@ -1,4 +1,4 @@
-use Rattle.markbits.proofs.RowWords.{count_of}
+use Rattle.markbits.proofs.RowBits.{count_of}
 use Rattle.markbits.proofs.rows.Row.count.Goals as goal
 
 pub returns : goal.returns

@@ -1,5 +1,5 @@
 use Rattle.std.proofs.Common.{◌≡◌, replicate, arith, rules}
-use Rattle.markbits.proofs.RowWords.{blank_row_is, bits_of_zeros}
+use Rattle.markbits.proofs.RowBits.{blank_row_is, bits_of_zeros}
 use Rattle.markbits.proofs.rows.Row.new.Goals as goal
 
 pub invariant_of-result : goal.invariant_of-result
