@@ -163,7 +163,7 @@ acted_clear b c actor a e = by_full (is_full b) e
   where
     by_full : (full : Bool)
         → (if full then Err refusals.HistoryFull else enter_accepted b actor steps.Trap
-            (outcome b.heap actor steps.Trap))
+        (outcome b.heap actor steps.Trap))
         ≡ Ok (c, a) → a ≡ answers.Clear
     by_full true f = absurd cc
     by_full false f =

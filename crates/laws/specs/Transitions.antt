@@ -112,7 +112,7 @@ pub data Transition (w : AddressHeap) (p p0 : BirthHeap) : AddressHeap → Birth
   -- thread t begins to load global g, for register d
   LoadGlobal : (t d g : ℕ) → w.is_global g ≡ true → w.parked t ≡ false
       → Transition w p p0 (set_barrier t (new_barrier d (AtGlobal g) (w.global g)) w) (plain_set_pending t
-          (d, p.global g) p) p0
+      (d, p.global g) p) p0
   -- a GC trap, whose object was copied: the word is forwarded (the paper's read barrier)
   TrapMoved : (t : ℕ) (k : OpenBarrier) (a n : ℕ) (b : Bool) → w.barrier t ≡ Some k → k.now ≡ To a b
       → w.side_entry a ≡ Copied n
@@ -199,7 +199,7 @@ pub data Transition (w : AddressHeap) (p p0 : BirthHeap) : AddressHeap → Birth
   -- a worker marks global g, and writes it back clean (the paper's Mark phase)
   ScanGlobal : (g : ℕ) → w.is_global g ≡ true → IsScanning w
       → Transition w p p0 (end_global_scan g (set_global g (marked_word w (w.global g)) (mark_word
-          (w.global g) w))) p p0
+      (w.global g) w))) p p0
   -- a mark ends (ours); lent is true of the addresses of pages in which a buffer is lent
   EndMark : (lent : ℕ → Bool) → MayEndMark w
       → Transition w p p0 (end_mark lent w) p p0

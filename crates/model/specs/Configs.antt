@@ -36,7 +36,7 @@ first_fault c =
     (if is_outside c.registers 1 MOST_REGISTERS then Some faults.Registers else
     (if is_outside c.globals 0 MOST_GLOBALS then Some faults.Globals else
     (if is_outside (length c.layouts) 1 MOST_LAYOUTS || not (list_all (fits_page c.words) c.layouts)
-        then Some faults.Layouts else
+    then Some faults.Layouts else
     (if is_outside c.births 1 MOST_BIRTHS then Some faults.Births else
     (if is_outside c.history 1 MOST_HISTORY then Some faults.History else None)))))))))
 

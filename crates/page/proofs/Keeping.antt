@@ -357,7 +357,7 @@ some_is (Some x) f e = search rules
 -- the parts of the store that there is at first
 pub first_inside : (words frames pages : ℕ) (ps : List Page) (fs : List (List ℕ)) (os : List (Option ℕ)) → 0 < words
     → words ≤ MOST_WORDS → frames ≤ MOST_FRAMES → pages ≤ MOST_PAGES
-        → ps ≡ replicate (record_count frames pages) blank_page
+    → ps ≡ replicate (record_count frames pages) blank_page
     → fs ≡ replicate frames (replicate words 0) → os ≡ replicate frames None
     → IsStore (record { words = words; count = pages; pages = ps; frames = fs; owners = os })
 unfolding first_store

@@ -50,7 +50,7 @@ each_set_again P xs i v w h q j y e = go (get_set (set xs i v) i j w y e)
 same_rows : (b : Buffer) (rows : List (List Bool)) → 0 < b.next → opened_rows b rows ≡ rows
 same_rows b rows low =
     ap (λ c. cond c (change_at rows (b.page - 1) blank_row) rows) (ne_eqb b.next 0
-        (λ e. absurd (omega (arith, e, low))))
+    (λ e. absurd (omega (arith, e, low))))
 
 lent_open : (h : HeapState) (t i : ℕ) (p : Page) (n : ℕ) → 0 < p.top → lend_buffer h t
     (record h.store { pages = set h.store.pages i (with_more p n) }) (buffer_of i p.top n) ≡ granted h t i p n
@@ -66,8 +66,10 @@ blank_rows : (i n : ℕ) (rows : List (List Bool)) → opened_rows (buffer_of i 
 blank_rows i n rows = ap (λ j. change_at rows j blank_row) (omega arith)
 
 lent_fresh : (h : HeapState) (t i f n : ℕ)
-    → lend_buffer h t (record (open_fresh h.store i f) { pages =
-        set (open_fresh h.store i f).pages i (with_more (fresh_page f) n) })
+    → lend_buffer h t (record (open_fresh h.store i f) {
+      pages =
+          set (open_fresh h.store i f).pages i (with_more (fresh_page f) n);
+    })
     (buffer_of i 0 n) ≡ granted (opened_heap h i f) t i (fresh_page f) n
 unfolding lend_buffer
 lent_fresh h t i f n = λ z. record (granted (opened_heap h i f) t i (fresh_page f) n) {

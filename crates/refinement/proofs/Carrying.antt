@@ -117,8 +117,10 @@ pub thread_carries : (h : HeapState) (t : ℕ) (f : ThreadState → ThreadState)
     → world_of (record h { threads = change_at h.threads t f }) ≡ e (world_of h)
     → Carries h (record h { threads = change_at h.threads t f }) e
 thread_carries h t f e laid words world = record {
-  size = alike h (record h { threads =
-      change_at h.threads t f }) refl refl refl refl (length_changed h.threads t f) refl
+  size = alike h (record h {
+    threads =
+        change_at h.threads t f;
+  }) refl refl refl refl (length_changed h.threads t f) refl
       refl;
   laid = laid;
   given = λ z. z;

@@ -117,7 +117,7 @@ module _ {h : HeapState} {p p0 : PlainHeap} (s : IsStore h.store) (d : IsHeap h)
       ap (λ b. field_of (object_of p b) i) names.reads.birth
       ∙ plain_field (slice_get p.objects q.birth) i (omega (arith, low, names.holds.refs_length)) in
       row_by k (load_carries h t g.thread g.there r (places.Field a i) (read_reference v) (field q i) same
-          (stored_word v)
+      (stored_word v)
       (is_register h r (first_false (no_register h r) (no_register h o) g.indices)))
       (agrees (loading_follows k t g.thread g.there r _ found plain)
       (ap (λ b. load_at t r b i (births_of p)) (sym names.reads.birth)))

@@ -151,7 +151,7 @@ unfolding name_register
 born_follows {h = h} {p = p} k t x at r number o l is low =
     let (y, there, size) = plain_thread k t x at in
     subst (λ z. Follows h p (add_birth p t r number z) (plain_born number (replicate l.refs None)
-        (replicate l.nums 0) t r
+    (replicate l.nums 0) t r
     (births_of p))) (sym is) (record {
       roots = changed_roots h p _ t (set_name r (Some (length p.objects))) refl refl
           (λ y. length-set y.registers r (Some (length p.objects)));

@@ -70,7 +70,10 @@ fn set_each_third(row: &mut Row) {
 fn has_each_third(rt: &impl Abort, row: &Row) {
     assert_eq!(rt; row.count(), 1366);
     assert_eq!(rt; (row.rank(64), row.rank(4096)), (22, 1366));
-    assert_eq!(rt; (row.next_from(64), row.next_from(4095)), (Some(66), Some(4095)));
+    assert_eq!(rt;
+        (row.next_from(64), row.next_from(4095)),
+        (Some(66), Some(4095))
+    );
     assert_eq!(rt; row.next_from(4096), None);
     assert_eq!(rt; row.words().first(), Some(&0x9249_2492_4924_9249));
 }

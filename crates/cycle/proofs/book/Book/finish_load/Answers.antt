@@ -6,5 +6,5 @@ use Rattle.cycle.proofs.book.Book.finish_load.Goals as goal
 pub returns-clause-steps : goal.returns-clause-steps
 returns-clause-steps c =
     last_done c.args.self.now c.act_into.new.self
-        (act_outcome c.args.self.now c.args.actor steps.Finish) c.act_into.result
+    (act_outcome c.args.self.now c.args.actor steps.Finish) c.act_into.result
     c.args.replies.now.items c.act_into.new.replies.items c.act_into.ensures.says c.act_into.ensures.replies

@@ -23,7 +23,7 @@ pub invariant_of-self : goal.invariant_of-self
 invariant_of-self c =
     let low = subst (λ (h : HeapState). h.births < h.config.births) (sym c.self.view_is) c.requires.births in
     birth_keeps (heap_of c.self.inside) c.write_new.new.store c.args.buffer c.note_start.new.starts
-        c.note_start.new.mark
+    c.note_start.new.mark
     c.note_start.new.todo c.self.invariant low (subst (AreSized c.self.inside.store) (sym c.write_new.ensures)
     (words_sized_alike c.self.inside.store c.args.buffer.page _)) (λ b lies. subst (λ (s : StoreState). LiesIn s b)
     (sym c.write_new.ensures) (words_lie c.self.inside.store c.args.buffer.page _ b lies))
