@@ -14,7 +14,7 @@
 //!    crosses it in its own time, which marks what its registers name; a parked one is crossed for.
 //!    The last crossing begins the scan: workers pick marked objects and mark what their references
 //!    name, writing each word back with the clean bit. `EndMark` ends it where nothing is left to be
-//!    scanned and no barrier is open: what is marked is live, the rest is free.
+//!    scanned and no barrier is open: what is marked is live, the rest is garbage.
 //! 2. **Relocate** empties pages. `Protect` chooses some, plans a place for each of their live
 //!    objects in a side array apart from the page, and opens the second checkpoint. A thread that
 //!    hasn't crossed may still use the old places; one that has crossed may not, and nothing is
@@ -27,7 +27,8 @@
 //! before it uses it: the GC trap where the word leads to an emptied page, which copies what isn't
 //! copied yet and corrects the word; the NMT trap where a mark runs and hasn't seen the word, which
 //! marks it. Then it heals the place that it loaded from, if that still holds what was loaded
-//! (ours), and takes the word. So no register gets a word that the collector has still to look at.
+//! (ours), and takes the word. So a thread that has crossed gets no word into a register that the
+//! collector has still to look at.
 //!
 //! | Who | Writes |
 //! |---|---|

@@ -85,7 +85,8 @@ impl Row {
         }
     }
 
-    /// The first place from an offset on where a bit is set, if there is one.
+    /// The first place from an offset on where a bit is set, if there is one; none from the row's
+    /// end on.
     pub fn next_from(&self, offset: usize) -> Option<u32>
         ensures { IsNextPlace self.now offset result }
     {
@@ -104,7 +105,7 @@ impl Row {
         None
     }
 
-    /// How many bits are set below an offset.
+    /// How many bits are set below an offset; all of them from the row's end on.
     pub fn rank(&self, offset: usize) -> usize
         ensures { result ≡ count_by (λ b. b) (take offset self.now) }
     {
@@ -175,7 +176,8 @@ impl Rows {
         }
     }
 
-    /// The row of an index from 0, which is there, to be changed.
+    /// The row of an index from 0, which is there, to be changed. When the borrow ends, the table
+    /// has in its place what it was left as, and its other rows.
     pub fn row_mut(&mut self, index: usize) -> &mut Row
         requires { index < length self.old }
         ensures* after { sem 𝓛 (LendsRow self.entry index result) }

@@ -1,31 +1,31 @@
 //! The limits of a heap (ours): the greatest number of each thing that it may be made with.
 
-/// The words of a page.
+/// The most words of a page.
 pub const MOST_WORDS: u32 = 4096;
 
-/// Frames.
+/// The most frames, each the memory of one page.
 pub const MOST_FRAMES: u32 = 4096;
 
-/// Pages.
+/// The most page numbers.
 pub const MOST_PAGES: u32 = 65_535;
 
-/// Threads.
+/// The most mutator threads.
 pub const MOST_THREADS: u32 = 64;
 
-/// Workers.
+/// The most workers.
 pub const MOST_WORKERS: u32 = 16;
 
-/// Registers of a thread.
+/// The most registers of a thread.
 pub const MOST_REGISTERS: u32 = 16;
 
-/// Globals.
+/// The most globals.
 pub const MOST_GLOBALS: u32 = 64;
 
-/// Layouts.
+/// The most layouts.
 pub const MOST_LAYOUTS: usize = 64;
 
-/// Births.
+/// The most objects that are ever born.
 pub const MOST_BIRTHS: u64 = 4_294_967_296;
 
-/// Entries of a book's history.
+/// The most entries of a book's history.
 pub const MOST_HISTORY: u64 = 1_000_000;

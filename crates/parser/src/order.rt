@@ -11,11 +11,15 @@ use model::{Actor, Step};
 /// are as the script has them. Scripts and their orders are ours.
 #[derive(Clone, Copy, Debug, PartialEq, Eq)]
 pub struct Order {
+    /// What is done.
     pub verb: Verb,
+    /// The first operand of 32 bits.
     pub first: u32,
+    /// The second one.
     pub second: u32,
+    /// The third one.
     pub third: u32,
-    /// The operand of 64 bits.
+    /// The operand of 64 bits, which stands behind the others.
     pub wide: u64,
 }
 

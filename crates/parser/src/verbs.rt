@@ -16,30 +16,53 @@ pub enum Kind {
     Long,
 }
 
-/// What a command does.
+/// What a command does: its word, with the operands that stand behind it (ours). Registers and
+/// globals count from 0.
 #[derive(Clone, Copy, Debug, PartialEq, Eq)]
 pub enum Verb {
+    /// `take n`
     Take,
+    /// `give`
     Give,
+    /// `new rD L`
     New,
+    /// `load rD rO i`
     Load,
+    /// `loadg rD g`
     LoadGlobal,
+    /// `trap`
     Trap,
+    /// `heal`
     Heal,
+    /// `finish`
     Finish,
+    /// `store rO i rS`
     Store,
+    /// `storeg g rS`
     StoreGlobal,
+    /// `datum rO j`
     Datum,
+    /// `set rO j v`
     Set,
+    /// `same rA rB`
     Same,
+    /// `null rA`
     Null,
+    /// `mov rD rS`
     Move,
+    /// `clear rD`
     Clear,
+    /// `cross`
     Cross,
+    /// `scrub rX`
     Scrub,
+    /// `park`
     Park,
+    /// `unpark`
     Unpark,
+    /// `get rD rO i`: a field is loaded, and the load goes on to its end.
     Get,
+    /// `getg rD g`: a global is loaded, and the load goes on to its end.
     GetGlobal,
 }
 
@@ -72,9 +95,13 @@ const VERBS: [Verb; 22] = [
 /// The kinds of an order's operands. The first three have 32 bits.
 #[derive(Clone, Copy, Debug, PartialEq, Eq)]
 pub struct Kinds {
+    /// Of the first operand.
     pub first: Kind,
+    /// Of the second one.
     pub second: Kind,
+    /// Of the third one.
     pub third: Kind,
+    /// Of one of 64 bits, which stands behind the others.
     pub wide: Kind,
 }
 

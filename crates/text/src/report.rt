@@ -1,4 +1,4 @@
-//! The lines of a report, each without its newline.
+//! The lines of a report, each without its newline. All of it is ours.
 
 ghost use Rattle.std.specs.Prelude.{◌≡◌, ◌++◌, ◌<◌};
 ghost use Rattle.std.specs.Fmt.{WritesOnOk};
@@ -28,7 +28,8 @@ impl fmt::Display for BitText {
     }
 }
 
-/// The first line: the collector's state, the births, and how many frames are used.
+/// The first line: the collector's state, the births, and how many frames are used, as
+/// `phase idle nmt 0 births 1 frames 1/4`.
 #[derive(Clone, Copy, Debug, PartialEq, Eq)]
 pub struct HeadLine {
     /// Where the collector is in its cycle.
@@ -59,7 +60,7 @@ impl fmt::Display for HeadLine {
     }
 }
 
-/// The line of a page.
+/// The line of a page, as `page 1 open frame 0 top 16 objects 1 live 0`.
 #[derive(Clone, Copy, Debug, PartialEq, Eq)]
 pub struct PageLine {
     /// Its number, from 1.
@@ -87,7 +88,7 @@ impl fmt::Display for PageLine {
     }
 }
 
-/// What registers hold, each behind a space and its number from 0.
+/// What registers hold, each behind a space and its number from 0, as ` r0 1.0/0 r1 -`.
 #[derive(Clone, Copy)]
 pub struct RegistersText<'a> {
     words: &'a [Word],
@@ -157,7 +158,7 @@ impl fmt::Display for Activity {
     }
 }
 
-/// The line of a thread.
+/// The line of a thread, as `thread 0 running buffer 1.4-16 r0 1.0/0 r1 -`.
 #[derive(Clone, Copy)]
 pub struct ThreadLine<'a> {
     /// Its number, from 0.
@@ -183,7 +184,7 @@ impl<'a> fmt::Display for ThreadLine<'a> {
     }
 }
 
-/// The line of a global.
+/// The line of a global, as `global 0 1.0/0`.
 #[derive(Clone, Copy)]
 pub struct GlobalLine {
     /// Its number, from 0.
@@ -204,7 +205,7 @@ impl fmt::Display for GlobalLine {
     }
 }
 
-/// The line of a mark that ended.
+/// The line of a mark that ended, as `cycle 1 live 3 retired 0`.
 #[derive(Clone, Copy, Debug, PartialEq, Eq)]
 pub struct CycleLine {
     /// Its number, from 1.
