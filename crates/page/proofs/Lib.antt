@@ -1,5 +1,6 @@
 pub mod Found
 pub mod Indexes
+pub mod Retiring
 pub mod Keeping
 pub mod Lying
 pub mod Trees
