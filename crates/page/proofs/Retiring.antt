@@ -4,14 +4,13 @@ use Rattle.std.proofs.Common.{Some, None, is_some, is_none, set, count_by, zero,
 use Rattle.std.specs.List.{slice_get}
 use Rattle.std.proofs.Math.ListN.{length-set}
 use Rattle.std.proofs.lemmas.Option.{same_Some, none-some, slice_get_within}
-use Rattle.std.proofs.lemmas.Bool.{cases_eq}
 use Rattle.model.specs.declared.limits.TheConstants.{MOST_FRAMES}
 use Rattle.model.specs.declared.records.Page.{Page}
 use Rattle.model.specs.declared.records.PageState.{PageState}
 use Rattle.model.specs.declared.records.PageState.TheVariants.{Unused, Open, Closed, From, Gone}
 use Rattle.model.specs.Stores.{StoreState, has_memory, is_protected, is_open, is_unused, state_in}
 use Rattle.model.specs.Owning.{IsPage, IsStore}
-use Rattle.model.proofs.Lists.{get_within, get_set, get_set_same, get_set_other, each_set, count_set, as_number}
+use Rattle.model.proofs.Lists.{get_within, get_set, get_set_other, each_set, count_set, as_number}
 use Rattle.page.specs.Ending.{with_mark_ended_at}
 use Rattle.page.specs.Views.{left_in}
 use Rattle.page.proofs.Found.{count_owned}
@@ -25,7 +24,7 @@ retired_page p = record p { state = Unused; frame = None }
 abbrev pub closed_page : Page → Page
 closed_page p = record p { state = Closed }
 
-open_is : (p : PageState) → is_open p ≡ true → p ≡ Open
+pub open_is : (p : PageState) → is_open p ≡ true → p ≡ Open
 open_is Unused e = absurd (cc)
 open_is Open e = refl
 open_is Closed e = absurd (cc)
@@ -171,17 +170,17 @@ pub closed_at : (s : StoreState) (i : ℕ) (p : Page) → slice_get s.pages i �
 unfolding with_mark_ended_at
 closed_at s i p e o = let is_so = ap is_protected (open_is p.state o) in rw (e, is_so, o) refl
 
-pub retired_gone_at : (s : StoreState) (i : ℕ) (p : Page) → slice_get s.pages i ≡ Some p → p.frame ≡ None
+pub retired_gone_at : (s : StoreState) (i : ℕ) (lent : Bool) (p : Page) → slice_get s.pages i ≡ Some p → p.frame ≡ None
     → is_protected p.state ≡ true
-    → record s { pages = set s.pages i (retired_page p) } ≡ with_mark_ended_at s i false
+    → record s { pages = set s.pages i (retired_page p) } ≡ with_mark_ended_at s i lent
 unfolding with_mark_ended_at
-retired_gone_at s i p e none protected = rw (e, protected, none) refl
+retired_gone_at s i lent p e none protected = rw (e, protected, none) refl
 
-pub retired_from_at : (s : StoreState) (i g : ℕ) (p : Page) → slice_get s.pages i ≡ Some p → p.frame ≡ Some g
+pub retired_from_at : (s : StoreState) (i g : ℕ) (lent : Bool) (p : Page) → slice_get s.pages i ≡ Some p → p.frame ≡ Some g
     → is_protected p.state ≡ true
-    → record s { pages = set s.pages i (retired_page p); owners = set s.owners g None } ≡ with_mark_ended_at s i false
+    → record s { pages = set s.pages i (retired_page p); owners = set s.owners g None } ≡ with_mark_ended_at s i lent
 unfolding with_mark_ended_at
-retired_from_at s i g p e frame protected = rw (e, protected, frame) refl
+retired_from_at s i g lent p e frame protected = rw (e, protected, frame) refl
 
 -- the frame of a page is one of the store
 pub frame_within : (s : StoreState) (i g : ℕ) (p : Page) → IsStore s → slice_get s.pages i ≡ Some p → p.frame ≡ Some g
@@ -225,3 +224,8 @@ kept_in s i lent x h e protected stays =
     let p = get_within s.pages i h in
     let same : x ≡ p.0.state = e ∙ ap state_in p.1 in
     kept_at s i lent p.0 p.1 (ap is_protected (sym same) ∙ protected) (ap (λ y. is_open y && not lent) (sym same) ∙ stays)
+
+-- a page that has no record stays so
+pub missing_at : (s : StoreState) (i : ℕ) (lent : Bool) → slice_get s.pages i ≡ None → with_mark_ended_at s i lent ≡ s
+unfolding with_mark_ended_at
+missing_at s i lent e = rw e refl

@@ -1,4 +1,4 @@
-use Rattle.std.proofs.Common.{◌≡◌, ◌<◌, ◌+◌, ℕ, true, false, length, set, Option, Some, None, count_by, is_none, refl, sym, subst, ap, ◌∙◌, arith, rules}
+use Rattle.std.proofs.Common.{◌≡◌, ◌<◌, ◌+◌, ℕ, true, false, length, set, Option, Some, None, is_none, refl, sym, subst, ap, ◌∙◌, arith, rules}
 use Rattle.std.specs.List.{slice_get}
 use Rattle.model.specs.declared.records.Page.{Page}
 use Rattle.model.specs.Stores.{StoreState, is_protected, is_unused, state_in}
@@ -100,7 +100,7 @@ returns-in-Some c =
     let is_so = subst (λ (s : StoreState). is_protected (state_in (slice_get s.pages i)) ≡ true)
     (sym c.self.view_is) c.requires.protected in
     let before = sym (ap (λ o. is_protected (state_in o)) at) ∙ is_so in
-    retired_from_at s i c.in-Some.frame p at c.in-Some.is before ∙ ap (λ t. with_mark_ended_at t i false) c.self.view_is
+    retired_from_at s i c.in-Some.frame false p at c.in-Some.is before ∙ ap (λ t. with_mark_ended_at t i false) c.self.view_is
 
 pub returns-in_default : goal.returns-in_default
 returns-in_default c =
@@ -112,7 +112,7 @@ returns-in_default c =
     let is_so = subst (λ (s : StoreState). is_protected (state_in (slice_get s.pages i)) ≡ true)
     (sym c.self.view_is) c.requires.protected in
     let before = sym (ap (λ o. is_protected (state_in o)) at) ∙ is_so in
-    retired_gone_at s i p at c.in_default.is before ∙ ap (λ t. with_mark_ended_at t i false) c.self.view_is
+    retired_gone_at s i false p at c.in_default.is before ∙ ap (λ t. with_mark_ended_at t i false) c.self.view_is
 
 pub index_mut-requires-in-Some : goal.index_mut-requires-in-Some
 index_mut-requires-in-Some c =
