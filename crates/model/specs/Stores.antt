@@ -1,10 +1,10 @@
 -- Pages, and the frames that are their memory.
-use Rattle.std.specs.Prelude.{◌≡◌, ℕ, ◌+◌, ◌-◌, ◌*◌, ◌/◌, ◌%◌, ◌==◌, ◌&&◌, Bool, true, false, List, ◌++◌, length}
+use Rattle.std.specs.Prelude.{◌≡◌, ℕ, ◌+◌, ◌-◌, ◌*◌, ◌/◌, ◌%◌, ◌==◌, ◌&&◌, not, Bool, true, false, List, [], ◌∷◌, ◌++◌, length, map}
 use Rattle.std.specs.Prelude.{take, drop, replicate, Option, Some, None, is_none, option_and_then, Result, Ok, Err}
 use Rattle.std.specs.Prelude.{nat_le, nat_lt, slice_get, slice_set, position, if◌then◌else◌}
 use Rattle.model.specs.declared.records.Page.{Page}
 use Rattle.model.specs.declared.records.PageState.{PageState}
-use Rattle.model.specs.declared.records.PageState.TheVariants.{Unused, Open, From, Gone}
+use Rattle.model.specs.declared.records.PageState.TheVariants.{Unused, Open, Closed, From, Gone}
 use Rattle.model.specs.declared.records.Buffer.{Buffer}
 use Rattle.model.specs.declared.records.Room.{Room}
 use Rattle.model.specs.declared.records.Room.TheVariants.{NoFrames, NoPages}
@@ -60,6 +60,11 @@ abbrev pub is_protected : PageState → Bool
 is_protected From = true
 is_protected Gone = true
 is_protected _ = false
+
+-- pages of this state are being emptied, and have memory
+abbrev pub is_from : PageState → Bool
+is_from From = true
+is_from _ = false
 
 -- words
 
@@ -180,6 +185,32 @@ take_buffer s n = take_at s n (page_with_room s.words n s.pages)
 abbrev pub Takes : StoreState → Result Buffer Room → StoreState → Result (StoreState × Buffer) Room → Type 0
 Takes old (Ok b) new outcome = outcome ≡ Ok (new, b)
 Takes old (Err e) new outcome = (outcome ≡ Err e) × (new ≡ old)
+
+-- pages after a mark
+
+-- a page after a mark: an open one without a lent buffer closes (ours), and a protected one is unused again (the paper's
+-- Remap phase)
+abbrev pub page_after_mark : Bool → Page → Page
+page_after_mark lent p =
+    if is_protected p.state then record p { state = Unused; frame = None } else
+    (if is_open p.state && not lent then record p { state = Closed } else p)
+
+-- pages from number n on after a mark; lent is true of the numbers of pages with a lent buffer
+abbrev pub pages_after_mark : (ℕ → Bool) → ℕ → List Page → List Page
+pages_after_mark lent n [] = []
+pages_after_mark lent n (p ∷ ps) = page_after_mark (lent n) p ∷ pages_after_mark lent (n + 1) ps
+
+-- the owner of a frame after a mark: protected pages give theirs up
+abbrev pub owner_after_mark : StoreState → Option ℕ → Option ℕ
+owner_after_mark s None = None
+owner_after_mark s (Some n) = if is_protected (state_at s n) then None else Some n
+
+-- the store after a mark
+unfoldable pub store_after_mark : (ℕ → Bool) → StoreState → StoreState
+store_after_mark lent s =
+    record s { pages = pages_after_mark lent 1 s.pages; owners = map (owner_after_mark s) s.owners }
+
+-- a store as it begins
 
 -- a page that was never used
 abbrev pub blank_page : Page
