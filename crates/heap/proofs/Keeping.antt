@@ -9,7 +9,7 @@ use Rattle.model.specs.Owning.{Each, LiesIn, AreSized}
 use Rattle.model.specs.Phases.{is_marking, is_mark_crossing}
 use Rattle.model.specs.Holding.{IsHeap, HasSizes, FillsIn, AreRowsFor}
 use Rattle.model.specs.States.{HeapState, ThreadState, change_at}
-use Rattle.model.specs.Births.{put_bit}
+use Rattle.model.specs.Bits.{put_bit}
 use Rattle.model.specs.Buffers.{opened_rows}
 use Rattle.model.proofs.Tables.{rows_put, rows_opened}
 use Rattle.model.specs.First.{blank_thread}

@@ -4,8 +4,7 @@ ghost use Rattle.std.specs.Prelude.{◌≡◌, ℕ, ◌<◌, ◌≤◌, length, 
 ghost use Rattle.std.specs.Int.{div_ceil};
 ghost use Rattle.std.specs.Option.{option_copied};
 ghost use Rattle.model.specs.States.{change_at};
-ghost use Rattle.model.specs.Buffers.{blank_row};
-ghost use Rattle.model.specs.Births.{put_bit};
+ghost use Rattle.model.specs.Bits.{blank_row, put_bit};
 ghost use Rattle.markbits.specs.Words.{bit_of, IsNextPlace};
 ghost use Rattle.std.specs.Borrow.{sem};
 ghost use Rattle.markbits.specs.Lending.{LendsRow};

@@ -5,3 +5,4 @@ pub mod Results
 pub mod Usual
 pub mod Tables
 pub mod Passing
+mod Examples

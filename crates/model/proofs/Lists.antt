@@ -84,6 +84,12 @@ pub position_passes : {X : Type 0} (p : X → Bool) (xs : List X) (i : ℕ) (x :
 position_passes p xs i x h e =
     let facts = position-Some p xs i x h in ap p (sym (get_or_from_slice_get xs i x x e)) ∙ facts.1
 
+-- it is there
+pub position_finds : {X : Type 0} (p : X → Bool) (xs : List X) (i : ℕ) → position p xs ≡ Some i
+    → (x : X) × (slice_get xs i ≡ Some x)
+position_finds p [] i h = absurd (cc)
+position_finds p (x ∷ xs) i h = get_within (x ∷ xs) i (position-Some p (x ∷ xs) i x h).0
+
 pub none_far : (a b : ℕ) → cond (nat_lt a b) (Some a) None ≡ None → b ≤ a
 none_far a b h = grind (arith, nat_tests)
 

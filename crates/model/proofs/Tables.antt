@@ -8,8 +8,8 @@ use Rattle.model.specs.declared.config.Config.{Config}
 use Rattle.model.specs.declared.records.Buffer.{Buffer}
 use Rattle.model.specs.Stores.{record_count}
 use Rattle.model.specs.States.{change_at, change_found}
-use Rattle.model.specs.Buffers.{blank_row, opened_rows}
-use Rattle.model.specs.Births.{put_bit}
+use Rattle.model.specs.Buffers.{opened_rows}
+use Rattle.model.specs.Bits.{blank_row, put_bit}
 use Rattle.model.specs.First.{blank_rows, no_sides}
 use Rattle.model.specs.Holding.{AreRows, AreRowsFor, AreRising, AreSidesFor}
 use Rattle.model.proofs.Lists.{each_changed, each_replicate}

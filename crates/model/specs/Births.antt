@@ -1,5 +1,5 @@
 -- New objects.
-use Rattle.std.specs.Prelude.{ℕ, ◌+◌, ◌-◌, Bool, true, List, ◌∷◌, replicate, Some, slice_get, slice_set}
+use Rattle.std.specs.Prelude.{ℕ, ◌+◌, ◌-◌, true, ◌∷◌, List, replicate, Some, slice_get}
 use Rattle.std.specs.Prelude.{if◌then◌else◌, ◌*◌, Ok, Err, nat_lt, nat_le}
 use Rattle.layout.specs.declared.shape.Layout.{Layout}
 use Rattle.layout.specs.Objects.{header_bits, size_of}
@@ -12,10 +12,7 @@ use Rattle.model.specs.Refusing.{◌>>=◌, or_refuse, Outcome}
 use Rattle.model.specs.States.{Reference, ThreadState, HeapState, change_at}
 use Rattle.model.specs.Threads.{set_register_of, set_buffer_of}
 use Rattle.model.specs.Buffers.{buffer_of_thread}
-
--- a row with the bit of offset o set or cleared
-abbrev pub put_bit : ℕ → Bool → List Bool → List Bool
-put_bit o bit row = slice_set row o bit
+use Rattle.model.specs.Bits.{put_bit}
 
 -- the words of a new object: its header, then zeros
 abbrev pub fresh_object : ℕ → ℕ → Layout → List ℕ

@@ -1,5 +1,5 @@
 -- Buffers that are taken and given back.
-use Rattle.std.specs.Prelude.{ℕ, ◌-◌, ◌==◌, Bool, false, List, length, replicate, Option, Some, None, slice_get}
+use Rattle.std.specs.Prelude.{ℕ, ◌-◌, ◌==◌, Bool, List, Option, Some, None, slice_get}
 use Rattle.std.specs.Prelude.{if◌then◌else◌, is_some, Result, Ok, Err}
 use Rattle.model.specs.declared.records.Buffer.{Buffer}
 use Rattle.model.specs.Stores.{StoreState, take_buffer}
@@ -10,6 +10,7 @@ use Rattle.model.specs.declared.records.Room.TheVariants.{NoFrames, NoPages}
 use Rattle.model.specs.Refusing.{Outcome}
 use Rattle.model.specs.States.{HeapState, change_at}
 use Rattle.model.specs.Threads.{set_buffer_of, buffer_in}
+use Rattle.model.specs.Bits.{blank_row}
 
 -- the heap with another buffer of a thread
 unfoldable pub with_buffer : HeapState → ℕ → Option Buffer → HeapState
@@ -18,10 +19,6 @@ with_buffer h t b = record h { threads = change_at h.threads t (set_buffer_of b)
 -- the buffer of a thread
 abbrev pub buffer_of_thread : HeapState → ℕ → Option Buffer
 buffer_of_thread h t = buffer_in (slice_get h.threads t)
-
--- a row of the same length with all bits clear
-abbrev pub blank_row : List Bool → List Bool
-blank_row row = replicate (length row) false
 
 -- the rows of a page that a buffer is the first of are blank
 abbrev pub opened_rows : Buffer → List (List Bool) → List (List Bool)

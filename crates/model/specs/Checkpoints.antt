@@ -1,20 +1,84 @@
 -- Checkpoints: crossings, registers that are corrected, and threads that are parked.
-use Rattle.std.specs.Prelude.{ℕ, Bool, true, false, slice_get, if◌then◌else◌, Ok, Err}
+use Rattle.std.specs.Prelude.{ℕ, zero, suc, Bool, true, false, not, List, Option, Some, None, is_none, slice_get}
+use Rattle.std.specs.Prelude.{position, if◌then◌else◌, Result, Ok, Err}
+use Rattle.model.specs.declared.records.Phase.{Phase}
+use Rattle.model.specs.declared.records.Phase.TheVariants.{MarkCrossing, Scanning, ProtectCrossing, Relocating}
 use Rattle.model.specs.declared.steps.Answer.TheVariants as answers
+use Rattle.model.specs.declared.steps.Refusal.{Refusal}
 use Rattle.model.specs.declared.steps.Refusal.TheVariants as refusals
-use Rattle.model.specs.Phases.{is_crossing}
+use Rattle.model.specs.Phases.{is_crossing, is_mark_crossing}
 use Rattle.model.specs.Refusing.{◌>>=◌, Outcome}
-use Rattle.model.specs.States.{HeapState, change_at}
-use Rattle.model.specs.Threads.{set_parked_of, is_parked_in}
-use Rattle.model.specs.Registers.{usable}
+use Rattle.model.specs.States.{ThreadState, HeapState, change_at}
+use Rattle.model.specs.Threads.{set_parked_of, set_crossed_of, is_parked_in, has_crossed}
+use Rattle.model.specs.Registers.{usable, register_of, with_register}
+use Rattle.model.specs.Marks.{with_mark, marked_word}
 
 -- the heap with a thread parked or running
 unfoldable pub with_parked : HeapState → ℕ → Bool → HeapState
 with_parked h t b = record h { threads = change_at h.threads t (set_parked_of b) }
 
--- The row of Cross. No checkpoint opens before there are marks, and what a crossing does comes with them.
-unfoldable pub cross_outcome : HeapState → Outcome
-cross_outcome h = Err (if is_crossing h.phase then refusals.NoActor else refusals.Phase)
+-- the least of these threads that hasn't crossed
+unfoldable pub first_behind : List ThreadState → Option ℕ
+first_behind threads = position (λ (t : ThreadState). not t.crossed) threads
+
+-- no thread has still to cross, or the one that has is the refusal
+abbrev pub none_behind : Option ℕ → Result Unit Refusal
+none_behind None = Ok tt
+none_behind (Some t) = Err (refusals.NotCrossed t)
+
+-- all threads have crossed, or the least one that hasn't is the refusal
+unfoldable pub all_crossed : HeapState → Result Unit Refusal
+all_crossed h = none_behind (first_behind h.threads)
+
+-- the phase behind a checkpoint (the paper's checkpoints)
+abbrev pub phase_behind : Phase → Phase
+phase_behind MarkCrossing = Scanning
+phase_behind ProtectCrossing = Relocating
+phase_behind other = other
+
+-- the heap in which a thread has crossed; where it is the last, the next phase begins (the paper's checkpoints)
+unfoldable pub with_crossed : HeapState → ℕ → HeapState
+with_crossed h t = record h {
+  threads = change_at h.threads t (set_crossed_of true);
+  phase = if is_none (first_behind (change_at h.threads t (set_crossed_of true)))
+      then phase_behind h.phase else h.phase;
+}
+
+-- the heap after the word in a register is marked
+unfoldable pub with_marked_register : HeapState → ℕ → ℕ → HeapState
+with_marked_register h t r =
+    with_register (with_mark h (register_of h t r)) t r (marked_word h (register_of h t r))
+
+-- the same of each register below n
+abbrev pub with_marked_registers : HeapState → ℕ → ℕ → HeapState
+with_marked_registers h t zero = h
+with_marked_registers h t (suc r) = with_marked_register (with_marked_registers h t r) t r
+
+-- how many registers of a thread a crossing marks: at a mark's checkpoint all (the paper's checkpoints: each thread marks
+-- its own roots), at that of protected pages none (ours)
+abbrev pub marked_at_crossing : HeapState → ℕ
+marked_at_crossing h = if is_mark_crossing h.phase then h.config.registers else 0
+
+-- the heap after a thread crosses the open checkpoint
+unfoldable pub cross_thread : HeapState → ℕ → HeapState
+cross_thread h t = with_crossed (with_marked_registers h t (marked_at_crossing h)) t
+
+-- a thread has still to cross the open checkpoint
+unfoldable pub may_cross : HeapState → ℕ → Result Unit Refusal
+may_cross h t =
+    if not (is_crossing h.phase) then Err refusals.Phase else
+    (if has_crossed (slice_get h.threads t) then Err refusals.AlreadyCrossed else Ok tt)
+
+-- the row of Cross
+unfoldable pub cross_outcome : HeapState → ℕ → Outcome
+cross_outcome h t = do
+  _ ← may_cross h t
+  Ok (cross_thread h t, answers.Done)
+
+-- the row of CrossFor
+unfoldable pub cross_for_outcome : HeapState → ℕ → Outcome
+cross_for_outcome h t =
+    if not (is_parked_in (slice_get h.threads t)) then Err refusals.NotParked else cross_outcome h t
 
 -- The row of Scrub. What it does to a register that names a page that is emptied comes with moves; no page is before.
 unfoldable pub scrub_outcome : HeapState → ℕ → ℕ → Outcome

@@ -13,8 +13,11 @@ pub mod Data
 pub mod References
 pub mod Buffers
 pub mod Births
+pub mod Marks
 pub mod Loads
 pub mod Checkpoints
+pub mod Scans
+pub mod Cycles
 pub mod Outcome
 pub mod Plain
 pub mod Texts

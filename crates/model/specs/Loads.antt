@@ -14,6 +14,7 @@ use Rattle.model.specs.Refusing.{◌>>=◌, or_refuse, Outcome}
 use Rattle.model.specs.States.{Reference, HeapState, change_at}
 use Rattle.model.specs.Threads.{set_barrier_of, barrier_of, set_loaded_of, has_crossed}
 use Rattle.model.specs.Registers.{let_through, usable}
+use Rattle.model.specs.Marks.{with_mark, marked_word}
 use Rattle.model.specs.References.{global_of, read_reference, field_address, with_place, field_at}
 
 -- the heap with another barrier of a thread
@@ -65,11 +66,22 @@ nmt_trap_due h t (Some w) =
 unfoldable pub trap_due : HeapState → ℕ → Reference → Bool
 trap_due h t w = gc_trap_due h t w || nmt_trap_due h t w
 
--- The row of Trap. No heap comes to a trap that is due before there are marks, and what it does comes with them.
+-- a barrier with another word
+abbrev pub set_now_of : Reference → Barrier → Barrier
+set_now_of w b = record b { now = w }
+
+-- an NMT trap: the word is marked, where it is due (the paper's read barrier)
+abbrev pub nmt_trap : HeapState → ℕ → Barrier → Outcome
+nmt_trap h t b =
+    if nmt_trap_due h t b.now
+    then Ok (with_barrier (with_mark h b.now) t (set_now_of (marked_word h b.now) b), answers.Marked)
+    else Ok (h, answers.Clear)
+
+-- The row of Trap. What a GC trap does comes with moves; no page is protected before.
 unfoldable pub trap_outcome : HeapState → ℕ → Outcome
 trap_outcome h t = do
   b ← or_refuse (barrier_of_thread h t) refusals.NotBusy
-  if trap_due h t b.now then Err refusals.NoActor else Ok (h, answers.Clear)
+  if gc_trap_due h t b.now then Err refusals.NoActor else nmt_trap h t b
 
 -- the bits at the place of a load
 abbrev pub bits_at : HeapState → Place → Option ℕ

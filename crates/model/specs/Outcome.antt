@@ -15,7 +15,9 @@ use Rattle.model.specs.References.{store_outcome, store_global_outcome}
 use Rattle.model.specs.Buffers.{take_outcome, give_back_outcome}
 use Rattle.model.specs.Births.{new_outcome}
 use Rattle.model.specs.Loads.{load_outcome, load_global_outcome, trap_outcome, heal_outcome, finish_outcome}
-use Rattle.model.specs.Checkpoints.{cross_outcome, scrub_outcome, park_outcome, unpark_outcome}
+use Rattle.model.specs.Checkpoints.{cross_outcome, cross_for_outcome, scrub_outcome, park_outcome, unpark_outcome}
+use Rattle.model.specs.Scans.{pick_outcome, scan_field_outcome, scan_global_outcome}
+use Rattle.model.specs.Cycles.{start_mark_outcome, end_mark_outcome}
 
 -- a worker does such a step; threads do all others
 abbrev pub is_for_workers : Step → Bool
@@ -50,6 +52,10 @@ no_register h r = nat_le h.config.registers r
 unfoldable pub no_global : HeapState → ℕ → Bool
 no_global h g = nat_le (length h.globals) g
 
+-- there is no such page
+unfoldable pub no_page : HeapState → ℕ → Bool
+no_page h n = (n == 0) || nat_lt h.store.count n
+
 -- a number of the step names nothing
 abbrev pub has_bad_index : HeapState → Step → Bool
 has_bad_index h (steps.Take n) = (n == 0) || nat_lt h.store.words n
@@ -65,6 +71,9 @@ has_bad_index h (steps.IsNull r) = no_register h r
 has_bad_index h (steps.CopyReg target source) = no_register h target || no_register h source
 has_bad_index h (steps.ClearReg r) = no_register h r
 has_bad_index h (steps.Scrub r) = no_register h r
+has_bad_index h (steps.Pick page offset) = no_page h page
+has_bad_index h (steps.ScanGlobal global) = no_global h global
+has_bad_index h (steps.CrossFor thread) = nat_le (length h.threads) thread
 has_bad_index h _ = false
 
 -- a thread that may be missing has an open barrier
@@ -72,7 +81,7 @@ abbrev pub is_loading_in : Option ThreadState → Bool
 is_loading_in None = false
 is_loading_in (Some t) = is_some t.barrier
 
--- the tests that come before those of a step's own row
+-- the tests that come before those of a row of a thread's step
 unfoldable pub thread_gate : HeapState → ℕ → Step → Result Unit Refusal
 thread_gate h t s =
     if nat_le (length h.threads) t || is_for_workers s then Err refusals.NoActor else
@@ -102,15 +111,37 @@ thread_row h t (steps.Same left right) = same_outcome h t left right
 thread_row h t (steps.IsNull r) = is_null_outcome h t r
 thread_row h t (steps.CopyReg target source) = copy_register_outcome h t target source
 thread_row h t (steps.ClearReg target) = clear_register_outcome h t target
-thread_row h t steps.Cross = cross_outcome h
+thread_row h t steps.Cross = cross_outcome h t
 thread_row h t (steps.Scrub r) = scrub_outcome h t r
 thread_row h t steps.Park = park_outcome h t
 thread_row h t steps.Unpark = unpark_outcome h t
 thread_row h t _ = Err refusals.NoActor
+
+-- the tests that come before those of a row of a worker's step
+unfoldable pub worker_gate : HeapState → ℕ → Step → Result Unit Refusal
+worker_gate h w s =
+    if nat_le (length h.workers) w || not (is_for_workers s) then Err refusals.NoActor else
+    (if has_bad_index h s then Err refusals.BadIndex else Ok tt)
+
+-- a worker's step has passed the tests before its row
+abbrev pub WorkerPasses : HeapState → ℕ → Step → Type 0
+WorkerPasses h w s = worker_gate h w s ≡ Ok tt
+
+-- the row of a worker's step, without the tests before it
+abbrev pub worker_row : HeapState → ℕ → Step → Outcome
+worker_row h w steps.StartMark = start_mark_outcome h
+worker_row h w (steps.Pick page offset) = pick_outcome h w page offset
+worker_row h w steps.ScanField = scan_field_outcome h w
+worker_row h w (steps.ScanGlobal global) = scan_global_outcome h global
+worker_row h w steps.EndMark = end_mark_outcome h
+worker_row h w (steps.CrossFor thread) = cross_for_outcome h thread
+worker_row h w _ = Err refusals.NoActor
 
 -- what every step does
 unfoldable pub outcome : HeapState → Actor → Step → Outcome
 outcome h (Thread t) s = do
   _ ← thread_gate h t s
   thread_row h t s
-outcome h (Worker w) s = Err refusals.NoActor
+outcome h (Worker w) s = do
+  _ ← worker_gate h w s
+  worker_row h w s

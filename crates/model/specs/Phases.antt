@@ -1,7 +1,7 @@
 -- What the phases of the collector are.
 use Rattle.std.specs.Prelude.{Bool, true, false, not}
 use Rattle.model.specs.declared.records.Phase.{Phase}
-use Rattle.model.specs.declared.records.Phase.TheVariants.{MarkCrossing, Scanning, ProtectCrossing}
+use Rattle.model.specs.declared.records.Phase.TheVariants.{Idle, MarkCrossing, Scanning, ProtectCrossing, Relocating}
 
 -- a mark runs (the paper's Mark phase)
 abbrev pub is_marking : Phase → Bool
@@ -31,3 +31,9 @@ may_nmt_trap _ crossed = false
 abbrev pub same_bit : Bool → Bool → Bool
 same_bit true b = b
 same_bit false b = not b
+
+-- a mark may start (the paper's phases)
+abbrev pub may_start_mark : Phase → Bool
+may_start_mark Idle = true
+may_start_mark Relocating = true
+may_start_mark _ = false

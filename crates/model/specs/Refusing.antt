@@ -1,5 +1,5 @@
 -- Steps that may be refused.
-use Rattle.std.specs.Prelude.{◌≡◌, Result, Ok, Err, Option, Some, None}
+use Rattle.std.specs.Prelude.{◌≡◌, Bool, true, false, Result, Ok, Err, Option, Some, None}
 use Rattle.model.specs.declared.steps.Refusal.{Refusal}
 use Rattle.model.specs.declared.steps.Answer.{Answer}
 use Rattle.model.specs.States.{HeapState}
@@ -14,6 +14,11 @@ abbrev pub ◌>>=◌ : {A B : Type 0} → Result A Refusal → (A → Result B R
 abbrev pub or_refuse : {A : Type 0} → Option A → Refusal → Result A Refusal
 or_refuse None e = Err e
 or_refuse (Some x) e = Ok x
+
+-- refused where a test holds
+abbrev pub refuse_if : Bool → Refusal → Result Unit Refusal
+refuse_if true e = Err e
+refuse_if false e = Ok tt
 
 -- the state and the answer after a step, or why it is refused
 abbrev pub Outcome : Type 0

@@ -48,3 +48,7 @@ set_loaded_of r w t = record t { registers = slice_set t.registers r w; barrier 
 -- a thread that is parked or runs
 abbrev pub set_parked_of : Bool → ThreadState → ThreadState
 set_parked_of b t = record t { parked = b }
+
+-- a thread that has crossed, or has still to cross
+abbrev pub set_crossed_of : Bool → ThreadState → ThreadState
+set_crossed_of b t = record t { crossed = b }

@@ -20,7 +20,8 @@ use Rattle.model.specs.Owning.{IsStore, LiesIn}
 use Rattle.model.specs.States.{HeapState, ThreadState, change_at}
 use Rattle.model.specs.Threads.{buffer_in, has_crossed, is_parked_in}
 use Rattle.model.specs.Registers.{register_of}
-use Rattle.model.specs.Births.{put_bit, fresh_object, place_object, hand_object, used_buffer}
+use Rattle.model.specs.Bits.{put_bit}
+use Rattle.model.specs.Births.{fresh_object, place_object, hand_object, used_buffer}
 use Rattle.model.proofs.Lists.{get_within, each_changed}
 use Rattle.model.proofs.Memory.{open_state, words_sized, memory_words, page_there, length_overlaid, frames_stay}
 use Rattle.page.proofs.Lying.{buffer_address}

@@ -18,7 +18,8 @@ use Rattle.model.specs.Owning.{Each, IsStore}
 use Rattle.model.specs.Holding.{IsHeap}
 use Rattle.model.specs.States.{HeapState, ThreadState, change_at}
 use Rattle.model.specs.Threads.{buffer_in}
-use Rattle.model.specs.Buffers.{buffer_of_thread, opened_rows, blank_row, take_outcome, take_result, lend_buffer}
+use Rattle.model.specs.Bits.{blank_row}
+use Rattle.model.specs.Buffers.{buffer_of_thread, opened_rows, take_outcome, take_result, lend_buffer}
 use Rattle.model.specs.Buffers.{give_back_outcome}
 use Rattle.model.specs.Plain.{PlainHeap, plain_step, plain_answer}
 use Rattle.model.proofs.Lists.{get_set, get_set_other, no_some}

@@ -85,6 +85,16 @@ stays h p = record { roots = λ r. r; births = refl }
 pub agrees : {h : HeapState} {p q : PlainHeap} {b c : BirthHeap} → Follows h p q b → b ≡ c → Follows h p q c
 agrees f same = record { roots = f.roots; births = f.births ∙ same }
 
+-- nothing is changed
+pub same_carries : (h : HeapState) → Carries h h (λ w. w)
+same_carries h = record {
+  size = alike h h refl refl refl refl refl refl refl;
+  laid = λ z. z;
+  given = λ z. z;
+  words = λ z. z;
+  world = refl;
+}
+
 -- the same edit, said in another way
 pub becomes : {h g : HeapState} {e : AddressHeap → AddressHeap} (c : Carries h g e)
     (f : AddressHeap → AddressHeap) → e (world_of h) ≡ f (world_of h) → Carries h g f

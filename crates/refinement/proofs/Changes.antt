@@ -9,8 +9,7 @@ use Rattle.std.proofs.lemmas.List.{get_or_past}
 use Rattle.std.proofs.Math.ListN.{length-set, length-replicate}
 use Rattle.std.proofs.lemmas.Bool.{cases_eq}
 use Rattle.model.specs.States.{change_at, change_found, ThreadState, Reference, flat}
-use Rattle.model.specs.Buffers.{blank_row}
-use Rattle.model.specs.Births.{put_bit}
+use Rattle.model.specs.Bits.{blank_row, put_bit}
 use Rattle.model.proofs.Lists.{get_set_same, get_set_other, get_within}
 use Rattle.laws.specs.AddressHeap.{put, put_at}
 use Rattle.laws.proofs.Basics.{put_all, put_same, put_other, put_id}

@@ -1,23 +1,40 @@
--- Threads that are parked and run again, and registers that need no correction.
-use Rattle.std.proofs.Common.{ℕ, true, false, refl}
+-- Threads that cross checkpoints, that are parked and run again, and registers that need no correction.
+use Rattle.std.proofs.Common.{◌≡◌, ℕ, Bool, true, false, cond, not, refl}
+use Rattle.std.specs.Prelude.{Result, Ok, Err}
 use Rattle.std.specs.List.{slice_get}
 use Rattle.model.specs.declared.steps.Actor.TheVariants.{Thread}
 use Rattle.model.specs.declared.steps.Step.TheVariants as steps
 use Rattle.model.specs.Owning.{IsStore}
 use Rattle.model.specs.Holding.{IsHeap}
 use Rattle.model.specs.States.{HeapState}
-use Rattle.model.specs.Threads.{is_parked_in}
+use Rattle.model.specs.Threads.{is_parked_in, has_crossed}
 use Rattle.model.specs.Registers.{usable}
-use Rattle.model.specs.Checkpoints.{park_outcome, unpark_outcome, scrub_outcome}
+use Rattle.model.specs.Phases.{is_crossing}
+use Rattle.model.specs.Checkpoints.{may_cross, cross_outcome, cross_for_outcome, park_outcome, unpark_outcome}
+use Rattle.model.specs.Checkpoints.{scrub_outcome}
 use Rattle.model.specs.Plain.{PlainHeap, plain_step, plain_answer}
 use Rattle.laws.specs.Transitions.{Park}
 use Rattle.refinement.specs.Standing.{Holds}
-use Rattle.refinement.proofs.Accepted.{on_bind, on_truth}
+use Rattle.refinement.proofs.Accepted.{OnAccepted, on_bind, on_has, on_test, on_truth}
 use Rattle.refinement.proofs.Carrying.{RowHolds, row_by, read_by, stays}
+use Rattle.refinement.proofs.Crossings.{thread_crosses, not_false}
 use Rattle.refinement.proofs.Threads.{parked_carries}
 use Rattle.refinement.proofs.Verdicts.{Passed, closed_barrier}
 
+-- a checkpoint is open, where a thread may cross one
+is_open : (h : HeapState) (t : ℕ) → OnAccepted (λ (u : Unit {0}). is_crossing h.phase ≡ true) (may_cross h t)
+unfolding may_cross
+is_open h t = on_test (not (is_crossing h.phase)) _ _ _ (λ e. on_test (has_crossed (slice_get h.threads t)) _ _ _
+    (λ b. not_false (is_crossing h.phase) e))
+
 module _ {h : HeapState} {p p0 : PlainHeap} (s : IsStore h.store) (d : IsHeap h) (k : Holds h p p0) (t : ℕ) where
+  -- a thread crosses
+  pub cross_holds : Passed h t steps.Cross → RowHolds h p p0 (Thread t) steps.Cross (cross_outcome h t)
+  unfolding cross_outcome plain_step plain_answer
+  cross_holds g = on_has (may_cross h t) _ _ _ (is_open h t) (λ u crossing.
+      let (holds, config) = thread_crosses s k t g.thread g.there (closed_barrier g refl) crossing in
+      record { config = config; holds = holds; answers = tt })
+
   -- a thread is parked
   pub park_holds : Passed h t steps.Park → RowHolds h p p0 (Thread t) steps.Park (park_outcome h t)
   unfolding park_outcome plain_step plain_answer

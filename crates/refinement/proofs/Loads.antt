@@ -1,6 +1,6 @@
 -- Loads: steps that begin one, of a field or of a global; a trap that isn't due, the place healed, and the load's end.
 use Rattle.std.proofs.Common.{◌≡◌, ℕ, ◌+◌, ◌%◌, ◌<◌, length, get_or, Option, Some, None, false, refl, sym, ◌∙◌, ap}
-use Rattle.std.proofs.Common.{subst, arith, Bool, true, cond}
+use Rattle.std.proofs.Common.{subst, arith, Bool, true, cond, not}
 use Rattle.std.specs.List.{slice_get}
 use Rattle.std.proofs.lemmas.Option.{get_or_from_slice_get, none-some, same_Some}
 use Rattle.std.proofs.Math.Nat.{zero-div}
@@ -16,8 +16,8 @@ use Rattle.model.specs.States.{HeapState, ThreadState, Reference, flat}
 use Rattle.model.specs.References.{read_reference, global_of, word_of_global, with_global, with_place, field_address}
 use Rattle.model.specs.Loads.{with_barrier, load_outcome, load_global_outcome, new_barrier, barrier_of_thread}
 use Rattle.model.specs.Loads.{with_loaded, trap_outcome, heal_outcome, heal_place, end_load, finish_outcome, trap_due}
-use Rattle.model.specs.Loads.{gc_trap_due, nmt_trap_due, may_finish, bits_at, are_bits_of, set_healed}
-use Rattle.model.specs.Threads.{is_parked_in, barrier_of}
+use Rattle.model.specs.Loads.{gc_trap_due, nmt_trap_due, may_finish, bits_at, are_bits_of, set_healed, set_now_of, nmt_trap}
+use Rattle.model.specs.Threads.{is_parked_in, barrier_of, has_crossed}
 use Rattle.model.specs.Outcome.{no_register, no_global}
 use Rattle.model.specs.Plain.{PlainHeap, Object, plain_step, plain_answer, name_of, object_of, field_of, Pending}
 use Rattle.model.specs.Plain.{pending_in}
@@ -28,7 +28,7 @@ use Rattle.laws.specs.BirthHeap.{ref}
 use Rattle.laws.specs.Edits.{set_barrier, plain_set_pending}
 use Rattle.laws.specs.Effects.{load_at, finish_at}
 use Rattle.laws.specs.Effects as effects
-use Rattle.laws.specs.Transitions.{Load, LoadGlobal, HealGlobal, HealField, HealChanged, Finish}
+use Rattle.laws.specs.Transitions.{Load, LoadGlobal, TrapMarked, HealGlobal, HealField, HealChanged, Finish}
 use Rattle.refinement.specs.Worlds.{world_of, as_word, as_read, object_at, word_in_memory, global_in, as_place}
 use Rattle.refinement.specs.Worlds.{as_barrier, barrier_in}
 use Rattle.refinement.specs.PlainHeaps.{births_of, refs_in, as_pair}
@@ -37,7 +37,7 @@ use Rattle.refinement.specs.Standing.{Holds, StepHolds}
 use Rattle.refinement.proofs.Accepted.{on_some, on_test, on_truth}
 use Rattle.refinement.proofs.ObjectWords.{read_refs, field_of_read}
 use Rattle.refinement.proofs.Objects.{there}
-use Rattle.refinement.proofs.Carrying.{Carries, RowHolds, row_by, agrees, read_by, and_then, stays}
+use Rattle.refinement.proofs.Carrying.{Carries, RowHolds, row_by, agrees, becomes, read_by, and_then, stays}
 use Rattle.refinement.proofs.Rooted.{stored_word, global_word, load_there, stored_again}
 use Rattle.refinement.proofs.Written.{word_there, field_carries}
 use Rattle.refinement.proofs.Threads.{barrier_carries, loaded_carries, global_carries}
@@ -53,6 +53,13 @@ use Rattle.laws.specs.Invariant.{IsPlace}
 use Rattle.laws.proofs.Basics.{current_there}
 use Rattle.laws.proofs.Barriers.{OpenLoad, opened_of}
 use Rattle.refinement.specs.Roots.{IsLoad}
+use Rattle.model.specs.declared.records.Phase.{Phase}
+use Rattle.model.specs.declared.records.Phase.TheVariants.{Idle, MarkCrossing, Scanning, ProtectCrossing, Relocating}
+use Rattle.model.specs.Phases.{is_marking, may_nmt_trap, same_bit}
+use Rattle.model.specs.Marks.{with_mark, marked_word}
+use Rattle.laws.specs.Edits.{mark_word}
+use Rattle.laws.specs.Edits as edits
+use Rattle.refinement.proofs.Marks.{leads_to, marked_same, marked_is_word, mark_carries}
 use Rattle.refinement.proofs.Naming.{on_named, on_field}
 use Rattle.refinement.proofs.References.{less_is}
 
@@ -157,14 +164,20 @@ are_bits (Some n) w e = ap Some (eqb-true n (bits_of w) e)
 same_word : (v w : Reference) → IsWord v → IsWord w → bits_of v ≡ bits_of w → v ≡ w
 same_word v w j k e = sym (stored_again v j) ∙ ap read_reference e ∙ stored_again w k
 
+-- while an NMT trap is due, a mark runs
+marks_run : (h : HeapState) (t : ℕ) (w : Reference) → nmt_trap_due h t w ≡ true → is_marking h.phase ≡ true
+marks_run h t None e = absurd (cc)
+marks_run h t (Some w) e = by_phase h.phase (has_crossed (slice_get h.threads t)) (not (same_bit w.1 h.nmt)) e
+  where
+    by_phase : (f : Phase) (c b : Bool) → cond (may_nmt_trap f c) b false ≡ true → is_marking f ≡ true
+    by_phase Scanning c b e = refl
+    by_phase MarkCrossing c b e = refl
+    by_phase Idle c b e = absurd (cc)
+    by_phase ProtectCrossing c b e = absurd (cc)
+    by_phase Relocating c b e = absurd (cc)
+
 module _ {h : HeapState} {p p0 : PlainHeap} (s : IsStore h.store) (d : IsHeap h) (k : Holds h p p0) (t : ℕ)
     (x : ThreadState) (at : slice_get h.threads t ≡ Some x) where
-  -- no trap is due
-  pub trap_holds : RowHolds h p p0 (Thread t) steps.Trap (trap_outcome h t)
-  unfolding trap_outcome plain_step plain_answer
-  trap_holds = on_some (barrier_of_thread h t) _ _ _ (λ b first.
-      on_test (trap_due h t b.now) _ _ _ (λ clear. read_by k tt))
-
   module _ (b : Barrier) (first : barrier_of_thread h t ≡ Some b) where
     load : IsLoad h.config.registers b
     load = load_there h t x b k.words at (ap barrier_of (sym at) ∙ first)
@@ -178,6 +191,32 @@ module _ {h : HeapState} {p p0 : PlainHeap} (s : IsStore h.store) (d : IsHeap h)
     unmarked : trap_due h t b.now ≡ false → effects.nmt_trap_due (world_of h) t (as_word b.now) ≡ false
     unfolding trap_due
     unmarked e = trap_same h t b.now ∙ second_false (gc_trap_due h t b.now) (nmt_trap_due h t b.now) e
+
+    -- the word is marked
+    now_marked : nmt_trap_due h t b.now ≡ true → StepHolds h p p0 (Thread t) steps.Trap
+        (with_barrier (with_mark h b.now) t (set_now_of (marked_word h b.now) b)) answers.Marked
+    unfolding plain_step plain_answer with_mark
+    now_marked due =
+        let leads = leads_to h b.now _ opened.barrier.now.names in
+        let word = marked_is_word h b.now s leads in
+        row_by k (becomes (and_then (mark_carries h s k.laid b.now leads)
+        (barrier_carries (with_mark h b.now) t x at (set_now_of (marked_word h b.now) b)
+        (record { target = load.target; raw = load.raw; now = word })))
+        (λ w. set_barrier t (record (as_barrier b) { now = edits.marked_word w (as_word b.now) })
+        (mark_word (as_word b.now) w)) (ap (λ v. set_barrier t (record (as_barrier b) { now = v })
+        (mark_word (as_word b.now) (world_of h))) (marked_same h b.now)))
+        (stays h p) (TrapMarked t (as_barrier b) in_world (marks_run h t b.now due)) tt
+
+    -- an NMT trap, where it is due
+    nmt_holds : RowHolds h p p0 (Thread t) steps.Trap (nmt_trap h t b)
+    unfolding plain_step plain_answer
+    nmt_holds = by_due (nmt_trap_due h t b.now) refl
+      where
+        by_due : (c : Bool) → nmt_trap_due h t b.now ≡ c → RowHolds h p p0 (Thread t) steps.Trap (cond c
+            (Ok (with_barrier (with_mark h b.now) t (set_now_of (marked_word h b.now) b), answers.Marked))
+            (Ok (h, answers.Clear)))
+        by_due true e = now_marked e
+        by_due false e = read_by k tt
 
     still_load : IsLoad h.config.registers (set_healed b)
     still_load = record { target = load.target; raw = load.raw; now = load.now }
@@ -255,6 +294,12 @@ module _ {h : HeapState} {p p0 : PlainHeap} (s : IsStore h.store) (d : IsHeap h)
             (Finish t (as_barrier b) in_world (unmarked clear)) tt
 
   -- a place is healed, or has another word by now
+  pub trap_holds : RowHolds h p p0 (Thread t) steps.Trap (trap_outcome h t)
+  unfolding trap_outcome plain_step plain_answer
+  trap_holds = on_some (barrier_of_thread h t) _ _ _ (λ b first.
+      on_test (gc_trap_due h t b.now) _ _ _ (λ clear. nmt_holds b first))
+
+  -- a place is healed
   pub heal_holds : RowHolds h p p0 (Thread t) steps.Heal (heal_outcome h t)
   unfolding heal_outcome
   heal_holds = on_some (barrier_of_thread h t) _ _ _ (λ b first.

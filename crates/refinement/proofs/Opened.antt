@@ -19,7 +19,7 @@ use Rattle.model.specs.Holding.{IsHeap}
 use Rattle.model.specs.States.{HeapState, ThreadState, change_at}
 use Rattle.model.specs.Threads.{buffer_in}
 use Rattle.model.specs.Registers.{register_of}
-use Rattle.model.specs.Buffers.{blank_row}
+use Rattle.model.specs.Bits.{blank_row}
 use Rattle.model.proofs.Lists.{get_set_other, get_within, no_some}
 use Rattle.model.proofs.Memory.{open_state, unused_state, words_in, page_record, words_sized, words_memory}
 use Rattle.laws.specs.AddressHeap.{HeapObject, SideEntry, NoEntry, Planned, Copied, put}

@@ -8,7 +8,6 @@ use Rattle.model.specs.declared.steps.Answer.{Answer}
 use Rattle.model.specs.Owning.{IsStore}
 use Rattle.model.specs.Holding.{IsHeap}
 use Rattle.model.specs.States.{HeapState}
-use Rattle.model.specs.Checkpoints.{cross_outcome}
 use Rattle.model.specs.Outcome.{outcome, thread_gate, thread_row}
 use Rattle.model.specs.Plain.{PlainHeap}
 use Rattle.refinement.specs.Standing.{Holds, StepHolds}
@@ -23,13 +22,12 @@ use Rattle.refinement.proofs.Data.{set_datum_holds}
 use Rattle.refinement.proofs.Births.{new_holds}
 use Rattle.refinement.proofs.Buffers.{take_holds}
 use Rattle.refinement.proofs.References.{store_holds, store_global_holds}
-use Rattle.refinement.proofs.Checkpoints.{park_holds, unpark_holds, scrub_holds}
+use Rattle.refinement.proofs.Checkpoints.{cross_holds, park_holds, unpark_holds, scrub_holds}
 use Rattle.refinement.proofs.Loads.{load_holds, load_global_holds}
 use Rattle.refinement.proofs.Loads.{trap_holds, heal_holds, finish_holds}
 
 row_holds : (h : HeapState) (p p0 : PlainHeap) (t : ℕ) (step : Step) → IsStore h.store → IsHeap h → Holds h p p0
     → Passed h t step → RowHolds h p p0 (Thread t) step (thread_row h t step)
-unfolding cross_outcome
 row_holds h p p0 t (steps.Take n) s d k g = take_holds s d k t n g
 row_holds h p p0 t steps.GiveBack s d k g = give_back_holds s d k t g
 row_holds h p p0 t (steps.New r number) s d k g = new_holds s d k t r number g
@@ -46,6 +44,7 @@ row_holds h p p0 t (steps.Same l r) s d k g = same_holds s d k t l r g
 row_holds h p p0 t (steps.IsNull r) s d k g = is_null_holds s d k t r g
 row_holds h p p0 t (steps.CopyReg r q) s d k g = copy_holds s d k t r q g
 row_holds h p p0 t (steps.ClearReg r) s d k g = clear_holds s d k t r g
+row_holds h p p0 t steps.Cross s d k g = cross_holds s d k t g
 row_holds h p p0 t (steps.Scrub r) s d k g = scrub_holds s d k t r
 row_holds h p p0 t steps.Park s d k g = park_holds s d k t g
 row_holds h p p0 t steps.Unpark s d k g = unpark_holds s d k t g

@@ -8,7 +8,8 @@ ghost use Rattle.model.specs.Refusing.{Does};
 ghost use Rattle.model.specs.Outcome.{Passes};
 ghost use Rattle.model.specs.declared.steps.Step.TheVariants as steps;
 ghost use Rattle.model.specs.States.{change_at};
-ghost use Rattle.model.specs.Births.{put_bit, place_object, new_outcome, hand_object};
+ghost use Rattle.model.specs.Bits.{put_bit};
+ghost use Rattle.model.specs.Births.{place_object, new_outcome, hand_object};
 ghost use Rattle.model.specs.Phases.{is_marking, is_mark_crossing};
 
 use crate::heap::Heap;

@@ -1,0 +1,105 @@
+-- A mark starts and ends (the paper's Mark phase).
+use Rattle.std.specs.List.{list_any}
+use Rattle.std.specs.Prelude.{ℕ, ◌+◌, ◌==◌, ◌&&◌, ◌||◌, zero, suc, not, Bool, true, false, List, [], map, replicate}
+use Rattle.std.specs.Prelude.{length, count_by, position, Option, Some, None, is_some, if◌then◌else◌, Result, Ok, Err}
+use Rattle.model.specs.declared.records.Buffer.{Buffer}
+use Rattle.model.specs.declared.records.Forwarding.{Forwarding}
+use Rattle.model.specs.declared.records.Global.{Global}
+use Rattle.model.specs.declared.records.Page.{Page}
+use Rattle.model.specs.declared.records.Phase.TheVariants.{Idle, MarkCrossing}
+use Rattle.model.specs.declared.steps.Answer.TheVariants as answers
+use Rattle.model.specs.declared.steps.Refusal.{Refusal}
+use Rattle.model.specs.declared.steps.Refusal.TheVariants as refusals
+use Rattle.model.specs.Phases.{may_start_mark}
+use Rattle.model.specs.Stores.{state_at, is_protected, is_from, store_after_mark}
+use Rattle.model.specs.Refusing.{◌>>=◌, refuse_if, Outcome}
+use Rattle.model.specs.States.{ThreadState, HeapState}
+use Rattle.model.specs.Threads.{set_crossed_of}
+use Rattle.model.specs.Bits.{of_page, blank_all, bit_count}
+use Rattle.model.specs.Scans.{may_scan}
+
+-- a mark starts
+
+-- an entry's object has still to be copied
+abbrev pub is_uncopied : Forwarding → Bool
+is_uncopied f = not f.copied
+
+-- the page is being emptied, and has an object that isn't copied
+unfoldable pub has_uncopied : HeapState → ℕ → Bool
+has_uncopied h n = is_from (state_at h.store n) && list_any is_uncopied (of_page h.sides n)
+
+-- the least of k pages from number n on that has an object that isn't copied
+abbrev pub uncopied_from : HeapState → ℕ → ℕ → Option ℕ
+uncopied_from h n zero = None
+uncopied_from h n (suc k) = if has_uncopied h n then Some n else uncopied_from h (n + 1) k
+
+-- no page has an object that isn't copied, or the one that has is the refusal
+abbrev pub none_uncopied : Option ℕ → Result Unit Refusal
+none_uncopied None = Ok tt
+none_uncopied (Some n) = Err (refusals.Uncopied n)
+
+-- a global that has still to be marked
+abbrev pub set_todo_of : Global → Global
+set_todo_of g = record g { todo = true }
+
+-- the heap after a mark starts: the clean value flips, and all threads and globals have still to be marked
+unfoldable pub start_mark : HeapState → HeapState
+start_mark h = record h {
+  nmt = not h.nmt;
+  threads = map (set_crossed_of false) h.threads;
+  globals = map set_todo_of h.globals;
+  phase = MarkCrossing;
+}
+
+-- the row of StartMark
+unfoldable pub start_mark_outcome : HeapState → Outcome
+start_mark_outcome h =
+    if not (may_start_mark h.phase) then Err refusals.Phase else (do
+      _ ← none_uncopied (uncopied_from h 1 (length h.store.pages))
+      Ok (start_mark h, answers.Done))
+
+-- a mark ends
+
+-- something is still to be scanned or marked
+unfoldable pub has_todo : HeapState → Bool
+has_todo h = not (bit_count h.todo == 0) || list_any (λ (g : Global). g.todo) h.globals
+
+-- the least thread with an open barrier
+unfoldable pub first_pending : List ThreadState → Option ℕ
+first_pending threads = position (λ (t : ThreadState). is_some t.barrier) threads
+
+-- no barrier is open, or the thread that has one is the refusal
+abbrev pub none_pending : Option ℕ → Result Unit Refusal
+none_pending None = Ok tt
+none_pending (Some t) = Err (refusals.Pending t)
+
+-- a buffer that may be missing is on page n
+abbrev pub is_buffer_on : ℕ → Option Buffer → Bool
+is_buffer_on n None = false
+is_buffer_on n (Some b) = b.page == n
+
+-- a buffer of page n is lent
+unfoldable pub is_lent : List ThreadState → ℕ → Bool
+is_lent threads n = list_any (λ (t : ThreadState). is_buffer_on n t.buffer) threads
+
+-- the heap after a mark ends (ours): what it marked is live, and pages are as `page_after_mark` says
+unfoldable pub end_mark : HeapState → HeapState
+end_mark h = record h {
+  store = store_after_mark (is_lent h.threads) h.store;
+  live = h.mark;
+  mark = blank_all h.live;
+  sides = replicate (length h.sides) [];
+  phase = Idle;
+}
+
+-- how many pages a mark's end makes unused
+unfoldable pub retired_count : HeapState → ℕ
+retired_count h = count_by (λ (p : Page). is_protected p.state) h.store.pages
+
+-- the row of EndMark
+unfoldable pub end_mark_outcome : HeapState → Outcome
+end_mark_outcome h = do
+  _ ← may_scan h
+  _ ← refuse_if (has_todo h) refusals.TodoLeft
+  _ ← none_pending (first_pending h.threads)
+  Ok (end_mark h, answers.Ended (bit_count h.mark) (retired_count h))
