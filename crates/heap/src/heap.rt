@@ -1,6 +1,7 @@
 //! The heap.
 mod birth;
 mod buffers;
+pub mod collecting;
 pub mod crossing;
 mod data;
 pub mod edits;
