@@ -1,15 +1,15 @@
 //! Raw edits of a heap that the collector makes: marks, scans, crossings, and the start and the end
 //! of a mark.
 
-ghost use Rattle.std.specs.Prelude.{◌≡◌, ◌+◌, ◌<◌, length, map, true, false, if◌then◌else◌};
+ghost use Rattle.std.specs.Prelude.{◌≡◌, ◌+◌, ◌<◌, length, map, slice_get, is_none, true, false, if◌then◌else◌};
 ghost use Rattle.refword.specs.Words.{bits_of};
 ghost use Rattle.model.specs.Bits.{bit_at, with_bit};
-ghost use Rattle.model.specs.Checkpoints.{with_crossed};
+ghost use Rattle.model.specs.Checkpoints.{with_crossed, first_behind, phase_behind};
 ghost use Rattle.model.specs.Cycles.{is_lent, set_todo_of, start_mark, end_mark};
 ghost use Rattle.model.specs.Marks.{with_mark};
 ghost use Rattle.model.specs.Scans.{with_scan, with_scan_end, set_marked_of};
 ghost use Rattle.model.specs.States.{change_at};
-ghost use Rattle.model.specs.Stores.{store_after_mark, with_word};
+ghost use Rattle.model.specs.Stores.{store_after_mark, with_word, is_open, state_in};
 ghost use Rattle.model.specs.Threads.{set_crossed_of};
 ghost use Rattle.page.specs.Ending.{with_mark_ended_at};
 
@@ -66,6 +66,7 @@ fn mark_at(mark: &mut Rows, todo: &mut Rows, store: &Store, address: Addr)
 }
 
 /// All threads have still to cross.
+#[tactic(auto, using(crate::proofs::Looping::mapped_none, crate::proofs::Looping::mapped_more, crate::proofs::Looping::mapped_all))]
 fn uncross_all(threads: &mut [Thread])
     ensures { threads.new ≡ map (set_crossed_of false) threads.old }
 {
@@ -75,6 +76,7 @@ fn uncross_all(threads: &mut [Thread])
 }
 
 /// All globals have still to be marked.
+#[tactic(auto, using(crate::proofs::Looping::mapped_none, crate::proofs::Looping::mapped_more, crate::proofs::Looping::mapped_all))]
 fn set_all_todo(globals: &mut [Global])
     ensures { globals.new ≡ map set_todo_of globals.old }
 {
@@ -83,15 +85,27 @@ fn set_all_todo(globals: &mut [Global])
     }
 }
 
-/// Ends a mark for the page of an index.
+/// Whether the page of an index is open.
+fn is_open_at(store: &Store, index: usize) -> bool
+    ensures { result ≡ is_open (state_in (slice_get store.now.pages index)) }
+{
+    match store.pages().get(index) {
+        None => false,
+        Some(page) => matches!(page.state, PageState::Open),
+    }
+}
+
+/// Ends a mark for the page of an index. Threads are asked for their buffers where it is open.
 fn end_page(store: &mut Store, threads: &[Thread], index: usize)
     requires { index < length store.old.pages }
     ensures { store.new ≡ with_mark_ended_at store.old index (is_lent threads.now (index + 1)) }
 {
     store.law();
-    let open = matches!(store.pages()[index].state, PageState::Open);
-    let lent = open && is_lent(threads, (index + 1) as u32);
-    store.end_mark_at(index, lent);
+    if is_open_at(store, index) {
+        store.end_mark_at(index, is_lent(threads, (index + 1) as u32));
+    } else {
+        store.end_mark_at(index, false);
+    }
 }
 
 /// Ends a mark for all pages.
@@ -104,6 +118,29 @@ fn end_pages(store: &mut Store, threads: &[Thread])
         end_page(store, threads, index);
     }
     store.law();
+}
+
+/// The phase after a thread has crossed: the next one where no thread is behind.
+fn phase_after(threads: &[Thread], phase: Phase) -> Phase
+    ensures { result ≡ (if is_none (first_behind threads.now) then phase_behind phase else phase) }
+{
+    if first_behind(threads).is_none() {
+        phase_behind(phase)
+    } else {
+        phase
+    }
+}
+
+impl Heap {
+    /// A thread, if it is there, has crossed; the phase stays.
+    fn cross(&mut self, thread: u32)
+        ensures { self.new ≡ record self.old { threads = change_at self.old.threads thread (set_crossed_of true) } }
+    {
+        if (thread as usize) < self.threads.len() {
+            let record = &mut self.threads[thread as usize];
+            record.set_crossed(true);
+        }
+    }
 }
 
 impl CollectorEdits for Heap {
@@ -154,13 +191,8 @@ impl CollectorEdits for Heap {
     fn set_crossed(&mut self, thread: u32)
         ensures { self.new ≡ with_crossed self.old thread }
     {
-        if (thread as usize) < self.threads.len() {
-            let record = &mut self.threads[thread as usize];
-            record.set_crossed(true);
-        }
-        if first_behind(&self.threads).is_none() {
-            self.phase = phase_behind(self.phase);
-        }
+        self.cross(thread);
+        self.phase = phase_after(&self.threads, self.phase);
     }
 
     #[tactic(auto, unfolding(model::specs::Cycles::start_mark))]
