@@ -1,10 +1,10 @@
 -- What an accepted step has passed: the tests before its row, and those of the row.
-use Rattle.std.proofs.Common.{◌≡◌, ◌⊎◌, inl, inr, ℕ, ◌+◌, ◌/◌, ◌%◌, ◌<◌, ◌&&◌, ◌||◌, arith, Bool, true, false, not}
+use Rattle.std.proofs.Common.{◌≡◌, ◌⊎◌, inl, inr, ℕ, ◌+◌, ◌/◌, ◌%◌, ◌<◌, ◌≤◌, ◌&&◌, ◌||◌, arith, Bool, true, false, not}
 use Rattle.std.proofs.Common.{cond, length, nat_le, nat_lt, Option, Some, None, refl, sym, ◌∙◌, ap}
 use Rattle.std.specs.Prelude.{Ok}
 use Rattle.std.specs.List.{slice_get}
 use Rattle.std.specs.Option.{option_and_then, option_map}
-use Rattle.std.proofs.lemmas.Bool.{or_parts, leb-false, ltb-true, false≢true}
+use Rattle.std.proofs.lemmas.Bool.{or_parts, leb-false, ltb-true, ltb-false, false≢true}
 use Rattle.model.specs.declared.steps.Step.{Step}
 use Rattle.model.specs.declared.records.Phase.{Phase}
 use Rattle.model.specs.declared.records.Phase.TheVariants.{Idle, MarkCrossing, Scanning, ProtectCrossing, Relocating}
@@ -149,6 +149,21 @@ field_there h a q e i place f =
         let low = ltb-true i t.read.shape.refs f in
         let refs = read_refs h.config.layouts t.words (a % h.store.words) q t.read in
         (omega (arith, low, refs), omega (arith, spot))
+
+-- an object has no reference behind its last
+pub field_past : (h : HeapState) (a : ℕ) (q : HeapObject) (e : object_at h a ≡ Some q) (i : ℕ) → field_at h a i ≡ None
+    → length q.refs ≤ i
+unfolding field_at
+field_past h a q e i f = by_test (nat_lt i t.read.shape.refs) refl (sym (ap (field_place a i) (shape_there h a q t)) ∙ f)
+  where
+    t : IsThere h a q
+    t = there h a q e
+
+    by_test : (b : Bool) → nat_lt i t.read.shape.refs ≡ b → cond b (Some (field_address a i)) None ≡ None
+        → length q.refs ≤ i
+    by_test true f k = absurd (cc)
+    by_test false f k = omega (arith, ltb-false i t.read.shape.refs f,
+        read_refs h.config.layouts t.words (a % h.store.words) q t.read)
 
 -- where a datum of an object stands
 pub datum_there : (h : HeapState) (a : ℕ) (q : HeapObject) (e : object_at h a ≡ Some q) (j place : ℕ)
