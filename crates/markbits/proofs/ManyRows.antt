@@ -1,5 +1,5 @@
 -- Tables of rows.
-use Rattle.std.proofs.Common.{◌≡◌, ℕ, ◌+◌, ◌<◌, Bool, List, [], ◌∷◌, ◌++◌, length, map, take, drop, get_or, set, sym}
+use Rattle.std.proofs.Common.{◌≡◌, ℕ, ◌+◌, ◌<◌, Bool, count_by, List, [], ◌∷◌, ◌++◌, length, map, take, drop, get_or, set, sym}
 use Rattle.std.proofs.Common.{◌∙◌, ap, arith, length-set}
 use Rattle.std.proofs.lemmas.List.{get_or_read, get_or-drop, take_more, take_more_set, map-append, drop-set-lt}
 use Rattle.std.proofs.lemmas.Grind.{drop_more_same}
@@ -27,3 +27,7 @@ blank_more items old i row cleared so_far within read is =
       drop-set-lt (i + 1) items i cleared (omega arith) ∙ drop_more_same items old i so_far.1,
       length-set items i cleared ∙ so_far.2,
     )
+
+-- how many bits of a row are set
+abbrev pub set_bits : List Bool → ℕ
+set_bits row = count_by (λ b. b) row

@@ -1,10 +1,10 @@
 //! Rows of bits, one bit for each word of a page.
 
-ghost use Rattle.std.specs.Prelude.{◌≡◌, ℕ, ◌<◌, ◌≤◌, length, replicate, take, slice_get, slice_index_or, Some, map, false, IfOk, count_by};
+ghost use Rattle.std.specs.Prelude.{◌≡◌, ℕ, ◌<◌, ◌≤◌, ◌^◌, length, replicate, take, slice_get, slice_index_or, Some, map, false, IfOk, count_by};
 ghost use Rattle.std.specs.Int.{div_ceil};
 ghost use Rattle.std.specs.Option.{option_copied};
 ghost use Rattle.model.specs.States.{change_at};
-ghost use Rattle.model.specs.Bits.{blank_row, put_bit};
+ghost use Rattle.model.specs.Bits.{blank_row, put_bit, bit_on, bit_count};
 ghost use Rattle.markbits.specs.Words.{bit_of, IsNextPlace};
 ghost use Rattle.std.specs.Borrow.{sem};
 ghost use Rattle.markbits.specs.Lending.{LendsRow};
@@ -48,7 +48,8 @@ impl Row {
 
     /// How many bits are set.
     pub fn count(&self) -> usize
-        ensures { result ≡ count_by (λ b. b) self.now }
+        ensures value { result ≡ count_by (λ b. b) self.now }
+        ensures range { result < 2 ^ 32 }
     {
         self.total as usize
     }
@@ -163,6 +164,33 @@ impl Rows {
         ensures { option_copied result ≡ slice_get self.now index }
     {
         self.rows.get(index)
+    }
+
+    /// Whether the bit of an offset of a page is set, by the page's number from 1: its row has the
+    /// index below. Where there is no such row or bit, none is.
+    pub fn bit_on(&self, page: u32, offset: u32) -> bool
+        ensures { result ≡ bit_on self.now page offset }
+    {
+        if page == 0 {
+            return false;
+        }
+        match self.rows.get((page - 1) as usize) {
+            None => false,
+            Some(row) => row.test(offset as usize),
+        }
+    }
+
+    /// How many bits are set in all rows, of which there are at most 65,535.
+    pub fn count(&self) -> u64
+        requires { length self.now ≤ 65535 }
+        ensures { result ≡ bit_count self.now }
+    {
+        let rows = self.rows.len();
+        let mut total = 0;
+        for index in 0..rows {
+            total += self.rows[index].count() as u64;
+        }
+        total
     }
 
     /// Sets or clears a bit of a row, if it is there.

@@ -23,7 +23,7 @@ use Rattle.model.proofs.Lists.{position_none, length_counted, get_within, as_num
 use Rattle.model.proofs.Memory.{unused_state}
 use Rattle.page.specs.Records.{is_unused_in}
 
-none_or_some : {X : Type 0} {x : X} → Some None ≡ Some (Some x) → ⊥
+pub none_or_some : {X : Type 0} {x : X} → Some None ≡ Some (Some x) → ⊥
 none_or_some e = cc
 
 used_is : (p : PageState) → is_unused p ≡ false → has_memory p || is_protected p ≡ true
@@ -56,11 +56,11 @@ frame_keeps s f ws h e =
       balanced = record { frames = h.balanced.frames ∙ sym same; leaving = rw same h.balanced.leaving };
     }
 
--- a page gives out more of its words
-pub raise_keeps : (s : StoreState) (i : ℕ) (p : Page) (top : ℕ) → IsStore s → slice_get s.pages i ≡ Some p
-    → top ≤ s.words → IsStore (record s { pages = set s.pages i (record p { top = top }) })
-raise_keeps s i p top h e le =
-    let q : Page = record p { top = top } in
+-- a page's record becomes another one, with the same frame and alike in what it may do
+pub page_keeps : (s : StoreState) (i : ℕ) (p q : Page) → IsStore s → slice_get s.pages i ≡ Some p → q.frame ≡ p.frame
+    → has_memory q.state ≡ has_memory p.state → is_protected q.state ≡ is_protected p.state → q.top ≤ s.words
+    → IsStore (record s { pages = set s.pages i q })
+page_keeps s i p q h e frame memory protected le =
     let same : length (set s.pages i q) ≡ length s.pages = simp length-set in
     record {
       sized = record {
@@ -72,39 +72,56 @@ raise_keeps s i p top h e le =
         pages = same ∙ h.sized.pages;
         frames = h.sized.frames;
       };
-      pages = each_set (IsPage s.words) s.pages i q h.pages (record { memory = (h.pages i p e).memory; top = le });
+      pages = each_set (IsPage s.words) s.pages i q h.pages (record {
+        memory = ap is_some frame ∙ (h.pages i p e).memory ∙ sym memory;
+        top = le;
+      });
       owning = record {
         owned = λ j f x a b. owned j f x b (get_set s.pages i j q x a);
         owner = λ f n a. owner f n a (h.owning.owner f n a);
       };
       balanced = record {
-        frames = omega (arith, h.balanced.frames, count_set (λ x. has_memory x.state) s.pages i p q e);
-        leaving = omega (arith, h.balanced.leaving, count_set (λ x. is_protected x.state) s.pages i p q e);
+        frames = omega (
+          arith,
+          h.balanced.frames,
+          count_set (λ x. has_memory x.state) s.pages i p q e,
+          ap as_number memory,
+        );
+        leaving = omega (
+          arith,
+          h.balanced.leaving,
+          count_set (λ x. is_protected x.state) s.pages i p q e,
+          ap as_number protected,
+        );
       };
     }
   where
     owned : (j f : ℕ) (x : Page)
-        → x.frame ≡ Some f → ((j ≡ i) × (record p { top = top } ≡ x)) ⊎ ((j ≢ i) × (slice_get s.pages j ≡ Some x))
+        → x.frame ≡ Some f → ((j ≡ i) × (q ≡ x)) ⊎ ((j ≢ i) × (slice_get s.pages j ≡ Some x))
         → slice_get s.owners f ≡ Some (Some (j + 1))
-    owned j f x b (inl a) = rw a.0 (h.owning.owned i f p e (ap (λ (z : Page). z.frame) a.1 ∙ b))
+    owned j f x b (inl a) = rw a.0 (h.owning.owned i f p e (sym frame ∙ ap (λ (z : Page). z.frame) a.1 ∙ b))
     owned j f x b (inr a) = h.owning.owned j f x a.1 b
 
     owner : (f n : ℕ) → slice_get s.owners f ≡ Some (Some n)
         → (j : ℕ) × (x : Page) × (n ≡ j + 1) × (slice_get s.pages j ≡ Some x) × (x.frame ≡ Some f)
-        → (j : ℕ) × (x : Page) × (n ≡ j + 1) × (slice_get (set s.pages i (record p { top = top })) j ≡ Some x)
-        × (x.frame ≡ Some f)
+        → (j : ℕ) × (x : Page) × (n ≡ j + 1) × (slice_get (set s.pages i q) j ≡ Some x) × (x.frame ≡ Some f)
     owner f n a (j, x, b, c, d) = by_place (cases_eq j i)
       where
         by_place : (j ≡ i) ⊎ (j ≢ i) → (j : ℕ) × (x : Page) × (n ≡ j + 1)
-            × (slice_get (set s.pages i (record p { top = top })) j ≡ Some x) × (x.frame ≡ Some f)
+            × (slice_get (set s.pages i q) j ≡ Some x) × (x.frame ≡ Some f)
         by_place (inl k) = let same : p ≡ x = same_Some _ _ (sym e ∙ ap (slice_get s.pages) (sym k) ∙ c) in (
           i,
-          record p { top = top },
+          q,
           b ∙ ap (λ z. z + 1) k,
-          get_set_same s.pages i p (record p { top = top }) e,
-          ap (λ (z : Page). z.frame) same ∙ d,
+          get_set_same s.pages i p q e,
+          frame ∙ ap (λ (z : Page). z.frame) same ∙ d,
         )
-        by_place (inr k) = (j, x, b, get_set_other s.pages i j (record p { top = top }) k ∙ c, d)
+        by_place (inr k) = (j, x, b, get_set_other s.pages i j q k ∙ c, d)
+
+-- a page gives out more of its words
+pub raise_keeps : (s : StoreState) (i : ℕ) (p : Page) (top : ℕ) → IsStore s → slice_get s.pages i ≡ Some p
+    → top ≤ s.words → IsStore (record s { pages = set s.pages i (record p { top = top }) })
+raise_keeps s i p top h e le = page_keeps s i p (record p { top = top }) h e refl refl refl le
 
 -- an unused page is opened on a free frame
 pub open_keeps : (s : StoreState) (i f : ℕ) (p : Page) → IsStore s → slice_get s.pages i ≡ Some p

@@ -1,5 +1,5 @@
 use Rattle.markbits.proofs.RowBits.{count_of}
 use Rattle.markbits.proofs.rows.Row.count.Goals as goal
 
-pub returns : goal.returns
-returns c = count_of c.self.invariant.counted c.self.view_is
+pub returns-clause-value : goal.returns-clause-value
+returns-clause-value c = count_of c.self.invariant.counted c.self.view_is
