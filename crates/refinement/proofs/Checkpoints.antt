@@ -26,7 +26,7 @@ use Rattle.refinement.proofs.Threads.{parked_carries}
 use Rattle.refinement.proofs.Verdicts.{Passed, closed_barrier}
 
 -- a checkpoint is open, where a thread may cross one
-is_open : (h : HeapState) (t : ℕ) → OnAccepted (λ (u : Unit {0}). is_crossing h.phase ≡ true) (may_cross h t)
+pub is_open : (h : HeapState) (t : ℕ) → OnAccepted (λ (u : Unit {0}). is_crossing h.phase ≡ true) (may_cross h t)
 unfolding may_cross
 is_open h t = on_test (not (is_crossing h.phase)) _ _ _ (λ e. on_test (has_crossed (slice_get h.threads t)) _ _ _
     (λ b. not_false (is_crossing h.phase) e))

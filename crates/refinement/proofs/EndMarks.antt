@@ -12,6 +12,7 @@ use Rattle.std.proofs.lemmas.List.{length-map, length-replicate}
 use Rattle.std.proofs.lemmas.Option.{none-some, same_Some, get_or_from_slice_get}
 use Rattle.model.specs.declared.steps.Actor.TheVariants.{Worker}
 use Rattle.model.specs.declared.steps.Step.TheVariants as steps
+use Rattle.model.specs.declared.steps.Answer.{Answer}
 use Rattle.model.specs.declared.steps.Refusal.TheVariants as refusals
 use Rattle.model.specs.declared.records.Page.{Page}
 use Rattle.model.specs.declared.records.PageState.{PageState}
@@ -35,13 +36,15 @@ use Rattle.page.proofs.Keeping.{page_at_record, page_at_zero}
 use Rattle.laws.specs.Edits.{state_after_mark}
 use Rattle.laws.specs.Edits as edits
 use Rattle.laws.specs.AddressHeap.{HeapObject, SideEntry, NoEntry, Planned}
+use Rattle.laws.specs.Promises.{ReachableIsLive, LiveWasReachable}
+use Rattle.laws.proofs.Promises.{reachable_is_live, live_was_reachable}
 use Rattle.laws.specs.Transitions.{MayEndMark, EndMark, IsScanning}
 use Rattle.refinement.specs.Worlds.{world_of, object_at, object_in, entry_at, as_barrier, barrier_in, todo_in}
 use Rattle.refinement.specs.PlainHeaps.{births_of}
 use Rattle.refinement.specs.Claims.{IsLaid, AreRowsOf, HasGiven, Claim, OfObject, OfBuffer, OfPlan, OfEnd, Extent, extent}
 use Rattle.refinement.specs.Claims.{sized_extent, planned_extent, end_extent, object_size, size_at}
-use Rattle.refinement.specs.Standing.{Holds}
-use Rattle.refinement.proofs.Accepted.{OnAccepted, on_has}
+use Rattle.refinement.specs.Standing.{Holds, StepHolds, FindsLive}
+use Rattle.refinement.proofs.Accepted.{OnAccepted, on_has, on_accepted}
 use Rattle.refinement.proofs.Carrying.{Carries, RowHolds, alike, row_by, stays}
 use Rattle.refinement.proofs.Changes.{list_of, list_read, blank_bit}
 use Rattle.refinement.proofs.Scans.{is_scanning}
@@ -418,13 +421,33 @@ nothing_pending h = by_found (first_pending h.threads) refl
         by_thread t (Some x) f = ap (option_map as_barrier)
             (no_some x.barrier (position_none (λ (y : ThreadState). is_some y.barrier) h.threads e t x f))
 
-module _ {h : HeapState} {p p0 : PlainHeap} (s : IsStore h.store) (d : IsHeap h) (k : Holds h p p0) where
+-- a mark may end
+pub may_end : (h : HeapState) → OnAccepted (λ (z : HeapState × Answer). MayEndMark (world_of h) × (z.0 ≡ end_mark h))
+    (end_mark_outcome h)
+unfolding end_mark_outcome
+may_end h = on_has (may_scan h) _ _ _ (is_scanning h) (λ u i.
+    on_has (refuse_if (has_todo h) refusals.TodoLeft) _ _ _ (nothing_todo h) (λ v todo.
+    on_has (none_pending (first_pending h.threads)) _ _ _ (nothing_pending h) (λ x barriers.
+    (record { scans = i; todo = todo.0; globals = todo.1; barriers = barriers }, refl))))
+
+module _ {h : HeapState} {p p0 : PlainHeap} (s : IsStore h.store) (k : Holds h p p0) where
   -- a mark ends
   pub end_mark_holds : (w : ℕ) → RowHolds h p p0 (Worker w) steps.EndMark (end_mark_outcome h)
-  unfolding end_mark_outcome plain_step plain_answer
-  end_mark_holds w = on_has (may_scan h) _ _ _ (is_scanning h) (λ u i.
-      on_has (refuse_if (has_todo h) refusals.TodoLeft) _ _ _ (nothing_todo h) (λ v todo.
-      on_has (none_pending (first_pending h.threads)) _ _ _ (nothing_pending h) (λ x barriers.
-      let may : MayEndMark (world_of h) =
-      record { scans = i; todo = todo.0; globals = todo.1; barriers = barriers } in
-      row_by k (end_carries s k may) (stays h p) (EndMark _ may) tt)))
+  unfolding plain_step plain_answer
+  end_mark_holds w = on_accepted (end_mark_outcome h) _ _ (may_end h) (λ z may.
+      let c = end_carries s k may.0 in
+      subst (λ g. StepHolds h p p0 (Worker w) steps.EndMark g z.1) (sym may.1)
+      (row_by k c (stays h p) (EndMark _ may.0) tt))
+
+  -- and has found what lives
+  pub ended_finds : OnAccepted (λ (z : HeapState × Answer). FindsLive z.0 p p0) (end_mark_outcome h)
+  ended_finds = on_accepted (end_mark_outcome h) _ _ (may_end h) (λ z may.
+      let w = world_of h in
+      let after = ended_world s k may.0 in
+      let lent : ℕ → Bool = λ a. is_lent h.threads (a / h.store.words) in
+      subst (λ g. FindsLive g p p0) (sym may.1) (record {
+        reachable = subst (λ v. ReachableIsLive v (births_of p)) (sym after)
+            (reachable_is_live w (births_of p) (births_of p0) k.invariant may.0 lent);
+        live = subst (λ v. LiveWasReachable v (births_of p0)) (sym after)
+            (live_was_reachable w (births_of p) (births_of p0) k.invariant may.0 lent);
+      }))

@@ -10,8 +10,8 @@ use Rattle.model.specs.Holding.{IsHeap}
 use Rattle.model.specs.States.{HeapState}
 use Rattle.model.specs.Outcome.{outcome, thread_gate, thread_row, worker_gate, worker_row}
 use Rattle.model.specs.Plain.{PlainHeap}
-use Rattle.refinement.specs.Standing.{Holds, StepHolds}
-use Rattle.refinement.proofs.Accepted.{accepted, of_accepted, on_has}
+use Rattle.refinement.specs.Standing.{Holds, StepHolds, FindsLive, Finds}
+use Rattle.refinement.proofs.Accepted.{OnAccepted, accepted, of_accepted, on_bind, on_has}
 use Rattle.refinement.proofs.Carrying.{RowHolds}
 use Rattle.refinement.proofs.Verdicts.{Passed, passed, WorkerPassed, worker_passed, is_global, is_thread}
 use Rattle.refinement.proofs.Registers.{is_null_holds, same_holds}
@@ -24,7 +24,7 @@ use Rattle.refinement.proofs.Buffers.{take_holds}
 use Rattle.refinement.proofs.References.{store_holds, store_global_holds}
 use Rattle.refinement.proofs.Scans.{pick_holds, scan_field_holds, scan_global_holds}
 use Rattle.refinement.proofs.StartMarks.{start_mark_holds}
-use Rattle.refinement.proofs.EndMarks.{end_mark_holds}
+use Rattle.refinement.proofs.EndMarks.{end_mark_holds, ended_finds}
 use Rattle.refinement.proofs.Checkpoints.{cross_holds, cross_for_holds, park_holds, unpark_holds, scrub_holds}
 use Rattle.refinement.proofs.Loads.{load_holds, load_global_holds}
 use Rattle.refinement.proofs.Loads.{trap_holds, heal_holds, finish_holds}
@@ -61,7 +61,7 @@ worker_holds h p p0 w steps.StartMark s d k g = start_mark_holds s d k w
 worker_holds h p p0 w (steps.Pick page offset) s d k g = pick_holds s d k w g.worker page offset
 worker_holds h p p0 w steps.ScanField s d k g = scan_field_holds s d k w g.worker
 worker_holds h p p0 w (steps.ScanGlobal n) s d k g = scan_global_holds s d k w g.worker n (is_global h n g.indices)
-worker_holds h p p0 w steps.EndMark s d k g = end_mark_holds s d k w
+worker_holds h p p0 w steps.EndMark s d k g = end_mark_holds s k w
 worker_holds h p p0 w (steps.CrossFor t) s d k g = cross_for_holds s k w t (is_thread h t g.indices)
 worker_holds h p p0 w _ s d k g = tt
 
@@ -79,3 +79,17 @@ pub step_holds : (h : HeapState) (p p0 : PlainHeap) (actor : Actor) (step : Step
 step_holds h p p0 actor step g answer s d k e = of_accepted
     (λ (z : HeapState × Answer). StepHolds h p p0 actor step z.0 z.1) (outcome h actor step) (g, answer)
     (outcome_holds h p p0 actor step s d k) e
+
+-- what a mark that ends has found
+ended_holds : (h : HeapState) (p p0 : PlainHeap) (actor : Actor) → IsStore h.store → Holds h p p0
+    → OnAccepted (λ (z : HeapState × Answer). FindsLive z.0 p p0) (outcome h actor steps.EndMark)
+unfolding outcome
+ended_holds h p p0 (Thread t) s k = on_bind (thread_gate h t steps.EndMark) _ _ (λ u e. tt)
+ended_holds h p p0 (Worker w) s k = on_bind (worker_gate h w steps.EndMark) _ _ (λ u e. ended_finds s k)
+
+pub marks_find : (h : HeapState) (p p0 : PlainHeap) (actor : Actor) (step : Step) (g : HeapState) (answer : Answer)
+    → IsStore h.store → IsHeap h → Holds h p p0 → outcome h actor step ≡ accepted (g, answer) → Finds g p p0 step
+marks_find h p p0 actor steps.EndMark g answer s d k e = of_accepted
+    (λ (z : HeapState × Answer). FindsLive z.0 p p0) (outcome h actor steps.EndMark) (g, answer)
+    (ended_holds h p p0 actor s k) e
+marks_find h p p0 actor _ g answer s d k e = tt
