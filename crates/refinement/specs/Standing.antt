@@ -74,7 +74,8 @@ Finds h p p0 _ = Unit {0}
 abbrev pub MarksFind : Type 0
 MarksFind =
     (h : HeapState) (p p0 : PlainHeap) (actor : Actor) (step : Step) (g : HeapState) (answer : Answer)
-    → IsStore h.store → IsHeap h → Holds h p p0 → outcome h actor step ≡ Ok (g, answer) → Finds g p p0 step
+    → IsStore h.store → IsHeap h → Holds h p p0 → outcome h actor step ≡ Ok (g, answer)
+    → Finds g (plain_step h.config.layouts p actor step) (kept_at_mark p p0 step) step
 
 -- a crossing leaves the phase while a thread has still to cross, and the last one begins the next phase (the paper's
 -- checkpoints)
@@ -98,12 +99,15 @@ PhasesMove =
     (h : HeapState) (p p0 : PlainHeap) (actor : Actor) (step : Step) (g : HeapState) (answer : Answer)
     → IsStore h.store → IsHeap h → Holds h p p0 → outcome h actor step ≡ Ok (g, answer) → MovesPhase h step g
 
--- what a call that gave this result keeps: where the heap stood for a plain heap, it does after an accepted step, whose
--- answer is the plain heap's; a mark that has ended has found what lives; and the phase has moved as it may
+-- what an accepted step has, from a heap that stood for the plain heap p: it stands for the plain heap after its step,
+-- and answers as that does; a mark that has ended has found what lives; and the phase has moved as it may
+pub record StepKeeps (old : HeapState) (p p0 : PlainHeap) (actor : Actor) (step : Step) (new : HeapState)
+    (answer : Answer) : Type 0 where
+  pub stands : StepHolds old p p0 actor step new answer
+  pub finds : Finds new (plain_step old.config.layouts p actor step) (kept_at_mark p p0 step) step
+  pub phase : MovesPhase old step new
+
+-- what a call that gave this result keeps, where the heap stood for a plain heap
 abbrev pub KeepsStanding : HeapState → Actor → Step → Result Answer Refusal → HeapState → Type 0
 KeepsStanding old actor step result new =
-    (p p0 : PlainHeap) → Holds old p p0 → IfOk result (λ answer. record {
-      stands : StepHolds old p p0 actor step new answer;
-      finds : Finds new p p0 step;
-      phase : MovesPhase old step new;
-    })
+    (p p0 : PlainHeap) → Holds old p p0 → IfOk result (λ answer. StepKeeps old p p0 actor step new answer)
