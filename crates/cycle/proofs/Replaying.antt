@@ -1,6 +1,6 @@
 -- The law of a book, from one entry to the next.
 use Rattle.std.proofs.Common.{◌≡◌, List, [], ◌∷◌, ◌++◌, refl, sym, subst, ◌≤◌, false, length, arith, length-append}
-use Rattle.std.specs.Prelude.{Result, Ok, Err}
+use Rattle.std.specs.Prelude.{Result, Ok, Err, Some, IfSome}
 use Rattle.std.proofs.lemmas.Bool.{leb-false}
 use Rattle.layout.specs.declared.shape.Layout.{Layout}
 use Rattle.model.specs.declared.config.Config.{Config}
@@ -18,11 +18,12 @@ use Rattle.model.specs.Plain.{plain_answer}
 use Rattle.laws.proofs.Promises.{stands, usable_has_memory}
 use Rattle.refinement.specs.Worlds.{world_of}
 use Rattle.refinement.specs.PlainHeaps.{births_of}
-use Rattle.refinement.specs.Standing.{Holds, StepHolds, AnswersPlain, FirstHolds, StepsHold, KeepsStanding}
+use Rattle.refinement.specs.Standing.{Holds, StepKeeps, AnswersPlain, FirstHolds, StepsHold, MarksFind, PhasesMove}
+use Rattle.refinement.specs.Standing.{Finds, KeepsStanding}
 use Rattle.cycle.specs.declared.book.Entry.{Entry}
 use Rattle.cycle.specs.Books.{BookState, first_book, is_full}
 use Rattle.cycle.specs.Replays.{Replayed, after_entry, after_entries, before_entries}
-use Rattle.cycle.specs.Replays.{replayed, AnswersAre, IsBook, KeepsPromises}
+use Rattle.cycle.specs.Replays.{replayed, AnswersAre, IsBook, KeepsPromises, last_entry}
 
 after_more : (ls : List Layout) (r : Replayed) (es : List Entry) (e : Entry)
     → after_entries ls r (es ++ e ∷ []) ≡ after_entry ls (after_entries ls r es) e
@@ -34,12 +35,18 @@ answers_more : (ls : List Layout) (r : Replayed) (es : List Entry) (e : Entry) �
 answers_more ls r [] e a b = (b, tt)
 answers_more ls r (d ∷ es) e a b = (a.0, answers_more ls (after_entry ls r d) es e a.1 b)
 
+last_added : (es : List Entry) (e : Entry) → last_entry (es ++ e ∷ []) ≡ Some e
+last_added [] e = refl
+last_added (d ∷ []) e = refl
+last_added (d ∷ c ∷ es) e = last_added (c ∷ es) e
+
 -- an entry is added
 pub entry_added : (b : BookState) (actor : Actor) (step : Step) (g : HeapState) (answer : Answer) → IsBook b
-    → is_full b ≡ false → StepHolds b.heap (replayed b).now (replayed b).at_mark actor step g answer
+    → is_full b ≡ false → StepKeeps b.heap (replayed b).now (replayed b).at_mark actor step g answer
     → IsBook (record { heap = g; history = b.history ++ record { actor = actor; step = step; answer = answer } ∷ [] })
 unfolding replayed is_full
-entry_added b actor step g answer k more s =
+entry_added b actor step g answer k more kept =
+    let s = kept.stands in
     let e : Entry = record { actor = actor; step = step; answer = answer } in
     let first : Replayed = before_entries b.heap.config in
     let ls : List Layout = b.heap.config.layouts in
@@ -55,13 +62,19 @@ entry_added b actor step g answer k more s =
           (sym s.config) (answers_more ls first b.history e k.answers s.answers);
       limit = subst (λ (c : Config). length (b.history ++ e ∷ []) ≤ c.history) (sym s.config) (omega
           (arith, length-append b.history (e ∷ []), leb-false b.heap.config.history (length b.history) more));
+      marks = subst (λ o. IfSome o (λ d. Finds g (after_entries g.config.layouts (before_entries g.config)
+          (b.history ++ e ∷ [])).now (after_entries g.config.layouts (before_entries g.config)
+          (b.history ++ e ∷ [])).at_mark d.step)) (sym (last_added b.history e))
+          (subst (λ (c : Config). Finds g (after_entries c.layouts (before_entries c) (b.history ++ e ∷ [])).now
+          (after_entries c.layouts (before_entries c) (b.history ++ e ∷ [])).at_mark step) (sym s.config)
+          (subst (λ (r : Replayed). Finds g r.now r.at_mark step) (sym after) kept.finds));
     }
 
 -- a new book
 pub new_book : (c : Config) → Holds (first_heap c) (before_entries c).now (before_entries c).at_mark
     → IsBook (first_book c)
 unfolding replayed first_book first_heap
-new_book c k = record { holds = k; answers = tt; limit = omega arith }
+new_book c k = record { holds = k; answers = tt; limit = omega arith; marks = tt }
 
 -- what the law promises
 pub promises : (b : BookState) → IsBook b → KeepsPromises b
@@ -69,14 +82,19 @@ promises b k = record {
   stands = stands (world_of b.heap) (births_of (replayed b).now) (births_of (replayed b).at_mark) k.holds.invariant;
   usable = usable_has_memory (world_of b.heap) (births_of (replayed b).now)
       (births_of (replayed b).at_mark) k.holds.invariant;
+  marks = k.marks;
 }
 
 -- a call that did what its outcome says
 pub keeps_standing : (old new : HeapState) (actor : Actor) (step : Step) (result : Result Answer Refusal)
-    → Does old result new (outcome old actor step) → IsStore old.store → IsHeap old → StepsHold
+    → Does old result new (outcome old actor step) → IsStore old.store → IsHeap old → StepsHold → MarksFind → PhasesMove
     → KeepsStanding old actor step result new
-keeps_standing old new actor step (Ok a) does s d law p p0 k = law old p p0 actor step new a s d k does
-keeps_standing old new actor step (Err e) does s d law p p0 k = tt
+keeps_standing old new actor step (Ok a) does s d holds find move p p0 k = record {
+  stands = holds old p p0 actor step new a s d k does;
+  finds = find old p p0 actor step new a s d k does;
+  phase = move old p p0 actor step new a s d k does;
+}
+keeps_standing old new actor step (Err e) does s d holds find move p p0 k = tt
 
 -- the parts of a new book
 pub made : (c : Config) (h : HeapState) (es : List Entry) → h ≡ first_heap c → es ≡ [] → FirstHolds
@@ -88,7 +106,7 @@ made c h es e f law = subst (λ (g : HeapState). IsBook (record { heap = g; hist
 -- the parts of a book with one more entry
 pub entered_book : (b : BookState) (actor : Actor) (step : Step) (g : HeapState) (answer : Answer) (es : List Entry)
     → IsBook b → is_full b ≡ false → (let p = (replayed b).now in let p0 = (replayed b).at_mark in Holds b.heap p p0
-    → StepHolds b.heap p p0 actor step g answer)
+    → StepKeeps b.heap p p0 actor step g answer)
     → es ≡ b.history ++ record { actor = actor; step = step; answer = answer } ∷ []
     → IsBook (record { heap = g; history = es })
 entered_book b actor step g answer es k more s e =

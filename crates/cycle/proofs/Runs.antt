@@ -3,14 +3,16 @@ use Rattle.std.proofs.Common.{◌≡◌, List, [], ◌∷◌, ◌++◌, ◌+◌,
 use Rattle.std.proofs.Common.{append_assoc, refl, sym, ap, ◌∙◌, subst}
 use Rattle.model.specs.declared.steps.Actor.{Actor}
 use Rattle.model.specs.declared.steps.Step.{Step}
-use Rattle.cycle.specs.Books.{BookState, Reply, Acts, Ran, act_outcome}
+use Rattle.cycle.specs.Books.{BookState, Reply, Acts, act_outcome}
+use Rattle.cycle.specs.Replays.{StepPromises, Ran}
 
 pub ran_more : (ss : List (Actor × Step)) (rs : List Reply) (b c d : BookState) (s : Actor × Step) (r : Reply)
-    → Ran b ss rs c → Acts c r d (act_outcome c s.0 s.1) → Ran b (ss ++ s ∷ []) (rs ++ r ∷ []) d
-ran_more [] [] b c d s r h a = (d, subst (λ e. Acts e r d (act_outcome e s.0 s.1)) h a, refl)
-ran_more [] (q ∷ rs) b c d s r h a = absurd h
-ran_more (t ∷ ss) [] b c d s r h a = absurd h
-ran_more (t ∷ ss) (q ∷ rs) b c d s r (e, f, g) a = (e, f, ran_more ss rs e c d s r g a)
+    → Ran b ss rs c → Acts c r d (act_outcome c s.0 s.1) → StepPromises c s.1 r d → Ran b (ss ++ s ∷ []) (rs ++ r ∷ []) d
+ran_more [] [] b c d s r h a m =
+    (d, subst (λ e. Acts e r d (act_outcome e s.0 s.1)) h a, subst (λ e. StepPromises e s.1 r d) h m, refl)
+ran_more [] (q ∷ rs) b c d s r h a m = absurd h
+ran_more (t ∷ ss) [] b c d s r h a m = absurd h
+ran_more (t ∷ ss) (q ∷ rs) b c d s r (e, f, n, g) a m = (e, f, n, ran_more ss rs e c d s r g a m)
 
 pub next_part : {X : Type 0} (done rest next all : List X) (x : X) → done ++ rest ≡ all → rest ≡ x ∷ next
     → (done ++ x ∷ []) ++ next ≡ all

@@ -58,9 +58,3 @@ act_outcome b actor step =
 abbrev pub Acts : BookState → Reply → BookState → BookOutcome → Type 0
 Acts old (Ok answer) new outcome = outcome ≡ Ok (new, answer)
 Acts old (Err e) new outcome = (((is_full old ≡ false) × (e ≡ refusals.Memory)) ⊎ (outcome ≡ Err e)) × (new ≡ old)
-
--- one reply for each step, in order, each step done on the book that the one before left
-abbrev pub Ran : BookState → List (Actor × Step) → List Reply → BookState → Type 0
-Ran b [] [] c = c ≡ b
-Ran b (s ∷ ss) (r ∷ rs) c = (d : BookState) × Acts b r d (act_outcome b s.0 s.1) × Ran d ss rs c
-Ran b _ _ c = ⊥

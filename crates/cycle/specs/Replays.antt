@@ -1,14 +1,16 @@
 -- The plain heap that a history makes, and the law of books.
-use Rattle.std.specs.Prelude.{◌≤◌, List, [], ◌∷◌, length}
+use Rattle.std.specs.Prelude.{◌≡◌, ◌≤◌, List, [], ◌∷◌, length, Option, Some, None, IfSome, IfOk}
 use Rattle.layout.specs.declared.shape.Layout.{Layout}
 use Rattle.model.specs.declared.config.Config.{Config}
+use Rattle.model.specs.declared.steps.Actor.{Actor}
+use Rattle.model.specs.declared.steps.Step.{Step}
 use Rattle.model.specs.Plain.{PlainHeap, plain_start, plain_step, plain_answer}
 use Rattle.laws.specs.Promises.{StandsForPlain, UsableHasMemory}
 use Rattle.refinement.specs.Worlds.{world_of}
 use Rattle.refinement.specs.PlainHeaps.{births_of}
-use Rattle.refinement.specs.Standing.{Holds, AnswersPlain, kept_at_mark}
+use Rattle.refinement.specs.Standing.{Holds, AnswersPlain, Finds, MovesPhase, kept_at_mark}
 use Rattle.cycle.specs.declared.book.Entry.{Entry}
-use Rattle.cycle.specs.Books.{BookState}
+use Rattle.cycle.specs.Books.{BookState, Reply, Acts, act_outcome}
 
 -- a plain heap, and what it was as the last mark began
 pub record Replayed : Type 0 where
@@ -38,14 +40,40 @@ AnswersAre ls r [] = Unit {0}
 AnswersAre ls r (e ∷ es) =
     AnswersPlain (plain_answer r.now e.actor e.step) e.answer × AnswersAre ls (after_entry ls r e) es
 
+-- the last of these entries, if there is one
+abbrev pub last_entry : List Entry → Option Entry
+last_entry [] = None
+last_entry (e ∷ []) = Some e
+last_entry (e ∷ d ∷ es) = last_entry (d ∷ es)
+
+-- where the last step of a book has ended a mark, that has found what lives
+abbrev pub LastFinds : BookState → Type 0
+LastFinds b = IfSome (last_entry b.history) (λ e. Finds b.heap (replayed b).now (replayed b).at_mark e.step)
+
 -- the law of a book
 pub record IsBook (b : BookState) : Type 0 where
   pub holds : Holds b.heap (replayed b).now (replayed b).at_mark
   pub answers : AnswersAre b.heap.config.layouts (before_entries b.heap.config) b.history
   pub limit : length b.history ≤ b.heap.config.history
+  pub marks : LastFinds b
 
--- what it promises to threads: the heap stands for the plain heap of its history, and no register that may be used names
--- a page without memory
+-- what it promises: the heap stands for the plain heap of its history; no register that may be used names a page without
+-- memory; and where its last step has ended a mark, all that can be reached is live, and what is live could be reached
+-- as that mark began, or is born since
 pub record KeepsPromises (b : BookState) : Type 0 where
   pub stands : StandsForPlain (world_of b.heap) (births_of (replayed b).now)
   pub usable : UsableHasMemory (world_of b.heap)
+  pub marks : LastFinds b
+
+-- what a step with this reply promises: what its book does, and where it is accepted, that it has moved the phase as it
+-- may
+pub record StepPromises (old : BookState) (step : Step) (reply : Reply) (new : BookState) : Type 0 where
+  pub book : KeepsPromises new
+  pub phase : IfOk reply (λ answer. MovesPhase old.heap step new.heap)
+
+-- one reply for each step, in order, each step done on the book that the one before left, with what it promises
+abbrev pub Ran : BookState → List (Actor × Step) → List Reply → BookState → Type 0
+Ran b [] [] c = c ≡ b
+Ran b (s ∷ ss) (r ∷ rs) c =
+    (d : BookState) × Acts b r d (act_outcome b s.0 s.1) × StepPromises b s.1 r d × Ran d ss rs c
+Ran b _ _ c = ⊥

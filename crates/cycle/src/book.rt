@@ -1,8 +1,9 @@
 //! A heap and its history.
 
-ghost use Rattle.std.specs.Prelude.{◌≡◌, ◌<◌, ◌++◌, ◌∷◌, [], vec_len, vec_capacity};
+ghost use Rattle.std.specs.Prelude.{◌≡◌, ◌<◌, ◌++◌, ◌∷◌, [], IfOk, vec_len, vec_capacity};
 ghost use Rattle.cycle.specs.Books.{Acts, MakesBook, act_outcome, is_full, first_book};
-ghost use Rattle.cycle.specs.Replays.{IsBook, KeepsPromises};
+ghost use Rattle.cycle.specs.Replays.{IsBook, KeepsPromises, StepPromises};
+ghost use Rattle.refinement.specs.Standing.{MovesPhase};
 
 use crate::stepping::Stepping;
 use heap::{Config, Heap, NewFault};
@@ -48,8 +49,10 @@ impl Book {
     /// What holds of every book (ours): the law of books, that its history is within the
     /// configuration's limit, and what it promises to threads: registers, loads and globals name
     /// what the plain heap has in their place, what can be reached has exactly one current copy,
-    /// on a page with memory, and no register that may be used names a page without memory. It
-    /// changes nothing and never fails.
+    /// on a page with memory, and no register that may be used names a page without memory. Where
+    /// its last step has ended a mark (the paper's Mark phase), all that can be reached is live,
+    /// and what is live could be reached as that mark began, or is born since. It changes nothing
+    /// and never fails.
     pub fn law(&self)
         ensures book { IsBook self.now }
         ensures promises { KeepsPromises self.now }
@@ -98,10 +101,14 @@ impl Book {
     /// `HistoryFull` is tested first; then room for the entry is made, and `Memory` answered
     /// where it is refused. A step that is refused for any cause leaves heap and history as
     /// they were.
+    ///
+    /// It promises what each book does (`law`). So where it has ended a mark, all that can be
+    /// reached is live, and what is live could be reached as that mark began, or is born since. The
+    /// phase moves as the collector's cycle has it (the paper's phases), and in no other way.
     pub fn act(&mut self, actor: Actor, step: Step) -> Reply
         ensures acts { Acts self.old result self.new (act_outcome self.old actor step) }
         ensures book { IsBook self.new }
-        ensures promises { KeepsPromises self.new }
+        ensures promises { StepPromises self.old step result self.new }
     {
         let reply = self.step_and_enter(actor, step);
         self.law();
@@ -111,7 +118,8 @@ impl Book {
     /// What `act` does.
     #[tactic(auto, unfolding(crate::specs::Books::act_outcome))]
     fn step_and_enter(&mut self, actor: Actor, step: Step) -> Reply
-        ensures { Acts self.old result self.new (act_outcome self.old actor step) }
+        ensures acts { Acts self.old result self.new (act_outcome self.old actor step) }
+        ensures phase { IfOk result (λ answer. MovesPhase self.old.heap step self.new.heap) }
     {
         if self.is_full() {
             return Err(Refusal::HistoryFull);

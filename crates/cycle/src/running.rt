@@ -1,8 +1,7 @@
 //! Runs of a list of steps.
 
 ghost use Rattle.std.specs.Prelude.{◌≡◌, ◌<◌, ◌≤◌, ◌++◌, ◌∷◌, [], IfOk, OnErr, vec_len, vec_capacity};
-ghost use Rattle.cycle.specs.Books.{Ran};
-ghost use Rattle.cycle.specs.Replays.{IsBook, KeepsPromises};
+ghost use Rattle.cycle.specs.Replays.{IsBook, KeepsPromises, Ran};
 
 use crate::book::Book;
 use model::{Actor, Reply, Step};

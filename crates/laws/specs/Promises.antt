@@ -99,12 +99,11 @@ RunsAnswerPlain =
     (is_global : ℕ → Bool) (w : AddressHeap) (p p0 : BirthHeap) → Run (first is_global) plain_first plain_first w p p0
     → UsableReadsPlain w p × SameAddressSameBirth w p × NullIsNone w p
 
--- where a mark ends after a list of transitions from the first heaps, what can be reached is live, and what is live could
--- be reached when the mark began or is born since
+-- of a heap with the invariant, in which a mark may end: after its end what can be reached is live, and what is live
+-- could be reached as the mark began or is born since
 abbrev pub MarksEndLive : Type 0
 MarksEndLive =
-    (is_global : ℕ → Bool) (w : AddressHeap) (p p0 : BirthHeap) → Run (first is_global) plain_first plain_first w p p0
-    → MayEndMark w → (lent : ℕ → Bool)
+    (w : AddressHeap) (p p0 : BirthHeap) → Invariant w p p0 → MayEndMark w → (lent : ℕ → Bool)
     → ReachableIsLive (end_mark lent w) p × LiveWasReachable (end_mark lent w) p0
 
 -- a mark can end: from the first heap without globals, transitions lead to where one may

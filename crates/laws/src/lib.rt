@@ -42,8 +42,8 @@ pub fn law()
     // then a usable register reads the object of the birth that it holds in the plain heap; two
     // have one address exactly where they hold one birth; and null is exactly none
     ensures reads { RunsAnswerPlain }
-    // where a mark ends after such a run, all that can be reached is live, and what is live could
-    // be reached when the mark began, or is born since
+    // where a mark ends in a heap with the invariant, so after any such run, all that can be reached
+    // is live, and what is live could be reached when the mark began, or is born since
     ensures ended { MarksEndLive }
     // and marks can end: shown by one run, of a heap without globals, in which nothing is born
     ensures ends { MarksCanEnd }

@@ -2,7 +2,8 @@
 use Rattle.std.proofs.Common.{◌≡◌, ◌≢◌, ◌⊎◌, inl, inr, ℕ, zero, suc, ◌+◌, ◌<◌, Bool, true, false, List}
 use Rattle.std.proofs.Common.{[], ◌∷◌, length, Option, Some, None, replicate, set, count_by, cond, get_or}
 use Rattle.std.proofs.Common.{position, nat_lt, ◌*◌, ◌≤◌, ◌||◌, refl, sym, ◌∙◌, ap, subst, arith, is_some}
-use Rattle.std.specs.List.{slice_get, position_or_len}
+use Rattle.std.specs.List.{slice_get, position_or_len, list_any}
+use Rattle.std.proofs.lemmas.Bool.{or_parts}
 use Rattle.std.proofs.lemmas.Option.{get_or_from_slice_get, slice_get_within, slice_get_read, same_Some}
 use Rattle.std.proofs.lemmas.List.Sums.{sum_by-set, sum_by-cons, fails_before_first}
 use Rattle.std.proofs.lemmas.List.Folds.{sum_by-replicate}
@@ -89,6 +90,12 @@ pub position_finds : {X : Type 0} (p : X → Bool) (xs : List X) (i : ℕ) → p
     → (x : X) × (slice_get xs i ≡ Some x)
 position_finds p [] i h = absurd (cc)
 position_finds p (x ∷ xs) i h = get_within (x ∷ xs) i (position-Some p (x ∷ xs) i x h).0
+
+-- where no element passes a test, each fails it
+pub none_passes : {X : Type 0} (p : X → Bool) (xs : List X) → list_any p xs ≡ false → Each xs (λ x. p x ≡ false)
+none_passes p [] h i x e = absurd (cc)
+none_passes p (x ∷ xs) h zero y e = ap p (sym (same_Some _ _ e)) ∙ (or_parts (p x) (list_any p xs) h).0
+none_passes p (x ∷ xs) h (suc i) y e = none_passes p xs (or_parts (p x) (list_any p xs) h).1 i y e
 
 pub none_far : (a b : ℕ) → cond (nat_lt a b) (Some a) None ≡ None → b ≤ a
 none_far a b h = grind (arith, nat_tests)

@@ -1,5 +1,6 @@
 -- The bits of rows, by page and offset, and by the addresses of words.
-use Rattle.std.specs.Prelude.{ℕ, ◌-◌, ◌/◌, ◌%◌, zero, suc, Bool, false, List, [], get_or, map, count_by, sum, length}
+use Rattle.std.specs.Prelude.{ℕ, ◌-◌, ◌/◌, ◌%◌, zero, suc, Bool, false, List, [], get_or, map, count_by, length}
+use Rattle.std.specs.List.{sum_by}
 use Rattle.std.specs.Prelude.{replicate, slice_set}
 use Rattle.model.specs.States.{change_at}
 
@@ -34,4 +35,4 @@ blank_all rows = map blank_row rows
 
 -- how many bits are set
 abbrev pub bit_count : List (List Bool) → ℕ
-bit_count rows = sum (map (count_by (λ b. b)) rows)
+bit_count rows = sum_by (count_by (λ b. b)) rows

@@ -48,3 +48,9 @@ pub on_truth : {B : Type 0} (c : Bool) (n : Refusal) (r : Result B Refusal) (P :
     → (c ≡ true → OnAccepted P r) → OnAccepted P (cond c r (Err n))
 on_truth true n r P h = h refl
 on_truth false n r P h = tt
+
+-- what has P has Q
+pub on_accepted : {A : Type 0} (r : Result A Refusal) (P Q : A → Type 0) → OnAccepted P r → ((x : A) → P x → Q x)
+    → OnAccepted Q r
+on_accepted (Ok x) P Q h f = f x h
+on_accepted (Err n) P Q h f = tt

@@ -62,15 +62,15 @@ was_read {X} P xs t f h u y e = put_all (λ v o. P o ≡ Some y → P (slice_get
 
 -- rows
 
--- the row of a page, as what is read of the list
-abbrev row_of : Option (List Bool) → List Bool
-row_of None = []
-row_of (Some row) = row
+-- the list of a page, as what is read of a list of them
+abbrev pub list_of : {X : Type 0} → Option (List X) → List X
+list_of None = []
+list_of (Some xs) = xs
 
-row_read : (rows : List (List Bool)) (i : ℕ) → get_or rows i [] ≡ row_of (slice_get rows i)
-row_read [] i = refl
-row_read (x ∷ xs) zero = refl
-row_read (x ∷ xs) (suc i) = row_read xs i
+pub list_read : {X : Type 0} (lists : List (List X)) (i : ℕ) → get_or lists i [] ≡ list_of (slice_get lists i)
+list_read [] i = refl
+list_read (x ∷ xs) zero = refl
+list_read (x ∷ xs) (suc i) = list_read xs i
 
 -- the rows of the pages with the row of one changed
 pub page_changed : (rows : List (List Bool)) (i : ℕ) (f : List Bool → List Bool) (row : List Bool)
@@ -79,13 +79,13 @@ page_changed rows i f row e =
     put_all (λ m y. of_page (change_at rows i f) m ≡ y) (of_page rows) (suc i) (f row) here elsewhere
   where
     here : get_or (change_at rows i f) i [] ≡ f row
-    here = row_read (change_at rows i f) i ∙ ap row_of
+    here = list_read (change_at rows i f) i ∙ ap list_of
         (get_changed rows i f i ∙ put_same (slice_get rows) i (option_map f (slice_get rows i)) ∙ ap (option_map f) e)
 
     elsewhere : (m : ℕ) → m ≢ suc i → of_page (change_at rows i f) m ≡ of_page rows m
     elsewhere zero d = refl
-    elsewhere (suc m) d = row_read (change_at rows i f) m ∙ ap row_of (get_changed rows i f m
-        ∙ put_other (slice_get rows) i (option_map f (slice_get rows i)) m (λ k. d (ap suc k))) ∙ sym (row_read rows m)
+    elsewhere (suc m) d = list_read (change_at rows i f) m ∙ ap list_of (get_changed rows i f m
+        ∙ put_other (slice_get rows) i (option_map f (slice_get rows i)) m (λ k. d (ap suc k))) ∙ sym (list_read rows m)
 
 bit_read : (row : List Bool) (o : ℕ) (b : Bool) → slice_get row o ≡ Some b → get_or row o false ≡ b
 bit_read row o b e = get_or_from_slice_get row o b false e
@@ -123,7 +123,7 @@ same_place w x a e f = sym (div-add-mod' x w) ∙ ap₂ (λ q r. q * w + r) e f 
 
 row_there : (rows : List (List Bool)) (i : ℕ) (row : List Bool) → slice_get rows i ≡ Some row
     → of_page rows (suc i) ≡ row
-row_there rows i row e = row_read rows i ∙ ap row_of e
+row_there rows i row e = list_read rows i ∙ ap list_of e
 
 -- a bit is set or cleared
 pub bit_put : (w : ℕ) (rows : List (List Bool)) (i a : ℕ) (b : Bool) (row : List Bool)

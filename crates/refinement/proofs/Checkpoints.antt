@@ -1,8 +1,8 @@
 -- Threads that cross checkpoints, that are parked and run again, and registers that need no correction.
-use Rattle.std.proofs.Common.{◌≡◌, ℕ, Bool, true, false, cond, not, refl}
+use Rattle.std.proofs.Common.{◌≡◌, ℕ, Bool, true, false, not, ◌<◌, length, refl}
 use Rattle.std.specs.Prelude.{Result, Ok, Err}
 use Rattle.std.specs.List.{slice_get}
-use Rattle.model.specs.declared.steps.Actor.TheVariants.{Thread}
+use Rattle.model.specs.declared.steps.Actor.TheVariants.{Thread, Worker}
 use Rattle.model.specs.declared.steps.Step.TheVariants as steps
 use Rattle.model.specs.Owning.{IsStore}
 use Rattle.model.specs.Holding.{IsHeap}
@@ -13,7 +13,11 @@ use Rattle.model.specs.Phases.{is_crossing}
 use Rattle.model.specs.Checkpoints.{may_cross, cross_outcome, cross_for_outcome, park_outcome, unpark_outcome}
 use Rattle.model.specs.Checkpoints.{scrub_outcome}
 use Rattle.model.specs.Plain.{PlainHeap, plain_step, plain_answer}
+use Rattle.model.proofs.Lists.{get_within}
 use Rattle.laws.specs.Transitions.{Park}
+use Rattle.laws.proofs.Basics.{parked_none}
+use Rattle.refinement.specs.Worlds.{world_of}
+use Rattle.refinement.specs.PlainHeaps.{births_of}
 use Rattle.refinement.specs.Standing.{Holds}
 use Rattle.refinement.proofs.Accepted.{OnAccepted, on_bind, on_has, on_test, on_truth}
 use Rattle.refinement.proofs.Carrying.{RowHolds, row_by, read_by, stays}
@@ -22,7 +26,7 @@ use Rattle.refinement.proofs.Threads.{parked_carries}
 use Rattle.refinement.proofs.Verdicts.{Passed, closed_barrier}
 
 -- a checkpoint is open, where a thread may cross one
-is_open : (h : HeapState) (t : ℕ) → OnAccepted (λ (u : Unit {0}). is_crossing h.phase ≡ true) (may_cross h t)
+pub is_open : (h : HeapState) (t : ℕ) → OnAccepted (λ (u : Unit {0}). is_crossing h.phase ≡ true) (may_cross h t)
 unfolding may_cross
 is_open h t = on_test (not (is_crossing h.phase)) _ _ _ (λ e. on_test (has_crossed (slice_get h.threads t)) _ _ _
     (λ b. not_false (is_crossing h.phase) e))
@@ -52,3 +56,16 @@ module _ {h : HeapState} {p p0 : PlainHeap} (s : IsStore h.store) (d : IsHeap h)
   pub scrub_holds : (r : ℕ) → RowHolds h p p0 (Thread t) (steps.Scrub r) (scrub_outcome h t r)
   unfolding scrub_outcome plain_step plain_answer
   scrub_holds r = on_bind (usable h t r) _ _ (λ a first. read_by k tt)
+
+-- a worker crosses for a parked thread
+pub cross_for_holds : {h : HeapState} {p p0 : PlainHeap} → IsStore h.store → Holds h p p0 → (w t : ℕ)
+    → t < length h.threads → RowHolds h p p0 (Worker w) (steps.CrossFor t) (cross_for_outcome h t)
+unfolding cross_for_outcome cross_outcome plain_step plain_answer
+cross_for_holds {h = h} {p = p} {p0 = p0} s k w t low =
+    on_test (not (is_parked_in (slice_get h.threads t))) _ _ _ (λ e.
+    on_has (may_cross h t) _ _ _ (is_open h t) (λ u crossing.
+    let (x, at) = get_within h.threads t low in
+    let closed = parked_none (world_of h) (births_of p) (births_of p0) k.invariant t
+    (not_false (is_parked_in (slice_get h.threads t)) e) in
+    let (holds, config) = thread_crosses s k t x at closed crossing in
+    record { config = config; holds = holds; answers = tt }))

@@ -1,9 +1,9 @@
 -- A thread crosses a checkpoint: its registers are marked, and the last one begins the next phase.
 use Rattle.std.proofs.Common.{◌≡◌, ◌≢◌, ◌⊎◌, inl, inr, ℕ, zero, suc, ◌<◌, ◌≤◌, Bool, true, false, cond, not, length}
-use Rattle.std.proofs.Common.{is_none, List, [], ◌∷◌, Option, Some, None, refl, sym, ◌∙◌, ap, subst, arith}
+use Rattle.std.proofs.Common.{is_none, List, Option, Some, None, refl, sym, ◌∙◌, ap, subst, arith}
 use mathlib.Core.Path.{fun_ext}
 use Rattle.std.specs.List.{slice_get}
-use Rattle.std.proofs.lemmas.Option.{slice_get_within}
+use Rattle.std.proofs.lemmas.Option.{slice_get_within, slice_get_past}
 use Rattle.std.proofs.lemmas.Bool.{cases_eq, false≢true, true≢false}
 use Rattle.model.specs.declared.config.Config.{Config}
 use Rattle.model.specs.declared.records.Phase.{Phase}
@@ -165,11 +165,6 @@ phase_of_other w v t now next now' next' f same e n x = elim x [
   | inr y ↦ inr (y.0 ∙ n, (λ u d. ap (λ g. g u) (sym same) ∙ y.1 u d))
 ]
 
-past : {X : Type 0} (xs : List X) (i : ℕ) → length xs ≤ i → slice_get xs i ≡ None
-past [] i m = refl
-past (x ∷ xs) zero m = absurd (omega (arith, m))
-past (x ∷ xs) (suc i) m = past xs i (omega (arith, m))
-
 -- registers that a thread hasn't are null
 beyond : (h : HeapState) (t : ℕ) → IsLaid h → (r : ℕ) → h.config.registers ≤ r → as_word (register_of h t r) ≡ Null
 unfolding register_of
@@ -178,7 +173,7 @@ beyond h t l r m = by_thread (slice_get h.threads t) refl
     by_thread : (o : Option ThreadState) → slice_get h.threads t ≡ o → as_word (register_in o r) ≡ Null
     by_thread None e = refl
     by_thread (Some x) e =
-        ap (λ o. as_word (flat o)) (past x.registers r (omega (arith, m, l.registers t x e)))
+        ap (λ o. as_word (flat o)) (slice_get_past x.registers r (omega (arith, m, l.registers t x e)))
 
 module _ {h : HeapState} {p p0 : PlainHeap} (s : IsStore h.store) (k : Holds h p p0) (t : ℕ) (x : ThreadState)
     (at : slice_get h.threads t ≡ Some x) (b : (world_of h).barrier t ≡ None) where

@@ -1,10 +1,10 @@
 -- What an accepted step has passed: the tests before its row, and those of the row.
-use Rattle.std.proofs.Common.{◌≡◌, ◌⊎◌, inl, inr, ℕ, ◌+◌, ◌/◌, ◌%◌, ◌<◌, ◌&&◌, ◌||◌, arith, Bool, true, false, not}
+use Rattle.std.proofs.Common.{◌≡◌, ◌⊎◌, inl, inr, ℕ, ◌+◌, ◌/◌, ◌%◌, ◌<◌, ◌≤◌, ◌&&◌, ◌||◌, arith, Bool, true, false, not}
 use Rattle.std.proofs.Common.{cond, length, nat_le, nat_lt, Option, Some, None, refl, sym, ◌∙◌, ap}
 use Rattle.std.specs.Prelude.{Ok}
 use Rattle.std.specs.List.{slice_get}
 use Rattle.std.specs.Option.{option_and_then, option_map}
-use Rattle.std.proofs.lemmas.Bool.{or_parts, leb-false, ltb-true, false≢true}
+use Rattle.std.proofs.lemmas.Bool.{or_parts, leb-false, ltb-true, ltb-false, false≢true}
 use Rattle.model.specs.declared.steps.Step.{Step}
 use Rattle.model.specs.declared.records.Phase.{Phase}
 use Rattle.model.specs.declared.records.Phase.TheVariants.{Idle, MarkCrossing, Scanning, ProtectCrossing, Relocating}
@@ -13,7 +13,7 @@ use Rattle.model.specs.States.{HeapState, ThreadState, Reference}
 use Rattle.model.specs.Registers.{register_of, usable, use_word, usable_or_null, use_or_null, let_through, held_back}
 use Rattle.model.specs.Data.{layout_at, layout_in, header_layout, datum_address, datum_at, datum_place}
 use Rattle.model.specs.References.{field_address, field_at, field_place}
-use Rattle.model.specs.Outcome.{thread_gate, has_bad_index, is_for_workers, no_register, no_global, is_for_parked, is_for_loading, is_loading_in}
+use Rattle.model.specs.Outcome.{thread_gate, worker_gate, has_bad_index, is_for_workers, no_register, no_global, is_for_parked, is_for_loading, is_loading_in}
 use Rattle.model.specs.Threads.{is_parked_in, has_crossed}
 use Rattle.model.proofs.Lists.{get_within, no_some}
 use Rattle.model.proofs.Memory.{word_on_page}
@@ -61,6 +61,23 @@ passed h t s = on_test (nat_le (length h.threads) t || is_for_workers s) _ _ _ (
       closed = λ f. no_some y.barrier
           (ap is_loading_in (sym at) ∙ unless (is_loading_in (slice_get h.threads t)) (is_for_loading s) d f);
     }))))
+
+-- the tests before a row of a worker
+pub record WorkerPassed (h : HeapState) (w : ℕ) (s : Step) : Type 0 where
+  pub worker : w < length h.workers
+  pub indices : has_bad_index h s ≡ false
+
+pub worker_passed : (h : HeapState) (w : ℕ) (s : Step)
+    → OnAccepted (λ (u : Unit {0}). WorkerPassed h w s) (worker_gate h w s)
+unfolding worker_gate
+worker_passed h w s = on_test (nat_le (length h.workers) w || not (is_for_workers s)) _ _ _ (λ a.
+    on_test (has_bad_index h s) _ _ _ (λ b. record {
+      worker = leb-false (length h.workers) w (first_false (nat_le (length h.workers) w) (not (is_for_workers s)) a);
+      indices = b;
+    }))
+
+pub is_thread : (h : HeapState) (t : ℕ) → nat_le (length h.threads) t ≡ false → t < length h.threads
+is_thread h t e = leb-false (length h.threads) t e
 
 pub is_register : (h : HeapState) (r : ℕ) → no_register h r ≡ false → r < h.config.registers
 unfolding no_register
@@ -149,6 +166,21 @@ field_there h a q e i place f =
         let low = ltb-true i t.read.shape.refs f in
         let refs = read_refs h.config.layouts t.words (a % h.store.words) q t.read in
         (omega (arith, low, refs), omega (arith, spot))
+
+-- an object has no reference behind its last
+pub field_past : (h : HeapState) (a : ℕ) (q : HeapObject) (e : object_at h a ≡ Some q) (i : ℕ) → field_at h a i ≡ None
+    → length q.refs ≤ i
+unfolding field_at
+field_past h a q e i f = by_test (nat_lt i t.read.shape.refs) refl (sym (ap (field_place a i) (shape_there h a q t)) ∙ f)
+  where
+    t : IsThere h a q
+    t = there h a q e
+
+    by_test : (b : Bool) → nat_lt i t.read.shape.refs ≡ b → cond b (Some (field_address a i)) None ≡ None
+        → length q.refs ≤ i
+    by_test true f k = absurd (cc)
+    by_test false f k = omega (arith, ltb-false i t.read.shape.refs f,
+        read_refs h.config.layouts t.words (a % h.store.words) q t.read)
 
 -- where a datum of an object stands
 pub datum_there : (h : HeapState) (a : ℕ) (q : HeapObject) (e : object_at h a ≡ Some q) (j place : ℕ)

@@ -1,5 +1,5 @@
 -- A heap's state stands for a plain heap, and what is promised of its steps.
-use Rattle.std.specs.Prelude.{◌≡◌, Option, Some, None, Result, Ok, IfOk}
+use Rattle.std.specs.Prelude.{◌≡◌, ◌⊎◌, ℕ, Option, Some, None, Result, Ok, IfOk}
 use Rattle.model.specs.declared.steps.Actor.{Actor}
 use Rattle.model.specs.declared.steps.Step.{Step}
 use Rattle.model.specs.declared.steps.Step.TheVariants as steps
@@ -12,7 +12,11 @@ use Rattle.model.specs.States.{HeapState}
 use Rattle.model.specs.First.{first_heap}
 use Rattle.model.specs.Outcome.{outcome}
 use Rattle.model.specs.Plain.{PlainHeap, plain_step, plain_answer, plain_start}
+use Rattle.model.specs.declared.records.Phase.{Phase}
+use Rattle.model.specs.declared.records.Phase.TheVariants.{Idle, MarkCrossing, Scanning, ProtectCrossing, Relocating}
+use Rattle.model.specs.Checkpoints.{first_behind}
 use Rattle.laws.specs.Invariant.{Invariant}
+use Rattle.laws.specs.Promises.{ReachableIsLive, LiveWasReachable}
 use Rattle.refinement.specs.Worlds.{world_of}
 use Rattle.refinement.specs.PlainHeaps.{births_of, HasRootsOf}
 use Rattle.refinement.specs.Claims.{IsLaid, HasGiven}
@@ -55,8 +59,55 @@ StepsHold =
     → IsStore h.store → IsHeap h → Holds h p p0 → outcome h actor step ≡ Ok (g, answer)
     → StepHolds h p p0 actor step g answer
 
--- what a call that gave this result keeps: where the heap stood for a plain heap, it does after an accepted step, whose
--- answer is the plain heap's
+-- what a mark that has just ended has found: what can be reached is live, and what is live could be reached as the mark
+-- began, or is born since
+pub record FindsLive (h : HeapState) (p p0 : PlainHeap) : Type 0 where
+  pub reachable : ReachableIsLive (world_of h) (births_of p)
+  pub live : LiveWasReachable (world_of h) (births_of p0)
+
+-- what an accepted step has found: a mark that ends finds what lives
+abbrev pub Finds : HeapState → PlainHeap → PlainHeap → Step → Type 0
+Finds h p p0 steps.EndMark = FindsLive h p p0
+Finds h p p0 _ = Unit {0}
+
+-- every mark finds what lives
+abbrev pub MarksFind : Type 0
+MarksFind =
+    (h : HeapState) (p p0 : PlainHeap) (actor : Actor) (step : Step) (g : HeapState) (answer : Answer)
+    → IsStore h.store → IsHeap h → Holds h p p0 → outcome h actor step ≡ Ok (g, answer)
+    → Finds g (plain_step h.config.layouts p actor step) (kept_at_mark p p0 step) step
+
+-- a crossing leaves the phase while a thread has still to cross, and the last one begins the next phase (the paper's
+-- checkpoints)
+abbrev pub CrossesInto : Phase → Option ℕ → Phase → Type 0
+CrossesInto before (Some behind) after = after ≡ before
+CrossesInto before None after =
+    ((before ≡ MarkCrossing) × (after ≡ Scanning)) ⊎ ((before ≡ ProtectCrossing) × (after ≡ Relocating))
+
+-- how an accepted step moves the phase, from heap h to g
+abbrev pub MovesPhase : HeapState → Step → HeapState → Type 0
+MovesPhase h steps.StartMark g = ((h.phase ≡ Idle) ⊎ (h.phase ≡ Relocating)) × (g.phase ≡ MarkCrossing)
+MovesPhase h steps.Cross g = CrossesInto h.phase (first_behind g.threads) g.phase
+MovesPhase h (steps.CrossFor t) g = CrossesInto h.phase (first_behind g.threads) g.phase
+MovesPhase h steps.EndMark g = (h.phase ≡ Scanning) × (g.phase ≡ Idle)
+MovesPhase h (steps.Protect pages) g = (h.phase ≡ Idle) × (g.phase ≡ ProtectCrossing)
+MovesPhase h _ g = g.phase ≡ h.phase
+
+-- the phase moves so at every accepted step
+abbrev pub PhasesMove : Type 0
+PhasesMove =
+    (h : HeapState) (p p0 : PlainHeap) (actor : Actor) (step : Step) (g : HeapState) (answer : Answer)
+    → IsStore h.store → IsHeap h → Holds h p p0 → outcome h actor step ≡ Ok (g, answer) → MovesPhase h step g
+
+-- what an accepted step has, from a heap that stood for the plain heap p: it stands for the plain heap after its step,
+-- and answers as that does; a mark that has ended has found what lives; and the phase has moved as it may
+pub record StepKeeps (old : HeapState) (p p0 : PlainHeap) (actor : Actor) (step : Step) (new : HeapState)
+    (answer : Answer) : Type 0 where
+  pub stands : StepHolds old p p0 actor step new answer
+  pub finds : Finds new (plain_step old.config.layouts p actor step) (kept_at_mark p p0 step) step
+  pub phase : MovesPhase old step new
+
+-- what a call that gave this result keeps, where the heap stood for a plain heap
 abbrev pub KeepsStanding : HeapState → Actor → Step → Result Answer Refusal → HeapState → Type 0
 KeepsStanding old actor step result new =
-    (p p0 : PlainHeap) → Holds old p p0 → IfOk result (λ answer. StepHolds old p p0 actor step new answer)
+    (p p0 : PlainHeap) → Holds old p p0 → IfOk result (λ answer. StepKeeps old p p0 actor step new answer)

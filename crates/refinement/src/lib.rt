@@ -10,7 +10,7 @@
 //! *stands for* a plain heap.
 #![tactic(auto)]
 
-ghost use Rattle.refinement.specs.Standing.{FirstHolds, StepsHold};
+ghost use Rattle.refinement.specs.Standing.{FirstHolds, StepsHold, MarksFind, PhasesMove};
 
 /// What joins the states of the code to the laws (ours). It is said of every state that has what
 /// all heaps have, `IsStore` and `IsHeap`, for each step of each actor. A refused step is not
@@ -21,4 +21,9 @@ pub fn law()
     // where a state stands for a plain heap, it does after an accepted step, whose answer is the
     // plain heap's
     ensures steps { StepsHold }
+    // where a mark has ended, what can be reached is live, and what is live could be reached as the
+    // mark began, or is born since
+    ensures marks { MarksFind }
+    // the phase moves as the collector's cycle has it, and in no other way
+    ensures phases { PhasesMove }
 {}

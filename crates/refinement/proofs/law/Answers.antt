@@ -1,5 +1,6 @@
 use Rattle.refinement.proofs.Beginning.{first_stands}
-use Rattle.refinement.proofs.Steps.{step_holds}
+use Rattle.refinement.proofs.Steps.{step_holds, marks_find}
+use Rattle.refinement.proofs.Phases.{phases_move}
 use Rattle.refinement.proofs.law.Goals as goal
 
 pub returns-clause-first : goal.returns-clause-first
@@ -7,3 +8,9 @@ returns-clause-first c = first_stands
 
 pub returns-clause-steps : goal.returns-clause-steps
 returns-clause-steps c = step_holds
+
+pub returns-clause-marks : goal.returns-clause-marks
+returns-clause-marks c = marks_find
+
+pub returns-clause-phases : goal.returns-clause-phases
+returns-clause-phases c = phases_move

@@ -1,7 +1,7 @@
 use Rattle.std.proofs.Common.{◌≡◌, ◌≤◌, ◌++◌, length}
 use Rattle.std.specs.Vec.{vec_capacity}
 use Rattle.std.specs.Vec.Iter.{into_iter_items}
-use Rattle.cycle.specs.Books.{Ran}
+use Rattle.cycle.specs.Replays.{Ran}
 use Rattle.cycle.proofs.running.act_each.Given as goal
 
 abbrev pub invariant-steps : goal.invariant-steps

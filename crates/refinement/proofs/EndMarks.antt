@@ -1,0 +1,453 @@
+-- A mark ends: what the pages become, and that memory stays in order.
+use Rattle.std.proofs.Common.{◌≡◌, ◌≢◌, ◌⊎◌, inl, inr, ℕ, zero, suc, ◌+◌, ◌-◌, ◌/◌, ◌%◌, ◌<◌, ◌≤◌, ◌*◌, ◌&&◌, ◌||◌}
+use Rattle.std.proofs.Common.{Bool, true, false, not, cond, count_by, sum, List, [], ◌∷◌, length, map, replicate, get_or}
+use Rattle.std.proofs.Common.{Option, Some, None, is_some, refl, sym, ◌∙◌, ap, subst, arith}
+use mathlib.Core.Path.{fun_ext}
+use Rattle.std.specs.List.{slice_get, list_any}
+use Rattle.std.specs.Prelude.{◌==◌}
+use Rattle.std.specs.Option.{option_map, option_and_then}
+use Rattle.std.proofs.lemmas.Bool.{cases_eq, or_parts, eqb-true, true≢false}
+use Rattle.std.proofs.lemmas.List.Sums.{sum_by-cons}
+use Rattle.std.proofs.lemmas.List.{length-map, length-replicate}
+use Rattle.std.proofs.lemmas.Option.{none-some, same_Some, get_or_from_slice_get}
+use Rattle.model.specs.declared.steps.Actor.TheVariants.{Worker}
+use Rattle.model.specs.declared.steps.Step.TheVariants as steps
+use Rattle.model.specs.declared.steps.Answer.{Answer}
+use Rattle.model.specs.declared.steps.Refusal.TheVariants as refusals
+use Rattle.model.specs.declared.records.Page.{Page}
+use Rattle.model.specs.declared.records.PageState.{PageState}
+use Rattle.model.specs.declared.records.PageState.TheVariants.{Unused, Open, Closed, From, Gone}
+use Rattle.model.specs.declared.records.Forwarding.{Forwarding}
+use Rattle.model.specs.declared.records.Global.{Global}
+use Rattle.model.specs.declared.records.Phase.TheVariants.{Idle}
+use Rattle.model.specs.Stores.{StoreState, words_at, page_at, frame_in, state_at, state_in, is_open, is_protected}
+use Rattle.model.specs.Stores.{has_memory, page_after_mark, pages_after_mark, store_after_mark}
+use Rattle.model.specs.Owning.{Each, IsStore}
+use Rattle.model.specs.Holding.{AreRows, AreRising, IsHeap}
+use Rattle.model.specs.States.{HeapState, ThreadState}
+use Rattle.model.specs.Registers.{register_of}
+use Rattle.model.specs.Bits.{of_page, bit_at, blank_row, blank_all, bit_count}
+use Rattle.model.specs.Scans.{may_scan}
+use Rattle.model.specs.Cycles.{has_todo, first_pending, none_pending, is_lent, end_mark, end_mark_outcome}
+use Rattle.model.specs.Refusing.{refuse_if}
+use Rattle.model.specs.Plain.{PlainHeap, plain_step, plain_answer}
+use Rattle.model.proofs.Lists.{count_positive, none_passes, position_none, each_replicate, no_some}
+use Rattle.page.proofs.Keeping.{page_at_record, page_at_zero}
+use Rattle.laws.specs.Edits.{state_after_mark}
+use Rattle.laws.specs.Edits as edits
+use Rattle.laws.specs.AddressHeap.{HeapObject, SideEntry, NoEntry, Planned}
+use Rattle.laws.specs.Promises.{ReachableIsLive, LiveWasReachable}
+use Rattle.laws.proofs.Promises.{reachable_is_live, live_was_reachable}
+use Rattle.laws.specs.Transitions.{MayEndMark, EndMark, IsScanning}
+use Rattle.refinement.specs.Worlds.{world_of, object_at, object_in, entry_at, as_barrier, barrier_in, todo_in}
+use Rattle.refinement.specs.PlainHeaps.{births_of}
+use Rattle.refinement.specs.Claims.{IsLaid, AreRowsOf, HasGiven, Claim, OfObject, OfBuffer, OfPlan, OfEnd, Extent, extent}
+use Rattle.refinement.specs.Claims.{sized_extent, planned_extent, end_extent, object_size, size_at}
+use Rattle.refinement.specs.Standing.{Holds, StepHolds, FindsLive}
+use Rattle.refinement.proofs.Accepted.{OnAccepted, on_has, on_accepted}
+use Rattle.refinement.proofs.Carrying.{Carries, RowHolds, alike, row_by, stays}
+use Rattle.refinement.proofs.Changes.{list_of, list_read, blank_bit}
+use Rattle.refinement.proofs.Scans.{is_scanning}
+
+-- pages
+
+get_after : (lent : ℕ → Bool) (n : ℕ) (ps : List Page) (i j : ℕ) → j ≡ n + i
+    → slice_get (pages_after_mark lent n ps) i ≡ option_map (page_after_mark (lent j)) (slice_get ps i)
+get_after lent n [] i j e = refl
+get_after lent n (p ∷ ps) zero j e = ap (λ m. Some (page_after_mark (lent m) p)) (omega (arith, e))
+get_after lent n (p ∷ ps) (suc i) j e = get_after lent (n + 1) ps i j (omega (arith, e))
+
+length_after : (lent : ℕ → Bool) (n : ℕ) (ps : List Page) → length (pages_after_mark lent n ps) ≡ length ps
+length_after lent n [] = refl
+length_after lent n (p ∷ ps) = ap suc (length_after lent (n + 1) ps)
+
+-- what a page becomes
+page_after : (lent : ℕ → Bool) (s : StoreState) (n : ℕ)
+    → page_at (store_after_mark lent s) n ≡ option_map (page_after_mark (lent n)) (page_at s n)
+unfolding store_after_mark
+page_after lent s n = by_zero (cases_eq n 0)
+  where
+    after : StoreState
+    after = store_after_mark lent s
+
+    by_zero : (n ≡ 0) ⊎ (n ≢ 0) → page_at after n ≡ option_map (page_after_mark (lent n)) (page_at s n)
+    by_zero (inl z) = page_at_zero after n z ∙ sym (ap (option_map (page_after_mark (lent n))) (page_at_zero s n z))
+    by_zero (inr d) = page_at_record after n d ∙ get_after lent 1 s.pages (n - 1) n (omega (arith, d))
+        ∙ sym (ap (option_map (page_after_mark (lent n))) (page_at_record s n d))
+
+-- a page of this state, after a mark
+abbrev in_state : Bool → Page → PageState → Page
+in_state lent p f = page_after_mark lent (record p { state = f })
+
+-- what holds of what a page becomes holds, where it does by states
+by_states : (lent : Bool) (p : Page) (P : PageState → Page → Type 0)
+    → ((f : PageState) → P f (in_state lent p f)) → P p.state (page_after_mark lent p)
+by_states lent p P h = h p.state
+
+-- the state that a page gets
+state_is : (lent : Bool) (p : Page) (f : PageState) → (in_state lent p f).state ≡ state_after_mark lent f
+state_is true p Open = refl
+state_is false p Open = refl
+state_is lent p Unused = refl
+state_is lent p Closed = refl
+state_is lent p From = refl
+state_is lent p Gone = refl
+
+state_of : (lent : Bool) (o : Option Page)
+    → state_in (option_map (page_after_mark lent) o) ≡ state_after_mark lent (state_in o)
+state_of lent None = refl
+state_of lent (Some p) = by_states lent p (λ f q. q.state ≡ state_after_mark lent f) (state_is lent p)
+
+-- the frame that a page keeps
+frame_is : (lent : Bool) (p : Page) (f : PageState) → (in_state lent p f).frame ≡ cond (is_protected f) None p.frame
+frame_is true p Open = refl
+frame_is false p Open = refl
+frame_is lent p Unused = refl
+frame_is lent p Closed = refl
+frame_is lent p From = refl
+frame_is lent p Gone = refl
+
+frame_of : (lent : Bool) (o : Option Page)
+    → frame_in (option_map (page_after_mark lent) o) ≡ cond (is_protected (state_in o)) None (frame_in o)
+frame_of lent None = refl
+frame_of lent (Some p) =
+    by_states lent p (λ f q. q.frame ≡ cond (is_protected f) None p.frame) (frame_is lent p)
+
+-- an open page was open, and has given out as many words
+open_is : (lent : Bool) (p : Page) (f : PageState) → is_open (in_state lent p f).state ≡ true
+    → (is_open f ≡ true) × ((in_state lent p f).top ≡ p.top)
+open_is true p Open e = (refl, refl)
+open_is false p Open e = absurd (cc)
+open_is lent p Unused e = absurd (cc)
+open_is lent p Closed e = absurd (cc)
+open_is lent p From e = absurd (cc)
+open_is lent p Gone e = absurd (cc)
+
+open_of : (lent : Bool) (p : Page) → is_open (page_after_mark lent p).state ≡ true
+    → (is_open p.state ≡ true) × ((page_after_mark lent p).top ≡ p.top)
+open_of lent p = by_states lent p
+    (λ f q. is_open q.state ≡ true → (is_open f ≡ true) × (q.top ≡ p.top)) (open_is lent p)
+
+-- a page with memory had it, and wasn't protected
+memory_is : (lent : Bool) (f : PageState) → has_memory (state_after_mark lent f) ≡ true
+    → (has_memory f ≡ true) × (is_protected f ≡ false)
+memory_is true Open e = (refl, refl)
+memory_is false Open e = (refl, refl)
+memory_is lent Closed e = (refl, refl)
+memory_is lent Unused e = absurd (cc)
+memory_is lent From e = absurd (cc)
+memory_is lent Gone e = absurd (cc)
+
+-- a page with memory that isn't protected keeps it
+memory_kept : (lent : Bool) (f : PageState) → has_memory f ≡ true → is_protected f ≡ false
+    → state_after_mark lent f ≢ Unused
+memory_kept true Open e u = λ z. cc
+memory_kept false Open e u = λ z. cc
+memory_kept lent Closed e u = λ z. cc
+memory_kept lent Unused e u = absurd (cc)
+memory_kept lent From e u = absurd (cc)
+memory_kept lent Gone e u = absurd (cc)
+
+-- rows
+
+no_side : (n m : ℕ) → of_page (replicate {A = List Forwarding} n []) m ≡ []
+no_side n zero = refl
+no_side n (suc i) = list_read (replicate {A = List Forwarding} n []) i ∙ at n i
+  where
+    at : (n i : ℕ) → list_of (slice_get (replicate {A = List Forwarding} n []) i) ≡ []
+    at zero i = refl
+    at (suc n) zero = refl
+    at (suc n) (suc i) = at n i
+
+blank_everywhere : (rows : List (List Bool)) (m o : ℕ) → get_or (of_page (blank_all rows) m) o false ≡ false
+blank_everywhere rows zero o = refl
+blank_everywhere rows (suc i) o = ap (λ r. get_or r o false) (list_read (blank_all rows) i) ∙ at rows i
+  where
+    at : (rows : List (List Bool)) (i : ℕ) → get_or (list_of (slice_get (map blank_row rows) i)) o false ≡ false
+    at [] i = refl
+    at (r ∷ rows) zero = blank_bit (length r) o
+    at (r ∷ rows) (suc i) = at rows i
+
+rows_blank : (n m : ℕ) (rows : List (List Bool)) → AreRows n m rows → AreRows n m (blank_all rows)
+rows_blank n m rows r = record { pages = length-map rows blank_row ∙ r.pages; words = words rows r.words }
+  where
+    words : (rows : List (List Bool)) → Each rows (λ row. length row ≡ m)
+        → Each (map blank_row rows) (λ row. length row ≡ m)
+    words [] k i row e = absurd (cc)
+    words (r ∷ rows) k zero row e =
+        ap length (sym (same_Some _ _ e)) ∙ length-replicate (length r) false ∙ k zero r refl
+    words (r ∷ rows) k (suc i) row e = words rows (λ j x f. k (suc j) x f) i row e
+
+get_or_none : {X : Type 0} (xs : List X) (i : ℕ) (d : X) → slice_get xs i ≡ None → get_or xs i d ≡ d
+get_or_none [] i d e = refl
+get_or_none (x ∷ xs) zero d e = absurd (cc)
+get_or_none (x ∷ xs) (suc i) d e = get_or_none xs i d e
+
+-- where no bit is counted, none is set
+none_counted : (row : List Bool) → count_by (λ b. b) row ≡ 0 → (i : ℕ) → get_or row i false ≡ false
+none_counted row e i = by_bit (slice_get row i) refl
+  where
+    by_bit : (o : Option Bool) → slice_get row i ≡ o → get_or row i false ≡ false
+    by_bit None f = get_or_none row i false f
+    by_bit (Some false) f = get_or_from_slice_get row i false false f
+    by_bit (Some true) f = absurd (omega (arith, e, count_positive (λ b. b) row i true f refl))
+
+bits_more : (r : List Bool) (rows : List (List Bool)) → bit_count (r ∷ rows) ≡ count_by (λ b. b) r + bit_count rows
+bits_more r rows = sum_by-cons (count_by (λ b. b)) r rows
+
+none_set : (rows : List (List Bool)) → bit_count rows ≡ 0 → (m o : ℕ) → get_or (of_page rows m) o false ≡ false
+none_set rows e zero o = refl
+none_set rows e (suc i) o = ap (λ r. get_or r o false) (list_read rows i) ∙ at rows e i
+  where
+    at : (rows : List (List Bool)) → bit_count rows ≡ 0 → (i : ℕ) → get_or (list_of (slice_get rows i)) o false ≡ false
+    at [] e i = refl
+    at (r ∷ rows) e zero = none_counted r (omega (arith, e, bits_more r rows)) o
+    at (r ∷ rows) e (suc i) = at rows (omega (arith, e, bits_more r rows)) i
+
+module _ {h : HeapState} {p p0 : PlainHeap} (s : IsStore h.store) (k : Holds h p p0)
+    (may : MayEndMark (world_of h)) where
+  l : IsLaid h
+  l = k.laid
+
+  abbrev lent : ℕ → Bool
+  lent = is_lent h.threads
+
+  -- what the pages become
+
+  states : (n : ℕ) → state_at (store_after_mark lent h.store) n ≡ state_after_mark (lent n) (state_at h.store n)
+  unfolding state_at
+  states n = ap state_in (page_after lent h.store n) ∙ state_of (lent n) (page_at h.store n)
+
+  words : (n : ℕ) → words_at (store_after_mark lent h.store) n
+      ≡ cond (is_protected (state_at h.store n)) None (words_at h.store n)
+  unfolding words_at state_at store_after_mark
+  words n = ap (option_and_then (slice_get h.store.frames)) (ap frame_in (page_after lent h.store n)
+      ∙ frame_of (lent n) (page_at h.store n)) ∙ by_bit (is_protected (state_in (page_at h.store n)))
+    where
+      by_bit : (b : Bool) → option_and_then (slice_get h.store.frames) (cond b None (frame_in (page_at h.store n)))
+          ≡ cond b None (option_and_then (slice_get h.store.frames) (frame_in (page_at h.store n)))
+      by_bit true = refl
+      by_bit false = refl
+
+  -- what the objects become
+  objects : (a : ℕ) → object_at (end_mark h) a
+      ≡ cond (is_protected (state_at h.store (a / h.store.words))) None (object_at h a)
+  unfolding end_mark store_after_mark
+  objects a = ap (λ o. object_in h.config.layouts (bit_at h.starts h.store.words a) o (a % h.store.words))
+      (words (a / h.store.words)) ∙ by_bits (bit_at h.starts h.store.words a)
+      (is_protected (state_at h.store (a / h.store.words)))
+    where
+      by_bits : (b c : Bool) → object_in h.config.layouts b (cond c None (words_at h.store (a / h.store.words)))
+          (a % h.store.words)
+          ≡ cond c None (object_in h.config.layouts b (words_at h.store (a / h.store.words)) (a % h.store.words))
+      by_bits true true = refl
+      by_bits false true = refl
+      by_bits true false = refl
+      by_bits false false = refl
+
+  ended_world : world_of (end_mark h) ≡ edits.end_mark (λ a. lent (a / h.store.words)) (world_of h)
+  unfolding end_mark store_after_mark register_of
+  ended_world = λ z. record (world_of h) {
+    page_state = fun_ext (λ a. states (a / h.store.words)) z;
+    object_at = fun_ext objects z;
+    side_entry = fun_ext (λ a. ap (λ fs. entry_at fs (a % h.store.words))
+        (no_side (length h.sides) (a / h.store.words))) z;
+    live = bit_at h.mark h.store.words;
+    marked = fun_ext (λ a. blank_everywhere h.live (a / h.store.words) (a % h.store.words)) z;
+    todo = fun_ext may.todo z;
+    phase = Idle;
+  }
+
+  -- memory stays in order
+
+  -- an object of a page that wasn't protected is still there
+  still : (a : ℕ) → is_protected ((world_of h).page_state a) ≡ false → (o : HeapObject) × (object_at h a ≡ Some o)
+      → (o : HeapObject) × (object_at (end_mark h) a ≡ Some o)
+  still a f x = (x.0, objects a ∙ ap (λ b. cond b None (object_at h a)) f ∙ x.1)
+
+  -- one that is there was
+  was : (a : ℕ) (o : HeapObject) → object_at (end_mark h) a ≡ Some o → object_at h a ≡ Some o
+  was a o e = by_bit (is_protected ((world_of h).page_state a)) (sym (objects a) ∙ e)
+    where
+      by_bit : (b : Bool) → cond b None (object_at h a) ≡ Some o → object_at h a ≡ Some o
+      by_bit true f = absurd (none-some o f)
+      by_bit false f = f
+
+  -- what a claim has, it had
+  had : (c : Claim) (x : Extent) → extent (end_mark h) c ≡ Some x → extent h c ≡ Some x
+  unfolding end_mark store_after_mark
+  had (OfObject a) x e = by_object (object_at (end_mark h) a) refl e
+    where
+      by_object : (o : Option HeapObject) → object_at (end_mark h) a ≡ o
+          → option_map (sized_extent a) (option_map object_size o) ≡ Some x → extent h (OfObject a) ≡ Some x
+      by_object None f g = absurd (none-some x g)
+      by_object (Some o) f g = ap (λ o. option_map (sized_extent a) (option_map object_size o)) (was a o f) ∙ g
+  had (OfBuffer u) x e = e
+  had (OfPlan a) x e = absurd (none-some x (sym (ap (λ fs. planned_extent (entry_at fs (a % h.store.words))
+      (size_at (end_mark h) a)) (no_side (length h.sides) (a / h.store.words))) ∙ e))
+  had (OfEnd n) x e =
+      by_page (page_at h.store n) refl (sym (ap (end_extent h.store.words n) (page_after lent h.store n)) ∙ e)
+    where
+      by_open : (q : Page) (b : Bool) → is_open (page_after_mark (lent n) q).state ≡ b
+          → cond b (Some (record {
+        from = n * h.store.words + (page_after_mark (lent n) q).top;
+        upto = n * h.store.words + h.store.words;
+      })) None ≡ Some x → end_extent h.store.words n (Some q) ≡ Some x
+      by_open q false f g = absurd (none-some x g)
+      by_open q true f g = let (was_open, same) = open_of (lent n) q f in
+          ap (λ b. cond b (Some (record {
+            from = n * h.store.words + q.top;
+            upto = n * h.store.words + h.store.words;
+          })) None) was_open
+          ∙ ap (λ t. Some (record { from = n * h.store.words + t; upto = n * h.store.words + h.store.words })) (sym same)
+          ∙ g
+
+      by_page : (o : Option Page) → page_at h.store n ≡ o
+          → end_extent h.store.words n (option_map (page_after_mark (lent n)) o) ≡ Some x
+          → extent h (OfEnd n) ≡ Some x
+      by_page None f g = absurd (none-some x g)
+      by_page (Some q) f g = ap (end_extent h.store.words n) f
+          ∙ by_open q (is_open (page_after_mark (lent n) q).state) refl g
+
+  rows : (rows : List (List Bool)) → AreRowsOf h.store rows → AreRowsOf (store_after_mark lent h.store) rows
+  unfolding store_after_mark
+  rows bits r = record { pages = r.pages ∙ sym (length_after lent 1 h.store.pages); words = r.words }
+
+  marked_there : (a : ℕ) → bit_at h.mark h.store.words a ≡ true
+      → (o : HeapObject) × (object_at (end_mark h) a ≡ Some o)
+  marked_there a e = still a (k.invariant.marks.unprotected a e) (k.invariant.marks.object a e)
+
+  none_unused : (a : ℕ) → (world_of (end_mark h)).page_state a ≡ Unused → bit_at h.mark h.store.words a ≡ false
+  unfolding end_mark store_after_mark
+  none_unused a e = by_bit (bit_at h.mark h.store.words a) refl
+    where
+      by_bit : (b : Bool) → bit_at h.mark h.store.words a ≡ b → b ≡ false
+      by_bit false f = refl
+      by_bit true f = let (o, there) = k.invariant.marks.object a f in
+          absurd (memory_kept (lent (a / h.store.words)) ((world_of h).page_state a)
+          (k.invariant.objects.with_memory a o there) (k.invariant.marks.unprotected a f)
+          (sym (states (a / h.store.words)) ∙ e))
+
+  started : (a : ℕ) → bit_at h.starts h.store.words a ≡ true
+      → has_memory ((world_of (end_mark h)).page_state a) ≡ true
+      → (o : HeapObject) × (object_at (end_mark h) a ≡ Some o)
+  unfolding end_mark store_after_mark
+  started a b f =
+      let (memory, free) = memory_is (lent (a / h.store.words)) ((world_of h).page_state a)
+      (ap has_memory (sym (states (a / h.store.words))) ∙ f) in
+      still a free (l.objects a b memory)
+
+  ended_laid : IsLaid (end_mark h)
+  unfolding end_mark store_after_mark
+  ended_laid = record {
+    starts = rows h.starts l.starts;
+    live = rows h.mark l.mark;
+    mark = rows (blank_all h.live) (rows_blank (length h.store.pages) h.store.words h.live l.live);
+    todo = rows h.todo l.todo;
+    sides = record {
+      pages = length-replicate (length h.sides) [] ∙ l.sides.pages ∙ sym (length_after lent 1 h.store.pages);
+      rising = each_replicate (AreRising h.store.words 0) (length h.sides) [] tt;
+    };
+    registers = l.registers;
+    objects = λ a b f. started a b f;
+    apart = λ c d x y e g. l.apart c d x y (had c x e) (had d y g);
+    planned = λ a n o e f. absurd (not_planned n (sym (ap (λ fs. entry_at fs (a % h.store.words))
+        (no_side (length h.sides) (a / h.store.words))) ∙ e));
+    live_objects = λ a b f. marked_there a b;
+    unused = none_unused;
+  }
+    where
+      not_planned : (n : ℕ) → NoEntry ≡ Planned n → ⊥
+      not_planned n e = cc
+
+  given : Each h.store.pages HasGiven → Each (pages_after_mark lent 1 h.store.pages) HasGiven
+  given g i q e = by_page (slice_get h.store.pages i) refl (sym (get_after lent 1 h.store.pages i (1 + i) refl) ∙ e)
+    where
+      by_page : (o : Option Page) → slice_get h.store.pages i ≡ o
+          → option_map (page_after_mark (lent (1 + i))) o ≡ Some q → HasGiven q
+      by_page None f z = absurd (none-some q z)
+      by_page (Some x) f z = subst HasGiven (same_Some _ _ z) (λ is_now. let (was_open, same) = open_of (lent (1 + i)) x is_now in
+          omega (arith, g i x f was_open, same))
+
+  end_carries : Carries h (end_mark h) (edits.end_mark (λ a. lent (a / h.store.words)))
+  unfolding end_mark store_after_mark
+  end_carries = record {
+    size = alike h (end_mark h) refl refl refl refl refl refl refl;
+    laid = λ z. ended_laid;
+    given = given;
+    words = λ z. record { threads = z.threads; globals = z.globals };
+    world = ended_world;
+  }
+
+-- what is left to do
+
+not_false : (b : Bool) → not b ≡ false → b ≡ true
+not_false true e = refl
+not_false false e = absurd (cc)
+
+nothing_todo : (h : HeapState) → OnAccepted (λ (u : Unit {0}). ((a : ℕ) → (world_of h).todo a ≡ false)
+    × ((g : ℕ) → (world_of h).global_todo g ≡ false)) (refuse_if (has_todo h) refusals.TodoLeft)
+unfolding has_todo
+nothing_todo h = by_test (not (bit_count h.todo == 0) || list_any (λ (g : Global). g.todo) h.globals) refl
+  where
+    todo_at : list_any (λ (g : Global). g.todo) h.globals ≡ false → (g : ℕ) (o : Option Global)
+        → slice_get h.globals g ≡ o → todo_in o ≡ false
+    todo_at e g None f = refl
+    todo_at e g (Some x) f = none_passes (λ (g : Global). g.todo) h.globals e g x f
+
+    by_test : (b : Bool) → not (bit_count h.todo == 0) || list_any (λ (g : Global). g.todo) h.globals ≡ b
+        → OnAccepted (λ (u : Unit {0}). ((a : ℕ) → (world_of h).todo a ≡ false)
+        × ((g : ℕ) → (world_of h).global_todo g ≡ false)) (refuse_if b refusals.TodoLeft)
+    by_test true e = tt
+    by_test false e =
+        let (bits, globals) = or_parts (not (bit_count h.todo == 0)) (list_any (λ (g : Global). g.todo) h.globals) e in (
+          (λ a. none_set h.todo (eqb-true (bit_count h.todo) 0 (not_false (bit_count h.todo == 0) bits))
+              (a / h.store.words) (a % h.store.words)),
+          (λ g. todo_at globals g (slice_get h.globals g) refl),
+        )
+
+nothing_pending : (h : HeapState) → OnAccepted (λ (u : Unit {0}). (t : ℕ) → (world_of h).barrier t ≡ None)
+    (none_pending (first_pending h.threads))
+unfolding first_pending
+nothing_pending h = by_found (first_pending h.threads) refl
+  where
+    by_found : (o : Option ℕ) → first_pending h.threads ≡ o
+        → OnAccepted (λ (u : Unit {0}). (t : ℕ) → (world_of h).barrier t ≡ None) (none_pending o)
+    by_found (Some t) e = tt
+    by_found None e = λ t. by_thread t (slice_get h.threads t) refl
+      where
+        by_thread : (t : ℕ) (o : Option ThreadState) → slice_get h.threads t ≡ o → barrier_in o ≡ None
+        by_thread t None f = refl
+        by_thread t (Some x) f = ap (option_map as_barrier)
+            (no_some x.barrier (position_none (λ (y : ThreadState). is_some y.barrier) h.threads e t x f))
+
+-- a mark may end
+pub may_end : (h : HeapState) → OnAccepted (λ (z : HeapState × Answer). MayEndMark (world_of h) × (z.0 ≡ end_mark h))
+    (end_mark_outcome h)
+unfolding end_mark_outcome
+may_end h = on_has (may_scan h) _ _ _ (is_scanning h) (λ u i.
+    on_has (refuse_if (has_todo h) refusals.TodoLeft) _ _ _ (nothing_todo h) (λ v todo.
+    on_has (none_pending (first_pending h.threads)) _ _ _ (nothing_pending h) (λ x barriers.
+    (record { scans = i; todo = todo.0; globals = todo.1; barriers = barriers }, refl))))
+
+module _ {h : HeapState} {p p0 : PlainHeap} (s : IsStore h.store) (k : Holds h p p0) where
+  -- a mark ends
+  pub end_mark_holds : (w : ℕ) → RowHolds h p p0 (Worker w) steps.EndMark (end_mark_outcome h)
+  unfolding plain_step plain_answer
+  end_mark_holds w = on_accepted (end_mark_outcome h) _ _ (may_end h) (λ z may.
+      let c = end_carries s k may.0 in
+      subst (λ g. StepHolds h p p0 (Worker w) steps.EndMark g z.1) (sym may.1)
+      (row_by k c (stays h p) (EndMark _ may.0) tt))
+
+  -- and has found what lives
+  pub ended_finds : OnAccepted (λ (z : HeapState × Answer). FindsLive z.0 p p0) (end_mark_outcome h)
+  ended_finds = on_accepted (end_mark_outcome h) _ _ (may_end h) (λ z may.
+      let w = world_of h in
+      let after = ended_world s k may.0 in
+      let lent : ℕ → Bool = λ a. is_lent h.threads (a / h.store.words) in
+      subst (λ g. FindsLive g p p0) (sym may.1) (record {
+        reachable = subst (λ v. ReachableIsLive v (births_of p)) (sym after)
+            (reachable_is_live w (births_of p) (births_of p0) k.invariant may.0 lent);
+        live = subst (λ v. LiveWasReachable v (births_of p0)) (sym after)
+            (live_was_reachable w (births_of p) (births_of p0) k.invariant may.0 lent);
+      }))
