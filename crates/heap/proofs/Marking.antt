@@ -1,5 +1,5 @@
 -- Marks keep what holds of a heap.
-use Rattle.std.proofs.Common.{◌≡◌, ℕ, zero, suc, ◌-◌, ◌/◌, ◌%◌, Bool, true, false, List, [], get_or, replicate, refl}
+use Rattle.std.proofs.Common.{None, ◌≡◌, ℕ, zero, suc, ◌+◌, ◌&&◌, ◌-◌, ◌/◌, ◌%◌, Bool, true, false, List, [], get_or, replicate, refl}
 use Rattle.std.proofs.Common.{◌∙◌, sym, ap, subst, set, Option, Some}
 use Rattle.std.specs.List.{slice_get}
 use Rattle.std.specs.Option.{IfSome}
@@ -15,6 +15,9 @@ use Rattle.model.specs.Owning.{LiesIn}
 use Rattle.model.proofs.Tables.{rows_put}
 use Rattle.model.specs.Bits.{of_page, with_bit}
 use Rattle.model.specs.Marks.{entry_of, entry_at, forward_by, resolve}
+use Rattle.std.specs.List.{list_any}
+use Rattle.model.specs.Stores.{state_at, is_from}
+use Rattle.model.specs.Cycles.{is_uncopied, has_uncopied, uncopied_from}
 use Rattle.heap.proofs.Keeping.{thread_keeps}
 
 no_entries : (n m : ℕ) → get_or {A = List Forwarding} (replicate n []) m [] ≡ []
@@ -31,6 +34,21 @@ pub resolved_here : (h : HeapState) (c : Config) (address : ℕ) → h.sides ≡
 unfolding resolve entry_at
 resolved_here h c address e = sym (ap (λ fs. forward_by (entry_of fs (address % h.store.words)) address)
     (ap (λ ss. of_page ss (address / h.store.words)) e ∙ no_entries_on _ (address / h.store.words)))
+
+-- without side arrays, no page has an object that isn't copied
+pub none_uncopied : (h : HeapState) (c : Config) (n k : ℕ) → h.sides ≡ no_sides c → uncopied_from h n k ≡ None
+unfolding has_uncopied
+none_uncopied h c n zero e = refl
+none_uncopied h c n (suc k) e =
+    let none : list_any is_uncopied (of_page h.sides n) ≡ false =
+    ap (λ ss. list_any is_uncopied (of_page ss n)) e ∙ ap (list_any is_uncopied) (no_entries_on _ n) in
+    let same : has_uncopied h n ≡ false =
+    ap (λ b. is_from (state_at h.store n) && b) none ∙ and_none (is_from (state_at h.store n)) in
+    rw same (none_uncopied h c (n + 1) k e)
+  where
+    and_none : (b : Bool) → b && false ≡ false
+    and_none true = refl
+    and_none false = refl
 
 -- rows of marks are put in the place of others, as many and as long
 pub marks_keep : (h : HeapState) (live mark todo : List (List Bool)) → IsHeap h → AreRowsFor h.config live

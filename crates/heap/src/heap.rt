@@ -2,7 +2,7 @@
 mod birth;
 mod buffers;
 pub mod collecting;
-pub mod crossing;
+mod crossing;
 mod data;
 pub mod edits;
 mod making;

@@ -1,7 +1,6 @@
 //! Which threads have still to cross (the paper's checkpoints), and which have an open barrier.
 
-ghost use Rattle.std.specs.Prelude.{◌≡◌, ◌≤◌, length};
-ghost use Rattle.std.specs.Option.{option_map};
+ghost use Rattle.std.specs.Prelude.{◌≡◌, ◌<◌, length, IfSome};
 ghost use Rattle.model.specs.Checkpoints.{first_behind, phase_behind};
 ghost use Rattle.model.specs.Cycles.{first_pending, is_buffer_on, is_lent};
 
@@ -10,16 +9,18 @@ use model::{Buffer, Phase};
 
 /// The least of some threads that hasn't crossed, by its number from 0.
 #[tactic(auto, unfolding(model::specs::Checkpoints::first_behind))]
-pub fn first_behind(threads: &[Thread]) -> Option<usize>
-    ensures { result ≡ first_behind threads.now }
+pub(crate) fn first_behind(threads: &[Thread]) -> Option<usize>
+    ensures value { result ≡ first_behind threads.now }
+    ensures there { IfSome result (λ t. t < length threads.now) }
 {
     threads.iter().position(|thread| !thread.has_crossed())
 }
 
 /// The least of some threads that has an open barrier, by its number from 0.
 #[tactic(auto, unfolding(model::specs::Cycles::first_pending))]
-pub fn first_pending(threads: &[Thread]) -> Option<usize>
-    ensures { result ≡ first_pending threads.now }
+pub(crate) fn first_pending(threads: &[Thread]) -> Option<usize>
+    ensures value { result ≡ first_pending threads.now }
+    ensures there { IfSome result (λ t. t < length threads.now) }
 {
     threads.iter().position(|thread| thread.barrier().is_some())
 }
@@ -36,7 +37,7 @@ fn is_buffer_on(page: u32, buffer: Option<Buffer>) -> bool
 
 /// Whether one of some threads has a buffer on a page, by the page's number.
 #[tactic(auto, unfolding(model::specs::Cycles::is_lent))]
-pub fn is_lent(threads: &[Thread], page: u32) -> bool
+pub(crate) fn is_lent(threads: &[Thread], page: u32) -> bool
     ensures { result ≡ is_lent threads.now page }
 {
     threads
@@ -45,7 +46,7 @@ pub fn is_lent(threads: &[Thread], page: u32) -> bool
 }
 
 /// The phase behind a checkpoint (the paper's checkpoints).
-pub fn phase_behind(phase: Phase) -> Phase
+pub(crate) fn phase_behind(phase: Phase) -> Phase
     ensures { result ≡ phase_behind phase }
 {
     match phase {

@@ -4,6 +4,7 @@ ghost use Rattle.std.specs.Prelude.{◌≡◌};
 ghost use Rattle.model.specs.References.{with_global, with_place};
 ghost use Rattle.model.specs.Loads.{with_barrier, with_loaded};
 ghost use Rattle.model.specs.Checkpoints.{with_parked};
+ghost use Rattle.model.specs.Registers.{with_register};
 
 use crate::heap::Heap;
 use model::{Barrier, Place};
@@ -25,6 +26,9 @@ pub trait Edits {
     /// Ends the load of a thread, if the thread is there: a register, by its number from 0, gets
     /// the word, and the barrier closes.
     fn set_loaded(&mut self, thread: u32, register: u32, word: Word);
+
+    /// Writes a register of a thread, if it is there.
+    fn set_register(&mut self, thread: u32, register: u32, word: Word);
 
     /// Parks a thread or lets it run, if it is there.
     fn set_parked(&mut self, thread: u32, parked: bool);
@@ -70,6 +74,16 @@ impl Edits for Heap {
         if (thread as usize) < self.threads.len() {
             let record = &mut self.threads[thread as usize];
             record.set_loaded(register, word);
+        }
+    }
+
+    #[tactic(auto, unfolding(model::specs::Registers::with_register))]
+    fn set_register(&mut self, thread: u32, register: u32, word: Word)
+        ensures { self.new ≡ with_register self.old thread register word }
+    {
+        if (thread as usize) < self.threads.len() {
+            let record = &mut self.threads[thread as usize];
+            record.set_register(register, word);
         }
     }
 

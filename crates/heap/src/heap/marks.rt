@@ -1,7 +1,8 @@
 //! Words are resolved, and what the running mark has marked (the paper's Mark phase).
 
-ghost use Rattle.std.specs.Prelude.{◌≡◌};
+ghost use Rattle.std.specs.Prelude.{◌≡◌, length};
 ghost use Rattle.model.specs.Bits.{bit_at, with_bit};
+ghost use Rattle.model.specs.Cycles.{uncopied_from};
 ghost use Rattle.model.specs.Marks.{resolve, marked_word};
 
 use crate::heap::Heap;
@@ -33,6 +34,15 @@ impl Heap {
     {
         let _ = &self.config;
         address
+    }
+
+    /// The least page, by its number from 1, that is being emptied and has an object that isn't
+    /// copied (the paper's Relocate phase). No page has a side array yet, so there is none.
+    pub fn first_uncopied(&self) -> Option<u32>
+        ensures { result ≡ uncopied_from self.now 1 (length self.now.store.pages) }
+    {
+        let _ = &self.config;
+        None
     }
 
     /// The word that marking leaves: it names the object where it is now, and is marked through

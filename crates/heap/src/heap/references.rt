@@ -1,6 +1,6 @@
 //! References of objects, and globals.
 
-ghost use Rattle.std.specs.Prelude.{◌≡◌};
+ghost use Rattle.std.specs.Prelude.{◌≡◌, ◌<◌, IfSome};
 ghost use Rattle.model.specs.References.{read_reference, global_of, field_at, store_outcome, store_global_outcome};
 ghost use Rattle.model.specs.Refusing.{Does};
 ghost use Rattle.model.specs.Outcome.{Passes};
@@ -27,7 +27,8 @@ impl Heap {
     /// none where the object has no such reference.
     #[tactic(auto, unfolding(model::specs::References::field_at))]
     pub fn field_at(&self, address: Addr, index: u32) -> Option<u64>
-        ensures { result ≡ field_at self.now address index }
+        ensures value { result ≡ field_at self.now address index }
+        ensures few { IfSome result (λ _. index < 256) }
     {
         let layout = self.layout_at(address)?;
         if index >= u32::from(layout.refs) {

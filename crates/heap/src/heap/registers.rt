@@ -7,6 +7,7 @@ ghost use Rattle.model.specs.Outcome.{Passes};
 ghost use Rattle.model.specs.declared.steps.Step.TheVariants as steps;
 
 use crate::heap::Heap;
+use crate::heap::edits::Edits;
 use model::{Answer, PageState, Phase, Refusal, Reply};
 use refword::{Addr, Word};
 
@@ -20,17 +21,6 @@ impl Heap {
         match self.threads.get(thread as usize) {
             None => Word::null(),
             Some(record) => record.register(register),
-        }
-    }
-
-    /// Writes a register, if it is there.
-    #[tactic(auto, unfolding(model::specs::Registers::with_register))]
-    fn set_register(&mut self, thread: u32, register: u32, word: Word)
-        ensures { self.new ≡ with_register self.old thread register word }
-    {
-        if (thread as usize) < self.threads.len() {
-            let record = &mut self.threads[thread as usize];
-            record.set_register(register, word);
         }
     }
 

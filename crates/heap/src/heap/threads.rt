@@ -3,9 +3,12 @@
 
 ghost use Rattle.std.specs.Prelude.{◌≡◌, slice_get};
 ghost use Rattle.model.specs.Loads.{barrier_of_thread};
+ghost use Rattle.model.specs.Checkpoints.{first_behind};
+ghost use Rattle.model.specs.Cycles.{first_pending};
 ghost use Rattle.model.specs.Threads.{has_crossed, is_parked_in};
 
 use crate::heap::Heap;
+use crate::heap::crossing::{first_behind, first_pending};
 use model::Barrier;
 
 impl Heap {
@@ -38,5 +41,23 @@ impl Heap {
             None => None,
             Some(record) => record.barrier(),
         }
+    }
+
+    /// The least thread that hasn't crossed the open checkpoint, by its number from 0.
+    pub fn first_behind(&self) -> Option<u32>
+        ensures { result ≡ first_behind self.now.threads }
+    {
+        let _ = &self.config;
+        let thread = first_behind(&self.threads)?;
+        Some(thread as u32)
+    }
+
+    /// The least thread that has an open barrier, by its number from 0.
+    pub fn first_pending(&self) -> Option<u32>
+        ensures { result ≡ first_pending self.now.threads }
+    {
+        let _ = &self.config;
+        let thread = first_pending(&self.threads)?;
+        Some(thread as u32)
     }
 }
