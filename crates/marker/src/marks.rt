@@ -1,0 +1,45 @@
+//! Words are marked (the paper's Mark phase).
+
+ghost use Rattle.std.specs.Prelude.{◌≡◌};
+ghost use Rattle.model.specs.Checkpoints.{all_crossed};
+ghost use Rattle.model.specs.Marks.{with_mark, marked_word};
+ghost use Rattle.model.specs.Scans.{may_scan};
+
+use heap::{CollectorEdits, Heap};
+use model::Refusal;
+use refword::Word;
+
+/// Marks the object that a word names, and gives the word that marking leaves: it names the object
+/// where it is now, and is marked through (the paper's Mark and Remap phases). The object is to be
+/// scanned where it wasn't marked before. Null marks nothing and stays null.
+pub fn mark(heap: &mut Heap, word: Word) -> Word
+    ensures heap { heap.new ≡ with_mark heap.old word }
+    ensures word { result ≡ marked_word heap.old word }
+{
+    let marked = heap.marked_word(word);
+    heap.set_mark(word);
+    marked
+}
+
+/// Whether all threads have crossed. Refused as `NotCrossed`, with the least that hasn't.
+#[tactic(auto, unfolding(model::specs::Checkpoints::all_crossed))]
+fn all_crossed(heap: &Heap) -> Result<(), Refusal>
+    ensures { result ≡ all_crossed heap.now }
+{
+    match heap.first_behind() {
+        None => Ok(()),
+        Some(thread) => Err(Refusal::NotCrossed { thread }),
+    }
+}
+
+/// Whether a mark runs that all threads have crossed. Refused as `Phase` where none runs, and as
+/// `NotCrossed`.
+#[tactic(auto, unfolding(model::specs::Scans::may_scan))]
+pub(crate) fn may_scan(heap: &Heap) -> Result<(), Refusal>
+    ensures { result ≡ may_scan heap.now }
+{
+    if !heap.phase().is_marking() {
+        return Err(Refusal::Phase);
+    }
+    all_crossed(heap)
+}
