@@ -1,13 +1,14 @@
 //! Traps: what is due for the word of a barrier, as the paper's section on the read barrier has it.
 
-ghost use Rattle.std.specs.Prelude.{◌≡◌};
+ghost use Rattle.std.specs.Prelude.{◌≡◌, Ok};
 ghost use Rattle.model.specs.Refusing.{Does};
 ghost use Rattle.model.specs.Outcome.{Passes};
 ghost use Rattle.model.specs.declared.steps.Step.TheVariants as steps;
-ghost use Rattle.model.specs.Loads.{gc_trap_due, nmt_trap_due, trap_due, trap_outcome};
+ghost use Rattle.model.specs.Loads.{gc_trap_due, nmt_trap_due, trap_due, set_now_of, nmt_trap, trap_outcome};
 
-use heap::Heap;
-use model::{Answer, Refusal, Reply};
+use heap::{Edits, Heap};
+use marker::mark;
+use model::{Answer, Barrier, Refusal, Reply};
 use refword::Word;
 
 /// Whether a GC trap is due: the word names a page that the thread may not use.
@@ -38,11 +39,36 @@ pub fn trap_due(heap: &Heap, thread: u32, word: Word) -> bool
     gc_trap_due(heap, thread, word) || nmt_trap_due(heap, thread, word)
 }
 
-/// A thread, by its number from 0, asks for the trap that is due for its word. While no mark runs
-/// and no page is protected, as today always, none is due, and the answer is `Clear`.
+/// A barrier with another word.
+fn set_now(barrier: Barrier, word: Word) -> Barrier
+    ensures { result ≡ set_now_of word barrier }
+{
+    Barrier {
+        target: barrier.target,
+        place: barrier.place,
+        raw: barrier.raw,
+        now: word,
+        healed: barrier.healed,
+    }
+}
+
+/// The NMT trap: the word of a barrier is marked, where that is due.
+fn nmt_trap(heap: &mut Heap, thread: u32, barrier: Barrier) -> Answer
+    ensures { nmt_trap heap.old thread barrier ≡ Ok (heap.new, result) }
+{
+    if !nmt_trap_due(heap, thread, barrier.now) {
+        return Answer::Clear;
+    }
+    let marked = mark(heap, barrier.now);
+    heap.set_barrier(thread, set_now(barrier, marked));
+    Answer::Marked
+}
+
+/// A thread, by its number from 0, asks for the trap that is due for its word. Where it is an NMT
+/// trap, the word is marked (`Marked`); where none is due, the answer is `Clear`.
 ///
-/// Refused where no barrier is open (`NotBusy`); `NoActor` where a trap is due, which no heap comes
-/// to before there are marks.
+/// Refused where no barrier is open (`NotBusy`); `NoActor` where a GC trap is due, which no heap
+/// comes to before pages are protected.
 #[tactic(auto, unfolding(model::specs::Loads::trap_outcome))]
 pub fn trap(heap: &mut Heap, thread: u32) -> Reply
     requires { Passes heap.old thread steps.Trap }
@@ -51,8 +77,8 @@ pub fn trap(heap: &mut Heap, thread: u32) -> Reply
     let Some(barrier) = heap.barrier(thread) else {
         return Err(Refusal::NotBusy);
     };
-    if trap_due(heap, thread, barrier.now) {
+    if gc_trap_due(heap, thread, barrier.now) {
         return Err(Refusal::NoActor);
     }
-    Ok(Answer::Clear)
+    Ok(nmt_trap(heap, thread, barrier))
 }

@@ -6,25 +6,106 @@
 
 ghost use Rattle.std.specs.Prelude.{◌≡◌};
 ghost use Rattle.model.specs.Refusing.{Does};
-ghost use Rattle.model.specs.Outcome.{Passes};
+ghost use Rattle.model.specs.Outcome.{Passes, WorkerPasses};
 ghost use Rattle.model.specs.declared.steps.Step.TheVariants as steps;
+ghost use Rattle.model.specs.Checkpoints.{with_marked_register, with_marked_registers, marked_at_crossing, cross_thread, may_cross, cross_for_outcome};
 ghost use Rattle.model.specs.Checkpoints.{cross_outcome, scrub_outcome, park_outcome, unpark_outcome};
 
-use heap::{Edits, Heap};
+use heap::{CollectorEdits, Edits, Heap};
+use marker::mark;
 use model::{Answer, Refusal, Reply};
 
-/// A thread crosses the open checkpoint (the paper's checkpoints). No checkpoint opens yet, so it
-/// is always refused: `Phase`, and `NoActor` where one is open, which no heap comes to.
+/// Marks the word in a register. Threads and registers count from 0.
+#[tactic(auto, unfolding(model::specs::Checkpoints::with_marked_register))]
+fn mark_register(heap: &mut Heap, thread: u32, register: u32)
+    ensures { heap.new ≡ with_marked_register heap.old thread register }
+{
+    let word = heap.register(thread, register);
+    let marked = mark(heap, word);
+    heap.set_register(thread, register, marked);
+}
+
+/// Marks the words in so many registers of a thread.
+#[tactic(auto, using(crate::proofs::Registers::marked_more))]
+fn mark_registers(heap: &mut Heap, thread: u32, count: u32)
+    ensures { heap.new ≡ with_marked_registers heap.old thread count }
+{
+    for register in 0..count {
+        mark_register(heap, thread, register);
+    }
+}
+
+/// How many registers of a thread a crossing marks.
+fn marked_at_crossing(heap: &Heap) -> u32
+    ensures { result ≡ marked_at_crossing heap.now }
+{
+    if heap.phase().is_mark_crossing() {
+        heap.config().registers
+    } else {
+        0
+    }
+}
+
+/// Crosses the open checkpoint for a thread.
+#[tactic(auto, unfolding(model::specs::Checkpoints::cross_thread))]
+fn cross_thread(heap: &mut Heap, thread: u32)
+    ensures { heap.new ≡ cross_thread heap.old thread }
+{
+    let count = marked_at_crossing(heap);
+    mark_registers(heap, thread, count);
+    heap.set_crossed(thread);
+}
+
+/// Whether a thread has still to cross the open checkpoint. Refused where none is open (`Phase`),
+/// and where the thread has crossed (`AlreadyCrossed`).
+#[tactic(auto, unfolding(model::specs::Checkpoints::may_cross))]
+fn may_cross(heap: &Heap, thread: u32) -> Result<(), Refusal>
+    ensures { result ≡ may_cross heap.now thread }
+{
+    if !heap.phase().is_crossing() {
+        return Err(Refusal::Phase);
+    }
+    if heap.has_crossed(thread) {
+        return Err(Refusal::AlreadyCrossed);
+    }
+    Ok(())
+}
+
+/// What `cross` does, for either actor.
 #[tactic(auto, unfolding(model::specs::Checkpoints::cross_outcome))]
+fn cross_open(heap: &mut Heap, thread: u32) -> Reply
+    ensures { Does heap.old result heap.new (cross_outcome heap.old thread) }
+{
+    may_cross(heap, thread)?;
+    cross_thread(heap, thread);
+    Ok(Answer::Done)
+}
+
+/// A thread crosses the open checkpoint (the paper's checkpoints). At a mark's checkpoint the words
+/// in its registers are marked; at that of protected pages they stay (ours). Where the thread is
+/// the last, the next phase begins. Threads count from 0.
+///
+/// Refused where no checkpoint is open (`Phase`), and where it has crossed (`AlreadyCrossed`).
 pub fn cross(heap: &mut Heap, thread: u32) -> Reply
     requires { Passes heap.old thread steps.Cross }
-    ensures { Does heap.old result heap.new (cross_outcome heap.old) }
+    ensures { Does heap.old result heap.new (cross_outcome heap.old thread) }
 {
-    if heap.phase().is_crossing() {
-        Err(Refusal::NoActor)
-    } else {
-        Err(Refusal::Phase)
+    cross_open(heap, thread)
+}
+
+/// A worker crosses the open checkpoint for a parked thread (the paper's checkpoints: it is done for
+/// a blocked thread). Workers and threads count from 0.
+///
+/// Refused where the thread isn't parked (`NotParked`), and then as `cross` is.
+#[tactic(auto, unfolding(model::specs::Checkpoints::cross_for_outcome))]
+pub fn cross_for(heap: &mut Heap, worker: u32, thread: u32) -> Reply
+    requires { WorkerPasses heap.old worker (steps.CrossFor thread) }
+    ensures { Does heap.old result heap.new (cross_for_outcome heap.old thread) }
+{
+    if !heap.is_parked(thread) {
+        return Err(Refusal::NotParked);
     }
+    cross_open(heap, thread)
 }
 
 /// A register that names a protected page is corrected (ours). While no page is protected, as today
