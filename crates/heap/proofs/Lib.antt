@@ -1,2 +1,5 @@
+pub mod Cycling
 pub mod Keeping
+pub mod Looping
+pub mod Marking
 pub mod Writing

@@ -1,9 +1,12 @@
 //! The heap.
 mod birth;
 mod buffers;
+pub mod collecting;
+pub mod crossing;
 mod data;
 pub mod edits;
 mod making;
+mod marks;
 pub mod references;
 mod registers;
 mod threads;

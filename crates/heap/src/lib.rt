@@ -10,6 +10,8 @@ mod thread;
 
 pub use fault::NewFault;
 pub use heap::Heap;
+pub use heap::collecting::CollectorEdits;
+pub use heap::crossing::{first_behind, first_pending};
 pub use heap::edits::Edits;
 pub use heap::references::read_reference;
 pub use markbits::{Row, Rows};

@@ -3,7 +3,7 @@
 
 ghost use Rattle.std.specs.Prelude.{◌≡◌, ◌<◌, length, slice_get, slice_set, IfOk};
 ghost use Rattle.model.specs.States.{flat};
-ghost use Rattle.model.specs.Threads.{set_register_of, set_buffer_of, set_barrier_of, set_loaded_of, set_parked_of};
+ghost use Rattle.model.specs.Threads.{set_register_of, set_buffer_of, set_barrier_of, set_loaded_of, set_parked_of, set_crossed_of};
 ghost use Rattle.model.specs.First.{blank_thread};
 
 use model::{Barrier, Buffer};
@@ -128,5 +128,13 @@ impl Thread {
         ensures { self.new ≡ set_parked_of parked self.old }
     {
         self.parked = parked;
+    }
+
+    /// Lets it have crossed the open checkpoint, or have it still to cross (the paper's
+    /// checkpoints).
+    pub(crate) fn set_crossed(&mut self, crossed: bool)
+        ensures { self.new ≡ set_crossed_of crossed self.old }
+    {
+        self.crossed = crossed;
     }
 }

@@ -314,6 +314,11 @@ ended_open s i lent = by_page (slice_get s.pages i) refl
     by_page None e = missing_at s i _ e ∙ sym (missing_at s i lent e)
     by_page (Some p) e = ap (λ o. with_mark_ended_at s i (is_open (state_in o) && lent)) e ∙ by_state p e p.state refl
 
+-- so of a page that isn't open it need not be known
+pub ended_shut : (s : StoreState) (i : ℕ) (lent : Bool) → is_open (state_in (slice_get s.pages i)) ≡ false
+    → with_mark_ended_at s i false ≡ with_mark_ended_at s i lent
+ended_shut s i lent e = ap (λ b. with_mark_ended_at s i (b && lent)) (sym e) ∙ ended_open s i lent
+
 -- the sizes stay
 pub ended_sized : (s : StoreState) (lent : ℕ → Bool) → AreSized s (store_after_mark lent s)
 unfolding store_after_mark

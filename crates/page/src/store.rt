@@ -1,7 +1,7 @@
 //! Pages and their frames.
 mod ending;
 
-ghost use Rattle.std.specs.Prelude.{◌≡◌, ◌≤◌, ◌<◌, ◌+◌, ◌-◌, ◌/◌, ◌^◌, length, slice_get, slice_set, slice_range, replicate, IfOk, IfSome, count_by, is_some, is_none, Some, None, true};
+ghost use Rattle.std.specs.Prelude.{◌≡◌, ◌≤◌, ◌<◌, ◌+◌, ◌-◌, ◌/◌, ◌%◌, ◌^◌, length, slice_get, slice_set, slice_range, replicate, IfOk, IfSome, count_by, is_some, is_none, Some, None, true};
 ghost use Rattle.std.specs.Option.{option_map};
 ghost use Rattle.std.specs.Borrow.{sem};
 ghost use Rattle.model.specs.Stores.{first_store, page_at, state_at, state_in, spot_of, word_at, with_word, words_at, take_buffer, Takes, give_words, open_fresh, top_in, is_open, page_with_room, free_frame, unused_page, frame_in, record_count};
@@ -198,6 +198,13 @@ impl Store {
         ensures { result ≡ address / self.now.words }
     {
         self.size.page_of(address.number()) as u32
+    }
+
+    /// The offset of an address in its page: below the words of a page.
+    pub fn offset_of(&self, address: Addr) -> u32
+        ensures { result ≡ address % self.now.words }
+    {
+        self.size.offset_of(address.number()) as u32
     }
 
     /// The frame and the offset behind an address, if its page has memory.

@@ -1,0 +1,111 @@
+-- The start and the end of a mark keep what holds of a heap.
+use Rattle.std.proofs.Common.{◌≡◌, ℕ, zero, suc, Bool, true, false, List, [], ◌∷◌, length, map, Option, Some, None}
+use Rattle.std.proofs.Common.{refl, sym, ◌∙◌, ap, subst, rules, arith, nat_eq}
+use Rattle.std.proofs.lemmas.Bool.Decides.{nat_tests}
+use Rattle.std.specs.List.{slice_get}
+use Rattle.std.specs.Option.{IfSome}
+use Rattle.std.proofs.lemmas.List.{length-replicate}
+use Rattle.std.proofs.lemmas.List.Folds.{list_any_at}
+use Rattle.std.proofs.lemmas.Option.{slice_get_within, get_or_from_slice_get}
+use Rattle.model.specs.declared.config.Config.{Config}
+use Rattle.model.specs.declared.records.Buffer.{Buffer}
+use Rattle.model.specs.declared.records.Global.{Global}
+use Rattle.model.specs.declared.records.Phase.TheVariants.{Idle, MarkCrossing}
+use Rattle.model.specs.Stores.{StoreState, store_after_mark}
+use Rattle.model.specs.Owning.{Each, LiesIn}
+use Rattle.model.specs.States.{HeapState, ThreadState}
+use Rattle.model.specs.Threads.{set_crossed_of}
+use Rattle.model.specs.Bits.{blank_row, blank_all}
+use Rattle.model.specs.Cycles.{is_lent, is_buffer_on, set_todo_of}
+use Rattle.model.specs.Holding.{IsHeap, FillsIn, AreRowsFor}
+use Rattle.page.proofs.Ended.{ended_sized, ended_lies}
+
+length_mapped : {X Y : Type 0} (f : X → Y) (xs : List X) → length (map f xs) ≡ length xs
+length_mapped f [] = refl
+length_mapped f (x ∷ xs) = ap suc (length_mapped f xs)
+
+-- each element of a list comes of one before it
+each_mapped : {X Y : Type 0} (P : X → Type 0) (Q : Y → Type 0) (f : X → Y) (xs : List X) → ((x : X) → P x → Q (f x))
+    → Each xs P → Each (map f xs) Q
+each_mapped P Q f [] h k i y e = absurd (cc)
+each_mapped P Q f (x ∷ xs) h k zero y e = let here : f x ≡ y = cc in subst Q here (h x (k zero x refl))
+each_mapped P Q f (x ∷ xs) h k (suc i) y e = each_mapped P Q f xs h (λ j z a. k (suc j) z a) i y e
+
+rows_blanked : (c : Config) (rows : List (List Bool)) → AreRowsFor c rows → AreRowsFor c (blank_all rows)
+rows_blanked c rows r = record {
+  pages = length_mapped blank_row rows ∙ r.pages;
+  words = each_mapped (λ row. length row ≡ c.words) (λ row. length row ≡ c.words) blank_row rows
+      (λ row e. length-replicate (length row) false ∙ e) r.words;
+}
+
+-- a page with a thread's buffer counts as lent
+lent_by : (threads : List ThreadState) (i : ℕ) (t : ThreadState) (b : Buffer) → slice_get threads i ≡ Some t
+    → t.buffer ≡ Some b → is_lent threads b.page ≡ true
+unfolding is_lent
+lent_by threads i t b e f = list_any_at (λ (t : ThreadState). is_buffer_on b.page t.buffer) threads i t
+    (slice_get_within threads i t e)
+    (ap (λ (x : ThreadState). is_buffer_on b.page x.buffer) (get_or_from_slice_get threads i t t e)
+    ∙ ap (is_buffer_on b.page) f ∙ same b.page)
+  where
+    same : (n : ℕ) → nat_eq n n ≡ true
+    same n = grind (arith, nat_tests)
+
+pub ended_keeps : (h : HeapState) (s : StoreState) (live mark : List (List Bool)) → IsHeap h
+    → s ≡ store_after_mark (is_lent h.threads) h.store → live ≡ h.mark → mark ≡ blank_all h.live
+    → IsHeap (record h { store = s; live = live; mark = mark; phase = Idle })
+ended_keeps h s live mark i e f g =
+    let sized = ended_sized h.store (is_lent h.threads) in
+    record {
+      config = i.config;
+      sizes = record {
+        words = ap (λ (t : StoreState). t.words) e ∙ sized.words ∙ i.sizes.words;
+        frames = ap (λ (t : StoreState). length t.frames) e ∙ sized.frames ∙ i.sizes.frames;
+        pages = ap (λ (t : StoreState). t.count) e ∙ sized.count ∙ i.sizes.pages;
+        threads = i.sizes.threads;
+        workers = i.sizes.workers;
+        globals = i.sizes.globals;
+      };
+      starts = i.starts;
+      live = subst (AreRowsFor h.config) (sym f) i.mark;
+      mark = subst (AreRowsFor h.config) (sym g) (rows_blanked h.config h.live i.live);
+      todo = i.todo;
+      sides = i.sides;
+      births = i.births;
+      buffers = λ j t a. subst (λ (s : StoreState). FillsIn s t) (sym e) (by_buffer j t a t.buffer refl (i.buffers j t a));
+    }
+  where
+    by_buffer : (j : ℕ) (t : ThreadState) → slice_get h.threads j ≡ Some t → (o : Option Buffer) → t.buffer ≡ o
+        → IfSome o (LiesIn h.store) → IfSome o (LiesIn (store_after_mark (is_lent h.threads) h.store))
+    by_buffer j t a None b k = search rules
+    by_buffer j t a (Some c) b k = ended_lies h.store (is_lent h.threads) c (lent_by h.threads j t c a b) k
+
+pub started_keeps : (h : HeapState) (threads : List ThreadState) (globals : List Global) (nmt : Bool) → IsHeap h
+    → threads ≡ map (set_crossed_of false) h.threads → globals ≡ map set_todo_of h.globals
+    → IsHeap (record h { threads = threads; globals = globals; phase = MarkCrossing; nmt = nmt })
+started_keeps h threads globals nmt i e f = record {
+  config = i.config;
+  sizes = record {
+    words = i.sizes.words;
+    frames = i.sizes.frames;
+    pages = i.sizes.pages;
+    threads = ap length e ∙ length_mapped (set_crossed_of false) h.threads ∙ i.sizes.threads;
+    workers = i.sizes.workers;
+    globals = ap length f ∙ length_mapped set_todo_of h.globals ∙ i.sizes.globals;
+  };
+  starts = i.starts;
+  live = i.live;
+  mark = i.mark;
+  todo = i.todo;
+  sides = i.sides;
+  births = i.births;
+  buffers = subst (λ ts. Each ts (FillsIn h.store)) (sym e)
+      (each_mapped (FillsIn h.store) (FillsIn h.store) (set_crossed_of false) h.threads (λ t k. k) i.buffers);
+}
+
+-- lists that were changed element by element are as long as before
+pub crossed_many : (ts us : List ThreadState) (n : ℕ) → us ≡ map (set_crossed_of false) ts → length ts ≡ n
+    → length us ≡ n
+crossed_many ts us n e k = ap length e ∙ length_mapped (set_crossed_of false) ts ∙ k
+
+pub todo_many : (gs us : List Global) (n : ℕ) → us ≡ map set_todo_of gs → length gs ≡ n → length us ≡ n
+todo_many gs us n e k = ap length e ∙ length_mapped set_todo_of gs ∙ k

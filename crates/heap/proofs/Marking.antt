@@ -1,0 +1,95 @@
+-- Marks keep what holds of a heap.
+use Rattle.std.proofs.Common.{◌≡◌, ℕ, zero, suc, ◌-◌, ◌/◌, ◌%◌, Bool, true, false, List, [], get_or, replicate, refl}
+use Rattle.std.proofs.Common.{◌∙◌, sym, ap, subst, set, Option, Some}
+use Rattle.std.specs.List.{slice_get}
+use Rattle.std.specs.Option.{IfSome}
+use Rattle.std.specs.Prelude.{if◌then◌else◌}
+use Rattle.model.specs.declared.config.Config.{Config}
+use Rattle.model.specs.declared.records.Forwarding.{Forwarding}
+use Rattle.model.specs.First.{no_sides}
+use Rattle.model.specs.declared.records.Buffer.{Buffer}
+use Rattle.model.specs.declared.records.Phase.{Phase}
+use Rattle.model.specs.States.{HeapState, ThreadState}
+use Rattle.model.specs.Holding.{IsHeap, AreRowsFor}
+use Rattle.model.specs.Owning.{LiesIn}
+use Rattle.model.proofs.Tables.{rows_put}
+use Rattle.model.specs.Bits.{of_page, with_bit}
+use Rattle.model.specs.Marks.{entry_of, entry_at, forward_by, resolve}
+use Rattle.heap.proofs.Keeping.{thread_keeps}
+
+no_entries : (n m : ℕ) → get_or {A = List Forwarding} (replicate n []) m [] ≡ []
+no_entries zero m = refl
+no_entries (suc n) zero = refl
+no_entries (suc n) (suc m) = no_entries n m
+
+no_entries_on : (n page : ℕ) → of_page {X = Forwarding} (replicate n []) page ≡ []
+no_entries_on n zero = refl
+no_entries_on n (suc i) = no_entries n i
+
+-- without side arrays, each object is where its address says
+pub resolved_here : (h : HeapState) (c : Config) (address : ℕ) → h.sides ≡ no_sides c → address ≡ resolve h address
+unfolding resolve entry_at
+resolved_here h c address e = sym (ap (λ fs. forward_by (entry_of fs (address % h.store.words)) address)
+    (ap (λ ss. of_page ss (address / h.store.words)) e ∙ no_entries_on _ (address / h.store.words)))
+
+-- rows of marks are put in the place of others, as many and as long
+pub marks_keep : (h : HeapState) (live mark todo : List (List Bool)) → IsHeap h → AreRowsFor h.config live
+    → AreRowsFor h.config mark → AreRowsFor h.config todo
+    → IsHeap (record h { live = live; mark = mark; todo = todo })
+marks_keep h live mark todo i l m t = record {
+  config = i.config;
+  sizes = record {
+    words = i.sizes.words;
+    frames = i.sizes.frames;
+    pages = i.sizes.pages;
+    threads = i.sizes.threads;
+    workers = i.sizes.workers;
+    globals = i.sizes.globals;
+  };
+  starts = i.starts;
+  live = l;
+  mark = m;
+  todo = t;
+  sides = i.sides;
+  births = i.births;
+  buffers = i.buffers;
+}
+
+-- a bit is put by an address
+pub bit_keeps : (c : Config) (rows new : List (List Bool)) (words a : ℕ) (bit : Bool) → AreRowsFor c rows
+    → new ≡ with_bit rows words a bit → AreRowsFor c new
+bit_keeps c rows new words a bit r e =
+    subst (AreRowsFor c) (sym e) (rows_put _ _ rows (a / words - 1) (a % words) bit r)
+
+-- a bit is put by an address, or not
+pub bit_kept : (c : Config) (rows new : List (List Bool)) (words a : ℕ) (bit unless : Bool) → AreRowsFor c rows
+    → new ≡ (if unless then rows else with_bit rows words a bit) → AreRowsFor c new
+bit_kept c rows new words a bit true r e = subst (AreRowsFor c) (sym e) r
+bit_kept c rows new words a bit false r e = bit_keeps c rows new words a bit r e
+
+-- a thread has crossed
+pub crossed_keeps : (h : HeapState) (t : ℕ) (x y : ThreadState) → IsHeap h → slice_get h.threads t ≡ Some x
+    → y.buffer ≡ x.buffer → IsHeap (record h { threads = set h.threads t y })
+crossed_keeps h t x y i at same =
+    thread_keeps h t y i (subst (λ (b : Option Buffer). IfSome b (LiesIn h.store)) (sym same) (i.buffers t x at))
+
+-- another phase
+pub phase_keeps : (h : HeapState) (p : Phase) → IsHeap h → IsHeap (record h { phase = p })
+phase_keeps h p i = record {
+  config = i.config;
+  sizes = record {
+    words = i.sizes.words;
+    frames = i.sizes.frames;
+    pages = i.sizes.pages;
+    threads = i.sizes.threads;
+    workers = i.sizes.workers;
+    globals = i.sizes.globals;
+  };
+  starts = i.starts;
+  live = i.live;
+  mark = i.mark;
+  todo = i.todo;
+  sides = i.sides;
+  births = i.births;
+  buffers = i.buffers;
+}

@@ -1,0 +1,217 @@
+//! Raw edits of a heap that the collector makes: marks, scans, crossings, and the start and the end
+//! of a mark.
+
+ghost use Rattle.std.specs.Prelude.{◌≡◌, ◌+◌, ◌<◌, length, map, slice_get, is_none, true, false, if◌then◌else◌};
+ghost use Rattle.refword.specs.Words.{bits_of};
+ghost use Rattle.model.specs.Bits.{bit_at, with_bit};
+ghost use Rattle.model.specs.Checkpoints.{with_crossed, first_behind, phase_behind};
+ghost use Rattle.model.specs.Cycles.{is_lent, set_todo_of, start_mark, end_mark};
+ghost use Rattle.model.specs.Marks.{with_mark};
+ghost use Rattle.model.specs.Scans.{with_scan, with_scan_end, set_marked_of};
+ghost use Rattle.model.specs.States.{change_at};
+ghost use Rattle.model.specs.Stores.{store_after_mark, with_word, is_open, state_in};
+ghost use Rattle.model.specs.Threads.{set_crossed_of};
+ghost use Rattle.page.specs.Ending.{with_mark_ended_at};
+
+use crate::heap::Heap;
+use crate::heap::crossing::{first_behind, is_lent, phase_behind};
+use crate::heap::marks::{bit_at, put_bit};
+use crate::thread::Thread;
+use markbits::Rows;
+use model::{Global, PageState, Phase, Scan};
+use page::Store;
+use refword::{Addr, Word};
+
+/// Edits for the crates that do rows of the collector's steps. As those of `Edits`, each does what
+/// it says and tests nothing. Threads, workers and globals count from 0.
+pub trait CollectorEdits {
+    /// Marks the object that a word names, if it names one: it is to be scanned where it wasn't
+    /// marked before (the paper's Mark phase).
+    fn set_mark(&mut self, word: Word);
+
+    /// Gives a worker, if it is there, another object to scan, or none.
+    fn set_scan(&mut self, worker: u32, scan: Option<Scan>);
+
+    /// A worker, if it is there, has none to scan any more, and its object isn't to be scanned.
+    fn end_scan(&mut self, worker: u32, scan: Scan);
+
+    /// Writes a word at the place of a reference in memory, if its page has memory.
+    fn set_reference(&mut self, place: u64, word: Word);
+
+    /// A global, if it is there, gets a word, and isn't to be marked any more.
+    fn set_marked_global(&mut self, number: u32, word: Word);
+
+    /// A thread, if it is there, has crossed; where it is the last, the next phase begins (the
+    /// paper's checkpoints).
+    fn set_crossed(&mut self, thread: u32);
+
+    /// A mark starts: the clean value flips, and all threads and globals are to be marked (the
+    /// paper's Mark phase).
+    fn start_mark(&mut self);
+
+    /// A mark ends (ours): what it marked is live, open pages without a lent buffer close, protected
+    /// pages are unused again, and the phase is idle.
+    fn end_mark(&mut self);
+}
+
+/// Marks the object at an address: it is to be scanned where it wasn't marked before.
+fn mark_at(mark: &mut Rows, todo: &mut Rows, store: &Store, address: Addr)
+    ensures mark { mark.new ≡ with_bit mark.old store.now.words address true }
+    ensures todo { todo.new ≡ (if bit_at mark.old store.now.words address then todo.old else with_bit todo.old store.now.words address true) }
+{
+    if !bit_at(mark, store, address) {
+        put_bit(todo, store, address, true);
+    }
+    put_bit(mark, store, address, true);
+}
+
+/// All threads have still to cross.
+#[tactic(auto, using(crate::proofs::Looping::mapped_none, crate::proofs::Looping::mapped_more, crate::proofs::Looping::mapped_all))]
+fn uncross_all(threads: &mut [Thread])
+    ensures { threads.new ≡ map (set_crossed_of false) threads.old }
+{
+    for thread in threads.iter_mut() {
+        thread.set_crossed(false);
+    }
+}
+
+/// All globals have still to be marked.
+#[tactic(auto, using(crate::proofs::Looping::mapped_none, crate::proofs::Looping::mapped_more, crate::proofs::Looping::mapped_all))]
+fn set_all_todo(globals: &mut [Global])
+    ensures { globals.new ≡ map set_todo_of globals.old }
+{
+    for global in globals.iter_mut() {
+        global.todo = true;
+    }
+}
+
+/// Whether the page of an index is open.
+fn is_open_at(store: &Store, index: usize) -> bool
+    ensures { result ≡ is_open (state_in (slice_get store.now.pages index)) }
+{
+    match store.pages().get(index) {
+        None => false,
+        Some(page) => matches!(page.state, PageState::Open),
+    }
+}
+
+/// Ends a mark for the page of an index. Threads are asked for their buffers where it is open.
+fn end_page(store: &mut Store, threads: &[Thread], index: usize)
+    requires { index < length store.old.pages }
+    ensures { store.new ≡ with_mark_ended_at store.old index (is_lent threads.now (index + 1)) }
+{
+    store.law();
+    if is_open_at(store, index) {
+        store.end_mark_at(index, is_lent(threads, (index + 1) as u32));
+    } else {
+        store.end_mark_at(index, false);
+    }
+}
+
+/// Ends a mark for all pages.
+fn end_pages(store: &mut Store, threads: &[Thread])
+    ensures { store.new ≡ store_after_mark (is_lent threads.now) store.old }
+{
+    let count = store.pages().len();
+    for index in 0..count {
+        store.law();
+        end_page(store, threads, index);
+    }
+    store.law();
+}
+
+/// The phase after a thread has crossed: the next one where no thread is behind.
+fn phase_after(threads: &[Thread], phase: Phase) -> Phase
+    ensures { result ≡ (if is_none (first_behind threads.now) then phase_behind phase else phase) }
+{
+    if first_behind(threads).is_none() {
+        phase_behind(phase)
+    } else {
+        phase
+    }
+}
+
+impl Heap {
+    /// A thread, if it is there, has crossed; the phase stays.
+    fn cross(&mut self, thread: u32)
+        ensures { self.new ≡ record self.old { threads = change_at self.old.threads thread (set_crossed_of true) } }
+    {
+        if (thread as usize) < self.threads.len() {
+            let record = &mut self.threads[thread as usize];
+            record.set_crossed(true);
+        }
+    }
+}
+
+impl CollectorEdits for Heap {
+    #[tactic(auto, unfolding(model::specs::Marks::with_mark, model::specs::Marks::resolve, model::specs::Marks::entry_at))]
+    fn set_mark(&mut self, word: Word)
+        ensures { self.new ≡ with_mark self.old word }
+    {
+        if let Some(address) = word.addr() {
+            let address = self.resolve(address);
+            mark_at(&mut self.mark, &mut self.todo, &self.store, address);
+        }
+    }
+
+    #[tactic(auto, unfolding(model::specs::Scans::with_scan))]
+    fn set_scan(&mut self, worker: u32, scan: Option<Scan>)
+        ensures { self.new ≡ with_scan self.old worker scan }
+    {
+        if (worker as usize) < self.workers.len() {
+            self.workers[worker as usize] = scan;
+        }
+    }
+
+    #[tactic(auto, unfolding(model::specs::Scans::with_scan, model::specs::Scans::with_scan_end))]
+    fn end_scan(&mut self, worker: u32, scan: Scan)
+        ensures { self.new ≡ with_scan_end self.old worker scan }
+    {
+        put_bit(&mut self.todo, &self.store, scan.object, false);
+        self.set_scan(worker, None);
+    }
+
+    fn set_reference(&mut self, place: u64, word: Word)
+        ensures { self.new ≡ record self.old { store = with_word self.old.store place (bits_of word) } }
+    {
+        self.set_word(place, word.bits());
+    }
+
+    fn set_marked_global(&mut self, number: u32, word: Word)
+        ensures { self.new ≡ record self.old { globals = change_at self.old.globals number (set_marked_of word) } }
+    {
+        if (number as usize) < self.globals.len() {
+            let global = &mut self.globals[number as usize];
+            global.word = word;
+            global.todo = false;
+        }
+    }
+
+    #[tactic(auto, unfolding(model::specs::Checkpoints::with_crossed))]
+    fn set_crossed(&mut self, thread: u32)
+        ensures { self.new ≡ with_crossed self.old thread }
+    {
+        self.cross(thread);
+        self.phase = phase_after(&self.threads, self.phase);
+    }
+
+    #[tactic(auto, unfolding(model::specs::Cycles::start_mark))]
+    fn start_mark(&mut self)
+        ensures { self.new ≡ start_mark self.old }
+    {
+        self.nmt = !self.nmt;
+        uncross_all(&mut self.threads);
+        set_all_todo(&mut self.globals);
+        self.phase = Phase::MarkCrossing;
+    }
+
+    #[tactic(auto, unfolding(model::specs::Cycles::end_mark))]
+    fn end_mark(&mut self)
+        ensures { self.new ≡ end_mark self.old }
+    {
+        end_pages(&mut self.store, &self.threads);
+        self.live.swap(&mut self.mark);
+        self.mark.clear_all();
+        self.phase = Phase::Idle;
+    }
+}
