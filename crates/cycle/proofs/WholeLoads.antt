@@ -3,22 +3,13 @@ use Rattle.std.proofs.Common.{◌≡◌, ℕ, suc, ◌+◌, Bool, true, false, L
 use Rattle.std.proofs.Common.{rules}
 use Rattle.std.proofs.Common.{refl, ap, sym, subst, ◌∙◌, append_assoc, append-nil}
 use Rattle.std.specs.Prelude.{Result, Ok, Err, OnOk, IfOk, if◌then◌else◌}
-use Rattle.model.specs.declared.records.Barrier.{Barrier}
 use Rattle.model.specs.declared.steps.Actor.{Actor}
-use Rattle.model.specs.declared.steps.Actor.TheVariants.{Thread, Worker}
 use Rattle.model.specs.declared.steps.Step.TheVariants as steps
 use Rattle.model.specs.declared.steps.Answer.{Answer}
-use Rattle.model.specs.declared.steps.Answer.TheVariants as answers
 use Rattle.model.specs.declared.steps.Refusal.{Refusal}
-use Rattle.model.specs.declared.steps.Refusal.TheVariants as refusals
-use Rattle.model.specs.States.{HeapState}
-use Rattle.model.specs.Loads.{barrier_of_thread, trap_outcome, trap_due}
-use Rattle.model.specs.Refusing.{◌>>=◌, or_refuse, Outcome}
-use Rattle.model.specs.Outcome.{outcome, thread_gate, thread_row}
-use Rattle.cycle.specs.Books.{BookState, BookOutcome, Reply, act_outcome, enter_accepted, is_full}
+use Rattle.cycle.specs.Books.{BookState, BookOutcome, Reply, act_outcome}
 use Rattle.cycle.specs.Loads.{Told, tell, step_then, finish_load, heal_load, is_clear, trap_load, Says}
 use Rattle.cycle.specs.Loads.{behind}
-use Rattle.cycle.specs.Loads.{ThreeTrapsServe}
 
 accepted : (b c : BookState) (o : BookOutcome) (reply : Reply) (a : Answer) → reply ≡ Ok a → Says b reply c o
     → o ≡ Ok (c, a)
@@ -80,7 +71,7 @@ healed_due due b actor rs t e h = subst (λ (x : Bool). behind rs (heal_load x b
 abbrev pub after_trap : ℕ → Bool → Actor → BookState → Answer → Told
 after_trap n due actor c answer = if is_clear answer then heal_load due c actor else trap_load n true c actor
 
-trapped_next : (k n : ℕ) (due : Bool) (b : BookState) (actor : Actor) → k ≡ suc n →
+pub trapped_next : (k n : ℕ) (due : Bool) (b : BookState) (actor : Actor) → k ≡ suc n →
     trap_load k due b actor ≡ step_then b (act_outcome b actor steps.Trap) (after_trap n due actor)
 unfolding trap_load
 trapped_next k n due b actor e = rw e refl
@@ -120,70 +111,3 @@ trapped_last k due b actor e = rw e refl
 pub on_ok : {X E : Type 0} (r : Result X E) (P Q : Type 0) → OnOk r P → (P → Q) → OnOk r Q
 on_ok (Ok x) P Q h k = k h
 on_ok (Err e) P Q h k = search rules
-
--- three traps
-
-row_clear : (h : HeapState) (o : Option Barrier) (due : Barrier → Bool) (x : HeapState × Answer)
-    → or_refuse o refusals.NotBusy >>= (λ b. if due b then Err refusals.NoActor else Ok (h, answers.Clear)) ≡ Ok x
-    → x.1 ≡ answers.Clear
-row_clear h None due x e = absurd cc
-row_clear h (Some b) due x e = by_due (due b) e
-  where
-    by_due : (d : Bool) → (if d then Err refusals.NoActor else Ok (h, answers.Clear)) ≡ Ok x → x.1 ≡ answers.Clear
-    by_due true f = absurd cc
-    by_due false f = cc
-
-gate_passed : (r : Result Unit Refusal) (o : Outcome) (x : HeapState × Answer) → r >>= (λ u. o) ≡ Ok x → o ≡ Ok x
-gate_passed (Ok u) o x e = e
-gate_passed (Err n) o x e = absurd cc
-
-outcome_clear : (h : HeapState) (actor : Actor) (x : HeapState × Answer) → outcome h actor steps.Trap ≡ Ok x
-    → x.1 ≡ answers.Clear
-unfolding outcome trap_outcome
-outcome_clear h (Worker w) x e = absurd cc
-outcome_clear h (Thread t) x e = row_clear h (barrier_of_thread h t) (λ b. trap_due h t b.now) x
-    (gate_passed (thread_gate h t steps.Trap) (thread_row h t steps.Trap) x e)
-
-same_answer : (x y : BookState × Answer) → ◌≡◌ {A = BookOutcome} (Ok x) (Ok y) → x.1 ≡ y.1
-same_answer x y e = ap (λ (z : BookState × Answer). z.1) (same_pair e)
-  where
-    same_pair : ◌≡◌ {A = BookOutcome} (Ok x) (Ok y) → x ≡ y
-    same_pair f = cc
-
-entered_clear : (b : BookState) (actor : Actor) (o : Outcome) (c : BookState) (a : Answer)
-    → ((x : HeapState × Answer) → o ≡ Ok x → x.1 ≡ answers.Clear)
-    → enter_accepted b actor steps.Trap o ≡ Ok (c, a) → a ≡ answers.Clear
-entered_clear b actor (Ok x) c a clear e = sym (same_answer _ _ e) ∙ clear x refl
-entered_clear b actor (Err n) c a clear e = absurd cc
-
-acted_clear : (b c : BookState) (actor : Actor) (a : Answer) → act_outcome b actor steps.Trap ≡ Ok (c, a)
-    → a ≡ answers.Clear
-unfolding act_outcome
-acted_clear b c actor a e = by_full (is_full b) e
-  where
-    by_full : (full : Bool)
-        → (if full then Err refusals.HistoryFull else enter_accepted b actor steps.Trap
-        (outcome b.heap actor steps.Trap))
-        ≡ Ok (c, a) → a ≡ answers.Clear
-    by_full true f = absurd cc
-    by_full false f =
-        entered_clear b actor (outcome b.heap actor steps.Trap) c a (outcome_clear b.heap actor) f
-
-stepped_same : (b : BookState) (o : BookOutcome) (f g : BookState → Answer → Told)
-    → ((c : BookState) (a : Answer) → o ≡ Ok (c, a) → f c a ≡ g c a) → step_then b o f ≡ step_then b o g
-unfolding step_then
-stepped_same b (Ok x) f g same =
-    ap (λ (t : Told). tell t.book (Ok x.1 ∷ t.replies)) (same x.0 x.1 refl)
-stepped_same b (Err e) f g same = refl
-
-after_clear : (n m : ℕ) (due : Bool) (actor : Actor) (c : BookState) (a : Answer) → a ≡ answers.Clear
-    → after_trap n due actor c a ≡ after_trap m due actor c a
-after_clear n m due actor c a e = rw e refl
-
-pub three_traps_serve : ThreeTrapsServe
-three_traps_serve b k actor more =
-    let left : 3 + more ≡ suc (2 + more) = omega arith in
-    trapped_next (3 + more) (2 + more) false b actor left
-    ∙ stepped_same b (act_outcome b actor steps.Trap) (after_trap (2 + more) false actor) (after_trap 2 false actor)
-    (λ c a e. after_clear (2 + more) 2 false actor c a (acted_clear b c actor a e))
-    ∙ sym (trapped_next 3 2 false b actor refl)

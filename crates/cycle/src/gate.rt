@@ -1,7 +1,7 @@
 //! The tests that come before those of a step's own row.
 
 ghost use Rattle.std.specs.Prelude.{◌≡◌, length, nat_le, slice_get};
-ghost use Rattle.model.specs.Outcome.{no_register, no_global, has_bad_index, is_for_workers, is_for_parked, is_for_loading, is_loading_in, thread_gate};
+ghost use Rattle.model.specs.Outcome.{no_register, no_global, no_page, has_bad_index, is_for_workers, is_for_parked, is_for_loading, is_loading_in, thread_gate, worker_gate};
 
 use heap::Heap;
 use model::{Refusal, Step};
@@ -24,6 +24,19 @@ fn no_global(heap: &Heap, global: u32) -> bool
     ensures { result ≡ no_global heap.now global }
 {
     global as usize >= heap.globals().len()
+}
+
+#[tactic(auto, unfolding(model::specs::Outcome::no_page))]
+fn no_page(heap: &Heap, page: u32) -> bool
+    ensures { result ≡ no_page heap.now page }
+{
+    page == 0 || page > heap.store().page_count()
+}
+
+fn no_thread(heap: &Heap, thread: u32) -> bool
+    ensures { result ≡ nat_le (length heap.now.threads) thread }
+{
+    thread as usize >= heap.threads().len()
 }
 
 /// Whether a number in a step names nothing.
@@ -54,6 +67,9 @@ fn has_bad_index(heap: &Heap, step: &Step) -> bool
         }
         Step::ClearReg(register) => no_register(heap, *register),
         Step::Scrub(register) => no_register(heap, *register),
+        Step::Pick { page, .. } => no_page(heap, *page),
+        Step::ScanGlobal(global) => no_global(heap, *global),
+        Step::CrossFor(thread) => no_thread(heap, *thread),
         _ => false,
     }
 }
@@ -103,7 +119,7 @@ fn is_loading(heap: &Heap, thread: u32) -> bool
 pub fn thread_gate(heap: &Heap, thread: u32, step: &Step) -> Result<(), Refusal>
     ensures { result ≡ thread_gate heap.now thread step.now }
 {
-    if thread as usize >= heap.threads().len() || is_for_workers(step) {
+    if no_thread(heap, thread) || is_for_workers(step) {
         return Err(Refusal::NoActor);
     }
     if has_bad_index(heap, step) {
@@ -114,6 +130,21 @@ pub fn thread_gate(heap: &Heap, thread: u32, step: &Step) -> Result<(), Refusal>
     }
     if is_loading(heap, thread) && !is_for_loading(step) {
         return Err(Refusal::Busy);
+    }
+    Ok(())
+}
+
+/// The tests of every step of a worker, in their order: no such worker, or no step of a worker; a
+/// number that names nothing.
+#[tactic(auto, unfolding(model::specs::Outcome::worker_gate))]
+pub fn worker_gate(heap: &Heap, worker: u32, step: &Step) -> Result<(), Refusal>
+    ensures { result ≡ worker_gate heap.now worker step.now }
+{
+    if worker as usize >= heap.workers().len() || !is_for_workers(step) {
+        return Err(Refusal::NoActor);
+    }
+    if has_bad_index(heap, step) {
+        return Err(Refusal::BadIndex);
     }
     Ok(())
 }

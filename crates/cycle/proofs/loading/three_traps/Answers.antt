@@ -1,4 +1,4 @@
-use Rattle.cycle.proofs.WholeLoads.{three_traps_serve}
+use Rattle.cycle.proofs.Traps.{three_traps_serve}
 use Rattle.cycle.proofs.loading.three_traps.Goals as goal
 
 pub returns : goal.returns
