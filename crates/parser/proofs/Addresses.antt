@@ -1,5 +1,5 @@
 -- An address in a word: what is read is written so, and what is written so is read.
-use Rattle.std.proofs.Common.{◌≡◌, ℕ, ◌+◌, ◌*◌, ◌/◌, ◌%◌, ◌^◌, ◌<◌, ◌≤◌, Bool, true, false, cond, nat_lt, List, [], ◌∷◌}
+use Rattle.std.proofs.Common.{◌≡◌, ℕ, ◌+◌, ◌^◌, ◌<◌, ◌≤◌, Bool, true, false, cond, nat_lt, List, [], ◌∷◌}
 use Rattle.std.proofs.Common.{◌++◌, length, take, drop, Option, Some, None, position, refl, sym, ap, subst, ◌∙◌, arith}
 use Rattle.std.proofs.Common.{length-append}
 use Rattle.std.specs.Prelude.{Ok, ◌==◌, ◌||◌, not, nat_le}
@@ -12,7 +12,7 @@ use Rattle.std.proofs.lemmas.Option.{same_Some}
 use Rattle.std.proofs.Math.Seq.{take-append_seam, drop-append-add}
 use Rattle.model.proofs.Results.{same_result, not_refused}
 use Rattle.parser.specs.declared.fault.FaultKind.TheVariants as kinds
-use Rattle.parser.specs.Words.{◌>>=◌, or_flaw, flaw, word_or, is_digit, is_number, capped_from, parts_at, point_parts}
+use Rattle.parser.specs.Words.{or_flaw, flaw, word_or, is_digit, is_number, capped_from, parts_at, point_parts}
 use Rattle.parser.specs.Words.{address_number, page_in, offset_in, address_or, address_in, address_at}
 use Rattle.parser.specs.Spelling.{address_word}
 use Rattle.parser.proofs.Lists.{split_cons, split_some}

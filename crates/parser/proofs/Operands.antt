@@ -1,5 +1,6 @@
 -- An order's operands: what is read is written so, and what is written so is read.
-use Rattle.std.proofs.Common.{◌≡◌, ℕ, ◌^◌, ◌<◌, ◌≤◌, List, [], ◌++◌, refl, sym, ap, subst, ◌∙◌, arith, lit<, append_assoc}
+use Rattle.std.proofs.Common.{◌≡◌, ℕ, ◌^◌, ◌<◌, ◌≤◌, List, [], ◌++◌, refl, sym, ap, subst, ◌∙◌, arith, lit<}
+use Rattle.std.proofs.Common.{append_assoc}
 use Rattle.std.specs.Prelude.{Ok}
 use Rattle.model.proofs.Results.{same_result}
 use Rattle.parser.specs.declared.fault.FaultKind.TheVariants as kinds

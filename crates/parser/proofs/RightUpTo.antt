@@ -1,5 +1,5 @@
 -- A command's line, or a block's, is right up to the word of its fault.
-use Rattle.std.proofs.Common.{◌≡◌, ◌≢◌, ℕ, ◌+◌, ◌*◌, ◌^◌, ◌<◌, ◌≤◌, true, false, nat_lt, List, [], ◌∷◌}
+use Rattle.std.proofs.Common.{◌≡◌, ◌≢◌, ℕ, ◌+◌, ◌*◌, ◌^◌, ◌<◌, ◌≤◌, false, nat_lt, List, [], ◌∷◌}
 use Rattle.std.proofs.Common.{◌++◌, length, take, drop, Option, Some, None, refl, sym, ap, subst, ◌∙◌, arith, inl, inr}
 use Rattle.std.proofs.Common.{append-nil, append_assoc, length-append, length-drop}
 use Rattle.std.specs.Prelude.{Result, Ok, Err, ◌==◌, ◌&&◌, ◌⊎◌, not, codes, filter}
@@ -20,7 +20,7 @@ use Rattle.parser.specs.declared.heading.Sizes.{Sizes}
 use Rattle.parser.specs.declared.order.Command.{Command}
 use Rattle.model.specs.declared.limits.TheConstants.{MOST_LAYOUTS}
 use Rattle.parser.specs.declared.reading.TheConstants.{MOST_COMMANDS, MOST_TURNS}
-use Rattle.parser.specs.Words.{◌>>=◌, flaw, word_or, is_number, number_at, named_in, named_at, end_at}
+use Rattle.parser.specs.Words.{◌>>=◌, flaw, word_or, number_at, named_in, named_at, end_at}
 use Rattle.parser.specs.Headings.{config_of, heap_in}
 use Rattle.parser.specs.Orders.{first_byte, actor_at, order_at}
 use Rattle.parser.specs.Reading.{ReadSoFar, nothing, is_idle, first_word, heap_line, is_full, command_line, times_in}

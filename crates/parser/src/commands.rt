@@ -2,7 +2,8 @@
 
 ghost use Rattle.std.specs.Prelude.{◌≡◌, ◌==◌};
 ghost use Rattle.parser.specs.Verbs.{IsSmall, IsWide};
-ghost use Rattle.parser.specs.Orders.{register_at, thread_at, operand_at, actor_at, first_byte, does, verb_in, operands_at, order_at};
+ghost use Rattle.parser.specs.Orders.{register_at, thread_at, operand_at, actor_at, first_byte};
+ghost use Rattle.parser.specs.Orders.{does, verb_in, operands_at, order_at};
 
 use crate::fault::{FaultKind, Flaw};
 use crate::heading::Sizes;
