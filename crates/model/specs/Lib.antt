@@ -15,6 +15,7 @@ pub mod Buffers
 pub mod Births
 pub mod Loads
 pub mod Checkpoints
+pub mod Scans
 pub mod Outcome
 pub mod Plain
 pub mod Texts
