@@ -1,15 +1,10 @@
 -- What is left to be scanned: the bit of an address, and the first address of many.
-use Rattle.std.proofs.Common.{◌≡◌, ◌≢◌, ℕ, zero, suc, ◌+◌, ◌*◌, ◌-◌, ◌/◌, ◌%◌, ◌<◌, ◌≤◌, Bool, true, false, List, []}
-use Rattle.std.proofs.Common.{length, get_or, Option, Some, None, refl, ap, sym, ◌∙◌, arith}
+use Rattle.std.proofs.Common.{◌≡◌, ◌≢◌, ℕ, zero, suc, ◌+◌, ◌-◌, ◌/◌, ◌%◌, Bool, false, List, []}
+use Rattle.std.proofs.Common.{get_or, Option, Some, None, refl, ap, sym, ◌∙◌, arith}
 use Rattle.std.specs.Prelude.{slice_get, slice_index_or, find, unwrap_or}
 use Rattle.std.specs.List.{range_with_len}
 use Rattle.std.proofs.lemmas.Option.{unwrap_or-slice_get}
 use Rattle.model.specs.Bits.{of_page, bit_at}
-use Rattle.model.specs.Holding.{IsHeap}
-use Rattle.model.specs.Owning.{IsStore}
-use Rattle.model.specs.States.{HeapState}
-use Rattle.model.specs.Stores.{record_count}
-use Rattle.model.specs.Scans.{is_free_todo, next_todo}
 
 -- ---- a bit
 

@@ -1,5 +1,4 @@
-use Rattle.std.proofs.Common.{◌≡◌, ap, sym, ◌∙◌, ◌/◌, ◌-◌, List, Bool}
-use Rattle.std.specs.Prelude.{slice_get}
+use Rattle.std.proofs.Common.{ap, sym, ◌∙◌}
 use Rattle.std.specs.Option.{option_copied}
 use Rattle.model.specs.Stores.{StoreState}
 use Rattle.cycle.proofs.LeftToScan.{told_past, told_found}

@@ -1,4 +1,4 @@
-use Rattle.std.proofs.Common.{◌≡◌, ◌∙◌, ◌-◌, ◌+◌, suc, sym, arith}
+use Rattle.std.proofs.Common.{◌∙◌, sym, arith}
 use Rattle.model.specs.Scans.{is_free_todo}
 use Rattle.cycle.proofs.LeftToScan.{find_miss}
 use Rattle.cycle.proofs.draining.next_todo.Goals as goal

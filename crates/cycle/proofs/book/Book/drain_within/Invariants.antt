@@ -1,4 +1,4 @@
-use Rattle.std.proofs.Common.{◌≡◌, ◌-◌}
+use Rattle.std.proofs.Common.{◌-◌}
 use Rattle.cycle.specs.Loads.{behind}
 use Rattle.cycle.specs.Drains.{drain_within, verdict}
 use Rattle.cycle.proofs.WholeDrains.{IsLeft}
