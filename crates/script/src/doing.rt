@@ -49,10 +49,10 @@ fn do_drain(
 ) -> Result<(), RunFault>
     ensures { OnOk result (Leaves (drain book.old worker) replies.old.items book.new replies.new.items) }
 {
-    match book.drain(worker, replies) {
-        Err(Refusal::Memory) => Err(RunFault::Memory),
-        _ => Ok(()),
+    if let Err(Refusal::Memory) = book.drain(worker, replies) {
+        return Err(RunFault::Memory);
     }
+    Ok(())
 }
 
 /// Does a command: one step, or the steps of a load or a drain up to its end or its first refusal. `replies`
