@@ -18,7 +18,7 @@ invariant_of-self-2 c =
       answer = c.in_ok-answer.answer;
     } ∷ []) c.reserve.ensures.items)
 
-pub returns-clause-phase : goal.returns-in-Ok-clause-phase
+pub returns-clause-phase : goal.returns-clause-phase
 returns-clause-phase c =
     let b = book_of c.self.inside in
     (c.in_ok-answer.ensures.stands (replayed b).now (replayed b).at_mark c.self.invariant.holds).phase
