@@ -11,11 +11,11 @@ use Rattle.cycle.specs.Books.{BookState, BookOutcome, Reply, act_outcome}
 use Rattle.cycle.specs.Loads.{Told, tell, step_then, finish_load, heal_load, is_clear, trap_load, Says}
 use Rattle.cycle.specs.Loads.{behind}
 
-accepted : (b c : BookState) (o : BookOutcome) (reply : Reply) (a : Answer) → reply ≡ Ok a → Says b reply c o
+pub accepted : (b c : BookState) (o : BookOutcome) (reply : Reply) (a : Answer) → reply ≡ Ok a → Says b reply c o
     → o ≡ Ok (c, a)
 accepted b c o reply a e h = subst (λ (x : Reply). Says b x c o) e h
 
-refused : (b c : BookState) (o : BookOutcome) (reply : Reply) (e : Refusal) → reply ≡ Err e → Says b reply c o
+pub refused : (b c : BookState) (o : BookOutcome) (reply : Reply) (e : Refusal) → reply ≡ Err e → Says b reply c o
     → (o ≡ Err e) × (c ≡ b)
 refused b c o reply e is h = subst (λ (x : Reply). Says b x c o) is h
 
@@ -43,7 +43,7 @@ step_err b c o reply e next rs more is says put =
     let more_is : more ≡ rs ++ Err e ∷ [] = put ∙ ap (λ (x : Reply). rs ++ x ∷ []) is in
     rw (h.0, h.1, more_is) refl
 
-nothing_more : (c : BookState) (rs : List Reply) → behind rs (tell c []) ≡ tell c rs
+pub nothing_more : (c : BookState) (rs : List Reply) → behind rs (tell c []) ≡ tell c rs
 nothing_more c rs = ap (tell c) (append-nil rs)
 
 -- a step that nothing follows

@@ -41,12 +41,14 @@
 #![tactic(auto)]
 
 mod book;
+mod draining;
 mod gate;
 mod loading;
 mod running;
 mod stepping;
 
 pub use book::{Book, Entry};
+pub use draining::verdict;
 pub use loading::three_traps;
 pub use model::{Actor, Answer, PageList, Reply, Step};
 pub use running::run;

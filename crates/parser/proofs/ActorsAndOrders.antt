@@ -1,7 +1,7 @@
 -- Actors and whole orders: what is read is written so, and what is written so is read.
-use Rattle.std.proofs.Common.{◌≡◌, ℕ, ◌^◌, ◌<◌, Bool, true, false, cond, List, [], ◌∷◌, ◌++◌}
+use Rattle.std.proofs.Common.{◌≡◌, ℕ, Bool, true, false, cond, List, [], ◌∷◌, ◌++◌}
 use Rattle.std.proofs.Common.{Some, refl, sym, ap, subst, ◌∙◌, arith, inl, inr, append-nil}
-use Rattle.std.specs.Prelude.{Ok, ◌==◌, find}
+use Rattle.std.specs.Prelude.{Ok, ◌==◌, find, Option, None}
 use Rattle.std.specs.Str.{bytes_eq}
 use Rattle.std.specs.Fmt.{decimal}
 use Rattle.std.specs.List.{join_with_byte}
@@ -18,13 +18,13 @@ use Rattle.parser.specs.declared.verbs.Verb.{Verb}
 use Rattle.parser.specs.declared.verbs.TheConstants.{VERBS}
 use Rattle.parser.specs.Words.{or_flaw, flaw, word_or, named_at, end_at}
 use Rattle.parser.specs.Verbs.{row_of, verb_of}
-use Rattle.parser.specs.Orders.{verb_in, first_byte, actor_at, operands_at, order_at}
+use Rattle.parser.specs.Orders.{does, done_by, verb_in, first_byte, actor_at, operands_at, order_at}
 use Rattle.parser.specs.Headings.{config_of}
 use Rattle.parser.specs.Spelling.{actor_word, operand_words, order_words, IsActor, IsFor, IsOrder}
 use Rattle.parser.proofs.Places.{words_from, words_whole, Reads}
 use Rattle.parser.proofs.Places.{bind_ok, or_flaw_ok, word_ok, word_again}
 use Rattle.parser.proofs.Places.{named_ok, named_again, end_ok, end_again, one_of}
-use Rattle.parser.proofs.Operands.{operands_ok, operands_again}
+use Rattle.parser.proofs.Operands.{AreFew, bounds_in, operands_ok, operands_again}
 
 -- ---- verbs
 
@@ -51,11 +51,23 @@ verb_again : (v : Verb) → verb_of (row_of v).text ≡ Some v
 unfolding verb_of
 verb_again v = grind arith
 
--- who may give the verb's order
-actor_verb : (actor : Actor) (w : List ℕ) (v : Verb) (o : Order) → verb_in actor w ≡ Some v
-    → IsFor actor o × (w ≡ (row_of v).text)
-actor_verb (Thread t) w v o h = (tt, verb_ok w v h)
-actor_verb (Worker t) w v o h = absurd cc
+-- the verb that a word is for an actor is one that the actor does
+pub actor_verb : (actor : Actor) (w : List ℕ) (v : Verb) → verb_in actor w ≡ Some v
+    → (does actor v ≡ true) × (w ≡ (row_of v).text)
+actor_verb actor w v h = by_verb (verb_of w) refl h
+  where
+    by_test : (x : Verb) (b : Bool) → does actor x ≡ b → cond b (Some x) None ≡ Some v
+        → (does actor v ≡ true) × (x ≡ v)
+    by_test x true own e =
+        let same : x ≡ v = same_Some x v e in (subst (λ (y : Verb). does actor y ≡ true) same own, same)
+    by_test x false own e = absurd cc
+
+    by_verb : (o : Option Verb) → verb_of w ≡ o → done_by actor o ≡ Some v
+        → (does actor v ≡ true) × (w ≡ (row_of v).text)
+    by_verb None found e = absurd cc
+    by_verb (Some x) found e =
+        let own = by_test x (does actor x) refl e in
+        (own.0, verb_ok w v (found ∙ ap Some own.1))
 
 -- ---- orders
 
@@ -70,42 +82,41 @@ whole_order x w text y rest operands p q r s =
 pub record IsOrderFrom (sizes : Sizes) (line : List ℕ) (actor : Actor) (at : ℕ) (o : Order) : Type 0 where
   pub spelled : words_from line at ≡ order_words o
   pub own : IsFor actor o
-  pub fits : IsOrder sizes.registers o
+  pub fits : IsOrder (bounds_in sizes) o
 
-pub order_ok : (sizes : Sizes) (line : List ℕ) (actor : Actor) (at : ℕ) (o : Order) → sizes.registers < 2 ^ 64
+pub order_ok : (sizes : Sizes) (line : List ℕ) (actor : Actor) (at : ℕ) (o : Order) → AreFew sizes
     → order_at sizes line actor at ≡ Ok o → IsOrderFrom sizes line actor at o
 unfolding order_at
-order_ok sizes line actor at o fits h =
+order_ok sizes line actor at o few h =
     let w = bind_ok (word_or line at kinds.UnknownWord) _ o h in
     let verb = bind_ok (or_flaw (verb_in actor w.0.0) (flaw at kinds.UnknownWord)) _ o w.2 in
     let v = bind_ok (operands_at sizes line w.0.1 verb.0) _ o verb.2 in
     let e = bind_ok (end_at line v.0.1) _ o v.2 in
     let first = word_ok line at kinds.UnknownWord w.0 w.1 in
-    let own = actor_verb actor w.0.0 verb.0 v.0.0
+    let own = actor_verb actor w.0.0 verb.0
     (or_flaw_ok (verb_in actor w.0.0) (flaw at kinds.UnknownWord) verb.0 verb.1) in
-    let operands = operands_ok sizes line w.0.1 verb.0 v.0 fits v.1 in
+    let operands = operands_ok sizes line w.0.1 verb.0 v.0 few v.1 in
     let last = end_ok line v.0.1 e.0 e.1 in
     let text : w.0.0 ≡ (row_of v.0.0.verb).text =
     own.1 ∙ sym (ap (λ (x : Verb). (row_of x).text) operands.verb_is) in
     subst (λ (x : Order). IsOrderFrom sizes line actor at x) (same_result v.0.0 o e.2) (record {
       spelled = whole_order (words_from line at) w.0.0 (row_of v.0.0.verb).text (words_from line w.0.1)
           (words_from line v.0.1) (operand_words (row_of v.0.0.verb).kinds v.0.0) first text operands.spelled last;
-      own = own.0;
+      own = subst (λ (x : Verb). does actor x ≡ true) (sym operands.verb_is) own.0;
       fits = operands.fits;
     })
 
 in_verb : (actor : Actor) (o : Order) → IsFor actor o → verb_in actor (row_of o.verb).text ≡ Some o.verb
-in_verb (Thread t) o own = verb_again o.verb
-in_verb (Worker t) o own = absurd own
+in_verb actor o own = ap (done_by actor) (verb_again o.verb) ∙ (rw own refl)
 
-pub order_again : (sizes : Sizes) (line : List ℕ) (actor : Actor) (at : ℕ) (o : Order) → sizes.registers < 2 ^ 64
-    → IsFor actor o → IsOrder sizes.registers o → words_from line at ≡ order_words o
+pub order_again : (sizes : Sizes) (line : List ℕ) (actor : Actor) (at : ℕ) (o : Order) → AreFew sizes
+    → IsFor actor o → IsOrder (bounds_in sizes) o → words_from line at ≡ order_words o
     → order_at sizes line actor at ≡ Ok o
 unfolding order_at
-order_again sizes line actor at o fits own is h =
+order_again sizes line actor at o few own is h =
     let operands = operand_words (row_of o.verb).kinds o in
     let w = word_again line at kinds.UnknownWord (row_of o.verb).text operands h in
-    let v = operands_again sizes line w.0 o [] fits is (w.2 ∙ sym (append-nil operands)) in
+    let v = operands_again sizes line w.0 o [] few is (w.2 ∙ sym (append-nil operands)) in
     let e = end_again line v.0 v.2 in
     rw (w.1, in_verb actor o own, v.1, e) refl
 
@@ -116,12 +127,6 @@ pub record IsActorAt (sizes : Sizes) (line : List ℕ) (a : Actor × ℕ) : Type
   pub spelled : words_from line 0 ≡ actor_word a.0 ∷ words_from line a.1
   pub there : IsActor (config_of sizes []) a.0
 
--- few enough threads and workers for their numbers
-pub record AreFew (sizes : Sizes) : Type 0 where
-  pub threads : sizes.threads < 2 ^ 64
-  pub workers : sizes.workers < 2 ^ 64
-  pub registers : sizes.registers < 2 ^ 64
-
 pub actor_ok : (sizes : Sizes) (line : List ℕ) (a : Actor × ℕ) → AreFew sizes → actor_at sizes line ≡ Ok a
     → IsActorAt sizes line a
 unfolding actor_at
@@ -129,12 +134,12 @@ actor_ok sizes line a few h =
     elim (one_of (first_byte line == 119) _ _ (Ok a) h) [
       | inl worker ↦
           let w = bind_ok (named_at line 0 119 sizes.workers kinds.NoSuchActor) _ a worker.1 in
-          let n = named_ok line 0 119 sizes.workers kinds.NoSuchActor w.0 few.workers w.1 in
+          let n = named_ok line 0 119 sizes.workers kinds.NoSuchActor w.0 (omega (arith, few.workers.1)) w.1 in
           subst (λ (x : Actor × ℕ). IsActorAt sizes line x) (same_result (Worker w.0.0, w.0.1) a w.2)
           (record { spelled = n.spelled; there = n.below })
       | inr thread ↦
           let t = bind_ok (named_at line 0 116 sizes.threads kinds.NoSuchActor) _ a thread.1 in
-          let n = named_ok line 0 116 sizes.threads kinds.NoSuchActor t.0 few.threads t.1 in
+          let n = named_ok line 0 116 sizes.threads kinds.NoSuchActor t.0 (omega (arith, few.threads.1)) t.1 in
           subst (λ (x : Actor × ℕ). IsActorAt sizes line x) (same_result (Thread t.0.0, t.0.1) a t.2)
           (record { spelled = n.spelled; there = n.below })
     ]
@@ -156,9 +161,9 @@ pub actor_again : (sizes : Sizes) (line : List ℕ) (a : Actor) (ws : List (List
 unfolding actor_at
 actor_again sizes line (Thread t) ws few there h =
     let test : (first_byte line == 119) ≡ false = rw (first_is line 116 (decimal t) ws h) refl in
-    let n = named_again line 0 116 sizes.threads kinds.NoSuchActor t ws (omega (arith, few.threads, there)) there h in
+    let n = named_again line 0 116 sizes.threads kinds.NoSuchActor t ws (omega (arith, few.threads.1, there)) there h in
     (n.0, rw (test, n.1) refl, n.2)
 actor_again sizes line (Worker w) ws few there h =
     let test : (first_byte line == 119) ≡ true = rw (first_is line 119 (decimal w) ws h) refl in
-    let n = named_again line 0 119 sizes.workers kinds.NoSuchActor w ws (omega (arith, few.workers, there)) there h in
+    let n = named_again line 0 119 sizes.workers kinds.NoSuchActor w ws (omega (arith, few.workers.1, there)) there h in
     (n.0, rw (test, n.1) refl, n.2)

@@ -1,6 +1,6 @@
 -- Orders and lines that are alike are read and taken alike, and a line's fault stands at a word of it.
 use Rattle.std.proofs.Common.{◌≡◌, ℕ, ◌+◌, Bool, true, false, cond, List, [], ◌∷◌, length, Option, Some, None, refl}
-use Rattle.std.proofs.Common.{ap, subst, ◌≢◌, ◌≤◌, ◌*◌, nat_lt, ◌++◌, sym, arith, inl, inr}
+use Rattle.std.proofs.Common.{ap, subst, ◌≢◌, ◌≤◌, ◌*◌, ◌^◌, nat_lt, ◌++◌, sym, arith, inl, inr}
 use Rattle.std.specs.Prelude.{Result, Ok, Err, ◌==◌, ◌||◌, not, nat_le, ◌&&◌, ◌⊎◌, codes}
 use Rattle.std.proofs.lemmas.Bool.{or_parts, not-false, lt-ltb}
 use Rattle.std.proofs.lemmas.Bool.Decides.{Decides-eqb, nat_tests}
@@ -10,11 +10,12 @@ use Rattle.parser.specs.declared.fault.Flaw.{Flaw}
 use Rattle.parser.specs.declared.heading.Sizes.{Sizes}
 use Rattle.parser.specs.declared.order.Order.{Order}
 use Rattle.parser.specs.declared.verbs.Kind.{Kind}
-use Rattle.parser.specs.declared.verbs.Kind.TheVariants.{Nothing, Register, Number, Long}
+use Rattle.parser.specs.declared.verbs.Kind.TheVariants.{Nothing, Register, Number, ThreadName, Long, Address}
 use Rattle.parser.specs.declared.verbs.Verb.{Verb}
 use Rattle.model.specs.declared.steps.Actor.{Actor}
 use Rattle.parser.specs.Words.{◌>>=◌, flaw, or_flaw, word_or, is_number, capped_from, named_in, named_at, end_at}
-use Rattle.parser.specs.Words.{number_at}
+use Rattle.parser.specs.Words.{number_at, point_parts, address_number, address_in, address_at}
+use Rattle.parser.proofs.Addresses.{parts_are}
 use Rattle.parser.specs.Orders.{verb_in, register_at, operand_at, operands_at, order_at, first_byte, actor_at}
 use Rattle.parser.specs.Faults.{IsWrongWord}
 use Rattle.parser.proofs.Alike.{AreAlike, IsJudged, IsWordAlike, IsReadAlike, word_alike, then_alike, done_alike}
@@ -38,7 +39,7 @@ use Rattle.parser.proofs.WordPlaces.{IsBehindWord, IsWordAt, finds_word, behind_
 -- ---- names
 
 -- what is wrong where a name's number isn't there
-abbrev IsAbsent : ℕ → ℕ → FaultKind → Type 0
+abbrev pub IsAbsent : ℕ → ℕ → FaultKind → Type 0
 IsAbsent at letter missing = (front word digits : List ℕ) → length front ≡ at → word ≡ letter ∷ digits
     → is_number digits ≡ true → IsWrongWord missing front word
 
@@ -65,6 +66,16 @@ judge_name place at letter count missing (b ∷ bs) after next absent h =
     judge_name_by place at letter missing b bs after next absent h (not (b == letter) || not (is_number bs))
     (nat_le count (capped_from 0 bs)) refl
 
+-- a register, a thread and a worker that isn't there
+pub no_register : (at : ℕ) → IsAbsent at 114 kinds.NoSuchRegister
+no_register at front word digits size is number = (digits, (is, number))
+
+pub no_thread : (at : ℕ) → IsAbsent at 116 kinds.NoSuchActor
+no_thread at front word digits size is number = inl (digits, (is, number))
+
+pub no_worker : IsAbsent 0 119 kinds.NoSuchActor
+no_worker front word digits size is number = inr (no_bytes front size, (digits, (is, number)))
+
 -- a name of which more is asked
 pub name_then : {B : Type 0} (n : ℕ) (line other : List ℕ) (k : AreAlike n line other) (place : B → ℕ)
     (at letter count : ℕ) (missing : FaultKind) (next : ℕ × ℕ → Result B Flaw) → IsAbsent at letter missing
@@ -80,6 +91,37 @@ name_then n line other k place at letter count missing next absent h =
 pub bind_ok_is : {A : Type 0} (r : Result A Flaw) → (r >>= (λ x. Ok x)) ≡ r
 bind_ok_is (Ok x) = refl
 bind_ok_is (Err d) = refl
+
+-- ---- addresses
+
+-- how a word is judged that has to be an address
+abbrev pub judged_address : ℕ → ℕ → List ℕ × ℕ → Result (ℕ × ℕ) Flaw
+judged_address at words w =
+    or_flaw (point_parts w.0) (flaw at kinds.UnknownWord) >>= (λ parts. address_in parts w.1 at words)
+
+judge_pair : (at words : ℕ) (word : List ℕ) (after : ℕ) (parts : List ℕ × List ℕ) → word ≡ parts.0 ++ (46 ∷ parts.1)
+    → (b c : Bool) → (not (is_number parts.0) || not (is_number parts.1)) ≡ b
+    → IsJudged (λ (x : ℕ × ℕ). x.1) at (word, after) (cond b (Err (flaw at kinds.UnknownWord))
+    (cond c (Err (flaw at kinds.NumberOutOfRange))
+    (Ok (address_number (capped_from 0 parts.0) (capped_from 0 parts.1), after))))
+judge_pair at words word after parts is true c e = (refl, λ front size. tt)
+judge_pair at words word after parts is false true e =
+    let sides = or_parts (not (is_number parts.0)) (not (is_number parts.1)) e in
+    let page : is_number parts.0 ≡ true = not-false (is_number parts.0) sides.0 in
+    let offset : is_number parts.1 ≡ true = not-false (is_number parts.1) sides.1 in
+    (refl, λ front size. inr (parts.0, (parts.1, (is, (page, offset)))))
+judge_pair at words word after parts is false false e = refl
+
+judge_parts : (at words : ℕ) (w : List ℕ × ℕ) (o : Option (List ℕ × List ℕ)) → point_parts w.0 ≡ o
+    → IsJudged (λ (x : ℕ × ℕ). x.1) at w
+    (or_flaw o (flaw at kinds.UnknownWord) >>= (λ parts. address_in parts w.1 at words))
+judge_parts at words w None e = (refl, λ front size. tt)
+judge_parts at words w (Some parts) e =
+    judge_pair at words w.0 w.1 parts (parts_are w.0 parts e) (not (is_number parts.0) || not (is_number parts.1))
+    (nat_le (2 ^ 32) (capped_from 0 parts.0) || nat_le words (capped_from 0 parts.1)) refl
+
+pub judge_address : (at words : ℕ) (w : List ℕ × ℕ) → IsJudged (λ (x : ℕ × ℕ). x.1) at w (judged_address at words w)
+judge_address at words w = judge_parts at words w (point_parts w.0) refl
 
 -- ---- an order
 
@@ -107,19 +149,27 @@ order_behind sizes line verb =
     operands_at sizes line verb.1 verb.0 >>= (λ order. end_at line order.1 >>= (λ u. Ok order.0))
 
 module _ (n : ℕ) (line other : List ℕ) (k : AreAlike n line other) (sizes : Sizes) where
+  named_alike : (at letter count : ℕ) (missing : FaultKind) → IsAbsent at letter missing
+      → Alike n line other k at (named_at line at letter count missing) (named_at other at letter count missing)
+  named_alike at letter count missing absent =
+      let place = λ (x : ℕ × ℕ). x.1 in
+      let both = word_alike line place n at _ _ (name_then n line other k place at letter count missing
+      (λ (x : ℕ × ℕ). Ok x) absent (λ w x e. e)) in
+      subst (λ (r : Result (ℕ × ℕ) Flaw). IsReadAlike line place n at (named_at line at letter count missing) r)
+      (bind_ok_is (named_at other at letter count missing))
+      (subst (λ (r : Result (ℕ × ℕ) Flaw). IsReadAlike line place n at r
+      (named_at other at letter count missing >>= (λ (x : ℕ × ℕ). Ok x)))
+      (bind_ok_is (named_at line at letter count missing)) both)
+
   register_alike : (at : ℕ) → Alike n line other k at (register_at sizes line at) (register_at sizes other at)
   unfolding register_at
-  register_alike at =
-      let place = λ (x : ℕ × ℕ). x.1 in
-      let both = word_alike line place n at _ _ (name_then n line other k place at 114 sizes.registers
-      kinds.NoSuchRegister (λ (x : ℕ × ℕ). Ok x) (λ front word digits size is number. (digits, (is, number)))
-      (λ w x e. e)) in
-      subst (λ (r : Result (ℕ × ℕ) Flaw). IsReadAlike line place n at
-      (named_at line at 114 sizes.registers kinds.NoSuchRegister) r)
-      (bind_ok_is (named_at other at 114 sizes.registers kinds.NoSuchRegister))
-      (subst (λ (r : Result (ℕ × ℕ) Flaw). IsReadAlike line place n at r
-      (named_at other at 114 sizes.registers kinds.NoSuchRegister >>= (λ (x : ℕ × ℕ). Ok x)))
-      (bind_ok_is (named_at line at 114 sizes.registers kinds.NoSuchRegister)) both)
+  register_alike at = named_alike at 114 sizes.registers kinds.NoSuchRegister (no_register at)
+
+  address_alike : (at words : ℕ) → Alike n line other k at (address_at line at words) (address_at other at words)
+  unfolding address_at
+  address_alike at words =
+      word_alike line (λ (x : ℕ × ℕ). x.1) n at _ _ (one_word n line other k (λ (x : ℕ × ℕ). x.1) at
+      kinds.UnknownWord (judged_address at words) (judge_address at words) tt)
 
   operand_alike : (at : ℕ) (kind : Kind)
       → Alike n line other k at (operand_at sizes line at kind) (operand_at sizes other at kind)
@@ -127,7 +177,9 @@ module _ (n : ℕ) (line other : List ℕ) (k : AreAlike n line other) (sizes : 
   operand_alike at Nothing = found_alike n line other k 0 at
   operand_alike at Register = register_alike at
   operand_alike at Number = small_alike n line other k at
+  operand_alike at ThreadName = named_alike at 116 sizes.threads kinds.NoSuchActor (no_thread at)
   operand_alike at Long = number_alike n line other k at 0 18446744073709551615
+  operand_alike at Address = address_alike at sizes.words
 
   operands_alike : (at : ℕ) (verb : Verb)
       → Alike n line other k at (operands_at sizes line at verb) (operands_at sizes other at verb)
@@ -317,14 +369,14 @@ module _ (n : ℕ) (line other : List ℕ) (k : AreAlike n line other) where
       (named_at other 0 119 sizes.workers kinds.NoSuchActor) (λ (w : ℕ × ℕ). Ok (Worker w.0, w.1)) (checked full)
       (name_then n line other k (λ (x : Actor × ℕ). x.1) 0 119 sizes.workers kinds.NoSuchActor
       (λ (w : ℕ × ℕ). checked full (Worker w.0, w.1))
-      (λ front word digits size is number. (no_bytes front size, inr (digits, (is, number))))
+      no_worker
       (λ w x e. judge_full (Worker x.0) w x.1 e full))
   actor_room sizes full false =
       two_steps line n (named_at line 0 116 sizes.threads kinds.NoSuchActor)
       (named_at other 0 116 sizes.threads kinds.NoSuchActor) (λ (t : ℕ × ℕ). Ok (Thread t.0, t.1)) (checked full)
       (name_then n line other k (λ (x : Actor × ℕ). x.1) 0 116 sizes.threads kinds.NoSuchActor
       (λ (t : ℕ × ℕ). checked full (Thread t.0, t.1))
-      (λ front word digits size is number. (no_bytes front size, inl (digits, (is, number))))
+      (no_thread 0)
       (λ w x e. judge_full (Thread x.0) w x.1 e full))
 
   actor_alike : (sizes : Sizes) (full : Bool)

@@ -33,14 +33,14 @@ judge_then : {B : Type 0} (place : B → ℕ) (at low high : ℕ) (w : List ℕ 
     → is_number w.0 ≡ b → IsJudged place at w (cond (not b) (Err (flaw at kinds.NumberExpected))
     (cond c (Err (flaw at kinds.NumberOutOfRange)) (Ok (capped_from 0 w.0, w.1))) >>= next)
 judge_then place at low high w next h false c e = (refl, λ front size. e)
-judge_then place at low high w next h true true e = (refl, λ front size. e)
+judge_then place at low high w next h true true e = (refl, λ front size. inl e)
 judge_then place at low high w next h true false e = h (capped_from 0 w.0, w.1) refl e
 
 pub judge_number : (at low high : ℕ) (w : List ℕ × ℕ) (b c : Bool) → is_number w.0 ≡ b
     → IsJudged (λ (x : ℕ × ℕ). x.1) at w (cond (not b) (Err (flaw at kinds.NumberExpected))
     (cond c (Err (flaw at kinds.NumberOutOfRange)) (Ok (capped_from 0 w.0, w.1))))
 judge_number at low high w false c e = (refl, λ front size. e)
-judge_number at low high w true true e = (refl, λ front size. e)
+judge_number at low high w true true e = (refl, λ front size. inl e)
 judge_number at low high w true false e = refl
 
 no_number : is_number [] ≡ false
@@ -49,7 +49,7 @@ no_number = refl
 
 judge_size : (at : ℕ) (w : List ℕ × ℕ) (x : ℕ × ℕ) → x.1 ≡ w.1 → is_number w.0 ≡ true → (b : Bool)
     → IsJudged (λ (x : ℕ × ℕ). x.1) at w (cond b (Err (flaw at kinds.NumberOutOfRange)) (Ok x))
-judge_size at w x e number true = (refl, λ front size. number)
+judge_size at w x e number true = (refl, λ front size. inl number)
 judge_size at w x e number false = e
 
 judge_room : (at : ℕ) (w : List ℕ × ℕ) (x : ℕ × ℕ) → x.1 ≡ w.1 → is_number w.0 ≡ true → (b : Bool)

@@ -1,5 +1,5 @@
 -- Where operands and orders break off, the words before are the first ones of some operands and orders.
-use Rattle.std.proofs.Common.{◌≡◌, ℕ, ◌+◌, ◌^◌, ◌<◌, ◌≤◌, Bool, true, false, cond, nat_lt, List, [], ◌∷◌, ◌++◌}
+use Rattle.std.proofs.Common.{◌≡◌, ℕ, ◌+◌, ◌≤◌, Bool, true, false, cond, nat_lt, List, [], ◌∷◌, ◌++◌}
 use Rattle.std.proofs.Common.{length, refl, sym, ap, subst, ◌∙◌, arith, inl, inr, append_assoc, Option, Some, None}
 use Rattle.std.proofs.Common.{append-nil}
 use Rattle.std.specs.Prelude.{Result, Ok, Err, ◌⊎◌, ◌||◌, not, nat_le}
@@ -10,25 +10,27 @@ use Rattle.parser.specs.declared.fault.FaultKind.TheVariants as kinds
 use Rattle.parser.specs.declared.fault.Flaw.{Flaw}
 use Rattle.parser.specs.declared.heading.Sizes.{Sizes}
 use Rattle.parser.specs.Words.{◌>>=◌, flaw, word_or, is_number, capped_from, in_range, number_at, small_at, named_in}
-use Rattle.parser.specs.Words.{named_at, end_at, or_flaw}
+use Rattle.parser.specs.Words.{named_at, address_at, end_at, or_flaw}
 use Rattle.parser.specs.declared.verbs.Kind.{Kind}
-use Rattle.parser.specs.declared.verbs.Kind.TheVariants.{Nothing, Register, Number, Long}
-use Rattle.parser.specs.Orders.{register_at, operand_at, operands_at, order_at}
-use Rattle.parser.specs.Spelling.{operand_word, operand_words, order_words, IsOperand, IsOrder}
+use Rattle.parser.specs.declared.verbs.Kind.TheVariants.{Nothing, Register, Number, ThreadName, Long, Address}
+use Rattle.parser.specs.Orders.{does, verb_in, register_at, operand_at, operands_at, order_at}
+use Rattle.parser.specs.Spelling.{operand_word, operand_words, order_words, IsOperand, IsOrder, IsFor}
 use Rattle.parser.proofs.Places.{words_from, end_past}
 use Rattle.parser.proofs.Places.{bind_ok, or_flaw_ok, word_ok}
 use Rattle.parser.proofs.Alike.{IsJudged, word_or_some, word_or_none, bind_assoc}
 use Rattle.parser.proofs.WordPlaces.{finds_word}
 use Rattle.parser.proofs.AlikeReads.{judge_number}
-use Rattle.parser.proofs.AlikeLines.{judge_name, bind_ok_is}
-use Rattle.model.specs.declared.steps.Actor.TheVariants.{Thread}
+use Rattle.parser.proofs.AlikeLines.{IsAbsent, judge_name, bind_ok_is, no_register, no_thread, judged_address}
+use Rattle.parser.proofs.AlikeLines.{judge_address}
+use Rattle.model.specs.declared.steps.Actor.{Actor}
+use Rattle.model.specs.declared.steps.Actor.TheVariants.{Thread, Worker}
 use Rattle.parser.specs.declared.order.Order.{Order}
 use Rattle.parser.specs.declared.verbs.Kinds.{Kinds}
 use Rattle.parser.specs.declared.verbs.Verb.{Verb}
 use Rattle.parser.specs.declared.verbs.Verb.TheVariants as verbs
-use Rattle.parser.specs.Verbs.{row_of, verb_of}
-use Rattle.parser.proofs.Operands.{operand_ok, operands_ok, IsOrderAt}
-use Rattle.parser.proofs.ActorsAndOrders.{verb_ok}
+use Rattle.parser.specs.Verbs.{row_of}
+use Rattle.parser.proofs.Operands.{AreFew, bounds_in, operand_ok, operands_ok, IsOrderAt}
+use Rattle.parser.proofs.ActorsAndOrders.{actor_verb}
 
 -- ---- steps that found a fault
 
@@ -152,18 +154,30 @@ small_break : (line : List ℕ) (at : ℕ) (f : Flaw) → small_at line at ≡ E
 unfolding small_at
 small_break line at f h = number_break line at 0 4294967295 f h
 
-register_break : (sizes : Sizes) (line : List ℕ) (at : ℕ) (f : Flaw) → register_at sizes line at ≡ Err f
-    → BreaksBehind line at f []
-unfolding register_at named_at
-register_break sizes line at f h =
-    let judge = λ (w : List ℕ × ℕ). named_in w.0 w.1 at 114 sizes.registers kinds.NoSuchRegister in
+named_break : (line : List ℕ) (at letter count : ℕ) (missing : FaultKind) (f : Flaw) → IsAbsent at letter missing
+    → named_at line at letter count missing ≡ Err f → BreaksBehind line at f []
+unfolding named_at
+named_break line at letter count missing f absent h =
+    let judge = λ (w : List ℕ × ℕ). named_in w.0 w.1 at letter count missing in
     let twice : (word_or line at kinds.UnknownWord >>= (λ (w : List ℕ × ℕ). judge w >>= (λ
     (x : ℕ × ℕ). Ok x))) ≡ Err f =
     sym (bind_assoc (word_or line at kinds.UnknownWord) judge (λ (x : ℕ × ℕ). Ok x))
     ∙ bind_ok_is (word_or line at kinds.UnknownWord >>= judge) ∙ h in
     word_break line at kinds.UnknownWord (λ (x : ℕ × ℕ). x.1) (λ (w : List ℕ × ℕ). judge w >>= (λ (x : ℕ × ℕ). Ok x)) f
-    (λ w. judge_name (λ (x : ℕ × ℕ). x.1) at 114 sizes.registers kinds.NoSuchRegister w.0 w.1 (λ (x : ℕ × ℕ). Ok x)
-    (λ front word digits size is number. (digits, (is, number))) (λ x e. e)) twice
+    (λ w. judge_name (λ (x : ℕ × ℕ). x.1) at letter count missing w.0 w.1 (λ (x : ℕ × ℕ). Ok x) absent (λ x e. e))
+    twice
+
+register_break : (sizes : Sizes) (line : List ℕ) (at : ℕ) (f : Flaw) → register_at sizes line at ≡ Err f
+    → BreaksBehind line at f []
+unfolding register_at
+register_break sizes line at f h =
+    named_break line at 114 sizes.registers kinds.NoSuchRegister f (no_register at) h
+
+address_break : (line : List ℕ) (at words : ℕ) (f : Flaw) → address_at line at words ≡ Err f
+    → BreaksBehind line at f []
+unfolding address_at
+address_break line at words f h = word_break line at kinds.UnknownWord (λ (x : ℕ × ℕ). x.1) (judged_address at words) f
+    (judge_address at words) h
 
 pub end_break : (line : List ℕ) (at : ℕ) (f : Flaw) → end_at line at ≡ Err f → BreaksBehind line at f []
 unfolding end_at
@@ -185,16 +199,21 @@ unfolding operand_at
 operand_break sizes line at Nothing f h = absurd (no_err _ f h)
 operand_break sizes line at Register f h = register_break sizes line at f h
 operand_break sizes line at Number f h = small_break line at f h
+operand_break sizes line at ThreadName f h =
+    named_break line at 116 sizes.threads kinds.NoSuchActor f (no_thread at) h
 operand_break sizes line at Long f h = number_break line at 0 18446744073709551615 f h
+operand_break sizes line at Address f h = address_break line at sizes.words f h
 
 -- ---- operands
 
 -- 0 is an operand of each kind
-zero_fits : (registers : ℕ) (kind : Kind) → 1 ≤ registers → IsOperand registers kind 0
-zero_fits registers Nothing some = refl
-zero_fits registers Register some = some
-zero_fits registers Number some = omega arith
-zero_fits registers Long some = omega arith
+zero_fits : (sizes : Sizes) (kind : Kind) → AreFew sizes → IsOperand (bounds_in sizes) kind 0
+zero_fits sizes Nothing few = refl
+zero_fits sizes Register few = few.registers.0
+zero_fits sizes Number few = omega arith
+zero_fits sizes ThreadName few = few.threads.0
+zero_fits sizes Long few = omega arith
+zero_fits sizes Address few = (omega arith, few.words.0)
 
 -- the order of a verb with these operands
 abbrev with_operands : Verb → ℕ → ℕ → ℕ → ℕ → Order
@@ -202,36 +221,36 @@ with_operands verb first second third wide =
     record { verb = verb; first = first; second = second; third = third; wide = wide }
 
 -- operands of a verb, of which the fault stands behind the first ones
-record OperandsBreak (registers : ℕ) (line : List ℕ) (at : ℕ) (f : Flaw) (verb : Verb) : Type 0 where
+record OperandsBreak (sizes : Sizes) (line : List ℕ) (at : ℕ) (f : Flaw) (verb : Verb) : Type 0 where
   first : ℕ
   second : ℕ
   third : ℕ
   wide : ℕ
-  fits : IsOrder registers (with_operands verb first second third wide)
+  fits : IsOrder (bounds_in sizes) (with_operands verb first second third wide)
   breaks : Breaks line at f (operand_words (row_of verb).kinds (with_operands verb first second third wide))
 
-operands_break : (sizes : Sizes) (line : List ℕ) (at : ℕ) (f : Flaw) (verb : Verb) → 1 ≤ sizes.registers
-    → sizes.registers < 2 ^ 64 → operands_at sizes line at verb ≡ Err f → OperandsBreak sizes.registers line at f verb
+operands_break : (sizes : Sizes) (line : List ℕ) (at : ℕ) (f : Flaw) (verb : Verb) → AreFew sizes
+    → operands_at sizes line at verb ≡ Err f → OperandsBreak sizes line at f verb
 unfolding operands_at
-operands_break sizes line at f verb some fits h =
+operands_break sizes line at f verb few h =
     elim (bind_err (operand_at sizes line at k.first) _ f h) [
       | inl e ↦ all 0 0 0 (zero k.first) (zero k.second) (zero k.third) (here line at f _ (wrong at k.first e))
       | inr a ↦
-          let one = operand_ok sizes line at k.first a.0 fits a.1.0 in
+          let one = operand_ok sizes line at k.first a.0 few a.1.0 in
           let past_one = later line at a.0.1 f (operand_word k.first a.0.0) in
           elim (bind_err (operand_at sizes line a.0.1 k.second) _ f a.1.1) [
             | inl e ↦
                 all a.0.0 0 0 one.fits (zero k.second) (zero k.third)
                 (past_one _ one.spelled (here line a.0.1 f _ (wrong a.0.1 k.second e)))
             | inr b ↦
-                let two = operand_ok sizes line a.0.1 k.second b.0 fits b.1.0 in
+                let two = operand_ok sizes line a.0.1 k.second b.0 few b.1.0 in
                 let past_two = later line a.0.1 b.0.1 f (operand_word k.second b.0.0) in
                 elim (bind_err (operand_at sizes line b.0.1 k.third) _ f b.1.1) [
                   | inl e ↦
                       all a.0.0 b.0.0 0 one.fits two.fits (zero k.third) (past_one _ one.spelled
                       (past_two _ two.spelled (here line b.0.1 f _ (wrong b.0.1 k.third e))))
                   | inr c ↦
-                      let three = operand_ok sizes line b.0.1 k.third c.0 fits c.1.0 in
+                      let three = operand_ok sizes line b.0.1 k.third c.0 few c.1.0 in
                       let past_three = later line b.0.1 c.0.1 f (operand_word k.third c.0.0) in
                       elim (bind_err (operand_at sizes line c.0.1 k.wide) _ f c.1.1) [
                         | inl e ↦
@@ -247,16 +266,16 @@ operands_break sizes line at f verb some fits h =
     k : Kinds
     k = (row_of verb).kinds
 
-    zero : (kind : Kind) → IsOperand sizes.registers kind 0
-    zero kind = zero_fits sizes.registers kind some
+    zero : (kind : Kind) → IsOperand (bounds_in sizes) kind 0
+    zero kind = zero_fits sizes kind few
 
     wrong : (at : ℕ) (kind : Kind) → operand_at sizes line at kind ≡ Err f → BreaksBehind line at f []
     wrong at kind e = operand_break sizes line at kind f e
 
-    all : (a b c : ℕ) → IsOperand sizes.registers k.first a → IsOperand sizes.registers k.second b
-        → IsOperand sizes.registers k.third c
+    all : (a b c : ℕ) → IsOperand (bounds_in sizes) k.first a → IsOperand (bounds_in sizes) k.second b
+        → IsOperand (bounds_in sizes) k.third c
         → Breaks line at f (operand_words k (with_operands verb a b c 0))
-        → OperandsBreak sizes.registers line at f verb
+        → OperandsBreak sizes line at f verb
     all a b c one two three breaks = record {
       first = a;
       second = b;
@@ -268,70 +287,84 @@ operands_break sizes line at f verb some fits h =
 
 -- ---- orders
 
--- an order, of whose words the fault stands behind the first ones
-pub record OrderBreaks (registers : ℕ) (line : List ℕ) (at : ℕ) (f : Flaw) : Type 0 where
+-- an order of an actor, of whose words the fault stands behind the first ones
+pub record OrderBreaks (sizes : Sizes) (actor : Actor) (line : List ℕ) (at : ℕ) (f : Flaw) : Type 0 where
   pub order : Order
-  pub fits : IsOrder registers order
+  pub own : IsFor actor order
+  pub fits : IsOrder (bounds_in sizes) order
   pub breaks : Breaks line at f (order_words order)
 
 -- where no word of an order is known
-unknown_order : (registers : ℕ) (line : List ℕ) (at : ℕ) (f : Flaw) → BreaksBehind line at f []
-    → OrderBreaks registers line at f
-unknown_order registers line at f h =
+unknown_order : (sizes : Sizes) (actor : Actor) (line : List ℕ) (at : ℕ) (f : Flaw) → BreaksBehind line at f []
+    → OrderBreaks sizes actor line at f
+unknown_order sizes (Thread t) line at f h =
     let order = with_operands verbs.Give 0 0 0 0 in
     record {
       order = order;
+      own = refl;
+      fits = record { first = refl; second = refl; third = refl; wide = refl };
+      breaks = here line at f (order_words order) h;
+    }
+unknown_order sizes (Worker w) line at f h =
+    let order = with_operands verbs.Mark 0 0 0 0 in
+    record {
+      order = order;
+      own = refl;
       fits = record { first = refl; second = refl; third = refl; wide = refl };
       breaks = here line at f (order_words order) h;
     }
 
--- where an operand isn't read
-operands_told : (sizes : Sizes) (line : List ℕ) (at after : ℕ) (f : Flaw) (verb : Verb)
-    → words_from line at ≡ (row_of verb).text ∷ words_from line after → OperandsBreak sizes.registers line after f verb
-    → OrderBreaks sizes.registers line at f
-operands_told sizes line at after f verb first h = record {
-  order = with_operands verb h.first h.second h.third h.wide;
-  fits = h.fits;
-  breaks = later line at after f ((row_of verb).text ∷ []) _ first h.breaks;
-}
+module _ (sizes : Sizes) (actor : Actor) (line : List ℕ) (at after : ℕ) (f : Flaw) (verb : Verb)
+    (own : does actor verb ≡ true) (first : words_from line at ≡ (row_of verb).text ∷ words_from line after) where
+  -- where an operand isn't read
+  operands_told : OperandsBreak sizes line after f verb → OrderBreaks sizes actor line at f
+  operands_told h = record {
+    order = with_operands verb h.first h.second h.third h.wide;
+    own = own;
+    fits = h.fits;
+    breaks = later line at after f ((row_of verb).text ∷ []) _ first h.breaks;
+  }
 
--- where more words stand behind the order
-end_told : (sizes : Sizes) (line : List ℕ) (at after end : ℕ) (f : Flaw) (verb : Verb) (order : Order)
-    → words_from line at ≡ (row_of verb).text ∷ words_from line after
-    → IsOrderAt sizes line after verb (order, end) → BreaksBehind line end f [] → OrderBreaks sizes.registers line at f
-end_told sizes line at after end f verb order first operands h =
-    let all : words_from line at ≡ order_words order ++ words_from line end =
-    first ∙ ap (λ (x : Verb). (row_of x).text ∷ words_from line after) (sym operands.verb_is)
-    ∙ ap (λ (x : List (List ℕ)). (row_of order.verb).text ∷ x) operands.spelled in
-    record {
-      order = order;
-      fits = operands.fits;
-      breaks = subst (λ (x : List (List ℕ)). Breaks line at f x) (append-nil (order_words order))
-          (later line at end f (order_words order) [] all (here line end f [] h));
-    }
+  -- where more words stand behind the order
+  end_told : (end : ℕ) (order : Order) → IsOrderAt sizes line after verb (order, end) → BreaksBehind line end f []
+      → OrderBreaks sizes actor line at f
+  end_told end order operands h =
+      let all : words_from line at ≡ order_words order ++ words_from line end =
+      first ∙ ap (λ (x : Verb). (row_of x).text ∷ words_from line after) (sym operands.verb_is)
+      ∙ ap (λ (x : List (List ℕ)). (row_of order.verb).text ∷ x) operands.spelled in
+      record {
+        order = order;
+        own = subst (λ (x : Verb). does actor x ≡ true) (sym operands.verb_is) own;
+        fits = operands.fits;
+        breaks = subst (λ (x : List (List ℕ)). Breaks line at f x) (append-nil (order_words order))
+            (later line at end f (order_words order) [] all (here line end f [] h));
+      }
 
-pub order_break : (sizes : Sizes) (line : List ℕ) (t at : ℕ) (f : Flaw) → 1 ≤ sizes.registers
-    → sizes.registers < 2 ^ 64 → order_at sizes line (Thread t) at ≡ Err f → OrderBreaks sizes.registers line at f
+pub order_break : (sizes : Sizes) (actor : Actor) (line : List ℕ) (at : ℕ) (f : Flaw) → AreFew sizes
+    → order_at sizes line actor at ≡ Err f → OrderBreaks sizes actor line at f
 unfolding order_at
-order_break sizes line t at f some fits h = elim (bind_err (word_or line at kinds.UnknownWord) _ f h) [
+order_break sizes actor line at f few h = elim (bind_err (word_or line at kinds.UnknownWord) _ f h) [
   | inl e ↦
-      unknown_order sizes.registers line at f (word_break line at kinds.UnknownWord (λ (w : List ℕ × ℕ). w.1)
+      unknown_order sizes actor line at f (word_break line at kinds.UnknownWord (λ (w : List ℕ × ℕ). w.1)
       (λ (w : List ℕ × ℕ). Ok w) f (λ w. refl) (bind_ok_is (word_or line at kinds.UnknownWord) ∙ e))
-  | inr w ↦ elim (bind_err (or_flaw (verb_of w.0.0) (flaw at kinds.UnknownWord)) _ f w.1.1) [
+  | inr w ↦ elim (bind_err (or_flaw (verb_in actor w.0.0) (flaw at kinds.UnknownWord)) _ f w.1.1) [
     | inl e ↦
-        unknown_order sizes.registers line at f (at_place line at f (word_within line at kinds.UnknownWord w.0 w.1.0)
-        (no_verb (verb_of w.0.0) e))
+        unknown_order sizes actor line at f (at_place line at f (word_within line at kinds.UnknownWord w.0 w.1.0)
+        (no_verb (verb_in actor w.0.0) e))
     | inr v ↦
-        let text = verb_ok w.0.0 v.0 (or_flaw_ok (verb_of w.0.0) (flaw at kinds.UnknownWord) v.0 v.1.0) in
+        let verb = actor_verb actor w.0.0 v.0
+        (or_flaw_ok (verb_in actor w.0.0) (flaw at kinds.UnknownWord) v.0 v.1.0) in
         let first = word_ok line at kinds.UnknownWord w.0 w.1.0
-        ∙ ap (λ (x : List ℕ). x ∷ words_from line w.0.1) text in
+        ∙ ap (λ (x : List ℕ). x ∷ words_from line w.0.1) verb.1 in
         elim (bind_err (operands_at sizes line w.0.1 v.0) _ f v.1.1) [
-          | inl e ↦ operands_told sizes line at w.0.1 f v.0 first (operands_break sizes line w.0.1 f v.0 some fits e)
+          | inl e ↦
+              operands_told sizes actor line at w.0.1 f v.0 verb.0 first (operands_break sizes line w.0.1 f v.0 few e)
           | inr o ↦
-              let operands = operands_ok sizes line w.0.1 v.0 o.0 fits o.1.0 in
+              let operands = operands_ok sizes line w.0.1 v.0 o.0 few o.1.0 in
               elim (bind_err (end_at line o.0.1) _ f o.1.1) [
                 | inl e ↦
-                    end_told sizes line at w.0.1 o.0.1 f v.0 o.0.0 first operands (end_break line o.0.1 f e)
+                    end_told sizes actor line at w.0.1 f v.0 verb.0 first o.0.1 o.0.0 operands (end_break line o.0.1 f
+                    e)
                 | inr u ↦ absurd (no_err _ f u.1.1)
               ]
         ]

@@ -1,12 +1,15 @@
 -- Small texts with a fault, parts of lines, and the words of orders, worked out.
 use Rattle.std.proofs.Common.{◌≡◌, ℕ, [], ◌∷◌, ◌++◌, None, refl}
-use Rattle.std.specs.Prelude.{Err, codes}
+use Rattle.std.specs.Prelude.{Ok, Err, codes}
 use Rattle.std.specs.Fmt.{decimal}
 use Rattle.parser.specs.declared.fault.FaultKind.TheVariants as kinds
 use Rattle.parser.specs.declared.order.Order.{Order}
 use Rattle.parser.specs.declared.verbs.Verb.{Verb}
 use Rattle.parser.specs.declared.verbs.Verb.TheVariants as verbs
+use Rattle.model.specs.declared.steps.Actor.TheVariants.{Thread, Worker}
 use Rattle.parser.specs.Words.{flaw, word_at, word_or, fixed_at, is_number, capped_from, number_at}
+use Rattle.parser.specs.Words.{point_parts, address_at}
+use Rattle.parser.specs.Orders.{verb_in}
 use Rattle.parser.specs.Headings.{page_size_at, memory_at, sizes_at, heap_in}
 use Rattle.parser.specs.Verbs.{verb_of}
 use Rattle.parser.specs.Spelling.{register_word, order_words}
@@ -78,6 +81,45 @@ set_datum r i v = refl
 get : (d r i : ℕ) → order_words (order verbs.Get d r i 0)
     ≡ codes "get" ∷ register_word d ∷ register_word r ∷ decimal i ∷ []
 get d r i = refl
+
+-- page 3, offset 5
+pick : order_words (order verbs.Pick 0 0 0 12884901893) ≡ codes "pick" ∷ (decimal 3 ++ (46 ∷ decimal 5)) ∷ []
+pick = refl
+
+scan_global : (g : ℕ) → order_words (order verbs.ScanGlobal g 0 0 0) ≡ codes "scang" ∷ decimal g ∷ []
+scan_global g = refl
+
+cross_for : (t : ℕ) → order_words (order verbs.CrossFor t 0 0 0) ≡ codes "crossfor" ∷ (116 ∷ decimal t) ∷ []
+cross_for t = refl
+
+drain : order_words (order verbs.Drain 0 0 0 0) ≡ codes "drain" ∷ []
+drain = refl
+
+-- an address, and some that are none
+address : address_at (codes "pick 3.5") 5 16 ≡ Ok (12884901893, 9)
+unfolding address_at word_or word_at point_parts is_number capped_from
+address = refl
+
+no_offset : address_at (codes "pick 3.16") 5 16 ≡ Err (flaw 5 kinds.NumberOutOfRange)
+unfolding address_at word_or word_at point_parts is_number capped_from
+no_offset = refl
+
+no_point : address_at (codes "pick 3") 5 16 ≡ Err (flaw 5 kinds.UnknownWord)
+unfolding address_at word_or word_at point_parts is_number
+no_point = refl
+
+two_points : address_at (codes "pick 3.5.1") 5 16 ≡ Err (flaw 5 kinds.UnknownWord)
+unfolding address_at word_or word_at point_parts is_number
+two_points = refl
+
+-- a worker's command isn't a thread's, nor the other way
+not_for_thread : verb_in (Thread 0) (codes "mark") ≡ None
+unfolding verb_of
+not_for_thread = refl
+
+not_for_worker : verb_in (Worker 0) (codes "take") ≡ None
+unfolding verb_of
+not_for_worker = refl
 
 -- no verb has this word
 no_verb : verb_of (codes "getx") ≡ None

@@ -1,51 +1,80 @@
 -- An order's operands: what is read is written so, and what is written so is read.
-use Rattle.std.proofs.Common.{◌≡◌, ℕ, ◌^◌, ◌<◌, List, ◌++◌, refl, sym, ap, subst, ◌∙◌, arith, lit<, append_assoc}
+use Rattle.std.proofs.Common.{◌≡◌, ℕ, ◌^◌, ◌<◌, ◌≤◌, List, [], ◌++◌, refl, sym, ap, subst, ◌∙◌, arith, lit<}
+use Rattle.std.proofs.Common.{append_assoc}
 use Rattle.std.specs.Prelude.{Ok}
 use Rattle.model.proofs.Results.{same_result}
 use Rattle.parser.specs.declared.fault.FaultKind.TheVariants as kinds
 use Rattle.parser.specs.declared.heading.Sizes.{Sizes}
 use Rattle.parser.specs.declared.order.Order.{Order}
 use Rattle.parser.specs.declared.verbs.Kind.{Kind}
-use Rattle.parser.specs.declared.verbs.Kind.TheVariants.{Nothing, Register, Number, Long}
+use Rattle.parser.specs.declared.verbs.Kind.TheVariants.{Nothing, Register, Number, ThreadName, Long, Address}
 use Rattle.parser.specs.declared.verbs.Verb.{Verb}
 use Rattle.parser.specs.Verbs.{row_of}
 use Rattle.parser.specs.Orders.{register_at, operand_at, operands_at}
-use Rattle.parser.specs.Spelling.{operand_word, operand_words, IsOperand, IsOrder}
+use Rattle.parser.specs.Headings.{config_of}
+use Rattle.parser.specs.Spelling.{operand_word, operand_words, Bounds, bounds_of, IsOperand, IsOrder}
 use Rattle.parser.proofs.Places.{words_from, Reads}
+use Rattle.parser.proofs.Addresses.{address_ok, address_again}
 use Rattle.parser.proofs.Places.{bind_ok, number_ok, number_again, small_ok, small_again, named_ok, named_again}
+
+-- ---- bounds
+
+-- there is one at least, and the number of them fits 32 bits
+abbrev pub IsCount : ℕ → Type 0
+IsCount n = (1 ≤ n) × (n < 2 ^ 32)
+
+-- few enough words, threads, workers and registers for their numbers
+pub record AreFew (sizes : Sizes) : Type 0 where
+  pub words : IsCount sizes.words
+  pub threads : IsCount sizes.threads
+  pub workers : IsCount sizes.workers
+  pub registers : IsCount sizes.registers
+
+-- the bounds of sizes
+abbrev pub bounds_in : Sizes → Bounds
+bounds_in sizes = bounds_of (config_of sizes [])
 
 -- ---- one operand
 
 -- an operand of a kind is spelled at a place
 pub record IsOperandAt (sizes : Sizes) (line : List ℕ) (at : ℕ) (kind : Kind) (v : ℕ × ℕ) : Type 0 where
   pub spelled : words_from line at ≡ operand_word kind v.0 ++ words_from line v.1
-  pub fits : IsOperand sizes.registers kind v.0
+  pub fits : IsOperand (bounds_in sizes) kind v.0
 
-pub operand_ok : (sizes : Sizes) (line : List ℕ) (at : ℕ) (kind : Kind) (v : ℕ × ℕ) → sizes.registers < 2 ^ 64
+pub operand_ok : (sizes : Sizes) (line : List ℕ) (at : ℕ) (kind : Kind) (v : ℕ × ℕ) → AreFew sizes
     → operand_at sizes line at kind ≡ Ok v → IsOperandAt sizes line at kind v
 unfolding operand_at register_at
-operand_ok sizes line at Nothing v fits h =
+operand_ok sizes line at Nothing v few h =
     subst (λ (x : ℕ × ℕ). IsOperandAt sizes line at Nothing x) (same_result (0, at) v h)
     (record { spelled = refl; fits = refl })
-operand_ok sizes line at Register v fits h =
-    let n = named_ok line at 114 sizes.registers kinds.NoSuchRegister v fits h in
+operand_ok sizes line at Register v few h =
+    let n = named_ok line at 114 sizes.registers kinds.NoSuchRegister v (omega (arith, few.registers.1)) h in
     record { spelled = n.spelled; fits = n.below }
-operand_ok sizes line at Number v fits h =
+operand_ok sizes line at Number v few h =
     let n = small_ok line at v h in record { spelled = n.spelled; fits = omega (arith, n.below) }
-operand_ok sizes line at Long v fits h =
+operand_ok sizes line at Long v few h =
     let n = number_ok line at 0 18446744073709551615 v (lit< tt) h in
     record { spelled = n.spelled; fits = omega (arith, n.below) }
+operand_ok sizes line at ThreadName v few h =
+    let n = named_ok line at 116 sizes.threads kinds.NoSuchActor v (omega (arith, few.threads.1)) h in
+    record { spelled = n.spelled; fits = n.below }
+operand_ok sizes line at Address v few h =
+    let a = address_ok line at sizes.words v (omega (arith, few.words.1)) h in
+    record { spelled = a.spelled; fits = (a.fits, a.within) }
 
 pub operand_again : (sizes : Sizes) (line : List ℕ) (at : ℕ) (kind : Kind) (n : ℕ) (ws : List (List ℕ))
-    → sizes.registers < 2 ^ 64 → IsOperand sizes.registers kind n → words_from line at ≡ operand_word kind n ++ ws
+    → AreFew sizes → IsOperand (bounds_in sizes) kind n → words_from line at ≡ operand_word kind n ++ ws
     → Reads line (operand_at sizes line at kind) n ws
 unfolding operand_at register_at
-operand_again sizes line at Nothing n ws fits is h = (at, ap (λ (x : ℕ). Ok (x, at)) (sym is), h)
-operand_again sizes line at Register n ws fits is h =
-    named_again line at 114 sizes.registers kinds.NoSuchRegister n ws (omega (arith, is)) is h
-operand_again sizes line at Number n ws fits is h = small_again line at n ws is h
-operand_again sizes line at Long n ws fits is h =
+operand_again sizes line at Nothing n ws few is h = (at, ap (λ (x : ℕ). Ok (x, at)) (sym is), h)
+operand_again sizes line at Register n ws few is h =
+    named_again line at 114 sizes.registers kinds.NoSuchRegister n ws (omega (arith, few.registers.1, is)) is h
+operand_again sizes line at Number n ws few is h = small_again line at n ws is h
+operand_again sizes line at Long n ws few is h =
     number_again line at 0 18446744073709551615 n ws is (omega arith) (omega (arith, is)) h
+operand_again sizes line at ThreadName n ws few is h =
+    named_again line at 116 sizes.threads kinds.NoSuchActor n ws (omega (arith, few.threads.1, is)) is h
+operand_again sizes line at Address n ws few is h = address_again line at sizes.words n ws is.0 is.1 h
 
 -- ---- the operands of an order
 
@@ -57,9 +86,9 @@ behind a x b y c e f = e ∙ ap (λ (t : List (List ℕ)). x ++ t) f ∙ sym (ap
 pub record IsOrderAt (sizes : Sizes) (line : List ℕ) (at : ℕ) (verb : Verb) (v : Order × ℕ) : Type 0 where
   pub verb_is : v.0.verb ≡ verb
   pub spelled : words_from line at ≡ operand_words (row_of v.0.verb).kinds v.0 ++ words_from line v.1
-  pub fits : IsOrder sizes.registers v.0
+  pub fits : IsOrder (bounds_in sizes) v.0
 
-pub operands_ok : (sizes : Sizes) (line : List ℕ) (at : ℕ) (verb : Verb) (v : Order × ℕ) → sizes.registers < 2 ^ 64
+pub operands_ok : (sizes : Sizes) (line : List ℕ) (at : ℕ) (verb : Verb) (v : Order × ℕ) → AreFew sizes
     → operands_at sizes line at verb ≡ Ok v → IsOrderAt sizes line at verb v
 unfolding operands_at
 operands_ok sizes line at verb v fits h =
@@ -82,7 +111,7 @@ operands_ok sizes line at verb v fits h =
     })
 
 pub operands_again : (sizes : Sizes) (line : List ℕ) (at : ℕ) (o : Order) (ws : List (List ℕ))
-    → sizes.registers < 2 ^ 64 → IsOrder sizes.registers o
+    → AreFew sizes → IsOrder (bounds_in sizes) o
     → words_from line at ≡ operand_words (row_of o.verb).kinds o ++ ws
     → Reads line (operands_at sizes line at o.verb) o ws
 unfolding operands_at

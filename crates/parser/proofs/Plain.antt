@@ -13,18 +13,19 @@ use Rattle.model.specs.declared.steps.Actor.TheVariants.{Thread, Worker}
 use Rattle.parser.specs.declared.heading.Sizes.{Sizes}
 use Rattle.parser.specs.declared.order.Order.{Order}
 use Rattle.parser.specs.declared.verbs.Kind.{Kind}
-use Rattle.parser.specs.declared.verbs.Kind.TheVariants.{Nothing, Register, Number, Long}
+use Rattle.parser.specs.declared.verbs.Kind.TheVariants.{Nothing, Register, Number, ThreadName, Long, Address}
 use Rattle.parser.specs.declared.verbs.Verb.{Verb}
-use Rattle.parser.specs.Words.{is_digit}
+use Rattle.parser.specs.Words.{is_digit, page_in, offset_in}
 use Rattle.parser.specs.Verbs.{row_of}
 use Rattle.parser.specs.Headings.{config_of}
 use Rattle.parser.specs.Reading.{newline}
-use Rattle.parser.specs.Spelling.{line_of, actor_word, operand_word, order_words, SpellsLimit, ended}
+use Rattle.parser.specs.Spelling.{line_of, actor_word, address_word, operand_word, order_words, SpellsLimit, ended}
+use Rattle.std.proofs.lemmas.List.Folds.{list_all-append}
 use Rattle.parser.specs.Spelling.{IsActor, IsOperand, IsOrder}
 use Rattle.parser.proofs.Lists.{HasNoNewlines, all_both, all_from}
 use Rattle.parser.proofs.Numbers.{decimal_digits}
 use Rattle.parser.proofs.Places.{space}
-use Rattle.parser.proofs.ActorsAndOrders.{AreFew}
+use Rattle.parser.proofs.Operands.{AreFew, bounds_in}
 use Rattle.parser.proofs.HeapLines.{SpellsSizes}
 
 -- each byte of a word stands behind the space: none is a space or a newline
@@ -96,24 +97,32 @@ pub number_plain : (n : ℕ) → n < 2 ^ 64 → IsPlain (decimal n)
 number_plain n h = digits_plain (decimal n) (decimal_digits n h)
 
 pub actor_plain : (sizes : Sizes) (a : Actor) → AreFew sizes → IsActor (config_of sizes []) a → IsPlain (actor_word a)
-actor_plain sizes (Thread t) few h = number_plain t (omega (arith, few.threads, h))
-actor_plain sizes (Worker w) few h = number_plain w (omega (arith, few.workers, h))
+actor_plain sizes (Thread t) few h = number_plain t (omega (arith, few.threads.1, h))
+actor_plain sizes (Worker w) few h = number_plain w (omega (arith, few.workers.1, h))
 
-operand_plain : (registers : ℕ) (kind : Kind) (n : ℕ) → registers < 2 ^ 64 → IsOperand registers kind n
+address_plain : (n : ℕ) → n < 2 ^ 64 → IsPlain (address_word (page_in n) (offset_in n))
+address_plain n h =
+    let page = number_plain (page_in n) (omega arith) in
+    let offset = number_plain (offset_in n) (omega arith) in
+    list_all-append (λ b. nat_lt 32 b) (decimal (page_in n)) (46 ∷ decimal (offset_in n)) ∙ (rw (page, offset) refl)
+
+operand_plain : (sizes : Sizes) (kind : Kind) (n : ℕ) → AreFew sizes → IsOperand (bounds_in sizes) kind n
     → AllByRecursion IsPlain (operand_word kind n)
-operand_plain registers Nothing n fits is = tt
-operand_plain registers Register n fits is = (number_plain n (omega (arith, is)), tt)
-operand_plain registers Number n fits is = (number_plain n (omega (arith, is)), tt)
-operand_plain registers Long n fits is = (number_plain n is, tt)
+operand_plain sizes Nothing n few is = tt
+operand_plain sizes Register n few is = (number_plain n (omega (arith, few.registers.1, is)), tt)
+operand_plain sizes Number n few is = (number_plain n (omega (arith, is)), tt)
+operand_plain sizes ThreadName n few is = (number_plain n (omega (arith, few.threads.1, is)), tt)
+operand_plain sizes Long n few is = (number_plain n is, tt)
+operand_plain sizes Address n few is = (address_plain n is.0, tt)
 
 text_plain : (verb : Verb) → IsPlain (row_of verb).text
 text_plain verb = grind arith
 
-pub order_plain : (registers : ℕ) (o : Order) → registers < 2 ^ 64 → IsOrder registers o
+pub order_plain : (sizes : Sizes) (o : Order) → AreFew sizes → IsOrder (bounds_in sizes) o
     → AllByRecursion IsPlain (order_words o)
-order_plain registers o fits is =
+order_plain sizes o few is =
     let k = (row_of o.verb).kinds in
-    let each = λ (kind : Kind) (n : ℕ) (own : IsOperand registers kind n). operand_plain registers kind n fits own in
+    let each = λ (kind : Kind) (n : ℕ) (own : IsOperand (bounds_in sizes) kind n). operand_plain sizes kind n few own in
     let last = all_both IsPlain (operand_word k.third o.third) (operand_word k.wide o.wide)
     (each k.third o.third is.third) (each k.wide o.wide is.wide) in
     let operands = all_both IsPlain (operand_word k.first o.first) _ (each k.first o.first is.first)

@@ -13,6 +13,7 @@ use Rattle.std.proofs.lemmas.Bool.{ltb-true, ltb-false, and_parts, not-true}
 use Rattle.std.proofs.lemmas.Bool.Decides.{nat_tests}
 use Rattle.layout.specs.declared.shape.Layout.{Layout}
 use Rattle.model.specs.Configs.{fits_page}
+use Rattle.model.proofs.Ranges.{page_size_range}
 use Rattle.model.proofs.Results.{same_result, not_refused}
 use Rattle.parser.specs.declared.heading.Sizes.{Sizes}
 use Rattle.parser.specs.declared.order.Command.{Command}
@@ -30,7 +31,8 @@ use Rattle.parser.specs.Spelling.{SpellsHeap, says_something, IsLayout, IsComman
 use Rattle.parser.proofs.Lists.{split_cons}
 use Rattle.parser.proofs.Places.{words_from, word_is, no_word_is, words_whole}
 use Rattle.parser.proofs.Places.{bind_ok, test_ok, number_ok, end_ok, one_of}
-use Rattle.parser.proofs.ActorsAndOrders.{AreFew, order_ok, actor_ok, line_is}
+use Rattle.parser.proofs.Operands.{AreFew}
+use Rattle.parser.proofs.ActorsAndOrders.{order_ok, actor_ok, line_is}
 use Rattle.parser.proofs.HeapLines.{IsSizes, heap_ok, layout_ok}
 use Rattle.parser.proofs.Parts.{open_lines, HasTurns, say_one, say_inside, say_times, say_end}
 use Rattle.parser.proofs.Parts.{more_commands, all_repeated, repeated_length}
@@ -94,11 +96,14 @@ abbrev pub Said : List (List ℕ) → ReadSoFar → Type 0
 Said said r = IsBefore said r ⊎ IsBehind said r
 
 pub few_actors : (s : Sizes) → IsSizes s → AreFew s
-few_actors s r = record {
-  threads = omega (arith, r.threads.1);
-  workers = omega (arith, r.workers.1);
-  registers = omega (arith, r.registers.1);
-}
+few_actors s r =
+    let words = page_size_range s.words r.words in
+    record {
+      words = (omega (arith, words.0), omega (arith, words.1));
+      threads = (r.threads.0, omega (arith, r.threads.1));
+      workers = (r.workers.0, omega (arith, r.workers.1));
+      registers = (r.registers.0, omega (arith, r.registers.1));
+    }
 
 heap_step : (line : List ℕ) (t : ReadSoFar) → heap_line nothing line ≡ Ok t → IsBehind (line ∷ []) t
 unfolding heap_line
@@ -250,7 +255,7 @@ module _ (said : List (List ℕ)) (r : ReadSoFar) (b : IsBehind said r) (line : 
       let g = not_refused (is_full r.turns r.commands) _ _ t a.2 in
       let o = bind_ok (order_at b.sizes line a.0.0 a.0.1) _ t g.1 in
       let actor = actor_ok b.sizes line a.0 few a.1 in
-      let order = order_ok b.sizes line a.0.0 a.0.1 o.0 few.registers o.1 in
+      let order = order_ok b.sizes line a.0.0 a.0.1 o.0 few o.1 in
       let command : Command = record { actor = a.0.0; order = o.0 } in
       let line_is_command : line ≡ command_line_of command = line_is line (actor_word a.0.0 ∷ order_words o.0)
       (actor.spelled ∙ ap (λ (t : List (List ℕ)). actor_word a.0.0 ∷ t) order.spelled) in

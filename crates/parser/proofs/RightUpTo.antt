@@ -1,5 +1,5 @@
 -- A command's line, or a block's, is right up to the word of its fault.
-use Rattle.std.proofs.Common.{◌≡◌, ◌≢◌, ℕ, ◌+◌, ◌*◌, ◌^◌, ◌<◌, ◌≤◌, true, false, nat_lt, List, [], ◌∷◌}
+use Rattle.std.proofs.Common.{◌≡◌, ◌≢◌, ℕ, ◌+◌, ◌*◌, ◌^◌, ◌<◌, ◌≤◌, false, nat_lt, List, [], ◌∷◌}
 use Rattle.std.proofs.Common.{◌++◌, length, take, drop, Option, Some, None, refl, sym, ap, subst, ◌∙◌, arith, inl, inr}
 use Rattle.std.proofs.Common.{append-nil, append_assoc, length-append, length-drop}
 use Rattle.std.specs.Prelude.{Result, Ok, Err, ◌==◌, ◌&&◌, ◌⊎◌, not, codes, filter}
@@ -20,7 +20,7 @@ use Rattle.parser.specs.declared.heading.Sizes.{Sizes}
 use Rattle.parser.specs.declared.order.Command.{Command}
 use Rattle.model.specs.declared.limits.TheConstants.{MOST_LAYOUTS}
 use Rattle.parser.specs.declared.reading.TheConstants.{MOST_COMMANDS, MOST_TURNS}
-use Rattle.parser.specs.Words.{◌>>=◌, flaw, word_or, is_number, number_at, named_in, named_at, end_at}
+use Rattle.parser.specs.Words.{◌>>=◌, flaw, word_or, number_at, named_in, named_at, end_at}
 use Rattle.parser.specs.Headings.{config_of, heap_in}
 use Rattle.parser.specs.Orders.{first_byte, actor_at, order_at}
 use Rattle.parser.specs.Reading.{ReadSoFar, nothing, is_idle, first_word, heap_line, is_full, command_line, times_in}
@@ -28,7 +28,7 @@ use Rattle.parser.specs.Reading.{times_line, end_in, end_line, part_line, later_
 use Rattle.parser.specs.Spelling.{IsLine, line_of, actor_word, order_words, says_something, times_line_of, IsActor}
 use Rattle.parser.specs.Spelling.{IsCommand}
 use Rattle.parser.specs.Spelling.{SpellsHeap}
-use Rattle.parser.specs.Faults.{IsNameOf, HaveNoFault, HasOtherStart, IsRightUpTo}
+use Rattle.parser.specs.Faults.{HaveNoFault, HasOtherStart, IsRightUpTo}
 use Rattle.parser.proofs.Lists.{split_cons}
 use Rattle.parser.proofs.Places.{space, words_from, words_inside}
 use Rattle.parser.proofs.Places.{one_of, number_ok}
@@ -38,13 +38,13 @@ use Rattle.parser.proofs.ReadIsSpelled.{Said, line_ok, first_words, few_actors, 
 use Rattle.parser.proofs.TakenLines.{IsReady, heap_taken, times_taken, end_taken, command_taken}
 use Rattle.parser.proofs.Alike.{IsFaultAt, IsJudged, no_bytes, bind_assoc, word_or_some}
 use Rattle.parser.proofs.WordPlaces.{finds_word}
-use Rattle.parser.proofs.AlikeLines.{judge_name}
+use Rattle.parser.proofs.AlikeLines.{IsAbsent, judge_name, no_thread, no_worker}
 use Rattle.parser.proofs.Breaks.{bind_err, same_flaw, no_err, IsTail, Breaks, here, later, judged_err}
 use Rattle.parser.proofs.Breaks.{number_break, end_break}
 use Rattle.parser.proofs.Breaks.{order_break}
 use Rattle.parser.proofs.HeapLines.{heap_breaks}
 use Rattle.parser.proofs.Completions.{taken_have_none}
-use Rattle.parser.proofs.Plain.{no_newlines, words_no_newlines, number_plain, order_plain, sizes_plain}
+use Rattle.parser.proofs.Plain.{no_newlines, words_no_newlines, number_plain, actor_plain, order_plain, sizes_plain}
 
 join_more : (w : List ℕ) (ws : List (List ℕ)) (v : List ℕ) (vs : List (List ℕ))
     → join_with_byte 32 ((w ∷ ws) ++ v ∷ vs) ≡ join_with_byte 32 (w ∷ ws) ++ 32 ∷ join_with_byte 32 (v ∷ vs)
@@ -140,35 +140,31 @@ as_actor made w = Ok (made w.0, w.1)
 -- an actor's fault stands at column 1
 named_first : (line : List ℕ) (letter count : ℕ) (made : ℕ → Actor) (f : Flaw)
     → (named_at line 0 letter count kinds.NoSuchActor >>= as_actor made) ≡ Err f
-    → ((digits word : List ℕ) → word ≡ letter ∷ digits → is_number digits ≡ true
-    → IsNameOf (codes "t") word ⊎ IsNameOf (codes "w") word) → f.column ≡ 1
+    → IsAbsent 0 letter kinds.NoSuchActor → f.column ≡ 1
 unfolding named_at
-named_first line letter count made f h named =
+named_first line letter count made f h absent =
     let judge = λ (w : List ℕ × ℕ). named_in w.0 w.1 0 letter count kinds.NoSuchActor in
     let next = as_actor made in
     first_judged line kinds.UnknownWord (λ (x : Actor × ℕ). x.1) (λ (w : List ℕ × ℕ). judge w >>= next) f
-    (λ w. judge_name (λ (x : Actor × ℕ). x.1) 0 letter count kinds.NoSuchActor w.0 w.1 next
-    (λ front word digits size is number. (no_bytes front size, named digits word is number)) (λ x e. e))
+    (λ w. judge_name (λ (x : Actor × ℕ). x.1) 0 letter count kinds.NoSuchActor w.0 w.1 next absent (λ x e. e))
     (sym (bind_assoc (word_or line 0 kinds.UnknownWord) judge next) ∙ h)
 
 actor_first : (sizes : Sizes) (line : List ℕ) (f : Flaw) → actor_at sizes line ≡ Err f → f.column ≡ 1
 unfolding actor_at
 actor_first sizes line f h = elim (one_of (first_byte line == 119) _ _ (Err f) h) [
   | inl worker ↦
-      named_first line 119 sizes.workers (λ w. Worker w) f worker.1 (λ digits word is number. inr (
-        digits,
-        (is, number),
-      ))
+      named_first line 119 sizes.workers (λ w. Worker w) f worker.1 no_worker
   | inr thread ↦
-      named_first line 116 sizes.threads (λ t. Thread t) f thread.1 (λ digits word is number. inl (
-        digits,
-        (is, number),
-      ))
+      named_first line 116 sizes.threads (λ t. Thread t) f thread.1 (no_thread 0)
 ]
 
 joined_idle : (b : ℕ) (w : List ℕ) (ws : List (List ℕ)) → (b == 35) ≡ false → is_idle (line_of ((b ∷ w) ∷ ws)) ≡ false
 joined_idle b w [] h = h
 joined_idle b w (v ∷ ws) h = h
+
+actor_idle : (actor : Actor) (ws : List (List ℕ)) → is_idle (line_of (actor_word actor ∷ ws)) ≡ false
+actor_idle (Thread t) ws = joined_idle 116 (decimal t) ws refl
+actor_idle (Worker w) ws = joined_idle 119 (decimal w) ws refl
 
 -- ---- a wrong line
 
@@ -245,24 +241,21 @@ module _ (before : List (List ℕ)) (line : List ℕ) (r : ReadSoFar) (f : Flaw)
             ]
       ]
 
-  thread_right : (z : Sizes) → IsReady z r → 1 ≤ length r.layouts → is_full r.turns r.commands ≡ false
+  order_right : (z : Sizes) → IsReady z r → 1 ≤ length r.layouts → is_full r.turns r.commands ≡ false
       → (actor : Actor) (at : ℕ)
       → words_from line 0 ≡ actor_word actor ∷ words_from line at → IsActor (config_of z []) actor
       → order_at z line actor at ≡ Err f → IsRightUpTo before b.at.front
-  thread_right z ready some room (Worker w) at words there h =
-      absurd (b.start.1 (first_is line 119 (decimal w) (words_from line at) words))
-  thread_right z ready some room (Thread t) at words there h =
+  order_right z ready some room actor at words there h =
       let few = few_actors z ready.range in
-      let threads = few.threads in
-      let breaks = order_break z line t at f ready.range.registers.0 few.registers h in
-      let command : Command = record { actor = Thread t; order = breaks.order } in
-      let own : IsCommand (config_of z []) command = record { actor = there; own = tt; order = breaks.fits } in
-      let taken = command_taken z r command (line_of (actor_word
-      (Thread t) ∷ order_words breaks.order)) r.turns ready some
-      refl room own (joined_idle 116 (decimal t) (order_words breaks.order) refl) refl in
-      mended _ (actor_word (Thread t)) at (order_words breaks.order) words breaks.breaks
-      (words_no_newlines (actor_word (Thread t) ∷ order_words breaks.order)
-      (number_plain t (omega (arith, there)), order_plain z.registers breaks.order few.registers breaks.fits)) taken
+      let breaks = order_break z actor line at f few h in
+      let command : Command = record { actor = actor; order = breaks.order } in
+      let own : IsCommand (config_of z []) command =
+      record { actor = there; own = breaks.own; order = breaks.fits } in
+      let taken = command_taken z r command (line_of (actor_word actor ∷ order_words breaks.order)) r.turns ready some
+      refl room own (actor_idle actor (order_words breaks.order)) refl in
+      mended _ (actor_word actor) at (order_words breaks.order) words breaks.breaks
+      (words_no_newlines (actor_word actor ∷ order_words breaks.order)
+      (actor_plain z actor few there, order_plain z breaks.order few breaks.fits)) taken
 
   command_right : (z : Sizes) → IsReady z r → 1 ≤ length r.layouts → command_line r z line ≡ Err f
       → IsRightUpTo before b.at.front
@@ -276,7 +269,7 @@ module _ (before : List (List ℕ)) (line : List ℕ) (r : ReadSoFar) (f : Flaw)
           | inr room ↦
               elim (bind_err (order_at z line a.0.0 a.0.1) _ f room.1) [
                 | inl e ↦
-                    thread_right z ready some room.0 a.0.0 a.0.1 actor.spelled actor.there e
+                    order_right z ready some room.0 a.0.0 a.0.1 actor.spelled actor.there e
                 | inr o ↦ absurd (no_err _ f o.1.1)
               ]
         ]
@@ -308,7 +301,7 @@ module _ (before : List (List ℕ)) (line : List ℕ) (r : ReadSoFar) (f : Flaw)
             let most = and_parts (bytes_eq (first_word line).0 (codes "layout") && not r.begun)
             (nat_lt (length r.layouts) MOST_LAYOUTS) layout.0 in
             let first = and_parts (bytes_eq (first_word line).0 (codes "layout")) (not r.begun) most.0 in
-            absurd (b.start.0 (first_letter line 108 (codes "ayout")
+            absurd (b.start (first_letter line 108 (codes "ayout")
             ((bytes_eq-Decides (first_word line).0 (codes "layout")).0 first.0)))
         | inr other ↦
             elim (one_of (length r.layouts == 0) _ _ (Err f) other.1) [
@@ -359,7 +352,7 @@ module _ (before : List (List ℕ)) (line : List ℕ) (r : ReadSoFar) (f : Flaw)
       later_right behind.sizes (record { sizes_is = behind.sizes_is; range = behind.range })
       (subst (λ (o : Option Sizes). line_after r o line ≡ Err f) behind.sizes_is h)
 
--- a line of a thread, or of a block, is right up to its fault's word
+-- a line of an actor, or of a block, is right up to its fault's word
 pub right_up_to : (before : List (List ℕ)) (line : List ℕ) (r : ReadSoFar) (f : Flaw)
     → AllByRecursion HasNoNewlines before → Said (filter says_something before) r → line_in r line ≡ Err f
     → (at : IsFaultAt line f) → at.front ≢ [] → HasOtherStart line → IsRightUpTo before at.front

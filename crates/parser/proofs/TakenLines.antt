@@ -26,7 +26,8 @@ use Rattle.parser.specs.Spelling.{SpellsHeap, times_line_of, IsLayout, IsActor, 
 use Rattle.parser.proofs.Numbers.{decimal_digits}
 use Rattle.parser.proofs.Places.{words_from, words_whole, space, cons_is}
 use Rattle.parser.proofs.Places.{number_again, end_again}
-use Rattle.parser.proofs.ActorsAndOrders.{AreFew, order_again, actor_again}
+use Rattle.parser.proofs.Operands.{AreFew}
+use Rattle.parser.proofs.ActorsAndOrders.{order_again, actor_again}
 use Rattle.parser.proofs.HeapLines.{IsSizes, SpellsSizes, heap_again, layout_again}
 use Rattle.parser.proofs.ReadIsSpelled.{first_words, few_actors}
 use Rattle.parser.proofs.Plain.{IsPlain, words_split, number_plain, actor_plain, order_plain, sizes_plain}
@@ -74,7 +75,7 @@ no_line_word : (z : Sizes) (a : Actor) → AreFew z → IsActor (config_of z [])
 no_line_word z (Thread t) few there = record {
   layout = refl;
   times = not_equal (actor_word (Thread t)) (codes "times")
-      (λ e. no_digits t (omega (arith, few.threads, there)) (tail_is 116 (decimal t) (codes "imes") e));
+      (λ e. no_digits t (omega (arith, few.threads.1, there)) (tail_is 116 (decimal t) (codes "imes") e));
   end = refl;
 }
 no_line_word z (Worker w) few there = record { layout = refl; times = refl; end = refl }
@@ -111,11 +112,11 @@ unfolding command_line
 command_taken z r c line o ready some turns room h idle is =
     let few = few_actors z ready.range in
     let words = words_are line (actor_word c.actor) (order_words c.order) is (actor_plain z c.actor few h.actor)
-    (order_plain z.registers c.order few.registers h.order) in
+    (order_plain z c.order few h.order) in
     let other = no_line_word z c.actor few h.actor in
     let free : is_full r.turns r.commands ≡ false = ap (λ (x : Option ℕ). is_full x r.commands) turns ∙ room in
     let actor = actor_again z line c.actor (order_words c.order) few h.actor words.all in
-    let order = order_again z line c.actor actor.0 c.order few.registers h.own h.order actor.2 in
+    let order = order_again z line c.actor actor.0 c.order few h.own h.order actor.2 in
     let added : command_line r z line ≡ Ok (with_command r r.turns c) = rw (actor.1, free, order) refl in
     part_taken z r line (actor_word c.actor) ready some idle words.first other.layout
     ∙ command_line_taken z r line (actor_word c.actor) words.first other

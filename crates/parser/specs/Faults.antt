@@ -64,6 +64,11 @@ byte_behind (b ∷ bs) = b
 abbrev pub IsNameOf : List ℕ → List ℕ → Type 0
 IsNameOf letter word = (digits : List ℕ) × ((word ≡ letter ++ digits) × (is_number digits ≡ true))
 
+-- the word is two numbers with a point between them
+abbrev pub HasTwoNumbers : List ℕ → Type 0
+HasTwoNumbers word = (page : List ℕ) × ((offset : List ℕ) × ((word ≡ page ++ (codes "." ++ offset))
+    × ((is_number page ≡ true) × (is_number offset ≡ true))))
+
 -- What is wrong at a word (an empty one where it is missing) with these bytes of the line before it. This says nothing
 -- of an unknown word, nor which numbers are in range, which actors and registers there are, and how many commands are
 -- too many.
@@ -72,9 +77,9 @@ IsWrongWord kinds.HeapLineExpected front word = (front ≡ []) × (word ≢ code
 IsWrongWord kinds.LayoutLineExpected front word = (front ≡ []) × (word ≢ codes "layout")
 IsWrongWord kinds.UnknownWord front word = Unit {0}
 IsWrongWord kinds.NumberExpected front word = is_number word ≡ false
-IsWrongWord kinds.NumberOutOfRange front word = is_number word ≡ true
+IsWrongWord kinds.NumberOutOfRange front word = (is_number word ≡ true) ⊎ HasTwoNumbers word
 IsWrongWord kinds.LayoutTooLarge front word = is_number word ≡ true
-IsWrongWord kinds.NoSuchActor front word = (front ≡ []) × (IsNameOf (codes "t") word ⊎ IsNameOf (codes "w") word)
+IsWrongWord kinds.NoSuchActor front word = IsNameOf (codes "t") word ⊎ ((front ≡ []) × IsNameOf (codes "w") word)
 IsWrongWord kinds.NoSuchRegister front word = IsNameOf (codes "r") word
 IsWrongWord kinds.EndOfLineExpected front word = front ≢ []
 IsWrongWord kinds.NewlineExpected front word = ⊥
@@ -89,9 +94,9 @@ pub record IsWordOf (line front word back : List ℕ) : Type 0 where
   pub starts : IsWordStart front ⊎ ((word ≡ []) × (back ≡ []))
   pub ends : IsWordEnd back
 
--- a line that begins with another letter than `l` and `w`: no layout line and no worker's
+-- a line that begins with another letter than `l`: no layout line
 abbrev pub HasOtherStart : List ℕ → Type 0
-HasOtherStart line = (first_byte line ≢ 108) × (first_byte line ≢ 119)
+HasOtherStart line = first_byte line ≢ 108
 
 -- A line is right up to a word, with these bytes before it: another line with the same words up to there, and some
 -- words more or none, has no fault behind the lines before.

@@ -1,5 +1,5 @@
 -- Commands.
-use Rattle.std.specs.Prelude.{ℕ, ◌==◌, List, [], ◌∷◌, Option, None, Result, Ok, if◌then◌else◌}
+use Rattle.std.specs.Prelude.{ℕ, ◌==◌, not, Bool, List, [], ◌∷◌, Option, Some, None, Result, Ok, if◌then◌else◌}
 use Rattle.model.specs.declared.steps.Actor.{Actor}
 use Rattle.model.specs.declared.steps.Actor.TheVariants.{Thread, Worker}
 use Rattle.model.specs.declared.steps.Step.{Step}
@@ -11,13 +11,14 @@ use Rattle.parser.specs.declared.order.Order.{Order}
 use Rattle.parser.specs.declared.order.Then.{Then}
 use Rattle.parser.specs.declared.order.Then.TheVariants as thens
 use Rattle.parser.specs.declared.verbs.Kind.{Kind}
-use Rattle.parser.specs.declared.verbs.Kind.TheVariants.{Nothing, Register, Number, Long}
+use Rattle.parser.specs.declared.verbs.Kind.TheVariants.{Nothing, Register, Number, ThreadName, Long, Address}
 use Rattle.parser.specs.declared.verbs.Verb.{Verb}
 use Rattle.parser.specs.declared.verbs.Verb.TheVariants as verbs
-use Rattle.parser.specs.Verbs.{row_of, verb_of}
-use Rattle.parser.specs.Words.{◌>>=◌, or_flaw, flaw, word_or, number_at, small_at, named_at, end_at}
+use Rattle.parser.specs.Verbs.{row_of, verb_of, is_for_worker}
+use Rattle.parser.specs.Words.{◌>>=◌, or_flaw, flaw, word_or, number_at, small_at, named_at, address_at, end_at}
+use Rattle.parser.specs.Words.{page_in, offset_in}
 
--- the step of a verb with operands; of `get` and `getg` the first one
+-- the step of a verb with operands; of `get`, `getg` and `drain` the first one
 abbrev pub step_with : Verb → ℕ → ℕ → ℕ → ℕ → Step
 step_with verbs.Take n b c d = steps.Take n
 step_with verbs.Give a b c d = steps.GiveBack
@@ -41,6 +42,13 @@ step_with verbs.Park a b c d = steps.Park
 step_with verbs.Unpark a b c d = steps.Unpark
 step_with verbs.Get target object index d = steps.Load target object index
 step_with verbs.GetGlobal target global c d = steps.LoadGlobal target global
+step_with verbs.Mark a b c d = steps.StartMark
+step_with verbs.EndMark a b c d = steps.EndMark
+step_with verbs.Pick a b c address = steps.Pick (page_in address) (offset_in address)
+step_with verbs.Scan a b c d = steps.ScanField
+step_with verbs.ScanGlobal global b c d = steps.ScanGlobal global
+step_with verbs.CrossFor thread b c d = steps.CrossFor thread
+step_with verbs.Drain a b c d = steps.ScanField
 
 -- the step of an order
 abbrev pub step_of : Order → Step
@@ -50,27 +58,43 @@ step_of o = step_with o.verb o.first o.second o.third o.wide
 abbrev pub then_with : Verb → Then
 then_with verbs.Get = thens.LoadsEnd
 then_with verbs.GetGlobal = thens.LoadsEnd
+then_with verbs.Drain = thens.Drains
 then_with other = thens.Nothing
 
 -- what follows the step of an order
 abbrev pub then_of : Order → Then
 then_of o = then_with o.verb
 
--- the verb that a word is for an actor: each is a thread's
+-- an actor does a verb
+abbrev pub does : Actor → Verb → Bool
+does (Thread t) verb = not (is_for_worker verb)
+does (Worker w) verb = is_for_worker verb
+
+-- a verb, where an actor does it
+abbrev pub done_by : Actor → Option Verb → Option Verb
+done_by actor None = None
+done_by actor (Some verb) = if does actor verb then Some verb else None
+
+-- the verb that a word is for an actor
 abbrev pub verb_in : Actor → List ℕ → Option Verb
-verb_in (Thread t) word = verb_of word
-verb_in (Worker w) word = None
+verb_in actor word = done_by actor (verb_of word)
 
 -- a register that a thread has
 unfoldable pub register_at : Sizes → List ℕ → ℕ → Result (ℕ × ℕ) Flaw
 register_at sizes line at = named_at line at 114 sizes.registers kinds.NoSuchRegister
+
+-- a thread that is there
+abbrev pub thread_at : Sizes → List ℕ → ℕ → Result (ℕ × ℕ) Flaw
+thread_at sizes line at = named_at line at 116 sizes.threads kinds.NoSuchActor
 
 -- an operand of a kind
 unfoldable pub operand_at : Sizes → List ℕ → ℕ → Kind → Result (ℕ × ℕ) Flaw
 operand_at sizes line at Nothing = Ok (0, at)
 operand_at sizes line at Register = register_at sizes line at
 operand_at sizes line at Number = small_at line at
+operand_at sizes line at ThreadName = thread_at sizes line at
 operand_at sizes line at Long = number_at line at 0 18446744073709551615
+operand_at sizes line at Address = address_at line at sizes.words
 
 -- the first byte, or 0 where there is none
 abbrev pub first_byte : List ℕ → ℕ
@@ -83,7 +107,7 @@ actor_at sizes line =
     if first_byte line == 119 then (do
       w ← named_at line 0 119 sizes.workers kinds.NoSuchActor
       Ok (Worker w.0, w.1)) else (do
-        t ← named_at line 0 116 sizes.threads kinds.NoSuchActor
+        t ← thread_at sizes line 0
         Ok (Thread t.0, t.1))
 
 -- an order with the operands of its verb

@@ -1,5 +1,5 @@
 -- The grammar: which bytes spell a configuration and commands.
-use Rattle.std.specs.Prelude.{◌≡◌, ℕ, ◌^◌, ◌<◌, ◌≤◌, ◌≢◌, Bool, not, List, [], ◌∷◌, ◌++◌, length, map, filter, codes, ◌⊎◌}
+use Rattle.std.specs.Prelude.{◌≡◌, ℕ, ◌^◌, ◌<◌, ◌≤◌, ◌≢◌, Bool, true, not, List, [], ◌∷◌, ◌++◌, length, map, filter, codes, ◌⊎◌}
 use Rattle.std.specs.Fmt.{decimal}
 use Rattle.std.specs.List.{join_with_byte, flat_map, repeat, All}
 use Rattle.layout.specs.declared.shape.Layout.{Layout}
@@ -10,11 +10,13 @@ use Rattle.model.specs.Configs.{IsConfig}
 use Rattle.parser.specs.declared.order.Order.{Order}
 use Rattle.parser.specs.declared.order.Command.{Command}
 use Rattle.parser.specs.declared.verbs.Kind.{Kind}
-use Rattle.parser.specs.declared.verbs.Kind.TheVariants.{Nothing, Register, Number, Long}
+use Rattle.parser.specs.declared.verbs.Kind.TheVariants.{Nothing, Register, Number, ThreadName, Long, Address}
 use Rattle.parser.specs.declared.verbs.Kinds.{Kinds}
 use Rattle.model.specs.declared.limits.TheConstants.{MOST_BIRTHS, MOST_HISTORY}
 use Rattle.parser.specs.declared.reading.TheConstants.{MOST_COMMANDS, MOST_TURNS}
 use Rattle.parser.specs.Verbs.{row_of}
+use Rattle.parser.specs.Words.{page_in, offset_in}
+use Rattle.parser.specs.Orders.{does}
 use Rattle.parser.specs.Reading.{ScriptValue, is_idle}
 
 -- the line of words, with one space between each two
@@ -26,6 +28,10 @@ abbrev pub actor_word : Actor → List ℕ
 actor_word (Thread t) = codes "t" ++ decimal t
 actor_word (Worker w) = codes "w" ++ decimal w
 
+-- an address's word: its page and its offset, with a point between them
+abbrev pub address_word : ℕ → ℕ → List ℕ
+address_word page offset = decimal page ++ (codes "." ++ decimal offset)
+
 -- a register's word
 abbrev pub register_word : ℕ → List ℕ
 register_word r = codes "r" ++ decimal r
@@ -35,7 +41,9 @@ abbrev pub operand_word : Kind → ℕ → List (List ℕ)
 operand_word Nothing n = []
 operand_word Register n = register_word n ∷ []
 operand_word Number n = decimal n ∷ []
+operand_word ThreadName n = actor_word (Thread n) ∷ []
 operand_word Long n = decimal n ∷ []
+operand_word Address n = address_word (page_in n) (offset_in n) ∷ []
 
 -- the words of operands
 abbrev pub operand_words : Kinds → Order → List (List ℕ)
@@ -134,30 +142,42 @@ abbrev pub IsActor : Config → Actor → Type 0
 IsActor config (Thread t) = t < config.threads
 IsActor config (Worker w) = w < config.workers
 
--- an order is one for the actor: each is a thread's
+-- the actor does the order's verb
 abbrev pub IsFor : Actor → Order → Type 0
-IsFor (Thread t) order = Unit {0}
-IsFor (Worker w) order = ⊥
+IsFor actor order = does actor order.verb ≡ true
 
--- an operand is one of its kind: a register is there, and a number fits
-abbrev pub IsOperand : ℕ → Kind → ℕ → Type 0
-IsOperand registers Nothing n = n ≡ 0
-IsOperand registers Register n = n < registers
-IsOperand registers Number n = n < 2 ^ 32
-IsOperand registers Long n = n < 2 ^ 64
+-- what operands have to be below: the words of a page, the threads and the registers
+pub record Bounds : Type 0 where
+  pub words : ℕ
+  pub threads : ℕ
+  pub registers : ℕ
+
+-- the bounds of a configuration
+abbrev pub bounds_of : Config → Bounds
+bounds_of c = record { words = c.words; threads = c.threads; registers = c.registers }
+
+-- an operand is one of its kind: a register or a thread is there, a number fits, and an address fits and has an offset
+-- within a page
+abbrev pub IsOperand : Bounds → Kind → ℕ → Type 0
+IsOperand bounds Nothing n = n ≡ 0
+IsOperand bounds Register n = n < bounds.registers
+IsOperand bounds Number n = n < 2 ^ 32
+IsOperand bounds ThreadName n = n < bounds.threads
+IsOperand bounds Long n = n < 2 ^ 64
+IsOperand bounds Address n = (n < 2 ^ 64) × (offset_in n < bounds.words)
 
 -- each operand of an order is one of its kind
-pub record IsOrder (registers : ℕ) (o : Order) : Type 0 where
-  pub first : IsOperand registers (row_of o.verb).kinds.first o.first
-  pub second : IsOperand registers (row_of o.verb).kinds.second o.second
-  pub third : IsOperand registers (row_of o.verb).kinds.third o.third
-  pub wide : IsOperand registers (row_of o.verb).kinds.wide o.wide
+pub record IsOrder (bounds : Bounds) (o : Order) : Type 0 where
+  pub first : IsOperand bounds (row_of o.verb).kinds.first o.first
+  pub second : IsOperand bounds (row_of o.verb).kinds.second o.second
+  pub third : IsOperand bounds (row_of o.verb).kinds.third o.third
+  pub wide : IsOperand bounds (row_of o.verb).kinds.wide o.wide
 
 -- a command is one of the configuration
 pub record IsCommand (config : Config) (c : Command) : Type 0 where
   pub actor : IsActor config c.actor
   pub own : IsFor c.actor c.order
-  pub order : IsOrder config.registers c.order
+  pub order : IsOrder (bounds_of config) c.order
 
 -- a script that all limits allow
 pub record IsScript (script : ScriptValue) : Type 0 where

@@ -1,10 +1,10 @@
 -- The commands: their words and operands, in one table.
-use Rattle.std.specs.Prelude.{ℕ, List, Option, codes, find}
+use Rattle.std.specs.Prelude.{ℕ, Bool, true, false, List, Option, codes, find}
 use Rattle.std.specs.Str.{bytes_eq}
 use Rattle.parser.specs.declared.verbs.Verb.{Verb}
 use Rattle.parser.specs.declared.verbs.Verb.TheVariants as verbs
 use Rattle.parser.specs.declared.verbs.Kind.{Kind}
-use Rattle.parser.specs.declared.verbs.Kind.TheVariants.{Nothing, Register, Number, Long}
+use Rattle.parser.specs.declared.verbs.Kind.TheVariants.{Nothing, Register, Number, ThreadName, Long, Address}
 use Rattle.parser.specs.declared.verbs.Kinds.{Kinds}
 use Rattle.parser.specs.declared.verbs.TheConstants.{VERBS}
 
@@ -41,6 +41,24 @@ row_of verbs.Park = row (codes "park") Nothing Nothing Nothing Nothing
 row_of verbs.Unpark = row (codes "unpark") Nothing Nothing Nothing Nothing
 row_of verbs.Get = row (codes "get") Register Register Number Nothing
 row_of verbs.GetGlobal = row (codes "getg") Register Number Nothing Nothing
+row_of verbs.Mark = row (codes "mark") Nothing Nothing Nothing Nothing
+row_of verbs.EndMark = row (codes "endmark") Nothing Nothing Nothing Nothing
+row_of verbs.Pick = row (codes "pick") Nothing Nothing Nothing Address
+row_of verbs.Scan = row (codes "scan") Nothing Nothing Nothing Nothing
+row_of verbs.ScanGlobal = row (codes "scang") Number Nothing Nothing Nothing
+row_of verbs.CrossFor = row (codes "crossfor") ThreadName Nothing Nothing Nothing
+row_of verbs.Drain = row (codes "drain") Nothing Nothing Nothing Nothing
+
+-- workers do these verbs, and threads all others
+abbrev pub is_for_worker : Verb → Bool
+is_for_worker verbs.Mark = true
+is_for_worker verbs.EndMark = true
+is_for_worker verbs.Pick = true
+is_for_worker verbs.Scan = true
+is_for_worker verbs.ScanGlobal = true
+is_for_worker verbs.CrossFor = true
+is_for_worker verbs.Drain = true
+is_for_worker other = false
 
 -- the verb that a word is
 unfoldable pub verb_of : List ℕ → Option Verb
@@ -49,10 +67,12 @@ verb_of word = find (λ verb. bytes_eq word (row_of verb).text) VERBS
 -- an operand has 32 bits
 abbrev pub IsSmall : Kind → Type 0
 IsSmall Long = ⊥
+IsSmall Address = ⊥
 IsSmall other = Unit {0}
 
 -- an operand has 64 bits
 abbrev pub IsWide : Kind → Type 0
 IsWide Register = ⊥
 IsWide Number = ⊥
+IsWide ThreadName = ⊥
 IsWide other = Unit {0}

@@ -1,5 +1,5 @@
 -- The words of a line, from left to right.
-use Rattle.std.specs.Prelude.{ℕ, ◌+◌, ◌-◌, ◌*◌, ◌^◌, ◌==◌, ◌||◌, ◌&&◌, not, Bool, false, List, [], ◌∷◌, length, take, drop, Option, Some, None, Result, Ok, Err, nat_lt, nat_le, if◌then◌else◌, position, min}
+use Rattle.std.specs.Prelude.{ℕ, ◌+◌, ◌-◌, ◌*◌, ◌/◌, ◌%◌, ◌^◌, ◌==◌, ◌||◌, ◌&&◌, not, Bool, false, List, [], ◌∷◌, length, take, drop, Option, Some, None, Result, Ok, Err, nat_lt, nat_le, if◌then◌else◌, position, min}
 use Rattle.std.specs.List.{list_all}
 use Rattle.std.specs.Str.{bytes_eq}
 use Rattle.parser.specs.declared.fault.FaultKind.{FaultKind}
@@ -92,6 +92,46 @@ unfoldable pub named_at : List ℕ → ℕ → ℕ → ℕ → FaultKind → Res
 named_at line at letter count missing = do
   w ← word_or line at kinds.UnknownWord
   named_in w.0 w.1 at letter count missing
+
+-- two parts of a word, before and behind the byte between them
+abbrev pub parts_at : List ℕ → Option ℕ → Option (List ℕ × List ℕ)
+parts_at word None = None
+parts_at word (Some i) = Some (take i word, drop (i + 1) word)
+
+-- the parts of a word before and behind its first point
+unfoldable pub point_parts : List ℕ → Option (List ℕ × List ℕ)
+point_parts word = parts_at word (position (λ b. b == 46) word)
+
+-- an address as one number of 64 bits: its page, then 32 bits of its offset
+abbrev pub address_number : ℕ → ℕ → ℕ
+address_number page offset = page * 2 ^ 32 + offset
+
+-- the page of such a number
+abbrev pub page_in : ℕ → ℕ
+page_in n = n / 2 ^ 32
+
+-- its offset
+abbrev pub offset_in : ℕ → ℕ
+offset_in n = n % 2 ^ 32
+
+-- a page and an offset that fit their 32 bits and a page of so many words, or the fault
+abbrev pub address_or : ℕ → ℕ → ℕ → ℕ → ℕ → Result (ℕ × ℕ) Flaw
+address_or page offset after at words =
+    if nat_le (2 ^ 32) page || nat_le words offset then Err (flaw at kinds.NumberOutOfRange)
+    else Ok (address_number page offset, after)
+
+-- an address of two parts, which have to be numbers
+abbrev pub address_in : List ℕ × List ℕ → ℕ → ℕ → ℕ → Result (ℕ × ℕ) Flaw
+address_in parts after at words =
+    if not (is_number parts.0) || not (is_number parts.1) then Err (flaw at kinds.UnknownWord)
+    else address_or (capped_from 0 parts.0) (capped_from 0 parts.1) after at words
+
+-- an address at a place, with an offset below so many words
+unfoldable pub address_at : List ℕ → ℕ → ℕ → Result (ℕ × ℕ) Flaw
+address_at line at words = do
+  w ← word_or line at kinds.UnknownWord
+  parts ← or_flaw (point_parts w.0) (flaw at kinds.UnknownWord)
+  address_in parts w.1 at words
 
 -- the end of the line
 unfoldable pub end_at : List ℕ → ℕ → Result Unit Flaw

@@ -1,15 +1,15 @@
 //! The actor, the verb and the operands of a command.
 
 ghost use Rattle.std.specs.Prelude.{◌≡◌, ◌==◌};
-ghost use Rattle.parser.specs.declared.heading.Sizes.{Sizes};
 ghost use Rattle.parser.specs.Verbs.{IsSmall, IsWide};
-ghost use Rattle.parser.specs.Orders.{register_at, operand_at, actor_at, first_byte, verb_in, operands_at, order_at};
+ghost use Rattle.parser.specs.Orders.{register_at, thread_at, operand_at, actor_at, first_byte};
+ghost use Rattle.parser.specs.Orders.{does, verb_in, operands_at, order_at};
 
 use crate::fault::{FaultKind, Flaw};
 use crate::heading::Sizes;
 use crate::order::Order;
 use crate::verbs::{Kind, Verb, verb_of};
-use crate::words::{end_at, named_at, number_at, small_at, word_or};
+use crate::words::{address_at, end_at, named_at, number_at, small_at, word_or};
 use model::Actor;
 
 /// The actor at the front of a line, and the place after it.
@@ -21,7 +21,7 @@ pub fn actor_at(sizes: &Sizes, line: &[u8]) -> Result<(Actor, usize), Flaw>
         let (worker, after) = named_at(line, 0, b'w', sizes.workers, FaultKind::NoSuchActor)?;
         Ok((Actor::Worker(worker), after))
     } else {
-        let (thread, after) = named_at(line, 0, b't', sizes.threads, FaultKind::NoSuchActor)?;
+        let (thread, after) = thread_at(sizes, line, 0)?;
         Ok((Actor::Thread(thread), after))
     }
 }
@@ -35,14 +35,30 @@ fn begins_with_w(line: &[u8]) -> bool
     }
 }
 
-/// The verb that a word is for an actor. A worker has no commands yet.
+/// Whether an actor does a verb.
+fn does(actor: Actor, verb: Verb) -> bool
+    ensures { result ≡ does actor verb }
+{
+    match actor {
+        Actor::Thread(_) => !verb.is_for_worker(),
+        Actor::Worker(_) => verb.is_for_worker(),
+    }
+}
+
+/// The verb that a word is for an actor.
 fn verb_in(actor: Actor, word: &[u8]) -> Option<Verb>
     ensures { result ≡ verb_in actor word.now }
 {
-    match actor {
-        Actor::Thread(_) => verb_of(word),
-        Actor::Worker(_) => None,
+    match verb_of(word) {
+        Some(verb) if does(actor, verb) => Some(verb),
+        _ => None,
     }
+}
+
+fn thread_at(sizes: &Sizes, line: &[u8], at: usize) -> Result<(u32, usize), Flaw>
+    ensures { result ≡ thread_at sizes.now line.now at }
+{
+    named_at(line, at, b't', sizes.threads, FaultKind::NoSuchActor)
 }
 
 #[tactic(auto, unfolding(crate::specs::Orders::register_at))]
@@ -62,20 +78,22 @@ fn small_operand_at(sizes: &Sizes, line: &[u8], at: usize, kind: Kind) -> Result
         Kind::Nothing => Ok((0, at)),
         Kind::Register => register_at(sizes, line, at),
         Kind::Number => small_at(line, at),
-        Kind::Long => unreachable!(),
+        Kind::ThreadName => thread_at(sizes, line, at),
+        Kind::Long | Kind::Address => unreachable!(),
     }
 }
 
 /// An operand of 64 bits, and the place after it.
 #[tactic(auto, unfolding(crate::specs::Orders::operand_at))]
-fn wide_operand_at(line: &[u8], at: usize, kind: Kind) -> Result<(u64, usize), Flaw>
+fn wide_operand_at(sizes: &Sizes, line: &[u8], at: usize, kind: Kind) -> Result<(u64, usize), Flaw>
     requires { IsWide kind }
-    ensures { (sizes : Sizes) → result ≡ operand_at sizes line.now at kind }
+    ensures { result ≡ operand_at sizes.now line.now at kind }
 {
     match kind {
         Kind::Nothing => Ok((0, at)),
         Kind::Long => number_at(line, at, 0, u64::MAX),
-        Kind::Register | Kind::Number => unreachable!(),
+        Kind::Address => address_at(line, at, sizes.words),
+        Kind::Register | Kind::Number | Kind::ThreadName => unreachable!(),
     }
 }
 
@@ -88,7 +106,7 @@ fn operands_at(sizes: &Sizes, line: &[u8], at: usize, verb: Verb) -> Result<(Ord
     let (first, at) = small_operand_at(sizes, line, at, kinds.first)?;
     let (second, at) = small_operand_at(sizes, line, at, kinds.second)?;
     let (third, at) = small_operand_at(sizes, line, at, kinds.third)?;
-    let (wide, at) = wide_operand_at(line, at, kinds.wide)?;
+    let (wide, at) = wide_operand_at(sizes, line, at, kinds.wide)?;
     let order = Order {
         verb,
         first,

@@ -2,6 +2,7 @@
 
 ghost use Rattle.std.specs.Prelude.{◌≡◌};
 ghost use Rattle.parser.specs.Orders.{step_of, then_of};
+ghost use Rattle.parser.specs.Words.{page_in, offset_in};
 
 use crate::verbs::Verb;
 use model::{Actor, Step};
@@ -19,7 +20,8 @@ pub struct Order {
     pub second: u32,
     /// The third one.
     pub third: u32,
-    /// The operand of 64 bits, which stands behind the others.
+    /// The operand of 64 bits, which stands behind the others. An address is its page times 2^32,
+    /// and its offset.
     pub wide: u64,
 }
 
@@ -39,10 +41,14 @@ pub enum Then {
     Nothing,
     /// The other steps of the load that it opens, to its end.
     LoadsEnd,
+    /// All steps of a worker that scan, until none is left or one is refused. The order's step is
+    /// the first of them where the worker has an object.
+    Drains,
 }
 
 impl Order {
-    /// The step that it asks for; of `get` and `getg` the first step, which opens the load.
+    /// The step that it asks for; of `get` and `getg` the first step, which opens the load; of
+    /// `drain` the step that it begins with where the worker has an object.
     pub fn step(self) -> Step
         ensures { result ≡ step_of self }
     {
@@ -83,6 +89,12 @@ impl Order {
             Verb::Scrub => Step::Scrub(first),
             Verb::Park => Step::Park,
             Verb::Unpark => Step::Unpark,
+            Verb::Mark => Step::StartMark,
+            Verb::EndMark => Step::EndMark,
+            Verb::Pick => pick(self.wide),
+            Verb::Scan | Verb::Drain => Step::ScanField,
+            Verb::ScanGlobal => Step::ScanGlobal(first),
+            Verb::CrossFor => Step::CrossFor(first),
         }
     }
 
@@ -92,6 +104,7 @@ impl Order {
     {
         match self.verb {
             Verb::Get | Verb::GetGlobal => Then::LoadsEnd,
+            Verb::Drain => Then::Drains,
             _ => Then::Nothing,
         }
     }
@@ -130,5 +143,15 @@ fn set_datum(object: u32, index: u32, value: u64) -> Step
         object,
         index,
         value,
+    }
+}
+
+/// The step that picks an address of 64 bits.
+fn pick(address: u64) -> Step
+    ensures { result ≡ Step.Pick (page_in address) (offset_in address) }
+{
+    Step::Pick {
+        page: (address / (1 << 32)) as u32,
+        offset: (address % (1 << 32)) as u32,
     }
 }

@@ -1,7 +1,7 @@
 //! The commands' words, and the kinds of their operands.
 
 ghost use Rattle.std.specs.Prelude.{◌≡◌};
-ghost use Rattle.parser.specs.Verbs.{row_of, verb_of, IsSmall, IsWide};
+ghost use Rattle.parser.specs.Verbs.{row_of, verb_of, is_for_worker, IsSmall, IsWide};
 
 /// What an operand is.
 #[derive(Clone, Copy, Debug, PartialEq, Eq)]
@@ -12,12 +12,16 @@ pub enum Kind {
     Register,
     /// A number of 32 bits.
     Number,
+    /// A thread that is there.
+    ThreadName,
     /// A number of 64 bits.
     Long,
+    /// An address `P.O`: a page of 32 bits, and an offset within a page.
+    Address,
 }
 
-/// What a command does: its word, with the operands that stand behind it (ours). Registers and
-/// globals count from 0.
+/// What a command does: its word, with the operands that stand behind it (ours). Registers,
+/// globals and threads count from 0, pages from 1; offsets are in words.
 #[derive(Clone, Copy, Debug, PartialEq, Eq)]
 pub enum Verb {
     /// `take n`
@@ -64,10 +68,24 @@ pub enum Verb {
     Get,
     /// `getg rD g`: a global is loaded, and the load goes on to its end.
     GetGlobal,
+    /// `mark`
+    Mark,
+    /// `endmark`
+    EndMark,
+    /// `pick P.O`
+    Pick,
+    /// `scan`
+    Scan,
+    /// `scang g`
+    ScanGlobal,
+    /// `crossfor tN`
+    CrossFor,
+    /// `drain`: a worker scans until nothing is left that it could scan.
+    Drain,
 }
 
 /// All verbs. A word is compared with theirs in this order, so frequent ones stand first.
-const VERBS: [Verb; 22] = [
+const VERBS: [Verb; 29] = [
     Verb::Get,
     Verb::Set,
     Verb::Datum,
@@ -90,6 +108,13 @@ const VERBS: [Verb; 22] = [
     Verb::Scrub,
     Verb::Park,
     Verb::Unpark,
+    Verb::Scan,
+    Verb::Pick,
+    Verb::ScanGlobal,
+    Verb::Drain,
+    Verb::CrossFor,
+    Verb::Mark,
+    Verb::EndMark,
 ];
 
 /// The kinds of an order's operands. The first three have 32 bits.
@@ -144,6 +169,13 @@ impl Verb {
             Verb::Unpark => b"unpark",
             Verb::Get => b"get",
             Verb::GetGlobal => b"getg",
+            Verb::Mark => b"mark",
+            Verb::EndMark => b"endmark",
+            Verb::Pick => b"pick",
+            Verb::Scan => b"scan",
+            Verb::ScanGlobal => b"scang",
+            Verb::CrossFor => b"crossfor",
+            Verb::Drain => b"drain",
         }
     }
 
@@ -153,9 +185,9 @@ impl Verb {
         ensures small { IsSmall result.first × (IsSmall result.second × IsSmall result.third) }
         ensures wide { IsWide result.wide }
     {
-        use Kind::{Long, Nothing, Number, Register};
+        use Kind::{Address, Long, Nothing, Number, Register, ThreadName};
         match self {
-            Verb::Take => make_kinds(Number, Nothing, Nothing, Nothing),
+            Verb::Take | Verb::ScanGlobal => make_kinds(Number, Nothing, Nothing, Nothing),
             Verb::New | Verb::LoadGlobal | Verb::Datum | Verb::GetGlobal => make_kinds(
                 Register, Number, Nothing, Nothing,
             ),
@@ -167,8 +199,26 @@ impl Verb {
             Verb::Null | Verb::Clear | Verb::Scrub => make_kinds(
                 Register, Nothing, Nothing, Nothing,
             ),
+            Verb::Pick => make_kinds(Nothing, Nothing, Nothing, Address),
+            Verb::CrossFor => make_kinds(ThreadName, Nothing, Nothing, Nothing),
             _ => make_kinds(Nothing, Nothing, Nothing, Nothing),
         }
+    }
+
+    /// Whether workers do it. All other verbs are done by threads.
+    pub fn is_for_worker(self) -> bool
+        ensures { result ≡ is_for_worker self }
+    {
+        matches!(
+            self,
+            Verb::Mark
+                | Verb::EndMark
+                | Verb::Pick
+                | Verb::Scan
+                | Verb::ScanGlobal
+                | Verb::CrossFor
+                | Verb::Drain
+        )
     }
 }
 

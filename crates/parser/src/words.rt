@@ -5,6 +5,7 @@ ghost use Rattle.std.specs.Prelude.{◌==◌, position, ◌≡◌, ◌≤◌, �
 ghost use Rattle.std.specs.Option.{option_map};
 ghost use Rattle.std.specs.List.{list_all};
 ghost use Rattle.parser.specs.Words.{seen, word_at, word_or, is_digit, is_number, capped_from, number_at, small_at, named_at, end_at, fixed_at};
+ghost use Rattle.parser.specs.Words.{point_parts, address_at};
 
 use crate::fault::{FaultKind, Flaw};
 
@@ -155,6 +156,51 @@ pub fn named_at(
         });
     }
     Ok((value as u32, after))
+}
+
+fn first_point(word: &[u8]) -> Option<usize>
+    ensures place { result ≡ position (λ b. b == 46) word.now }
+    ensures bound { IfSome result (λ i. i < length word.now) }
+{
+    word.iter().position(|b| *b == b'.')
+}
+
+/// The parts of a word before and behind its first point.
+#[tactic(auto, unfolding(crate::specs::Words::point_parts))]
+fn point_parts(word: &[u8]) -> Option<(&[u8], &[u8])>
+    ensures { option_map (λ x. (x.0.now, x.1.now)) result ≡ point_parts word.now }
+{
+    let point = first_point(word)?;
+    let (page, _) = word.split_at(point);
+    let (_, offset) = word.split_at(point + 1);
+    Some((page, offset))
+}
+
+/// The address in a word `P.O` with O below `words`, as P times 2^32 and O, and the place after the
+/// word.
+#[tactic(auto, unfolding(crate::specs::Words::address_at))]
+pub fn address_at(line: &[u8], at: usize, words: u32) -> Result<(u64, usize), Flaw>
+    ensures { result ≡ address_at line.now at words }
+{
+    let (word, after) = word_or(line, at, FaultKind::UnknownWord)?;
+    let wrong = Flaw {
+        column: at + 1,
+        kind: FaultKind::UnknownWord,
+    };
+    let Some((page, offset)) = point_parts(word) else {
+        return Err(wrong);
+    };
+    if !is_number(page) || !is_number(offset) {
+        return Err(wrong);
+    }
+    let (page, offset) = (capped(page), capped(offset));
+    if page >= 1 << 32 || offset >= words as u128 {
+        return Err(Flaw {
+            column: at + 1,
+            kind: FaultKind::NumberOutOfRange,
+        });
+    }
+    Ok(((page * (1 << 32) + offset) as u64, after))
 }
 
 /// Nothing at a place that is past the line's end, or the fault that the line goes on.

@@ -6,10 +6,10 @@ use Rattle.std.specs.Io.KnownBytes.{Appends}
 use Rattle.cycle.specs.declared.book.Entry.{Entry}
 use Rattle.cycle.specs.Books.{BookState, Reply}
 use Rattle.parser.specs.declared.order.Command.{Command}
-use Rattle.text.specs.Texts.{Leads, line_text}
+use Rattle.text.specs.Texts.{Leads}
 use Rattle.text.proofs.Leading.{leads_step, leads_end}
 use Rattle.text.specs.Reports.{texts_from}
-use Rattle.script.specs.Output.{cycles_from, cycle_line, next_cycle, lines_text, book_after, done}
+use Rattle.script.specs.Output.{cycles_from, cycle_line, next_cycle, lines_text, command_line, book_after, done}
 
 split : {X : Type 0} (xs : List X) (i : ℕ) (d : X) → i < length xs → drop i xs ≡ get_or xs i d ∷ drop (i + 1) xs
 split xs i d h = rw (add-one, drop-cons xs i d) refl
@@ -64,7 +64,7 @@ cycles_told k i es old c all h le =
 -- commands
 
 lines_next : (n i : ℕ) (b : BookState) (cs : List Command) (d : Command)
-    → i < length cs → lines_text n b (drop i cs) ≡ line_text n (get_or cs i d).actor (done b (get_or cs i d)).replies
+    → i < length cs → lines_text n b (drop i cs) ≡ command_line n (get_or cs i d) (done b (get_or cs i d)).replies
     ++ lines_text (n + 1) (done b (get_or cs i d)).book (drop (i + 1) cs)
 unfolding lines_text
 lines_next n i b cs d h = rw (split cs i d h) refl
@@ -72,10 +72,10 @@ lines_next n i b cs d h = rw (split cs i d h) refl
 pub line_told : (n i : ℕ) (b e : BookState) (cs : List Command)
     (d : Command) (replies : List Reply) (old c new : Option (List ℕ)) (all : List ℕ)
     → Leads old c (lines_text n b (drop i cs)) all → i < length cs → replies ≡ (done b (get_or cs i d)).replies
-    → e ≡ (done b (get_or cs i d)).book → Appends c new (line_text n (get_or cs i d).actor replies)
+    → e ≡ (done b (get_or cs i d)).book → Appends c new (command_line n (get_or cs i d) replies)
     → Leads old new (lines_text (n + 1) e (drop (i + 1) cs)) all
 line_told n i b e cs d replies old c new all h le r k a =
-    let there : Leads old c (line_text n (get_or cs i d).actor replies ++ lines_text (n + 1) e (drop (i + 1) cs)) all =
+    let there : Leads old c (command_line n (get_or cs i d) replies ++ lines_text (n + 1) e (drop (i + 1) cs)) all =
     rw (r, k, ← lines_next n i b cs d le) h in
     leads_step old c new _ _ all there a
 

@@ -1,6 +1,10 @@
 -- What a run of a script prints.
 use Rattle.std.specs.Prelude.{ℕ, ◌+◌, Bool, List, [], ◌∷◌, ◌++◌, length, count_by, is_some, Option, Some, None}
-use Rattle.std.specs.Prelude.{slice_get, if◌then◌else◌}
+use Rattle.std.specs.Prelude.{slice_get, if◌then◌else◌, Result, Ok, Err}
+use Rattle.model.specs.declared.steps.Actor.{Actor}
+use Rattle.model.specs.declared.steps.Actor.TheVariants.{Thread, Worker}
+use Rattle.model.specs.declared.steps.Step.{Step}
+use Rattle.model.specs.declared.steps.Refusal.{Refusal}
 use Rattle.model.specs.declared.steps.Answer.{Answer}
 use Rattle.model.specs.declared.steps.Answer.TheVariants as answers
 use Rattle.model.specs.declared.records.Global.{Global}
@@ -8,7 +12,8 @@ use Rattle.model.specs.declared.records.Page.{Page}
 use Rattle.model.specs.States.{HeapState, ThreadState}
 use Rattle.model.specs.Stores.{is_unused}
 use Rattle.cycle.specs.declared.book.Entry.{Entry}
-use Rattle.cycle.specs.Books.{BookState, first_book}
+use Rattle.cycle.specs.Books.{BookState, Reply, first_book}
+use Rattle.cycle.specs.Drains.{drain, verdict}
 use Rattle.cycle.specs.Loads.{Told, whole_load, one_step}
 use Rattle.parser.specs.declared.order.Command.{Command}
 use Rattle.parser.specs.declared.order.Then.{Then}
@@ -17,7 +22,7 @@ use Rattle.parser.specs.Orders.{step_of, then_of}
 use Rattle.parser.specs.Reading.{ScriptValue}
 use Rattle.text.specs.declared.report.Activity.{Activity}
 use Rattle.text.specs.declared.report.Activity.TheVariants as activities
-use Rattle.text.specs.Texts.{line_text}
+use Rattle.text.specs.Texts.{line_text, drained_line}
 use Rattle.text.specs.Reports.{texts_from}
 use Rattle.text.specs.Reports as lines
 
@@ -87,19 +92,41 @@ report_text h history =
 
 -- the commands
 
+-- a drain of a worker; a thread drains nothing, and its step is refused
+abbrev pub drain_by : BookState → Actor → Step → Told
+drain_by b (Worker w) step = drain b w
+drain_by b (Thread t) step = one_step b (Thread t) step
+
 -- what a command does to a book, by what follows its step
 abbrev pub done_with : BookState → Command → Then → Told
 done_with b c thens.Nothing = one_step b c.actor (step_of c.order)
 done_with b c thens.LoadsEnd = whole_load b c.actor (step_of c.order)
+done_with b c thens.Drains = drain_by b c.actor (step_of c.order)
 
--- what a command does to a book, and what its steps say: one step, or those of a whole load
+-- what a command does to a book, and what its steps say: one step, or those of a whole load or a drain
 unfoldable pub done : BookState → Command → Told
 done b c = done_with b c (then_of c.order)
+
+-- the line of command n, a drain that came to this end with so many replies
+abbrev pub drain_line : ℕ → Actor → ℕ → Result Unit Refusal → List ℕ
+drain_line n actor count (Ok u) = drained_line n actor count
+drain_line n actor count (Err e) = line_text n actor (Err e ∷ [])
+
+-- the line of command n, by what follows its step: all that its steps said; but of a drain how many were done, or the
+-- refusal that ended it
+abbrev pub line_with : ℕ → Actor → Then → List Reply → List ℕ
+line_with n actor thens.Nothing replies = line_text n actor replies
+line_with n actor thens.LoadsEnd replies = line_text n actor replies
+line_with n actor thens.Drains replies = drain_line n actor (length replies) (verdict replies)
+
+-- the line of command n, of whose steps these are the replies
+abbrev pub command_line : ℕ → Command → List Reply → List ℕ
+command_line n c replies = line_with n c.actor (then_of c.order) replies
 
 -- the lines of commands, of which the first is number n
 unfoldable pub lines_text : ℕ → BookState → List Command → List ℕ
 lines_text n b [] = []
-lines_text n b (c ∷ cs) = line_text n c.actor (done b c).replies ++ lines_text (n + 1) (done b c).book cs
+lines_text n b (c ∷ cs) = command_line n c (done b c).replies ++ lines_text (n + 1) (done b c).book cs
 
 -- the book that commands leave
 unfoldable pub book_after : BookState → List Command → BookState

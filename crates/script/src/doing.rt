@@ -1,13 +1,14 @@
 //! The steps of one command.
 
 ghost use Rattle.std.specs.Prelude.{◌≡◌, OnOk};
+ghost use Rattle.cycle.specs.Drains.{drain};
 ghost use Rattle.cycle.specs.Loads.{Leaves, whole_load, one_step};
 ghost use Rattle.parser.specs.Orders.{step_of};
 ghost use Rattle.script.specs.Output.{done};
 
 use crate::fault::RunFault;
 use cycle::Book;
-use model::{Answer, Refusal};
+use model::{Actor, Answer, Refusal};
 use parser::{Command, Then};
 
 /// A command that is one step.
@@ -40,7 +41,21 @@ fn do_load(
     }
 }
 
-/// Does a command: one step, or the steps of a load up to its end or its first refusal. `replies`
+/// A command that is a drain of a worker.
+fn do_drain(
+    book: &mut Book,
+    worker: u32,
+    replies: &mut Vec<Result<Answer, Refusal>>,
+) -> Result<(), RunFault>
+    ensures { OnOk result (Leaves (drain book.old worker) replies.old.items book.new replies.new.items) }
+{
+    if let Err(Refusal::Memory) = book.drain(worker, replies) {
+        return Err(RunFault::Memory);
+    }
+    Ok(())
+}
+
+/// Does a command: one step, or the steps of a load or a drain up to its end or its first refusal. `replies`
 /// is room that is used again: what it holds is lost, and then it holds what the steps said, in
 /// order. The fault is want of memory, also in a step.
 #[tactic(auto, unfolding(crate::specs::Output::done), using(crate::proofs::Commands::same_book, crate::proofs::Commands::same_replies))]
@@ -56,5 +71,9 @@ pub fn do_command(
     match command.order.then() {
         Then::Nothing => do_step(book, command, replies),
         Then::LoadsEnd => do_load(book, command, replies),
+        Then::Drains => match command.actor {
+            Actor::Worker(worker) => do_drain(book, worker, replies),
+            Actor::Thread(_) => do_step(book, command, replies),
+        },
     }
 }

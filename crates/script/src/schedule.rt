@@ -1,33 +1,65 @@
 //! Commands one by one.
 
-ghost use Rattle.std.specs.Prelude.{◌≡◌, OnOk};
+ghost use Rattle.std.specs.Prelude.{◌≡◌, ◌++◌, length, string_bytes, OnOk};
 ghost use Rattle.std.specs.Io.KnownBytes.{Appends};
-ghost use Rattle.text.specs.Texts.{line_text};
-ghost use Rattle.script.specs.Output.{output_text, lines_text, book_after, told_text};
+ghost use Rattle.cycle.specs.Drains.{verdict};
+ghost use Rattle.script.specs.Output.{output_text, lines_text, command_line, drain_line, book_after, told_text};
 
 use crate::doing::do_command;
 use crate::fault::RunFault;
 use crate::reporting::{report, tell};
-use cycle::Book;
+use cycle::{Book, verdict};
 use heap::NewFault;
 use model::{Actor, Answer, Refusal};
-use parser::{Command, Script};
-use std::alloc::Global;
+use parser::{Command, Script, Then};
+use std::alloc::{AllocError, Global};
 use std::io;
-use text::put_line;
+use text::{put_drained, put_line};
+
+/// Adds the line of a drain to a text: how many steps were done, or the refusal that ended it.
+fn put_drain(
+    text: &mut String,
+    number: u64,
+    actor: Actor,
+    replies: &[Result<Answer, Refusal>],
+) -> Result<(), AllocError>
+    ensures { OnOk result (string_bytes text.new
+        ≡ string_bytes text.old ++ drain_line number actor (length replies.now) (verdict replies.now)) }
+{
+    match verdict(replies) {
+        Ok(()) => put_drained(text, number, actor, replies.len()),
+        Err(refusal) => put_line(text, number, actor, &[Err(refusal)]),
+    }
+}
+
+/// Adds the line of a command to a text.
+fn put_command(
+    text: &mut String,
+    number: u64,
+    command: &Command,
+    replies: &[Result<Answer, Refusal>],
+) -> Result<(), AllocError>
+    ensures { OnOk result (string_bytes text.new
+        ≡ string_bytes text.old ++ command_line number command.now replies.now) }
+{
+    match command.order.then() {
+        Then::Nothing | Then::LoadsEnd => put_line(text, number, command.actor, replies),
+        Then::Drains => put_drain(text, number, command.actor, replies),
+    }
+}
 
 /// Writes the line of a command.
 fn tell_command<W: io::Write>(
     number: u64,
-    actor: Actor,
+    command: &Command,
     replies: &[Result<Answer, Refusal>],
     text: &mut String,
     w: &mut W,
 ) -> Result<(), RunFault>
-    ensures { OnOk result (Appends (W.contents w.old) (W.contents w.new) (line_text number actor replies.now)) }
+    ensures { OnOk result (Appends (W.contents w.old) (W.contents w.new) (command_line number command.now replies.now)) }
 {
     text.clear();
-    put_line(text, number, actor, replies)?;
+    put_command(text, number, command, replies)?;
     tell(w, text)
 }
 
@@ -46,7 +78,7 @@ fn tell_commands<W: io::Write>(
     let mut number = 1u64;
     for command in commands {
         do_command(book, command, &mut replies)?;
-        tell_command(number, command.actor, &replies, &mut text, w)?;
+        tell_command(number, command, &replies, &mut text, w)?;
         number += 1;
     }
     Ok(())

@@ -59,6 +59,11 @@ replies_text replies = join_by reply_text (codes ", ") replies
 abbrev pub line_text : ℕ → Actor → List (Result Answer Refusal) → List ℕ
 line_text n actor replies = decimal n ++ codes " " ++ actor_text actor ++ codes " " ++ replies_text replies ++ 10 ∷ []
 
+-- the line of command n, a drain of so many steps
+abbrev pub drained_line : ℕ → Actor → ℕ → List ℕ
+drained_line n actor steps =
+    decimal n ++ codes " " ++ actor_text actor ++ codes " drained " ++ decimal steps ++ 10 ∷ []
+
 -- the text of a bit
 abbrev pub bit_text : Bool → List ℕ
 bit_text false = codes "0"

@@ -6,7 +6,7 @@ mod records;
 mod report;
 mod steps;
 
-pub use line::{put_line, write_line};
+pub use line::{put_drained, put_line, write_line};
 pub use records::{BufferText, FrameText, PageStateText, PhaseText, WordText};
 pub use report::{
     Activity, BitText, CycleLine, GlobalLine, HeadLine, PageLine, RegistersText, ThreadLine,

@@ -3,7 +3,7 @@
 ghost use Rattle.std.specs.Prelude.{◌++◌, OnOk, string_bytes, ◌≡◌};
 ghost use Rattle.std.specs.List.{flat_map};
 ghost use Rattle.std.specs.Io.KnownBytes.{Appends};
-ghost use Rattle.text.specs.Texts.{line_text, next_text, replies_text};
+ghost use Rattle.text.specs.Texts.{line_text, drained_line, next_text, replies_text};
 
 use crate::steps::{ActorText, ReplyText};
 use model::{Actor, Reply};
@@ -54,6 +54,20 @@ pub fn put_line(
     write!(text, "{number} {actor} ")?;
     put_replies(text, replies)?;
     writeln!(text)
+}
+
+/// Adds the line of a drain to a text: its number, its actor, and how many steps were done. Where
+/// memory is refused, a beginning of the line may stand in the text.
+pub fn put_drained(
+    text: &mut String,
+    number: u64,
+    actor: Actor,
+    steps: usize,
+) -> Result<(), AllocError>
+    ensures { OnOk result (string_bytes text.new ≡ string_bytes text.old ++ drained_line number actor steps) }
+{
+    let actor = ActorText(actor);
+    writeln!(text, "{number} {actor} drained {steps}")
 }
 
 /// Writes the line of a command. `text` is room that is used again: what it holds is lost. The

@@ -1,0 +1,11 @@
+use Rattle.std.proofs.Common.{◌-◌}
+use Rattle.cycle.specs.Loads.{behind}
+use Rattle.cycle.specs.Drains.{drain_within, verdict}
+use Rattle.cycle.proofs.WholeDrains.{IsLeft}
+use Rattle.cycle.proofs.book.Book.drain_within.Given as goal
+
+-- the steps that are left lead to the same
+abbrev pub invariant-loop : goal.invariant-loop
+invariant-loop l = IsLeft l.replies.items (l.most - l.counter) l.self l.worker
+    (behind l.fn.replies.items (drain_within l.most l.fn.self l.worker))
+    (verdict (drain_within l.most l.fn.self l.worker).replies)

@@ -1,0 +1,36 @@
+-- Drains: the steps of a worker that scan, one after another, until nothing is left to be scanned or one is refused.
+use Rattle.std.specs.Prelude.{◌≡◌, ℕ, zero, suc, ◌+◌, List, [], ◌∷◌, Option, Some, None, Result, Ok, Err}
+use Rattle.model.specs.declared.steps.Actor.TheVariants.{Worker}
+use Rattle.model.specs.declared.steps.Step.{Step}
+use Rattle.model.specs.declared.steps.Refusal.{Refusal}
+use Rattle.model.specs.declared.steps.Refusal.TheVariants as refusals
+use Rattle.model.specs.Scans.{next_drain}
+use Rattle.cycle.specs.Books.{BookState, Reply, act_outcome}
+use Rattle.cycle.specs.Loads.{Told, tell, step_then, Leaves}
+
+-- a worker's step, if one is left, and what follows where it is accepted
+abbrev pub drain_step : BookState → ℕ → Option Step → (BookState → Told) → Told
+drain_step b worker None next = tell b []
+drain_step b worker (Some step) next = step_then b (act_outcome b (Worker worker) step) (λ c answer. next c)
+
+-- what a worker does next that drains the mark, again and again, but at most so many times
+unfoldable pub drain_within : ℕ → BookState → ℕ → Told
+drain_within zero b worker = tell b []
+drain_within (suc n) b worker =
+    drain_step b worker (next_drain b.heap worker) (λ c. drain_within n c worker)
+
+-- A whole drain. Each accepted step enters the history, so one step more than it may have entries is enough: it would be
+-- refused.
+abbrev pub drain : BookState → ℕ → Told
+drain b worker = drain_within (b.heap.config.history + 1) b worker
+
+-- what replies come to: the first refusal, where one was refused
+abbrev pub verdict : List Reply → Result Unit Refusal
+verdict [] = Ok tt
+verdict (Ok answer ∷ replies) = verdict replies
+verdict (Err e ∷ replies) = Err e
+
+-- a call did the steps of a drain, and its result is what they come to; or memory was refused
+abbrev pub DrainsWhole : Result Unit Refusal → List Reply → BookState → List Reply → Told → Type 0
+DrainsWhole (Err refusals.Memory) before new all steps = Unit {0}
+DrainsWhole result before new all steps = Leaves steps before new all × (result ≡ verdict steps.replies)

@@ -1,0 +1,166 @@
+//! Drains: the steps of a worker that scan, until nothing is left to be scanned or one is refused.
+//! What is scanned is the paper's Mark phase; that a drain is one call is ours.
+
+ghost use Rattle.std.specs.Prelude.{◌≡◌, ◌<◌, ◌^◌, position, is_some, IfOk, IfSome, OnOk};
+ghost use Rattle.model.specs.declared.records.Global.{Global};
+ghost use Rattle.model.specs.Bits.{bit_at};
+ghost use Rattle.model.specs.Scans.{scan_of, is_scan_of, is_taken, is_free_todo, next_todo, next_drain};
+ghost use Rattle.cycle.specs.Loads.{Leaves};
+ghost use Rattle.cycle.specs.Drains.{drain_within, drain, verdict, DrainsWhole};
+
+use crate::book::Book;
+use heap::Heap;
+use model::{Actor, Refusal, Reply, Scan, Step};
+use std::alloc::AllocError;
+
+/// Whether a worker has an object.
+fn has_scan(heap: &Heap, worker: u32) -> bool
+    ensures { result ≡ is_some (scan_of heap.now worker) }
+{
+    match heap.workers().get(worker as usize) {
+        None => false,
+        Some(scan) => scan.is_some(),
+    }
+}
+
+/// Whether a worker scans the object at an address.
+fn is_scan_of(address: u64, scan: Option<Scan>) -> bool
+    ensures { result ≡ is_scan_of address scan }
+{
+    match scan {
+        None => false,
+        Some(scan) => scan.object.number() == address,
+    }
+}
+
+/// Whether some worker scans the object at an address.
+#[tactic(auto, unfolding(model::specs::Scans::is_taken))]
+fn is_taken(heap: &Heap, address: u64) -> bool
+    ensures { result ≡ is_taken heap.now address }
+{
+    heap.workers().iter().any(|scan| is_scan_of(address, *scan))
+}
+
+/// Whether the object at an address is still to be scanned.
+fn is_todo(heap: &Heap, address: u64) -> bool
+    ensures { result ≡ bit_at heap.now.todo heap.now.store.words address }
+{
+    let words = heap.store().page_words() as u64;
+    let page = (address / words) as usize;
+    if page == 0 {
+        return false;
+    }
+    match heap.todo().get(page - 1) {
+        None => false,
+        Some(row) => row.test((address % words) as usize),
+    }
+}
+
+/// Whether the object at an address is still to be scanned, and no worker has it.
+#[tactic(auto, unfolding(model::specs::Scans::is_free_todo))]
+fn is_free_todo(heap: &Heap, address: u64) -> bool
+    ensures { result ≡ is_free_todo heap.now address }
+{
+    is_todo(heap, address) && !is_taken(heap, address)
+}
+
+/// The least address of an object that is still to be scanned and that no worker has.
+#[tactic(auto, unfolding(model::specs::Scans::next_todo))]
+fn next_todo(heap: &Heap) -> Option<u64>
+    ensures first { result ≡ next_todo heap.now }
+    ensures range { IfSome result (λ address. address < 2 ^ 32) }
+{
+    heap.law();
+    let words = heap.store().page_words() as u64;
+    let end = words + heap.store().pages().len() as u64 * words;
+    for address in words..end {
+        if is_free_todo(heap, address) {
+            return Some(address);
+        }
+    }
+    None
+}
+
+/// The number of the first global that is still to be marked.
+fn next_global(heap: &Heap) -> Option<usize>
+    ensures place { result ≡ position (λ (g : Global). g.todo) heap.now.globals }
+    ensures range { IfSome result (λ i. i < 2 ^ 32) }
+{
+    heap.law();
+    heap.globals().iter().position(|global| global.todo)
+}
+
+/// What a worker does next that drains the mark: it scans the object that it has; else it marks the
+/// first global that is still to be marked; else it picks the first object that no worker has.
+#[tactic(auto, unfolding(model::specs::Scans::next_drain))]
+fn next_drain(heap: &Heap, worker: u32) -> Option<Step>
+    ensures { result ≡ next_drain heap.now worker }
+{
+    if has_scan(heap, worker) {
+        return Some(Step::ScanField);
+    }
+    if let Some(global) = next_global(heap) {
+        return Some(Step::ScanGlobal(global as u32));
+    }
+    let address = next_todo(heap)?;
+    let words = heap.store().page_words() as u64;
+    Some(Step::Pick {
+        page: (address / words) as u32,
+        offset: (address % words) as u32,
+    })
+}
+
+/// What replies come to: the first refusal, where one was refused.
+pub fn verdict(replies: &[Reply]) -> Result<(), Refusal>
+    ensures { result ≡ verdict replies.now }
+{
+    for reply in replies {
+        if let Err(refusal) = reply {
+            return Err(*refusal);
+        }
+    }
+    Ok(())
+}
+
+impl Book {
+    /// At most so many steps of a drain. The error is want of memory; the steps before it are done.
+    fn drain_within(
+        &mut self,
+        most: u64,
+        worker: u32,
+        replies: &mut Vec<Reply>,
+    ) -> Result<Result<(), Refusal>, AllocError>
+        ensures steps { OnOk result (Leaves (drain_within most self.old worker) replies.old.items self.new replies.new.items) }
+        ensures end { IfOk result (λ end. end ≡ verdict (drain_within most self.old worker).replies) }
+    {
+        for _ in 0..most {
+            let Some(step) = next_drain(self.heap(), worker) else {
+                return Ok(Ok(()));
+            };
+            if let Err(refusal) = self.act_into(Actor::Worker(worker), step, replies)? {
+                return Ok(Err(refusal));
+            }
+        }
+        Ok(Ok(()))
+    }
+
+    /// A whole drain, as one call: the worker scans the object that it has to its end, marks the
+    /// globals that are still to be marked, from the first on, and then picks and scans objects, the
+    /// one with the least address first, until none is left that no worker has. `Ok` where it came
+    /// to that end; else the first refusal, and `Memory` for want of memory. What the steps said is
+    /// put behind other replies: all of them are accepted, or all but the last.
+    ///
+    /// After `Memory` the steps before it are done, and the call may be made again. What is scanned
+    /// is the paper's Mark phase; the order is ours.
+    pub fn drain(&mut self, worker: u32, replies: &mut Vec<Reply>) -> Result<(), Refusal>
+        ensures { DrainsWhole result replies.old.items self.new replies.new.items (drain self.old worker) }
+    {
+        let heap = self.heap();
+        heap.law();
+        let most = heap.config().history + 1;
+        match self.drain_within(most, worker, replies) {
+            Ok(end) => end,
+            Err(_) => Err(Refusal::Memory),
+        }
+    }
+}
