@@ -2,10 +2,10 @@
 
 ghost use Rattle.std.specs.Prelude.{◌≡◌, false};
 ghost use Rattle.model.specs.Refusing.{Does};
-ghost use Rattle.model.specs.Outcome.{Passes, thread_row, outcome};
+ghost use Rattle.model.specs.Outcome.{Passes, WorkerPasses, thread_row, worker_row, outcome};
 ghost use Rattle.refinement.specs.Standing.{KeepsStanding};
 
-use crate::gate::thread_gate;
+use crate::gate::{thread_gate, worker_gate};
 use heap::Heap;
 use model::{Actor, Refusal, Reply, Step};
 
@@ -32,7 +32,7 @@ impl Stepping for Heap {
 }
 
 /// The step of an actor.
-#[tactic(auto, unfolding(model::specs::Outcome::outcome, model::specs::Outcome::thread_gate))]
+#[tactic(auto, unfolding(model::specs::Outcome::outcome, model::specs::Outcome::thread_gate, model::specs::Outcome::worker_gate))]
 fn actor_row(heap: &mut Heap, actor: Actor, step: &Step) -> Reply
     ensures { Does heap.old result heap.new (outcome heap.old actor step.now) }
 {
@@ -41,7 +41,10 @@ fn actor_row(heap: &mut Heap, actor: Actor, step: &Step) -> Reply
             thread_gate(heap, thread, step)?;
             thread_row(heap, thread, step)
         }
-        Actor::Worker(_) => Err(Refusal::NoActor),
+        Actor::Worker(worker) => {
+            worker_gate(heap, worker, step)?;
+            worker_row(heap, worker, step)
+        }
     }
 }
 
@@ -85,6 +88,22 @@ fn thread_row(heap: &mut Heap, thread: u32, step: &Step) -> Reply
         Step::Scrub(register) => checkpoint::scrub(heap, thread, *register),
         Step::Park => checkpoint::park(heap, thread),
         Step::Unpark => checkpoint::unpark(heap, thread),
+        _ => Err(Refusal::NoActor),
+    }
+}
+
+/// The step of a worker whose leading tests were passed.
+fn worker_row(heap: &mut Heap, worker: u32, step: &Step) -> Reply
+    requires { WorkerPasses heap.old worker step.now }
+    ensures { Does heap.old result heap.new (worker_row heap.old worker step.now) }
+{
+    match step {
+        Step::StartMark => marker::start_mark(heap, worker),
+        Step::Pick { page, offset } => marker::pick(heap, worker, *page, *offset),
+        Step::ScanField => marker::scan_field(heap, worker),
+        Step::ScanGlobal(global) => marker::scan_global(heap, worker, *global),
+        Step::EndMark => marker::end_mark(heap, worker),
+        Step::CrossFor(thread) => checkpoint::cross_for(heap, worker, *thread),
         _ => Err(Refusal::NoActor),
     }
 }

@@ -6,8 +6,10 @@
 
 mod cycles;
 mod marks;
+mod next;
 mod scans;
 
 pub use cycles::{end_mark, start_mark};
 pub use marks::mark;
+pub use next::next_todo;
 pub use scans::{pick, scan_field, scan_global};

@@ -41,9 +41,7 @@ fn is_scan_of(address: u64, scan: Option<Scan>) -> bool
 pub(crate) fn is_taken(heap: &Heap, address: u64) -> bool
     ensures { result ≡ is_taken heap.now address }
 {
-    heap.workers()
-        .iter()
-        .any(|scan| is_scan_of(address, *scan))
+    heap.workers().iter().any(|scan| is_scan_of(address, *scan))
 }
 
 /// The reference at a place in memory; null where the place has no memory.
@@ -162,7 +160,7 @@ pub fn pick(heap: &mut Heap, worker: u32, page: u32, offset: u32) -> Reply
 }
 
 /// The address of an offset of a page.
-fn address_on(heap: &Heap, page: u32, offset: u32) -> Addr
+pub(crate) fn address_on(heap: &Heap, page: u32, offset: u32) -> Addr
     requires low { 0 < page }
     requires high { page ≤ heap.now.store.count }
     requires within { offset < heap.now.store.words }

@@ -1,0 +1,142 @@
+-- The least object that is still to be scanned is found page by page.
+use Rattle.std.proofs.Common.{◌≡◌, ◌≢◌, ◌⊎◌, inl, inr, ℕ, zero, suc, ◌+◌, ◌-◌, ◌*◌, ◌%◌, ◌<◌, ◌≤◌, ◌&&◌, not, Bool, true}
+use Rattle.std.proofs.Common.{false, List, [], length, Option, Some, None, refl, sym, ◌∙◌, ap, arith}
+use Rattle.std.proofs.Common.{unwrap_or, subst}
+use Rattle.std.specs.List.{find, range_with_len, slice_get}
+use Rattle.std.proofs.lemmas.Option.{unwrap_or-slice_get}
+use Rattle.model.specs.Stores.{record_count}
+use Rattle.model.specs.Owning.{IsStore}
+use Rattle.model.specs.Holding.{IsHeap}
+use Rattle.model.proofs.Lists.{get_within}
+use Rattle.std.proofs.lemmas.Nat.{div-mul-add}
+use Rattle.std.proofs.lemmas.Bool.{cases_lt, cases_eq}
+use Rattle.std.proofs.Math.Nat.{mul-add-mod_self_right, mod-eq_of_lt, mul-le-mul_right}
+use Rattle.model.specs.States.{HeapState}
+use Rattle.model.specs.Bits.{of_page, bit_on}
+use Rattle.model.specs.Scans.{is_taken, is_free_todo, next_todo}
+use Rattle.marker.specs.Free.{is_free_on, IsFirstFree, IsNextFree}
+
+-- none of so many numbers from a on passes
+find_none : (p : ℕ → Bool) (a n : ℕ) → ((x : ℕ) → a ≤ x → x < a + n → p x ≡ false) → find p (range_with_len a n) ≡ None
+find_none p a zero h = refl
+find_none p a (suc n) h = rw (h a (omega arith) (omega arith))
+    (find_none p (a + 1) n (λ x low high. h x (omega (arith, low)) (omega (arith, high))))
+
+-- k is the first that passes
+find_some : (p : ℕ → Bool) (a n k : ℕ) → a ≤ k → k < a + n → p k ≡ true
+    → ((x : ℕ) → a ≤ x → x < k → p x ≡ false) → find p (range_with_len a n) ≡ Some k
+find_some p a zero k low high here before = absurd (omega (arith, low, high))
+find_some p a (suc n) k low high here before = by_first (cases_eq a k)
+    (λ e. find_some p (a + 1) n k (omega (arith, low, e)) (omega (arith, high)) here
+    (λ x l m. before x (omega (arith, l)) m))
+  where
+    by_first : (a ≡ k) ⊎ (a ≢ k) → (a ≢ k → find p (range_with_len (a + 1) n) ≡ Some k)
+        → find p (range_with_len a (suc n)) ≡ Some k
+    by_first (inl e) rest = rw (ap p e ∙ here) (ap Some e)
+    by_first (inr e) rest = rw (before a (omega arith) (omega (arith, low, e))) (rest e)
+
+-- what is free by its address is free in its page's row
+free_on_page : (h : HeapState) (page o : ℕ) → o < h.store.words
+    → is_free_todo h (page * h.store.words + o) ≡ is_free_on h (of_page h.todo page) page o
+unfolding is_free_todo is_free_on
+free_on_page h page o within =
+    let a = page * h.store.words + o in
+    ap (λ n. bit_on h.todo n (a % h.store.words) && not (is_taken h a)) (div-mul-add page h.store.words o within)
+    ∙ ap (λ n. bit_on h.todo page n && not (is_taken h a))
+    (mul-add-mod_self_right page h.store.words o ∙ mod-eq_of_lt within)
+
+-- no object before those of a page is free
+abbrev pub NoneBefore : HeapState → ℕ → Type 0
+NoneBefore h page = (x : ℕ) → h.store.words ≤ x → x < page * h.store.words → is_free_todo h x ≡ false
+
+one_more : (page words : ℕ) → (page + 1) * words ≡ page * words + words
+one_more page words = grind arith
+
+pub none_first : (h : HeapState) → NoneBefore h 1
+none_first h x low high = absurd (omega (arith, low, high, one_more 0 h.store.words))
+
+pub none_more : (h : HeapState) (page : ℕ) → NoneBefore h page
+    → ((j : ℕ) → is_free_on h (of_page h.todo page) page j ≡ false) → NoneBefore h (page + 1)
+none_more h page before here x low high = by_place (cases_lt x (page * h.store.words))
+  where
+    by_place : (x < page * h.store.words) ⊎ (page * h.store.words ≤ x) → is_free_todo h x ≡ false
+    by_place (inl a) = before x low a
+    by_place (inr a) =
+        let o : ℕ = x - page * h.store.words in
+        let back : page * h.store.words + o ≡ x = omega (arith, a) in
+        let within : o < h.store.words = omega (arith, a, high, one_more page h.store.words) in
+        ap (is_free_todo h) (sym back) ∙ free_on_page h page o within ∙ here o
+
+pub next_is : (h : HeapState) (page k : ℕ) → 0 < page → page ≤ length h.todo
+    → length (of_page h.todo page) ≡ h.store.words → NoneBefore h page
+    → IsFirstFree h (of_page h.todo page) page k → Some (page * h.store.words + k) ≡ next_todo h
+unfolding next_todo
+next_is h page k low high size before first = sym (find_some (is_free_todo h) h.store.words (length h.todo * h.store.words)
+    (page * h.store.words + k) (omega (arith, from)) (omega (arith, to, k_low)) (free_on_page h page k k_low ∙ first.here) earlier)
+  where
+    k_low : k < h.store.words
+    k_low = rw (← size) first.within
+
+    from : 1 * h.store.words ≤ page * h.store.words
+    from = mul-le-mul_right h.store.words low
+
+    to : page * h.store.words ≤ length h.todo * h.store.words
+    to = mul-le-mul_right h.store.words high
+
+    earlier : (x : ℕ) → h.store.words ≤ x → x < page * h.store.words + k → is_free_todo h x ≡ false
+    earlier x a b = by_place (cases_lt x (page * h.store.words))
+      where
+        by_place : (x < page * h.store.words) ⊎ (page * h.store.words ≤ x) → is_free_todo h x ≡ false
+        by_place (inl c) = before x a c
+        by_place (inr c) =
+            let o : ℕ = x - page * h.store.words in
+            let back : page * h.store.words + o ≡ x = omega (arith, c) in
+            ap (is_free_todo h) (sym back) ∙ free_on_page h page o (omega (arith, b, c, k_low))
+            ∙ first.before o (omega (arith, b, c))
+
+pub next_none : (h : HeapState) (page : ℕ) → page ≡ length h.todo + 1 → NoneBefore h page → None ≡ next_todo h
+unfolding next_todo
+next_none h page e before = sym (find_none (is_free_todo h) h.store.words (length h.todo * h.store.words)
+    (λ x low high. before x low (omega (arith, high, all))))
+  where
+    all : page * h.store.words ≡ length h.todo * h.store.words + h.store.words
+    all = ap (λ n. n * h.store.words) e ∙ one_more (length h.todo) h.store.words
+
+-- pages and their rows
+
+row_is : (todo : List (List Bool)) (n : ℕ) (o : Option (List Bool)) → n ≢ 0 → slice_get todo (n - 1) ≡ o
+    → of_page todo n ≡ unwrap_or o []
+row_is todo zero o h e = absurd (h refl)
+row_is todo (suc i) o h e =
+    let back : suc i - 1 ≡ i = omega arith in
+    sym (unwrap_or-slice_get todo i []) ∙ ap (λ k. unwrap_or (slice_get todo k) []) (sym back)
+    ∙ ap (λ r. unwrap_or r []) e
+
+-- nothing is free where there is no row
+none_on : (h : HeapState) (row : List Bool) (page j : ℕ) → row ≡ [] → is_free_on h row page j ≡ false
+unfolding is_free_on
+none_on h row page j e = rw e refl
+
+pub none_on_zero : (h : HeapState) (page j : ℕ) → page ≡ 0 → is_free_on h (of_page h.todo page) page j ≡ false
+none_on_zero h page j e = none_on h (of_page h.todo page) page j (ap (of_page h.todo) e)
+
+pub none_on_missing : (h : HeapState) (page j : ℕ) → page ≢ 0 → slice_get h.todo (page - 1) ≡ None
+    → is_free_on h (of_page h.todo page) page j ≡ false
+none_on_missing h page j z e = none_on h (of_page h.todo page) page j (row_is h.todo page None z e)
+
+pub next_on_row : (h : HeapState) (page : ℕ) (row : List Bool) (r : Option ℕ) → page ≢ 0
+    → slice_get h.todo (page - 1) ≡ Some row → IsNextFree h row page r → IsNextFree h (of_page h.todo page) page r
+next_on_row h page row r z e n =
+    subst (λ (ws : List Bool). IsNextFree h ws page r) (sym (row_is h.todo page (Some row) z e)) n
+
+-- there is a row for each record, of a bit for each word
+pub rows_many : (h : HeapState) → IsStore h.store → IsHeap h → length h.todo ≡ length h.store.pages
+rows_many h s i = i.todo.pages ∙ ap (λ n. record_count n h.config.pages) (sym i.sizes.frames)
+    ∙ ap (record_count (length h.store.frames)) (sym i.sizes.pages) ∙ sym s.sized.pages
+
+pub row_size : (h : HeapState) (page : ℕ) → IsHeap h → 0 < page → page ≤ length h.todo
+    → length (of_page h.todo page) ≡ h.store.words
+row_size h page i low high =
+    let found = get_within h.todo (page - 1) (omega (arith, low, high)) in
+    ap length (row_is h.todo page (Some found.0) (λ e. absurd (omega (arith, e, low))) found.1)
+    ∙ i.todo.words (page - 1) found.0 found.1 ∙ sym i.sizes.words

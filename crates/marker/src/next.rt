@@ -1,0 +1,57 @@
+//! What is left to be scanned (the paper's Mark phase; that the least object comes first is ours).
+
+ghost use Rattle.std.specs.Prelude.{◌≡◌, ◌<◌, ◌≤◌, length};
+ghost use Rattle.model.specs.Bits.{of_page};
+ghost use Rattle.model.specs.Scans.{next_todo};
+ghost use Rattle.marker.specs.Free.{IsNextFree};
+
+use crate::scans::{address_on, is_taken};
+use heap::{Heap, Row};
+use refword::Addr;
+
+/// The first offset of the row of a page at which an object is still to be scanned that no worker
+/// has.
+#[tactic(auto, unfolding(crate::specs::Free::is_free_on))]
+fn next_free_on(heap: &Heap, row: &Row, page: u32) -> Option<u32>
+    ensures { IsNextFree heap.now row.now page result }
+{
+    let words = u64::from(heap.store().page_words());
+    let mut from = 0;
+    while let Some(place) = row.next_from(from) {
+        let address = u64::from(page) * words + u64::from(place);
+        if !is_taken(heap, address) {
+            return Some(place);
+        }
+        from = place as usize + 1;
+    }
+    None
+}
+
+/// The same, of the row of a page by its number from 1, which has a record.
+fn next_on(heap: &Heap, page: u32) -> Option<u32>
+    ensures { IsNextFree heap.now (of_page heap.now.todo page) page result }
+{
+    if page == 0 {
+        return None;
+    }
+    match heap.todo().get((page - 1) as usize) {
+        None => None,
+        Some(row) => next_free_on(heap, row, page),
+    }
+}
+
+/// The least address of an object that is still to be scanned and that no worker has, if there is
+/// one. It looks at the pages that have records, and in these at what is still to be scanned alone.
+pub fn next_todo(heap: &Heap) -> Option<Addr>
+    ensures { result ≡ next_todo heap.now }
+{
+    heap.law();
+    let pages = heap.store().pages().len();
+    for index in 0..pages {
+        let page = (index + 1) as u32;
+        if let Some(place) = next_on(heap, page) {
+            return Some(address_on(heap, page, place));
+        }
+    }
+    None
+}
