@@ -8,7 +8,7 @@ use Rattle.std.proofs.lemmas.List.Sums.{sum_by-cons}
 use Rattle.std.proofs.lemmas.Bool.Decides.{nat_tests}
 use Rattle.model.specs.States.{change_at, change_found}
 use Rattle.model.specs.Bits.{bit_count}
-use Rattle.model.proofs.Lists.{get_set_same, count_replicate}
+use Rattle.model.proofs.Lists.{get_set_same, count_replicate, as_number}
 use Rattle.markbits.specs.Indexing.{has_bits, settle}
 
 -- the index of rows of which one is changed
@@ -44,21 +44,21 @@ pub none_counted : (rows : List (List Bool))
 none_counted [] = refl
 none_counted (r ∷ rows) = by_row (count_by (λ b. b) r) refl (none_counted rows)
   where
-    more : (bs : List Bool) (b : Bool) → count_by (λ b. b) (b ∷ bs) ≡ cond b 1 0 + count_by (λ b. b) bs
+    more : (bs : List Bool) (b : Bool) → count_by (λ b. b) (b ∷ bs) ≡ as_number b + count_by (λ b. b) bs
     more bs b = sum_by-cons (λ b. cond b 1 0) b bs
 
     by_row : (n : ℕ) → count_by (λ b. b) r ≡ n
         → (count_by (λ b. b) (map has_bits rows) == 0) ≡ (bit_count rows == 0)
         → (count_by (λ b. b) (has_bits r ∷ map has_bits rows) == 0) ≡ (bit_count (r ∷ rows) == 0)
     by_row zero e h =
-        let here : cond (has_bits r) 1 0 ≡ 0 = ap (λ n. cond (not (n == 0)) 1 0) e in
+        let here : as_number (has_bits r) ≡ 0 = ap (λ n. as_number (not (n == 0))) e in
         let busy : count_by (λ b. b) (has_bits r ∷ map has_bits rows) ≡ count_by (λ b. b) (map has_bits rows) =
         omega (arith, more (map has_bits rows) (has_bits r), here) in
         let bits : bit_count (r ∷ rows) ≡ bit_count rows =
         omega (arith, sum_by-cons (count_by (λ b. b)) r rows, e) in
         ap (λ n. n == 0) busy ∙ h ∙ ap (λ n. n == 0) (sym bits)
     by_row (suc n) e h =
-        let here : cond (has_bits r) 1 0 ≡ 1 = ap (λ n. cond (not (n == 0)) 1 0) e ∙ one n in
+        let here : as_number (has_bits r) ≡ 1 = ap (λ n. as_number (not (n == 0))) e ∙ one n in
         let busy : 0 < count_by (λ b. b) (has_bits r ∷ map has_bits rows) =
         omega (arith, more (map has_bits rows) (has_bits r), here) in
         let bits : 0 < bit_count (r ∷ rows) = omega (arith, sum_by-cons (count_by (λ b. b)) r rows, e) in
@@ -67,5 +67,5 @@ none_counted (r ∷ rows) = by_row (count_by (λ b. b) r) refl (none_counted row
         positive : (n : ℕ) → 0 < n → (n == 0) ≡ false
         positive n m = grind (arith, nat_tests)
 
-        one : (n : ℕ) → cond (not (suc n == 0)) 1 0 ≡ 1
-        one n = ap (λ b. cond (not b) 1 0) (positive (suc n) (omega arith))
+        one : (n : ℕ) → as_number (not (suc n == 0)) ≡ 1
+        one n = ap (λ b. as_number (not b)) (positive (suc n) (omega arith))
