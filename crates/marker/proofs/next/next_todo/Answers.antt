@@ -11,7 +11,12 @@ returns-in-Some c =
     let page = c.loop-index.index + 1 in
     let many = rows_many h c.law.ensures.store c.law.ensures.heap in
     let high : page ≤ length h.todo =
-    omega (arith, c.loop-index-test.true, many, ap length c.pages-pages.ensures ∙ ap (λ (s : StoreState). length s.pages) c.store.ensures) in
+    omega (
+      arith,
+      c.loop-index-test.true,
+      many,
+      ap length c.pages-pages.ensures ∙ ap (λ (s : StoreState). length s.pages) c.store.ensures,
+    ) in
     let low : 0 < page = omega arith in
     let found = subst (IsNextFree h (of_page h.todo page) page) c.in-Some.is c.next_on.ensures in
     ap Some c.address_on.ensures
