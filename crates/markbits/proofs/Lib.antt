@@ -1,3 +1,4 @@
 pub mod RowBits
 pub mod RowWords
 pub mod ManyRows
+pub mod Busy

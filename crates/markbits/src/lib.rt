@@ -2,6 +2,8 @@
 //! to be scanned. All of it is ours.
 #![tactic(auto)]
 
+mod indexed;
 mod rows;
 
+pub use indexed::IndexedRows;
 pub use rows::{Row, Rows};

@@ -1,0 +1,71 @@
+-- The index of rows that have a bit.
+use Rattle.std.proofs.Common.{◌≡◌, ℕ, zero, suc, ◌+◌, ◌*◌, ◌<◌, Bool, true, false, not, cond, List, [], ◌∷◌, map, replicate, set}
+use Rattle.std.proofs.Common.{count_by, Option, Some, None, refl, sym, ◌∙◌, ap, ap₂, subst, arith}
+use Rattle.std.specs.List.{slice_get}
+use Rattle.std.specs.Prelude.{◌==◌}
+use Rattle.std.proofs.lemmas.List.{map-set}
+use Rattle.std.proofs.lemmas.List.Sums.{sum_by-cons}
+use Rattle.std.proofs.lemmas.Bool.Decides.{nat_tests}
+use Rattle.model.specs.States.{change_at, change_found}
+use Rattle.model.specs.Bits.{bit_count}
+use Rattle.model.proofs.Lists.{get_set_same, count_replicate, as_number}
+use Rattle.markbits.specs.Indexing.{has_bits, settle}
+
+-- the index of rows of which one is changed
+pub settled : (rows new : List (List Bool)) (busy : List Bool) (i : ℕ) (f : List Bool → List Bool)
+    → busy ≡ map has_bits rows → new ≡ change_at rows i f → settle busy i (slice_get new i) ≡ map has_bits new
+settled rows new busy i f e k = subst (λ n. settle busy i (slice_get n i) ≡ map has_bits n) (sym k)
+    (subst (λ b. settle b i (slice_get (change_at rows i f) i) ≡ map has_bits (change_at rows i f)) (sym e)
+    (by_row (slice_get rows i) refl))
+  where
+    by_row : (o : Option (List Bool)) → slice_get rows i ≡ o
+        → settle (map has_bits rows) i (slice_get (change_found rows i o f) i) ≡ map has_bits (change_found rows i o f)
+    by_row None g = ap (settle (map has_bits rows) i) g
+    by_row (Some row) g = ap (settle (map has_bits rows) i) (get_set_same rows i row (f row) g)
+        ∙ sym (map-set has_bits rows i (f row))
+
+-- rows that are clear have no bit
+pub none_busy : (count words : ℕ) → replicate count false ≡ map has_bits (replicate count (replicate words false))
+none_busy zero words = refl
+none_busy (suc count) words = ap₂ (λ b bs. b ∷ bs) (clear words) (none_busy count words)
+  where
+    no_times : (n : ℕ) → n * 0 ≡ 0
+    no_times n = omega arith
+
+    clear : (words : ℕ) → false ≡ has_bits (replicate words false)
+    clear words =
+        let none : count_by (λ b. b) (replicate words false) ≡ 0 =
+        count_replicate (λ b. b) words false ∙ no_times words in
+        ap (λ n. not (n == 0)) (sym none)
+
+-- where no row has a bit, none is set
+pub none_counted : (rows : List (List Bool))
+    → (count_by (λ b. b) (map has_bits rows) == 0) ≡ (bit_count rows == 0)
+none_counted [] = refl
+none_counted (r ∷ rows) = by_row (count_by (λ b. b) r) refl (none_counted rows)
+  where
+    more : (bs : List Bool) (b : Bool) → count_by (λ b. b) (b ∷ bs) ≡ as_number b + count_by (λ b. b) bs
+    more bs b = sum_by-cons (λ b. cond b 1 0) b bs
+
+    by_row : (n : ℕ) → count_by (λ b. b) r ≡ n
+        → (count_by (λ b. b) (map has_bits rows) == 0) ≡ (bit_count rows == 0)
+        → (count_by (λ b. b) (has_bits r ∷ map has_bits rows) == 0) ≡ (bit_count (r ∷ rows) == 0)
+    by_row zero e h =
+        let here : as_number (has_bits r) ≡ 0 = ap (λ n. as_number (not (n == 0))) e in
+        let busy : count_by (λ b. b) (has_bits r ∷ map has_bits rows) ≡ count_by (λ b. b) (map has_bits rows) =
+        omega (arith, more (map has_bits rows) (has_bits r), here) in
+        let bits : bit_count (r ∷ rows) ≡ bit_count rows =
+        omega (arith, sum_by-cons (count_by (λ b. b)) r rows, e) in
+        ap (λ n. n == 0) busy ∙ h ∙ ap (λ n. n == 0) (sym bits)
+    by_row (suc n) e h =
+        let here : as_number (has_bits r) ≡ 1 = ap (λ n. as_number (not (n == 0))) e ∙ one n in
+        let busy : 0 < count_by (λ b. b) (has_bits r ∷ map has_bits rows) =
+        omega (arith, more (map has_bits rows) (has_bits r), here) in
+        let bits : 0 < bit_count (r ∷ rows) = omega (arith, sum_by-cons (count_by (λ b. b)) r rows, e) in
+        positive _ busy ∙ sym (positive _ bits)
+      where
+        positive : (n : ℕ) → 0 < n → (n == 0) ≡ false
+        positive n m = grind (arith, nat_tests)
+
+        one : (n : ℕ) → as_number (not (suc n == 0)) ≡ 1
+        one n = ap (λ b. as_number (not b)) (positive (suc n) (omega arith))

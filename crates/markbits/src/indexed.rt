@@ -1,0 +1,102 @@
+//! Rows with an index of those that have a bit set.
+
+ghost use Rattle.std.specs.Prelude.{◌≡◌, replicate, slice_get, map, false, IfOk, ◌==◌};
+ghost use Rattle.std.specs.Option.{option_copied};
+ghost use Rattle.model.specs.States.{change_at};
+ghost use Rattle.model.specs.Bits.{blank_row, put_bit, bit_on, bit_count};
+ghost use Rattle.markbits.specs.Words.{IsNextPlace};
+ghost use Rattle.markbits.specs.Indexing.{has_bits, settle};
+
+use crate::rows::{Row, Rows};
+use std::alloc::{AllocError, Global};
+use std::marker::Model;
+
+/// A row for each page that has a record, by the record's index, as `Rows` are. Rows that have a bit
+/// are found without a look at the others.
+#[derive(Debug, Drop)]
+pub struct IndexedRows {
+    rows: Rows,
+    /// Bit `i` is set where row `i` has a bit.
+    busy: Row,
+}
+
+impl Model for IndexedRows {
+    ghost use Rattle.std.specs.Prelude.{◌≡◌, List, Bool, map};
+    ghost use Rattle.markbits.specs.Indexing.{has_bits};
+
+    ghost Value = { List (List Bool) };
+
+    ghost view = { λ r. r.rows };
+
+    ghost invariant = { λ r. r.busy ≡ map has_bits r.rows };
+}
+
+/// Sets the entry of an index as the row of this index has it, if there is one.
+fn settle(busy: &mut Row, rows: &Rows, index: usize)
+    ensures { busy.new ≡ settle busy.old index (slice_get rows.now index) }
+{
+    if let Some(row) = rows.get(index) {
+        busy.put(index, row.count() != 0);
+    }
+}
+
+impl IndexedRows {
+    /// So many rows of so many bits, all clear: in a heap at most 8,192 rows, of 16 to 4,096 bits.
+    /// Fails only by memory.
+    #[tactic(auto, using(crate::proofs::Busy::none_busy))]
+    pub fn new(alloc: Global, count: u32, words: u32) -> Result<IndexedRows, AllocError>
+        ensures { IfOk result (λ r. r ≡ replicate count (replicate words false)) }
+    {
+        let rows = Rows::new(alloc, count, words)?;
+        let busy = Row::new(alloc, count)?;
+        Ok(IndexedRows { rows, busy })
+    }
+
+    /// The row of an index from 0, if it is there.
+    pub fn get(&self, index: usize) -> Option<&Row>
+        ensures { option_copied result ≡ slice_get self.now index }
+    {
+        self.rows.get(index)
+    }
+
+    /// Whether the bit of an offset of a page is set, by the page's number from 1: its row has the
+    /// index below. Where there is no such row or bit, none is.
+    pub fn bit_on(&self, page: u32, offset: u32) -> bool
+        ensures { result ≡ bit_on self.now page offset }
+    {
+        self.rows.bit_on(page, offset)
+    }
+
+    /// Whether no bit is set in any row.
+    #[tactic(auto, using(crate::proofs::Busy::none_counted))]
+    pub fn is_empty(&self) -> bool
+        ensures { result ≡ (bit_count self.now == 0) }
+    {
+        self.busy.count() == 0
+    }
+
+    /// The first row from an index on that has a bit, by its index from 0.
+    pub fn next_busy(&self, index: usize) -> Option<u32>
+        ensures { IsNextPlace (map has_bits self.now) index result }
+    {
+        self.busy.next_from(index)
+    }
+
+    /// Sets or clears a bit of a row, if it is there.
+    #[tactic(auto, using(crate::proofs::Busy::settled))]
+    pub fn put(&mut self, index: usize, offset: usize, bit: bool)
+        ensures { self.new ≡ change_at self.old index (put_bit offset bit) }
+    {
+        self.rows.put(index, offset, bit);
+        settle(&mut self.busy, &self.rows, index);
+    }
+
+    /// Clears a row, if it is there.
+    #[tactic(auto, using(crate::proofs::Busy::settled))]
+    pub fn clear(&mut self, index: usize)
+        ensures { self.new ≡ change_at self.old index blank_row }
+    {
+        self.rows.clear(index);
+        settle(&mut self.busy, &self.rows, index);
+    }
+}
