@@ -71,7 +71,8 @@ ended_keeps h s live mark i e f g =
       todo = i.todo;
       sides = i.sides;
       births = i.births;
-      buffers = λ j t a. subst (λ (s : StoreState). FillsIn s t) (sym e) (by_buffer j t a t.buffer refl (i.buffers j t a));
+      buffers = λ j t a. subst (λ (s : StoreState). FillsIn s t) (sym e)
+          (by_buffer j t a t.buffer refl (i.buffers j t a));
     }
   where
     by_buffer : (j : ℕ) (t : ThreadState) → slice_get h.threads j ≡ Some t → (o : Option Buffer) → t.buffer ≡ o

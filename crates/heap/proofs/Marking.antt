@@ -1,5 +1,6 @@
 -- Marks keep what holds of a heap.
-use Rattle.std.proofs.Common.{None, ◌≡◌, ℕ, zero, suc, ◌+◌, ◌&&◌, ◌-◌, ◌/◌, ◌%◌, Bool, true, false, List, [], get_or, replicate, refl}
+use Rattle.std.proofs.Common.{None, ◌≡◌, ℕ, zero, suc, ◌+◌, ◌&&◌, ◌-◌, ◌/◌, ◌%◌, Bool, true, false, List, [], get_or}
+use Rattle.std.proofs.Common.{replicate, refl}
 use Rattle.std.proofs.Common.{◌∙◌, sym, ap, subst, set, Option, Some}
 use Rattle.std.specs.List.{slice_get}
 use Rattle.std.specs.Option.{IfSome}

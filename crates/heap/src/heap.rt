@@ -32,8 +32,9 @@ use std::marker::Model;
 /// `store_global`, `datum`, `set_datum`, `same`, `is_null`, `copy_register` and `clear_register`.
 /// A row asks that its step has passed the tests before it (the thread is there, numbers are in
 /// range, it isn't parked and has no open barrier), which are made by `cycle`. The rows of loads
-/// stand in `barrier`, those of checkpoints in `checkpoint`; they are made of the readers here and
-/// of `Edits`. Threads and registers count from 0.
+/// stand in `barrier`, those of checkpoints in `checkpoint`, those of marks in `marker`; they are
+/// made of the readers here, of `Edits` and of `CollectorEdits`. Threads, workers, globals and
+/// registers count from 0.
 #[derive(Drop)]
 pub struct Heap {
     config: Config,
@@ -137,7 +138,8 @@ impl Heap {
         &self.globals
     }
 
-    /// Where the collector is in its cycle; idle today.
+    /// Where the collector is in its cycle. It is in none of the phases in which pages are
+    /// protected today.
     pub fn phase(&self) -> Phase
         ensures { result ≡ self.now.phase }
     {

@@ -1,5 +1,6 @@
 -- Tables of rows.
-use Rattle.std.proofs.Common.{◌≡◌, ℕ, ◌+◌, ◌<◌, Bool, count_by, List, [], ◌∷◌, ◌++◌, length, map, take, drop, get_or, set, sym}
+use Rattle.std.proofs.Common.{◌≡◌, ℕ, ◌+◌, ◌<◌, Bool, count_by, List, [], ◌∷◌, ◌++◌, length, map, take, drop, get_or}
+use Rattle.std.proofs.Common.{set, sym}
 use Rattle.std.proofs.Common.{◌∙◌, ap, arith, length-set}
 use Rattle.std.proofs.lemmas.List.{get_or_read, get_or-drop, take_more, take_more_set, map-append, drop-set-lt}
 use Rattle.std.proofs.lemmas.Grind.{drop_more_same}

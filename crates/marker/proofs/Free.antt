@@ -79,8 +79,9 @@ pub next_is : (h : HeapState) (page k : ℕ) → 0 < page → page ≤ length h.
     → length (of_page h.todo page) ≡ h.store.words → NoneBefore h page
     → IsFirstFree h (of_page h.todo page) page k → Some (page * h.store.words + k) ≡ next_todo h
 unfolding next_todo
-next_is h page k low high size before first = sym (find_some (is_free_todo h) h.store.words (length h.todo * h.store.words)
-    (page * h.store.words + k) (omega (arith, from)) (omega (arith, to, k_low)) (free_on_page h page k k_low ∙ first.here) earlier)
+next_is h page k low high size before first =
+    sym (find_some (is_free_todo h) h.store.words (length h.todo * h.store.words) (page * h.store.words + k)
+    (omega (arith, from)) (omega (arith, to, k_low)) (free_on_page h page k k_low ∙ first.here) earlier)
   where
     k_low : k < h.store.words
     k_low = rw (← size) first.within

@@ -1,6 +1,7 @@
 -- What a mark's end does to each page in turn, it does to the store.
 use Rattle.std.proofs.Common.{◌≡◌, ◌≢◌, ◌⊎◌, inl, inr, ℕ, zero, suc, ◌+◌, ◌-◌, ◌<◌, ◌≤◌, ◌&&◌, Bool, true, false, not}
-use Rattle.std.proofs.Common.{cond, List, [], ◌∷◌, map, length, Option, Some, None, set, refl, sym, ◌∙◌, ap, subst, arith}
+use Rattle.std.proofs.Common.{cond, List, [], ◌∷◌, map, length, Option, Some, None, set, refl, sym, ◌∙◌, ap, subst}
+use Rattle.std.proofs.Common.{arith}
 use Rattle.std.specs.List.{slice_get}
 use Rattle.std.proofs.Math.ListN.{length-set}
 use Rattle.std.proofs.lemmas.Option.{same_Some, none-some, slice_get_within}
@@ -123,7 +124,8 @@ page_at_number : (s : StoreState) (j : ℕ) → state_at s (j + 1) ≡ state_in 
 unfolding state_at
 page_at_number s j =
     let back : j + 1 - 1 ≡ j = omega arith in
-    ap state_in (page_at_record s (j + 1) (λ e. absurd (omega (arith, e)))) ∙ ap (λ k. state_in (slice_get s.pages k)) back
+    ap state_in (page_at_record s (j + 1) (λ e. absurd (omega (arith, e))))
+    ∙ ap (λ k. state_in (slice_get s.pages k)) back
 
 -- an owner that gives its frame up, or keeps it
 abbrev pub owner_if : (n : ℕ) → Bool → Option ℕ
@@ -164,7 +166,8 @@ module _ (s : StoreState) (i : ℕ) (p : Page) (h : IsStore s) (at : slice_get s
   owners_from g frame protected t e same =
       let owns = h.owning.owned i g p at frame in
       let given : owner_after_mark s (Some (i + 1)) ≡ None =
-      ap (λ x. owner_if (i + 1) (is_protected x)) (page_at_number s i ∙ ap state_in at) ∙ ap (owner_if (i + 1)) protected in
+      ap (λ x. owner_if (i + 1) (is_protected x)) (page_at_number s i ∙ ap state_in at)
+      ∙ ap (owner_if (i + 1)) protected in
       ap (map (owner_after_mark t)) same ∙ map_but _ _ s.owners g (Some (i + 1)) None owns (sym given)
       (λ f o other a. by_owner (λ o. owner_after_mark t o ≡ owner_after_mark s o) f o a refl
       (λ j x b c. owner_elsewhere (retired_page p) t e j
@@ -185,7 +188,8 @@ module _ (s : StoreState) (i : ℕ) (p : Page) (h : IsStore s) (at : slice_get s
           ∙ ap (λ ps. is_protected (state_in (slice_get ps j))) e
           ∙ ap (λ k. is_protected (state_in (slice_get (set s.pages i q) k))) here
           ∙ ap (λ o. is_protected (state_in o)) (get_set_same s.pages i p q at) ∙ alike
-          ∙ ap (λ o. is_protected (state_in o)) (sym at) ∙ ap (λ k. is_protected (state_in (slice_get s.pages k))) (sym here)
+          ∙ ap (λ o. is_protected (state_in o)) (sym at)
+          ∙ ap (λ k. is_protected (state_in (slice_get s.pages k))) (sym here)
           ∙ ap is_protected (sym (page_at_number s j)))
 
 -- a mark leaves the same owners in two stores
@@ -207,11 +211,15 @@ ended_owners s i lent h = by_page (slice_get s.pages i) refl
 
     by_state : (p : Page) → slice_get s.pages i ≡ Some p → (x : PageState) → p.state ≡ x → (lent : Bool)
         → LeavesAlike s (with_mark_ended_at s i lent)
-    by_state p e Unused a b = subst (LeavesAlike s) (kept_at s i b p e (ap is_protected a) (ap (λ y. is_open y && not b) a)) refl
-    by_state p e Open a true = subst (LeavesAlike s) (kept_at s i true p e (ap is_protected a) (ap (λ y. is_open y && false) a)) refl
-    by_state p e Open a false = subst (LeavesAlike s) (closed_at s i p e (ap is_open a)) (owners_alike s i p h e (closed_page p)
+    by_state p e Unused a b =
+        subst (LeavesAlike s) (kept_at s i b p e (ap is_protected a) (ap (λ y. is_open y && not b) a)) refl
+    by_state p e Open a true =
+        subst (LeavesAlike s) (kept_at s i true p e (ap is_protected a) (ap (λ y. is_open y && false) a)) refl
+    by_state p e Open a false = subst (LeavesAlike s) (closed_at s i p e (ap is_open a))
+        (owners_alike s i p h e (closed_page p)
         (ap is_protected (sym a)) (record s { pages = set s.pages i (closed_page p) }) refl refl)
-    by_state p e Closed a b = subst (LeavesAlike s) (kept_at s i b p e (ap is_protected a) (ap (λ y. is_open y && not b) a)) refl
+    by_state p e Closed a b =
+        subst (LeavesAlike s) (kept_at s i b p e (ap is_protected a) (ap (λ y. is_open y && not b) a)) refl
     by_state p e From a b = by_frame p e (ap is_protected a) b p.frame refl
     by_state p e Gone a b = by_frame p e (ap is_protected a) b p.frame refl
 

@@ -1,6 +1,7 @@
 -- The end of a mark keeps the store's invariant.
 use Rattle.std.proofs.Common.{◌≡◌, ◌≢◌, ◌⊎◌, inl, inr, ℕ, ◌+◌, ◌-◌, ◌<◌, ◌≤◌, Bool, true, false, List, length, Option}
-use Rattle.std.proofs.Common.{Some, None, is_some, is_none, set, count_by, zero, suc, ◌&&◌, not, [], ◌∷◌, refl, sym, ◌∙◌, ap, arith, cond}
+use Rattle.std.proofs.Common.{Some, None, is_some, is_none, set, count_by, zero, suc, ◌&&◌, not, [], ◌∷◌, refl, sym}
+use Rattle.std.proofs.Common.{◌∙◌, ap, arith, cond}
 use Rattle.std.specs.List.{slice_get}
 use Rattle.std.proofs.Math.ListN.{length-set}
 use Rattle.std.proofs.lemmas.Option.{same_Some, none-some, slice_get_within}
@@ -36,7 +37,8 @@ pub close_keeps : (s : StoreState) (i : ℕ) (p : Page) → IsStore s → slice_
     → is_open p.state ≡ true → IsStore (record s { pages = set s.pages i (closed_page p) })
 close_keeps s i p h e o =
     let is_so = open_is p.state o in
-    page_keeps s i p (closed_page p) h e refl (ap has_memory (sym is_so)) (ap is_protected (sym is_so)) (h.pages i p e).top
+    page_keeps s i p (closed_page p) h e refl (ap has_memory (sym is_so)) (ap is_protected (sym is_so))
+    (h.pages i p e).top
 
 -- a page without a frame is unused again
 pub retire_gone_keeps : (s : StoreState) (i : ℕ) (p : Page) → IsStore s → slice_get s.pages i ≡ Some p
@@ -176,8 +178,8 @@ pub retired_gone_at : (s : StoreState) (i : ℕ) (lent : Bool) (p : Page) → sl
 unfolding with_mark_ended_at
 retired_gone_at s i lent p e none protected = rw (e, protected, none) refl
 
-pub retired_from_at : (s : StoreState) (i g : ℕ) (lent : Bool) (p : Page) → slice_get s.pages i ≡ Some p → p.frame ≡ Some g
-    → is_protected p.state ≡ true
+pub retired_from_at : (s : StoreState) (i g : ℕ) (lent : Bool) (p : Page) → slice_get s.pages i ≡ Some p
+    → p.frame ≡ Some g → is_protected p.state ≡ true
     → record s { pages = set s.pages i (retired_page p); owners = set s.owners g None } ≡ with_mark_ended_at s i lent
 unfolding with_mark_ended_at
 retired_from_at s i g lent p e frame protected = rw (e, protected, frame) refl
@@ -214,7 +216,8 @@ set_same (y ∷ ys) (suc i) x e = ap (λ zs. y ∷ zs) (set_same ys i x e)
 pub kept_at : (s : StoreState) (i : ℕ) (lent : Bool) (p : Page) → slice_get s.pages i ≡ Some p
     → is_protected p.state ≡ false → is_open p.state && not lent ≡ false → s ≡ with_mark_ended_at s i lent
 unfolding with_mark_ended_at
-kept_at s i lent p e protected stays = rw (e, protected, stays) (ap (λ ps. record s { pages = ps }) (sym (set_same s.pages i p e)))
+kept_at s i lent p e protected stays =
+    rw (e, protected, stays) (ap (λ ps. record s { pages = ps }) (sym (set_same s.pages i p e)))
 
 -- the same, by how the page is used
 pub kept_in : (s : StoreState) (i : ℕ) (lent : Bool) (x : PageState) → i < length s.pages
@@ -223,7 +226,8 @@ pub kept_in : (s : StoreState) (i : ℕ) (lent : Bool) (x : PageState) → i < l
 kept_in s i lent x h e protected stays =
     let p = get_within s.pages i h in
     let same : x ≡ p.0.state = e ∙ ap state_in p.1 in
-    kept_at s i lent p.0 p.1 (ap is_protected (sym same) ∙ protected) (ap (λ y. is_open y && not lent) (sym same) ∙ stays)
+    kept_at s i lent p.0 p.1 (ap is_protected (sym same) ∙ protected)
+    (ap (λ y. is_open y && not lent) (sym same) ∙ stays)
 
 -- a page that has no record stays so
 pub missing_at : (s : StoreState) (i : ℕ) (lent : Bool) → slice_get s.pages i ≡ None → with_mark_ended_at s i lent ≡ s

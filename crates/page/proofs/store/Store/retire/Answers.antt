@@ -1,4 +1,5 @@
-use Rattle.std.proofs.Common.{◌≡◌, ◌<◌, ◌+◌, ℕ, true, false, length, set, Option, Some, None, is_none, refl, sym, subst, ap, ◌∙◌, arith, rules}
+use Rattle.std.proofs.Common.{◌≡◌, ◌<◌, ◌+◌, ℕ, true, false, length, set, Option, Some, None, is_none, refl, sym}
+use Rattle.std.proofs.Common.{subst, ap, ◌∙◌, arith, rules}
 use Rattle.std.specs.List.{slice_get}
 use Rattle.model.specs.declared.records.Page.{Page}
 use Rattle.model.specs.Stores.{StoreState, is_protected, is_unused, state_in}
@@ -62,7 +63,8 @@ invariant_of-self c =
       size = old.size;
       store = retire_from_keeps s i g p old.store at c.in-Some.is before;
       free = omega (arith, old.free, count_set is_none s.owners g (Some (i + 1)) None owns);
-      rooms = old.rooms ∙ kept_mapped (left_in s.words) s.pages i p (retired_page p) at (protected_left s.words p before);
+      rooms = old.rooms
+          ∙ kept_mapped (left_in s.words) s.pages i p (retired_page p) at (protected_left s.words p before);
       unused = c.set.ensures ∙ ap (λ ns. set ns i 1) old.unused
           ∙ set_mapped (λ (p : Page). mark (is_unused p.state)) s.pages i (retired_page p) 1 refl;
       spare = c.set-in-Some.ensures ∙ ap (λ ns. set ns g 1) old.spare
@@ -84,7 +86,8 @@ invariant_of-self-in_default c =
       size = old.size;
       store = retire_gone_keeps s i p old.store at c.in_default.is before;
       free = old.free;
-      rooms = old.rooms ∙ kept_mapped (left_in s.words) s.pages i p (retired_page p) at (protected_left s.words p before);
+      rooms = old.rooms
+          ∙ kept_mapped (left_in s.words) s.pages i p (retired_page p) at (protected_left s.words p before);
       unused = c.set.ensures ∙ ap (λ ns. set ns i 1) old.unused
           ∙ set_mapped (λ (p : Page). mark (is_unused p.state)) s.pages i (retired_page p) 1 refl;
       spare = old.spare;
@@ -100,7 +103,8 @@ returns-in-Some c =
     let is_so = subst (λ (s : StoreState). is_protected (state_in (slice_get s.pages i)) ≡ true)
     (sym c.self.view_is) c.requires.protected in
     let before = sym (ap (λ o. is_protected (state_in o)) at) ∙ is_so in
-    retired_from_at s i c.in-Some.frame false p at c.in-Some.is before ∙ ap (λ t. with_mark_ended_at t i false) c.self.view_is
+    retired_from_at s i c.in-Some.frame false p at c.in-Some.is before
+    ∙ ap (λ t. with_mark_ended_at t i false) c.self.view_is
 
 pub returns-in_default : goal.returns-in_default
 returns-in_default c =
