@@ -102,10 +102,11 @@ pub fn cross_for(heap: &mut Heap, worker: u32, thread: u32) -> Reply
     requires { WorkerPasses heap.old worker (steps.CrossFor thread) }
     ensures { Does heap.old result heap.new (cross_for_outcome heap.old thread) }
 {
-    if !heap.is_parked(thread) {
-        return Err(Refusal::NotParked);
+    if heap.is_parked(thread) {
+        cross_open(heap, thread)
+    } else {
+        Err(Refusal::NotParked)
     }
-    cross_open(heap, thread)
 }
 
 /// A register that names a protected page is corrected (ours). While no page is protected, as today

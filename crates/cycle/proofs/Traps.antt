@@ -22,7 +22,7 @@ use Rattle.model.specs.Refusing.{◌>>=◌, or_refuse, Outcome}
 use Rattle.model.specs.Outcome.{outcome, thread_gate, thread_row, worker_gate, worker_row}
 use Rattle.model.proofs.Lists.{get_set_same}
 use Rattle.cycle.specs.Books.{BookState, BookOutcome, act_outcome, enter_accepted, is_full}
-use Rattle.cycle.specs.Loads.{Told, tell, step_then, trap_load, ThreeTrapsServe}
+use Rattle.cycle.specs.Loads.{Told, tell, step_then, ThreeTrapsServe}
 use Rattle.cycle.proofs.WholeLoads.{after_trap, trapped_next}
 
 gate_passed : (r : Result Unit Refusal) (o : Outcome) (x : HeapState × Answer) → r >>= (λ u. o) ≡ Ok x → o ≡ Ok x
@@ -111,8 +111,11 @@ outcome_clear h (Thread t) x e = by_barrier (barrier_of_thread h t) refl
         → (if d then allow (marked_heap h t b, answers.Marked) else allow (h, answers.Clear)) ≡ allow x
         → ClearSoon (Thread t) x
     by_due b k true z = subst (ClearSoon (Thread t)) (same_outcome (marked_heap h t b, answers.Marked) x z)
-        (inr (refl, λ y f. clear_behind h t b k y (gate_passed (thread_gate (marked_heap h t b) t steps.Trap)
-        (thread_row (marked_heap h t b) t steps.Trap) y f)))
+        (inr (
+          refl,
+          λ y f. clear_behind h t b k y (gate_passed (thread_gate (marked_heap h t b) t steps.Trap)
+              (thread_row (marked_heap h t b) t steps.Trap) y f),
+        ))
     by_due b k false z = inl (sym (ap (λ (x : HeapState × Answer). x.1) (same_outcome (h, answers.Clear) x z)))
 
     by_gc : (b : Barrier) → barrier_of_thread h t ≡ Some b → (d : Bool)

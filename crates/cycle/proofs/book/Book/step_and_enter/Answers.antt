@@ -1,5 +1,6 @@
-use Rattle.std.proofs.Common.{◌∙◌, ◌++◌, ◌∷◌, [], ap, sym}
-use Rattle.cycle.specs.Books.{is_full}
+use Rattle.std.proofs.Common.{◌∙◌, ◌++◌, ◌∷◌, [], ap, sym, subst}
+use Rattle.refinement.specs.Standing.{MovesPhase}
+use Rattle.cycle.specs.Books.{is_full, BookState}
 use Rattle.cycle.specs.Replays.{replayed}
 use Rattle.cycle.specs.Views.{book_of}
 use Rattle.cycle.proofs.Replaying.{entered_book}
@@ -21,4 +22,5 @@ invariant_of-self-2 c =
 pub returns-clause-phase : goal.returns-clause-phase
 returns-clause-phase c =
     let b = book_of c.self.inside in
+    subst (λ (b : BookState). MovesPhase b.heap c.args.step c.step.new.self) c.self.view_is
     (c.in_ok-answer.ensures.stands (replayed b).now (replayed b).at_mark c.self.invariant.holds).phase

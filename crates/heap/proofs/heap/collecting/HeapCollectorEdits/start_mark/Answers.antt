@@ -17,6 +17,6 @@ invariant_of-self c =
     with_items_is c.self.inside.globals c.set_all_todo.new.globals
     (todo_many _ _ _ c.set_all_todo.ensures
     (ap length c.deref_mut-2.ensures.value ∙ sym c.self.inside.globals.ok.0)) in
-    started_keeps (heap_of c.self.inside) _ _ _ c.self.invariant 
+    started_keeps (heap_of c.self.inside) _ _ _ c.self.invariant
     (threads ∙ c.uncross_all.ensures ∙ ap (map (set_crossed_of false)) c.deref_mut.ensures.value)
     (globals ∙ c.set_all_todo.ensures ∙ ap (map set_todo_of) c.deref_mut-2.ensures.value)
