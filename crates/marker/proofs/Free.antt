@@ -148,9 +148,13 @@ get_or_mapped f (x ∷ xs) (suc i) d = get_or_mapped f xs i d
 none_on_blank : (h : HeapState) (i j : ℕ) → slice_index_or (map has_bits h.todo) i false ≡ false
     → is_free_on h (of_page h.todo (i + 1)) (i + 1) j ≡ false
 unfolding is_free_on
-none_on_blank h i j e = subst (λ n. slice_index_or (of_page h.todo n) j false && not (is_taken h (n * h.store.words + j)) ≡ false)
-    (omega arith) (ap (λ b. b && not (is_taken h (suc i * h.store.words + j))) blank)
+none_on_blank h i j e = subst
+    (λ n. slice_index_or (of_page h.todo n) j false && not (is_taken h (n * h.store.words + j)) ≡ false)
+    one_behind (ap (λ b. b && not (is_taken h (suc i * h.store.words + j))) blank)
   where
+    one_behind : suc i ≡ i + 1
+    one_behind = omega arith
+
     row : List Bool
     row = get_or h.todo i []
 
