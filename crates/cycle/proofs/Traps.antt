@@ -1,5 +1,6 @@
 -- No load asks for more than three traps: behind one that marks none is due.
-use Rattle.std.proofs.Common.{◌≡◌, ◌⊎◌, inl, inr, ℕ, suc, ◌+◌, Bool, true, false, not, Option, Some, None, List, ◌∷◌, arith}
+use Rattle.std.proofs.Common.{◌≡◌, ◌⊎◌, inl, inr, ℕ, suc, ◌+◌, Bool, true, false, not, Option, Some, None, List, ◌∷◌}
+use Rattle.std.proofs.Common.{arith}
 use Rattle.std.proofs.Common.{refl, ap, sym, subst, ◌∙◌}
 use Rattle.std.specs.List.{slice_get}
 use Rattle.std.specs.Prelude.{Result, Ok, Err, if◌then◌else◌}
@@ -62,7 +63,8 @@ never_due h t b = by_word b.now
 
     by_word : (v : Reference) → nmt_trap_due (marked_heap h t b) t (marked_word h v) ≡ false
     by_word None = refl
-    by_word (Some w) = clean (may_nmt_trap (marked_heap h t b).phase (has_crossed (slice_get (marked_heap h t b).threads t)))
+    by_word (Some w) = clean (may_nmt_trap (marked_heap h t b).phase (has_crossed (slice_get
+        (marked_heap h t b).threads t)))
         h.nmt
 
 -- behind one, a trap is clear

@@ -57,7 +57,8 @@ pub record IsBook (b : BookState) : Type 0 where
   pub limit : length b.history ≤ b.heap.config.history
   pub marks : LastFinds b
 
--- what it promises: the heap stands for the plain heap of its history; no register that may be used names a page without
+-- what it promises: the heap stands for the plain heap of its history; no register that may be used names a page
+-- without
 -- memory; and where its last step has ended a mark, all that can be reached is live, and what is live could be reached
 -- as that mark began, or is born since
 pub record KeepsPromises (b : BookState) : Type 0 where

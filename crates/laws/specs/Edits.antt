@@ -6,7 +6,8 @@ use Rattle.model.specs.declared.records.PageState.{PageState}
 use Rattle.model.specs.declared.records.PageState.TheVariants.{Unused, Open, Closed, Gone}
 use Rattle.model.specs.Stores.{is_protected}
 use Rattle.model.specs.Phases.{is_marking, is_mark_crossing}
-use Rattle.laws.specs.AddressHeap.{AddressHeap, HeapObject, Word, Null, To, SideEntry, NoEntry, Copied, OpenBarrier, WorkerScan, put, put_at, resolve}
+use Rattle.laws.specs.AddressHeap.{AddressHeap, HeapObject, Word, Null, To, SideEntry, NoEntry, Copied, OpenBarrier}
+use Rattle.laws.specs.AddressHeap.{WorkerScan, put, put_at, resolve}
 use Rattle.laws.specs.BirthHeap.{BirthHeap}
 
 -- a page's state after a mark: an open page without a lent buffer closes (ours), and a protected page is unused again

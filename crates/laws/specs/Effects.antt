@@ -63,7 +63,8 @@ with_datum o j v = record o { data_words = set o.data_words j v }
 abbrev pub new_barrier : ℕ → LoadPlace → Word → OpenBarrier
 new_barrier d place v = record { target = d; place = place; raw = v; now = v; healed = false }
 
--- a word has to be marked before thread t may have it: its bit isn't the clean value (the paper's read barrier, NMT trap)
+-- a word has to be marked before thread t may have it: its bit isn't the clean value (the paper's read barrier, NMT
+-- trap)
 abbrev pub nmt_trap_due : AddressHeap → ℕ → Word → Bool
 nmt_trap_due w t Null = false
 nmt_trap_due w t (To a n) = cond (may_nmt_trap w.phase (w.crossed t)) (not (same_bit n w.nmt)) false

@@ -5,7 +5,8 @@ use Rattle.model.specs.declared.records.Phase.TheVariants.{Idle, MarkCrossing, P
 use Rattle.model.specs.declared.records.PageState.TheVariants.{Open, Closed, From, Gone}
 use Rattle.model.specs.Stores.{has_memory, is_protected}
 use Rattle.model.specs.Phases.{is_marking, is_crossing}
-use Rattle.laws.specs.AddressHeap.{AddressHeap, HeapObject, Word, Null, To, Planned, Copied, OpenBarrier, LoadPlace, AtField, AtGlobal, WorkerScan, field, current, names}
+use Rattle.laws.specs.AddressHeap.{AddressHeap, HeapObject, Word, Null, To, Planned, Copied, OpenBarrier, LoadPlace}
+use Rattle.laws.specs.AddressHeap.{AtField, AtGlobal, WorkerScan, field, current, names}
 use Rattle.laws.specs.BirthHeap.{BirthHeap, ref, IsRoot, IsReached, IsReachable}
 
 -- birth b is that of an object that the running mark has found

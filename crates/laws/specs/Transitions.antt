@@ -1,5 +1,6 @@
 -- What an accepted step does to the heap by addresses and to the plain heap. The premises are the tests of the step, as
--- far as the invariant needs them: a step that tests more is a transition too. A step that changes neither heap, such as
+-- far as the invariant needs them: a step that tests more is a transition too. A step that changes neither heap, such
+-- as
 -- a read of a datum or a buffer given back, is none.
 use Rattle.std.specs.Prelude.{◌≡◌, ◌≢◌, ◌⊎◌, ◌<◌, ◌≤◌, ℕ, Bool, true, false, Option, Some, None, List, length, get_or}
 use Rattle.model.specs.declared.records.Phase.{Phase}
@@ -30,7 +31,8 @@ pub record Uses (w : AddressHeap) (t r a : ℕ) (o : HeapObject) : Type 0 where
   pub usable : IsUsable w t a
   pub here : w.object_at a ≡ Some o
 
--- f is the phase after thread t crosses: the same where another has still to cross, and the next one where t is the last
+-- f is the phase after thread t crosses: the same where another has still to cross, and the next one where t is the
+-- last
 -- (the paper's checkpoints)
 abbrev pub IsPhaseAfter : AddressHeap → ℕ → Phase → Phase → Phase → Type 0
 IsPhaseAfter w t now next f =
@@ -175,7 +177,8 @@ pub data Transition (w : AddressHeap) (p p0 : BirthHeap) : AddressHeap → Birth
   -- a register that names an object that was copied is forwarded (ours)
   ScrubMoved : (t r a n : ℕ) (b : Bool) → w.barrier t ≡ None → w.register t r ≡ To a b → w.side_entry a ≡ Copied n
       → Transition w p p0 (set_register t r (To n b) w) p p0
-  -- a register that names an object that wasn't copied: it is copied, once all have crossed, and the register forwarded (ours)
+  -- a register that names an object that wasn't copied: it is copied, once all have crossed, and the register
+  -- forwarded (ours)
   ScrubCopied : (t r a n : ℕ) (b : Bool) (o : HeapObject) → w.barrier t ≡ None → w.register t r ≡ To a b
       → w.side_entry a ≡ Planned n → w.object_at a ≡ Some o → w.phase ≢ ProtectCrossing
       → Transition w p p0 (set_register t r (To n b) (copy_object a n o w)) p p0

@@ -1,7 +1,9 @@
 -- The least object that is still to be scanned is found page by page.
-use Rattle.std.proofs.Common.{◌≡◌, ◌≢◌, ◌⊎◌, inl, inr, ℕ, zero, suc, ◌+◌, ◌-◌, ◌*◌, ◌%◌, ◌<◌, ◌≤◌, ◌&&◌, not, Bool, true}
+use Rattle.std.proofs.Common.{◌≡◌, ◌≢◌, ◌⊎◌, inl, inr, ℕ, zero, suc, ◌+◌, ◌-◌, ◌*◌, ◌%◌, ◌<◌, ◌≤◌, ◌&&◌, not, Bool}
+use Rattle.std.proofs.Common.{true}
 use Rattle.std.specs.Prelude.{slice_index_or, ◌==◌}
-use Rattle.std.proofs.Common.{false, List, [], ◌∷◌, map, get_or, count_by, length, Option, Some, None, refl, sym, ◌∙◌, ap, arith}
+use Rattle.std.proofs.Common.{false, List, [], ◌∷◌, map, get_or, count_by, length, Option, Some, None, refl, sym}
+use Rattle.std.proofs.Common.{◌∙◌, ap, arith}
 use Rattle.std.proofs.Common.{unwrap_or, subst}
 use Rattle.std.specs.List.{find, range_with_len, slice_get}
 use Rattle.std.proofs.lemmas.Option.{unwrap_or-slice_get}
@@ -214,7 +216,8 @@ pub found_on : (h : HeapState) (from i k : ℕ) → IsHeap h → NoneBefore h (f
 found_on h from i k d before busy first =
     let there = busy_there h.todo i busy.here in
     let size = row_size h (i + 1) d (omega arith) (omega (arith, there)) in
-    let skipped = none_skipped h from (i - from) i (omega (arith, busy.low)) before (λ j low high. busy.before j low high) in (
+    let skipped = none_skipped h from (i - from) i (omega (arith, busy.low)) before
+        (λ j low high. busy.before j low high) in (
       omega (arith, first.within, size),
       next_is h (i + 1) k (omega arith) (omega (arith, there)) size skipped first,
     )

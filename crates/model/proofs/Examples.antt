@@ -228,22 +228,23 @@ what_dies =
     thread 0 (steps.Take 3) (Ok (answers.Lent 2 0)) ∷
     []
 
-bits_dont_count_computes : replies (first_heap config) bits_dont_count ≡ map (λ (l : Line). l.reply) bits_dont_count
-unfolding page_at state_at spot_of word_at with_words with_word words_at page_with_room free_frame unused_page open_fresh give_words take_buffer store_after_mark first_store register_of with_register let_through usable usable_or_null same_outcome is_null_outcome copy_register_outcome clear_register_outcome layout_at datum_at datum_outcome set_datum_outcome field_at global_of with_global store_outcome store_global_outcome with_buffer lend_buffer take_outcome give_back_outcome place_object new_outcome entry_at resolve with_mark marked_word with_barrier with_loaded load_outcome load_global_outcome trap_due trap_outcome heal_place heal_outcome end_load finish_outcome with_parked first_behind all_crossed with_crossed with_marked_register cross_thread may_cross cross_outcome cross_for_outcome scrub_outcome park_outcome unpark_outcome with_scan is_taken may_scan pick_outcome with_marked_place with_scan_end scan_field_outcome with_marked_global scan_global_outcome is_free_todo next_todo next_drain has_uncopied start_mark start_mark_outcome has_todo first_pending is_lent end_mark retired_count end_mark_outcome first_heap no_register no_global no_page thread_gate worker_gate outcome replies reply_of heap_after config thread worker bits_dont_count
-bits_dont_count_computes = refl
+-- the heap of this configuration has these replies
+abbrev Computes : List Line → Type 0
+Computes lines = replies (first_heap config) lines ≡ map (λ (l : Line). l.reply) lines
 
-old_into_new_computes : replies (first_heap config) old_into_new ≡ map (λ (l : Line). l.reply) old_into_new
-unfolding page_at state_at spot_of word_at with_words with_word words_at page_with_room free_frame unused_page open_fresh give_words take_buffer store_after_mark first_store register_of with_register let_through usable usable_or_null same_outcome is_null_outcome copy_register_outcome clear_register_outcome layout_at datum_at datum_outcome set_datum_outcome field_at global_of with_global store_outcome store_global_outcome with_buffer lend_buffer take_outcome give_back_outcome place_object new_outcome entry_at resolve with_mark marked_word with_barrier with_loaded load_outcome load_global_outcome trap_due trap_outcome heal_place heal_outcome end_load finish_outcome with_parked first_behind all_crossed with_crossed with_marked_register cross_thread may_cross cross_outcome cross_for_outcome scrub_outcome park_outcome unpark_outcome with_scan is_taken may_scan pick_outcome with_marked_place with_scan_end scan_field_outcome with_marked_global scan_global_outcome is_free_todo next_todo next_drain has_uncopied start_mark start_mark_outcome has_todo first_pending is_lent end_mark retired_count end_mark_outcome first_heap no_register no_global no_page thread_gate worker_gate outcome replies reply_of heap_after config thread worker old_into_new
-old_into_new_computes = refl
-
-known_to_a_barrier_computes : replies (first_heap config) known_to_a_barrier ≡ map (λ (l : Line). l.reply) known_to_a_barrier
-unfolding page_at state_at spot_of word_at with_words with_word words_at page_with_room free_frame unused_page open_fresh give_words take_buffer store_after_mark first_store register_of with_register let_through usable usable_or_null same_outcome is_null_outcome copy_register_outcome clear_register_outcome layout_at datum_at datum_outcome set_datum_outcome field_at global_of with_global store_outcome store_global_outcome with_buffer lend_buffer take_outcome give_back_outcome place_object new_outcome entry_at resolve with_mark marked_word with_barrier with_loaded load_outcome load_global_outcome trap_due trap_outcome heal_place heal_outcome end_load finish_outcome with_parked first_behind all_crossed with_crossed with_marked_register cross_thread may_cross cross_outcome cross_for_outcome scrub_outcome park_outcome unpark_outcome with_scan is_taken may_scan pick_outcome with_marked_place with_scan_end scan_field_outcome with_marked_global scan_global_outcome is_free_todo next_todo next_drain has_uncopied start_mark start_mark_outcome has_todo first_pending is_lent end_mark retired_count end_mark_outcome first_heap no_register no_global no_page thread_gate worker_gate outcome replies reply_of heap_after config thread worker known_to_a_barrier
-known_to_a_barrier_computes = refl
-
-each_refusal_computes : replies (first_heap config) each_refusal ≡ map (λ (l : Line). l.reply) each_refusal
-unfolding page_at state_at spot_of word_at with_words with_word words_at page_with_room free_frame unused_page open_fresh give_words take_buffer store_after_mark first_store register_of with_register let_through usable usable_or_null same_outcome is_null_outcome copy_register_outcome clear_register_outcome layout_at datum_at datum_outcome set_datum_outcome field_at global_of with_global store_outcome store_global_outcome with_buffer lend_buffer take_outcome give_back_outcome place_object new_outcome entry_at resolve with_mark marked_word with_barrier with_loaded load_outcome load_global_outcome trap_due trap_outcome heal_place heal_outcome end_load finish_outcome with_parked first_behind all_crossed with_crossed with_marked_register cross_thread may_cross cross_outcome cross_for_outcome scrub_outcome park_outcome unpark_outcome with_scan is_taken may_scan pick_outcome with_marked_place with_scan_end scan_field_outcome with_marked_global scan_global_outcome is_free_todo next_todo next_drain has_uncopied start_mark start_mark_outcome has_todo first_pending is_lent end_mark retired_count end_mark_outcome first_heap no_register no_global no_page thread_gate worker_gate outcome replies reply_of heap_after config thread worker each_refusal
-each_refusal_computes = refl
-
-what_dies_computes : replies (first_heap config) what_dies ≡ map (λ (l : Line). l.reply) what_dies
-unfolding page_at state_at spot_of word_at with_words with_word words_at page_with_room free_frame unused_page open_fresh give_words take_buffer store_after_mark first_store register_of with_register let_through usable usable_or_null same_outcome is_null_outcome copy_register_outcome clear_register_outcome layout_at datum_at datum_outcome set_datum_outcome field_at global_of with_global store_outcome store_global_outcome with_buffer lend_buffer take_outcome give_back_outcome place_object new_outcome entry_at resolve with_mark marked_word with_barrier with_loaded load_outcome load_global_outcome trap_due trap_outcome heal_place heal_outcome end_load finish_outcome with_parked first_behind all_crossed with_crossed with_marked_register cross_thread may_cross cross_outcome cross_for_outcome scrub_outcome park_outcome unpark_outcome with_scan is_taken may_scan pick_outcome with_marked_place with_scan_end scan_field_outcome with_marked_global scan_global_outcome is_free_todo next_todo next_drain has_uncopied start_mark start_mark_outcome has_todo first_pending is_lent end_mark retired_count end_mark_outcome first_heap no_register no_global no_page thread_gate worker_gate outcome replies reply_of heap_after config thread worker what_dies
-what_dies_computes = refl
+examples_compute : Computes bits_dont_count × Computes old_into_new × Computes known_to_a_barrier
+    × Computes each_refusal × Computes what_dies
+unfolding page_at state_at spot_of word_at with_words with_word words_at page_with_room free_frame unused_page
+    open_fresh give_words take_buffer store_after_mark first_store register_of with_register let_through usable
+    usable_or_null same_outcome is_null_outcome copy_register_outcome clear_register_outcome layout_at datum_at
+    datum_outcome set_datum_outcome field_at global_of with_global store_outcome store_global_outcome with_buffer
+    lend_buffer take_outcome give_back_outcome place_object new_outcome entry_at resolve with_mark marked_word
+    with_barrier with_loaded load_outcome load_global_outcome trap_due trap_outcome heal_place heal_outcome end_load
+    finish_outcome with_parked first_behind all_crossed with_crossed with_marked_register cross_thread may_cross
+    cross_outcome cross_for_outcome scrub_outcome park_outcome unpark_outcome with_scan is_taken may_scan
+    pick_outcome with_marked_place with_scan_end scan_field_outcome with_marked_global scan_global_outcome
+    is_free_todo next_todo next_drain has_uncopied start_mark start_mark_outcome has_todo first_pending is_lent
+    end_mark retired_count end_mark_outcome first_heap no_register no_global no_page thread_gate worker_gate outcome
+    replies reply_of heap_after config thread worker bits_dont_count old_into_new known_to_a_barrier each_refusal
+    what_dies
+examples_compute = (refl, refl, refl, refl, refl)

@@ -54,7 +54,8 @@ abbrev pub with_marked_registers : HeapState → ℕ → ℕ → HeapState
 with_marked_registers h t zero = h
 with_marked_registers h t (suc r) = with_marked_register (with_marked_registers h t r) t r
 
--- how many registers of a thread a crossing marks: at a mark's checkpoint all (the paper's checkpoints: each thread marks
+-- how many registers of a thread a crossing marks: at a mark's checkpoint all (the paper's checkpoints: each thread
+-- marks
 -- its own roots), at that of protected pages none (ours)
 abbrev pub marked_at_crossing : HeapState → ℕ
 marked_at_crossing h = if is_mark_crossing h.phase then h.config.registers else 0

@@ -1,5 +1,6 @@
 -- Loads: the read barrier, from a load's begin to its end.
-use Rattle.std.specs.Prelude.{ℕ, ◌==◌, Bool, true, false, Option, Some, None, slice_get, if◌then◌else◌, ◌||◌, not, Result, Ok, Err}
+use Rattle.std.specs.Prelude.{ℕ, ◌==◌, Bool, true, false, Option, Some, None, slice_get, if◌then◌else◌, ◌||◌, not}
+use Rattle.std.specs.Prelude.{Result, Ok, Err}
 use Rattle.refword.specs.Words.{bits_of}
 use Rattle.model.specs.declared.records.Barrier.{Barrier}
 use Rattle.model.specs.declared.records.Place.{Place}

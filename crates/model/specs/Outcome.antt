@@ -1,5 +1,6 @@
 -- What each step does: the tests before its row, and its row.
-use Rattle.std.specs.Prelude.{◌≡◌, ℕ, ◌==◌, Bool, true, false, length, Option, Some, None, slice_get, if◌then◌else◌, ◌&&◌, ◌||◌, not, is_some, Result, Ok, Err, nat_lt, nat_le}
+use Rattle.std.specs.Prelude.{◌≡◌, ℕ, ◌==◌, Bool, true, false, length, Option, Some, None, slice_get, if◌then◌else◌}
+use Rattle.std.specs.Prelude.{◌&&◌, ◌||◌, not, is_some, Result, Ok, Err, nat_lt, nat_le}
 use Rattle.model.specs.declared.steps.Actor.{Actor}
 use Rattle.model.specs.declared.steps.Actor.TheVariants.{Thread, Worker}
 use Rattle.model.specs.declared.steps.Step.{Step}

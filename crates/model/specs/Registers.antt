@@ -1,5 +1,6 @@
 -- Registers: which may be used, and the steps on them alone.
-use Rattle.std.specs.Prelude.{ℕ, ◌/◌, ◌==◌, Bool, true, false, Option, Some, None, slice_get, if◌then◌else◌, is_none, Result, Ok, Err}
+use Rattle.std.specs.Prelude.{ℕ, ◌/◌, ◌==◌, Bool, true, false, Option, Some, None, slice_get, if◌then◌else◌, is_none}
+use Rattle.std.specs.Prelude.{Result, Ok, Err}
 use Rattle.model.specs.declared.records.Phase.{Phase}
 use Rattle.model.specs.declared.steps.Answer.TheVariants as answers
 use Rattle.model.specs.declared.steps.Refusal.{Refusal}

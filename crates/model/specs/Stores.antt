@@ -1,5 +1,6 @@
 -- Pages, and the frames that are their memory.
-use Rattle.std.specs.Prelude.{◌≡◌, ℕ, ◌+◌, ◌-◌, ◌*◌, ◌/◌, ◌%◌, ◌==◌, ◌&&◌, not, Bool, true, false, List, [], ◌∷◌, ◌++◌, length, map}
+use Rattle.std.specs.Prelude.{◌≡◌, ℕ, ◌+◌, ◌-◌, ◌*◌, ◌/◌, ◌%◌, ◌==◌, ◌&&◌, not, Bool, true, false, List, [], ◌∷◌}
+use Rattle.std.specs.Prelude.{◌++◌, length, map}
 use Rattle.std.specs.Prelude.{take, drop, replicate, Option, Some, None, is_none, option_and_then, Result, Ok, Err}
 use Rattle.std.specs.Prelude.{nat_le, nat_lt, slice_get, slice_set, position, if◌then◌else◌}
 use Rattle.model.specs.declared.records.Page.{Page}
@@ -177,7 +178,8 @@ abbrev pub take_at : StoreState → ℕ → Option ℕ → Result (StoreState ×
 take_at s n (Some i) = Ok (give_words s i n)
 take_at s n None = take_fresh s n (free_frame s.owners) (unused_page s.count s.pages)
 
--- a buffer of n words: in the lowest open page with room, else in the lowest unused page, opened on the lowest free frame
+-- a buffer of n words: in the lowest open page with room, else in the lowest unused page, opened on the lowest free
+-- frame
 unfoldable pub take_buffer : StoreState → ℕ → Result (StoreState × Buffer) Room
 take_buffer s n = take_at s n (page_with_room s.words n s.pages)
 
@@ -188,7 +190,8 @@ Takes old (Err e) new outcome = (outcome ≡ Err e) × (new ≡ old)
 
 -- pages after a mark
 
--- a page after a mark: an open one without a lent buffer closes (ours), and a protected one is unused again (the paper's
+-- a page after a mark: an open one without a lent buffer closes (ours), and a protected one is unused again (the
+-- paper's
 -- Remap phase)
 abbrev pub page_after_mark : Bool → Page → Page
 page_after_mark lent p =

@@ -149,8 +149,11 @@ after_crossing h t x at = by_found (first_behind (change_at h.threads t f)) refl
 
     by_found : (o : Option ℕ) → first_behind (change_at h.threads t f) ≡ o
         → IsPhaseAfter (world_of h) t h.phase (phase_behind h.phase) (cond (is_none o) (phase_behind h.phase) h.phase)
-    by_found None e = inr (refl, λ u d. sym (put_other (world_of h).crossed t true u d) ∙ sym (crossed u)
-        ∙ none_is_behind (change_at h.threads t f) e u)
+    by_found None e = inr (
+      refl,
+      λ u d. sym (put_other (world_of h).crossed t true u d) ∙ sym (crossed u)
+          ∙ none_is_behind (change_at h.threads t f) e u,
+    )
     by_found (Some u) e =
         let behind = sym (crossed u) ∙ one_is_behind (change_at h.threads t f) u e in
         let other : u ≢ t = λ z. true≢false (sym (put_same (world_of h).crossed t true)
@@ -203,7 +206,8 @@ module _ {h : HeapState} {p p0 : PlainHeap} (s : IsStore h.store) (k : Holds h p
   at_protection e =
       let next = phase_of_other (world_of h) (world_of h) t _ _ ProtectCrossing Relocating _ refl e
       (ap phase_behind e) (after_crossing h t x at) in
-      let whole = crossed_carries h t x at in (step_by k whole (stays h p) (CrossProtect t _ e b next), whole.size.config)
+      let whole = crossed_carries h t x at in (step_by k whole (stays h p)
+          (CrossProtect t _ e b next), whole.size.config)
 
   -- a thread crosses
   pub thread_crosses : is_crossing h.phase ≡ true

@@ -1,6 +1,7 @@
 -- A mark ends: what the pages become, and that memory stays in order.
 use Rattle.std.proofs.Common.{◌≡◌, ◌≢◌, ◌⊎◌, inl, inr, ℕ, zero, suc, ◌+◌, ◌-◌, ◌/◌, ◌%◌, ◌<◌, ◌≤◌, ◌*◌, ◌&&◌, ◌||◌}
-use Rattle.std.proofs.Common.{Bool, true, false, not, cond, count_by, sum, List, [], ◌∷◌, length, map, replicate, get_or}
+use Rattle.std.proofs.Common.{Bool, true, false, not, cond, count_by, sum, List, [], ◌∷◌, length, map, replicate}
+use Rattle.std.proofs.Common.{get_or}
 use Rattle.std.proofs.Common.{Option, Some, None, is_some, refl, sym, ◌∙◌, ap, subst, arith}
 use mathlib.Core.Path.{fun_ext}
 use Rattle.std.specs.List.{slice_get, list_any}
@@ -41,7 +42,8 @@ use Rattle.laws.proofs.Promises.{reachable_is_live, live_was_reachable}
 use Rattle.laws.specs.Transitions.{MayEndMark, EndMark, IsScanning}
 use Rattle.refinement.specs.Worlds.{world_of, object_at, object_in, entry_at, as_barrier, barrier_in, todo_in}
 use Rattle.refinement.specs.PlainHeaps.{births_of}
-use Rattle.refinement.specs.Claims.{IsLaid, AreRowsOf, HasGiven, Claim, OfObject, OfBuffer, OfPlan, OfEnd, Extent, extent}
+use Rattle.refinement.specs.Claims.{IsLaid, AreRowsOf, HasGiven, Claim, OfObject, OfBuffer, OfPlan, OfEnd, Extent}
+use Rattle.refinement.specs.Claims.{extent}
 use Rattle.refinement.specs.Claims.{sized_extent, planned_extent, end_extent, object_size, size_at}
 use Rattle.refinement.specs.Standing.{Holds, StepHolds, FindsLive}
 use Rattle.refinement.proofs.Accepted.{OnAccepted, on_has, on_accepted}
@@ -276,16 +278,17 @@ module _ {h : HeapState} {p p0 : PlainHeap} (s : IsStore h.store) (k : Holds h p
     where
       by_open : (q : Page) (b : Bool) → is_open (page_after_mark (lent n) q).state ≡ b
           → cond b (Some (record {
-        from = n * h.store.words + (page_after_mark (lent n) q).top;
-        upto = n * h.store.words + h.store.words;
-      })) None ≡ Some x → end_extent h.store.words n (Some q) ≡ Some x
+            from = n * h.store.words + (page_after_mark (lent n) q).top;
+            upto = n * h.store.words + h.store.words;
+          })) None ≡ Some x → end_extent h.store.words n (Some q) ≡ Some x
       by_open q false f g = absurd (none-some x g)
       by_open q true f g = let (was_open, same) = open_of (lent n) q f in
           ap (λ b. cond b (Some (record {
             from = n * h.store.words + q.top;
             upto = n * h.store.words + h.store.words;
           })) None) was_open
-          ∙ ap (λ t. Some (record { from = n * h.store.words + t; upto = n * h.store.words + h.store.words })) (sym same)
+          ∙ ap (λ t. Some (record { from = n * h.store.words + t; upto = n * h.store.words + h.store.words }))
+              (sym same)
           ∙ g
 
       by_page : (o : Option Page) → page_at h.store n ≡ o
@@ -352,7 +355,8 @@ module _ {h : HeapState} {p p0 : PlainHeap} (s : IsStore h.store) (k : Holds h p
       by_page : (o : Option Page) → slice_get h.store.pages i ≡ o
           → option_map (page_after_mark (lent (1 + i))) o ≡ Some q → HasGiven q
       by_page None f z = absurd (none-some q z)
-      by_page (Some x) f z = subst HasGiven (same_Some _ _ z) (λ is_now. let (was_open, same) = open_of (lent (1 + i)) x is_now in
+      by_page (Some x) f z = subst HasGiven (same_Some _ _ z) (λ is_now. let (was_open, same) = open_of (lent
+          (1 + i)) x is_now in
           omega (arith, g i x f was_open, same))
 
   end_carries : Carries h (end_mark h) (edits.end_mark (λ a. lent (a / h.store.words)))
@@ -386,7 +390,8 @@ nothing_todo h = by_test (not (bit_count h.todo == 0) || list_any (λ (g : Globa
         × ((g : ℕ) → (world_of h).global_todo g ≡ false)) (refuse_if b refusals.TodoLeft)
     by_test true e = tt
     by_test false e =
-        let (bits, globals) = or_parts (not (bit_count h.todo == 0)) (list_any (λ (g : Global). g.todo) h.globals) e in (
+        let (bits, globals) = or_parts (not (bit_count h.todo == 0)) (list_any (λ
+            (g : Global). g.todo) h.globals) e in (
           (λ a. none_set h.todo (eqb-true (bit_count h.todo) 0 (not_false (bit_count h.todo == 0) bits))
               (a / h.store.words) (a % h.store.words)),
           (λ g. todo_at globals g (slice_get h.globals g) refl),

@@ -16,7 +16,8 @@ use Rattle.model.specs.States.{HeapState, ThreadState, Reference, flat}
 use Rattle.model.specs.References.{read_reference, global_of, word_of_global, with_global, with_place, field_address}
 use Rattle.model.specs.Loads.{with_barrier, load_outcome, load_global_outcome, new_barrier, barrier_of_thread}
 use Rattle.model.specs.Loads.{with_loaded, trap_outcome, heal_outcome, heal_place, end_load, finish_outcome, trap_due}
-use Rattle.model.specs.Loads.{gc_trap_due, nmt_trap_due, may_finish, bits_at, are_bits_of, set_healed, set_now_of, nmt_trap}
+use Rattle.model.specs.Loads.{gc_trap_due, nmt_trap_due, may_finish, bits_at, are_bits_of, set_healed, set_now_of}
+use Rattle.model.specs.Loads.{nmt_trap}
 use Rattle.model.specs.Threads.{is_parked_in, barrier_of, has_crossed}
 use Rattle.model.specs.Outcome.{no_register, no_global}
 use Rattle.model.specs.Plain.{PlainHeap, Object, plain_step, plain_answer, name_of, object_of, field_of, Pending}

@@ -99,12 +99,15 @@ LeadsTo h (Some w) = (q : HeapObject) × (object_at h (resolve h w.0) ≡ Some q
 pub leads_to : (h : HeapState) (v : Reference) (x : Option ℕ) → names (world_of h) (as_word v) ≡ Some x → LeadsTo h v
 leads_to h None x e = tt
 leads_to h (Some w) x e =
-    let n = named (world_of h) w.0 w.1 x e in
-    (n.object, ap (object_at h) (sym (resolve_same h w.0))
-    ∙ current_there (world_of h) (laws.resolve (world_of h) w.0) n.object n.here)
+    let n = named (world_of h) w.0 w.1 x e in (
+      n.object,
+      ap (object_at h) (sym (resolve_same h w.0))
+          ∙ current_there (world_of h) (laws.resolve (world_of h) w.0) n.object n.here,
+    )
 
 -- the word that marking leaves
-pub marked_same : (h : HeapState) (v : Reference) → as_word (marked_word h v) ≡ edits.marked_word (world_of h) (as_word v)
+pub marked_same : (h : HeapState) (v : Reference)
+    → as_word (marked_word h v) ≡ edits.marked_word (world_of h) (as_word v)
 unfolding marked_word
 marked_same h None = refl
 marked_same h (Some w) = ap (λ a. laws.To a h.nmt) (sym (resolve_same h w.0))
@@ -117,7 +120,8 @@ marked_is_word h (Some x) s n = object_address h (resolve h x.0) n.0 s n.1
 -- rows with a bit changed are rows
 pub rows_with : (h : HeapState) (rows : List (List Bool)) (a : ℕ) (b : Bool) → AreRowsOf h.store rows
     → AreRowsOf h.store (with_bit rows h.store.words a b)
-rows_with h rows a b r = rows_put (length h.store.pages) h.store.words rows (a / h.store.words - 1) (a % h.store.words) b r
+rows_with h rows a b r = rows_put (length h.store.pages) h.store.words rows (a / h.store.words - 1)
+    (a % h.store.words) b r
 
 module _ (h : HeapState) (s : IsStore h.store) (l : IsLaid h) where
   -- the bit of an object's address

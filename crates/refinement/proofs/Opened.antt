@@ -1,5 +1,6 @@
 -- An unused page is opened: no object, mark or claim is on it, and its words are one claim.
-use Rattle.std.proofs.Common.{length, ◌≡◌, ◌≢◌, ◌⊎◌, inl, inr, ℕ, suc, ◌+◌, ◌*◌, ◌/◌, ◌%◌, ◌<◌, ◌≤◌, Bool, true, false, List}
+use Rattle.std.proofs.Common.{length, ◌≡◌, ◌≢◌, ◌⊎◌, inl, inr, ℕ, suc, ◌+◌, ◌*◌, ◌/◌, ◌%◌, ◌<◌, ◌≤◌, Bool, true}
+use Rattle.std.proofs.Common.{false, List}
 use Rattle.std.proofs.Common.{set, replicate, Option, Some, None, nat_eq, refl, sym, ◌∙◌, ap, ap₂, arith, cond}
 use Rattle.std.proofs.Common.{IfSome, div-add-mod', eq-eqb, ne_eqb, mul-le-mul_right}
 use Rattle.std.proofs.Math.Nat.{suc-mul}

@@ -1,5 +1,6 @@
 -- The phase moves as the collector's cycle has it.
-use Rattle.std.proofs.Common.{◌≡◌, ◌⊎◌, inl, inr, ℕ, zero, suc, ◌-◌, ◌&&◌, ◌||◌, Bool, true, false, cond, not, nat_le, nat_lt}
+use Rattle.std.proofs.Common.{◌≡◌, ◌⊎◌, inl, inr, ℕ, zero, suc, ◌-◌, ◌&&◌, ◌||◌, Bool, true, false, cond, not}
+use Rattle.std.proofs.Common.{nat_le, nat_lt}
 use Rattle.std.proofs.Common.{is_some, is_none, Option, Some, None, length, ◌+◌, ◌*◌, refl, sym, ◌∙◌, ap, subst}
 use Rattle.std.specs.List.{slice_get}
 use Rattle.std.specs.Prelude.{Result, Ok, Err}
@@ -30,11 +31,13 @@ use Rattle.model.specs.Registers.{usable, usable_or_null, with_register, same_ou
 use Rattle.model.specs.Registers.{copy_register_outcome, clear_register_outcome}
 use Rattle.model.specs.Data.{datum_at, datum_outcome, set_datum_outcome}
 use Rattle.model.specs.References.{field_at, with_global, with_place, store_outcome, store_global_outcome}
-use Rattle.model.specs.Buffers.{buffer_of_thread, with_buffer, lend_buffer, take_result, take_outcome, give_back_outcome}
+use Rattle.model.specs.Buffers.{buffer_of_thread, with_buffer, lend_buffer, take_result, take_outcome}
+use Rattle.model.specs.Buffers.{give_back_outcome}
 use Rattle.model.specs.Births.{place_object, new_outcome}
 use Rattle.model.specs.Marks.{with_mark, marked_word}
 use Rattle.model.specs.Loads.{with_barrier, with_loaded, barrier_of_thread, load_outcome, load_global_outcome}
-use Rattle.model.specs.Loads.{gc_trap_due, nmt_trap_due, trap_due, nmt_trap, trap_outcome, bits_at, are_bits_of, set_healed}
+use Rattle.model.specs.Loads.{gc_trap_due, nmt_trap_due, trap_due, nmt_trap, trap_outcome, bits_at, are_bits_of}
+use Rattle.model.specs.Loads.{set_healed}
 use Rattle.model.specs.Loads.{heal_place, heal_outcome, may_finish, end_load, finish_outcome}
 use Rattle.model.specs.Checkpoints.{with_parked, first_behind, phase_behind, with_crossed, with_marked_register}
 use Rattle.model.specs.Checkpoints.{with_marked_registers, marked_at_crossing, cross_thread, may_cross, cross_outcome}
@@ -49,7 +52,8 @@ use Rattle.laws.proofs.Basics.{scanning}
 use Rattle.refinement.specs.Worlds.{world_of}
 use Rattle.refinement.specs.PlainHeaps.{births_of}
 use Rattle.refinement.specs.Standing.{Holds, CrossesInto, MovesPhase}
-use Rattle.refinement.proofs.Accepted.{OnAccepted, accepted, of_accepted, on_accepted, on_bind, on_has, on_some, on_test}
+use Rattle.refinement.proofs.Accepted.{OnAccepted, accepted, of_accepted, on_accepted, on_bind, on_has, on_some}
+use Rattle.refinement.proofs.Accepted.{on_test}
 use Rattle.refinement.proofs.Accepted.{on_truth}
 use Rattle.refinement.proofs.Checkpoints.{is_open}
 use Rattle.refinement.proofs.Crossings.{not_false}
@@ -76,7 +80,8 @@ module _ (h : HeapState) (t : ℕ) where
   new_stays : (r number : ℕ) → Stays h (new_outcome h t r number)
   unfolding new_outcome place_object
   new_stays r number = on_some (buffer_of_thread h t) _ _ _ (λ b e.
-      on_some (slice_get h.config.layouts number) _ _ _ (λ l f. on_test (nat_lt (b.end - b.next) (size_of l)) _ _ _ (λ u.
+      on_some (slice_get h.config.layouts number) _ _ _ (λ l f. on_test (nat_lt (b.end - b.next)
+          (size_of l)) _ _ _ (λ u.
       on_test (nat_le h.config.births h.births) _ _ _ (λ v. refl))))
 
   load_stays : (r o i : ℕ) → Stays h (load_outcome h t r o i)

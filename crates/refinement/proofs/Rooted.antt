@@ -11,7 +11,8 @@ use Rattle.model.specs.declared.records.Global.{Global}
 use Rattle.model.specs.Owning.{Each}
 use Rattle.model.specs.States.{HeapState, ThreadState, Reference, flat}
 use Rattle.model.specs.Registers.{register_of}
-use Rattle.model.specs.Threads.{register_in, set_register_of, set_buffer_of, set_barrier_of, set_loaded_of, set_parked_of}
+use Rattle.model.specs.Threads.{register_in, set_register_of, set_buffer_of, set_barrier_of, set_loaded_of}
+use Rattle.model.specs.Threads.{set_parked_of}
 use Rattle.model.specs.References.{global_of, word_of_global, read_reference}
 use Rattle.model.specs.Births.{hand_object}
 use Rattle.model.proofs.Lists.{each_set}

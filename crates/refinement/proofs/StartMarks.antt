@@ -1,6 +1,7 @@
 -- A mark starts.
 use Rattle.std.proofs.Common.{◌≡◌, ◌≢◌, ◌⊎◌, inl, inr, ℕ, zero, suc, ◌+◌, ◌-◌, ◌/◌, ◌%◌, ◌<◌, ◌≤◌, ◌&&◌, ◌||◌}
-use Rattle.std.proofs.Common.{Bool, true, false, cond, not, nat_eq, nat_lt, List, [], ◌∷◌, length, map, Option, Some, None}
+use Rattle.std.proofs.Common.{Bool, true, false, cond, not, nat_eq, nat_lt, List, [], ◌∷◌, length, map, Option, Some}
+use Rattle.std.proofs.Common.{None}
 use Rattle.std.proofs.Common.{refl, sym, ◌∙◌, ap, subst, arith}
 use mathlib.Core.Path.{fun_ext}
 use Rattle.std.specs.List.{slice_get, list_any}
@@ -71,7 +72,8 @@ todo_of_all (x ∷ gs) (suc g) = todo_of_all gs g ∙ (grind (arith, nat_tests))
 abbrev behind : HeapState → List ThreadState
 behind h = map (set_crossed_of false) h.threads
 
-start_carries : (h : HeapState) → Carries h (start_mark h) (edits.start_mark (λ t. has_crossed (slice_get (behind h) t)))
+start_carries : (h : HeapState)
+    → Carries h (start_mark h) (edits.start_mark (λ t. has_crossed (slice_get (behind h) t)))
 unfolding start_mark register_of
 start_carries h = records_carry h (record (records_of h) {
   threads = behind h;
@@ -176,7 +178,8 @@ module _ {h : HeapState} {p p0 : PlainHeap} (s : IsStore h.store) (d : IsHeap h)
 
   no_thread : (t r : ℕ) → has_crossed (slice_get (behind h) t) ≡ true → (world_of h).register t r ≡ Null
   unfolding register_of
-  no_thread t r e = by_thread (slice_get h.threads t) (sym (ap has_crossed (slice_get-map (set_crossed_of false) h.threads t)) ∙ e)
+  no_thread t r e = by_thread (slice_get h.threads t) (sym (ap has_crossed (slice_get-map
+      (set_crossed_of false) h.threads t)) ∙ e)
     where
       by_thread : (o : Option ThreadState) → has_crossed (option_map (set_crossed_of false) o) ≡ true
           → as_word (register_in o r) ≡ Null

@@ -10,7 +10,8 @@ use Rattle.model.specs.declared.records.Barrier.{Barrier}
 use Rattle.model.specs.declared.records.Global.{Global}
 use Rattle.model.specs.declared.records.Buffer.{Buffer}
 use Rattle.model.specs.States.{HeapState, ThreadState, Reference, change_at}
-use Rattle.model.specs.Threads.{set_buffer_of, register_in, set_register_of, set_barrier_of, set_loaded_of, set_parked_of, buffer_in, has_crossed, is_parked_in}
+use Rattle.model.specs.Threads.{set_buffer_of, register_in, set_register_of, set_barrier_of, set_loaded_of}
+use Rattle.model.specs.Threads.{set_parked_of, buffer_in, has_crossed, is_parked_in}
 use Rattle.model.specs.Registers.{register_of, with_register}
 use Rattle.model.specs.Buffers.{with_buffer}
 use Rattle.model.specs.Loads.{with_barrier, with_loaded}

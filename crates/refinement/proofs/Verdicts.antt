@@ -13,7 +13,8 @@ use Rattle.model.specs.States.{HeapState, ThreadState, Reference}
 use Rattle.model.specs.Registers.{register_of, usable, use_word, usable_or_null, use_or_null, let_through, held_back}
 use Rattle.model.specs.Data.{layout_at, layout_in, header_layout, datum_address, datum_at, datum_place}
 use Rattle.model.specs.References.{field_address, field_at, field_place}
-use Rattle.model.specs.Outcome.{thread_gate, worker_gate, has_bad_index, is_for_workers, no_register, no_global, is_for_parked, is_for_loading, is_loading_in}
+use Rattle.model.specs.Outcome.{thread_gate, worker_gate, has_bad_index, is_for_workers, no_register, no_global}
+use Rattle.model.specs.Outcome.{is_for_parked, is_for_loading, is_loading_in}
 use Rattle.model.specs.Threads.{is_parked_in, has_crossed}
 use Rattle.model.proofs.Lists.{get_within, no_some}
 use Rattle.model.proofs.Memory.{word_on_page}
@@ -171,7 +172,8 @@ field_there h a q e i place f =
 pub field_past : (h : HeapState) (a : ℕ) (q : HeapObject) (e : object_at h a ≡ Some q) (i : ℕ) → field_at h a i ≡ None
     → length q.refs ≤ i
 unfolding field_at
-field_past h a q e i f = by_test (nat_lt i t.read.shape.refs) refl (sym (ap (field_place a i) (shape_there h a q t)) ∙ f)
+field_past h a q e i f = by_test (nat_lt i t.read.shape.refs) refl (sym (ap (field_place a i)
+    (shape_there h a q t)) ∙ f)
   where
     t : IsThere h a q
     t = there h a q e
@@ -179,8 +181,11 @@ field_past h a q e i f = by_test (nat_lt i t.read.shape.refs) refl (sym (ap (fie
     by_test : (b : Bool) → nat_lt i t.read.shape.refs ≡ b → cond b (Some (field_address a i)) None ≡ None
         → length q.refs ≤ i
     by_test true f k = absurd (cc)
-    by_test false f k = omega (arith, ltb-false i t.read.shape.refs f,
-        read_refs h.config.layouts t.words (a % h.store.words) q t.read)
+    by_test false f k = omega (
+      arith,
+      ltb-false i t.read.shape.refs f,
+      read_refs h.config.layouts t.words (a % h.store.words) q t.read,
+    )
 
 -- where a datum of an object stands
 pub datum_there : (h : HeapState) (a : ℕ) (q : HeapObject) (e : object_at h a ≡ Some q) (j place : ℕ)

@@ -1,6 +1,7 @@
 -- The heap by addresses that a heap's state stands for: its objects, read off the words of its pages, and all else read
 -- off its records.
-use Rattle.std.specs.Prelude.{ℕ, ◌+◌, ◌/◌, ◌%◌, ◌^◌, ◌==◌, Bool, true, false, List, [], ◌∷◌, length, take, drop, map, Option, Some, None, option_map, nat_le, nat_lt, slice_get, if◌then◌else◌}
+use Rattle.std.specs.Prelude.{ℕ, ◌+◌, ◌/◌, ◌%◌, ◌^◌, ◌==◌, Bool, true, false, List, [], ◌∷◌, length, take, drop, map}
+use Rattle.std.specs.Prelude.{Option, Some, None, option_map, nat_le, nat_lt, slice_get, if◌then◌else◌}
 use Rattle.refword.specs.Words.{read_word}
 use Rattle.layout.specs.declared.shape.Layout.{Layout}
 use Rattle.layout.specs.Objects.{size_of}
@@ -15,7 +16,8 @@ use Rattle.model.specs.Bits.{of_page, bit_at}
 use Rattle.model.specs.States.{HeapState, ThreadState, Reference}
 use Rattle.model.specs.Registers.{register_of}
 use Rattle.model.specs.Threads.{has_crossed, is_parked_in}
-use Rattle.laws.specs.AddressHeap.{AddressHeap, HeapObject, Word, Null, To, SideEntry, NoEntry, Planned, Copied, LoadPlace, AtField, AtGlobal, OpenBarrier, WorkerScan}
+use Rattle.laws.specs.AddressHeap.{AddressHeap, HeapObject, Word, Null, To, SideEntry, NoEntry, Planned, Copied}
+use Rattle.laws.specs.AddressHeap.{LoadPlace, AtField, AtGlobal, OpenBarrier, WorkerScan}
 
 -- words
 
