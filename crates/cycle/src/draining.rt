@@ -3,14 +3,14 @@
 
 ghost use Rattle.std.specs.Prelude.{◌≡◌, ◌<◌, ◌^◌, position, is_some, IfOk, IfSome, OnOk};
 ghost use Rattle.model.specs.declared.records.Global.{Global};
-ghost use Rattle.model.specs.Bits.{bit_at};
-ghost use Rattle.model.specs.Scans.{scan_of, is_scan_of, is_taken, is_free_todo, next_todo, next_drain};
+ghost use Rattle.model.specs.Scans.{scan_of, next_drain};
 ghost use Rattle.cycle.specs.Loads.{Leaves};
 ghost use Rattle.cycle.specs.Drains.{drain_within, drain, verdict, DrainsWhole};
 
 use crate::book::Book;
 use heap::Heap;
-use model::{Actor, Refusal, Reply, Scan, Step};
+use marker::next_todo;
+use model::{Actor, Refusal, Reply, Step};
 use std::alloc::AllocError;
 
 /// Whether a worker has an object.
@@ -21,64 +21,6 @@ fn has_scan(heap: &Heap, worker: u32) -> bool
         None => false,
         Some(scan) => scan.is_some(),
     }
-}
-
-/// Whether a worker scans the object at an address.
-fn is_scan_of(address: u64, scan: Option<Scan>) -> bool
-    ensures { result ≡ is_scan_of address scan }
-{
-    match scan {
-        None => false,
-        Some(scan) => scan.object.number() == address,
-    }
-}
-
-/// Whether some worker scans the object at an address.
-#[tactic(auto, unfolding(model::specs::Scans::is_taken))]
-fn is_taken(heap: &Heap, address: u64) -> bool
-    ensures { result ≡ is_taken heap.now address }
-{
-    heap.workers().iter().any(|scan| is_scan_of(address, *scan))
-}
-
-/// Whether the object at an address is still to be scanned.
-fn is_todo(heap: &Heap, address: u64) -> bool
-    ensures { result ≡ bit_at heap.now.todo heap.now.store.words address }
-{
-    let words = heap.store().page_words() as u64;
-    let page = (address / words) as usize;
-    if page == 0 {
-        return false;
-    }
-    match heap.todo().get(page - 1) {
-        None => false,
-        Some(row) => row.test((address % words) as usize),
-    }
-}
-
-/// Whether the object at an address is still to be scanned, and no worker has it.
-#[tactic(auto, unfolding(model::specs::Scans::is_free_todo))]
-fn is_free_todo(heap: &Heap, address: u64) -> bool
-    ensures { result ≡ is_free_todo heap.now address }
-{
-    is_todo(heap, address) && !is_taken(heap, address)
-}
-
-/// The least address of an object that is still to be scanned and that no worker has.
-#[tactic(auto, unfolding(model::specs::Scans::next_todo))]
-fn next_todo(heap: &Heap) -> Option<u64>
-    ensures first { result ≡ next_todo heap.now }
-    ensures range { IfSome result (λ address. address < 2 ^ 32) }
-{
-    heap.law();
-    let words = heap.store().page_words() as u64;
-    let end = words + heap.store().pages().len() as u64 * words;
-    for address in words..end {
-        if is_free_todo(heap, address) {
-            return Some(address);
-        }
-    }
-    None
 }
 
 /// The number of the first global that is still to be marked.
@@ -102,7 +44,7 @@ fn next_drain(heap: &Heap, worker: u32) -> Option<Step>
     if let Some(global) = next_global(heap) {
         return Some(Step::ScanGlobal(global as u32));
     }
-    let address = next_todo(heap)?;
+    let address = next_todo(heap)?.number();
     let words = heap.store().page_words() as u64;
     Some(Step::Pick {
         page: (address / words) as u32,

@@ -16,7 +16,7 @@ ghost use Rattle.model.specs.Owning.{IsStore};
 ghost use Rattle.model.specs.Holding.{IsHeap};
 
 use crate::thread::Thread;
-use markbits::Rows;
+use markbits::{IndexedRows, Rows};
 use model::{Config, Global, Phase, Scan};
 use page::Store;
 use std::marker::Model;
@@ -42,7 +42,7 @@ pub struct Heap {
     starts: Rows,
     live: Rows,
     mark: Rows,
-    todo: Rows,
+    todo: IndexedRows,
     threads: Vec<Thread>,
     workers: Vec<Option<Scan>>,
     globals: Vec<Global>,
@@ -111,7 +111,7 @@ impl Heap {
     }
 
     /// Which marked objects are still to be scanned (the paper's Mark phase).
-    pub fn todo(&self) -> &Rows
+    pub fn todo(&self) -> &IndexedRows
         ensures { result.now ≡ self.now.todo }
     {
         &self.todo

@@ -13,6 +13,6 @@ pub use heap::Heap;
 pub use heap::collecting::CollectorEdits;
 pub use heap::edits::Edits;
 pub use heap::references::read_reference;
-pub use markbits::{Row, Rows};
+pub use markbits::{IndexedRows, Row, Rows};
 pub use model::{Config, ConfigFault, Refusal};
 pub use thread::Thread;

@@ -1,21 +1,28 @@
 -- The least object that is still to be scanned is found page by page.
-use Rattle.std.proofs.Common.{◌≡◌, ◌≢◌, ◌⊎◌, inl, inr, ℕ, zero, suc, ◌+◌, ◌-◌, ◌*◌, ◌%◌, ◌<◌, ◌≤◌, ◌&&◌, not, Bool}
-use Rattle.std.proofs.Common.{true}
-use Rattle.std.proofs.Common.{false, List, [], length, Option, Some, None, refl, sym, ◌∙◌, ap, arith}
+use Rattle.std.proofs.Common.{◌≡◌, ◌≢◌, ◌⊎◌, inl, inr, ℕ, zero, suc, ◌+◌, ◌-◌, ◌*◌, ◌%◌, ◌<◌, ◌≤◌, ◌&&◌, not, Bool, true}
+use Rattle.std.specs.Prelude.{slice_index_or, ◌==◌}
+use Rattle.std.proofs.Common.{false, List, [], ◌∷◌, map, get_or, count_by, length, Option, Some, None, refl, sym, ◌∙◌, ap, arith}
 use Rattle.std.proofs.Common.{unwrap_or, subst}
 use Rattle.std.specs.List.{find, range_with_len, slice_get}
 use Rattle.std.proofs.lemmas.Option.{unwrap_or-slice_get}
+use Rattle.std.proofs.lemmas.List.{get_or_past, length-map}
 use Rattle.model.specs.Stores.{record_count}
 use Rattle.model.specs.Owning.{IsStore}
 use Rattle.model.specs.Holding.{IsHeap}
-use Rattle.model.proofs.Lists.{get_within}
+use Rattle.model.proofs.Lists.{get_within, none_counted}
 use Rattle.std.proofs.lemmas.Nat.{div-mul-add}
-use Rattle.std.proofs.lemmas.Bool.{cases_lt, cases_eq}
+use Rattle.std.proofs.lemmas.Bool.{cases_lt, cases_eq, eqb-true, true≢false}
 use Rattle.std.proofs.Math.Nat.{mul-add-mod_self_right, mod-eq_of_lt, mul-le-mul_right}
 use Rattle.model.specs.States.{HeapState}
 use Rattle.model.specs.Bits.{of_page, bit_on}
 use Rattle.model.specs.Scans.{is_taken, is_free_todo, next_todo}
 use Rattle.marker.specs.Free.{is_free_on, IsFirstFree, IsNextFree}
+use Rattle.markbits.specs.Indexing.{has_bits}
+use Rattle.markbits.specs.Words.{IsNextPlace, IsFirstFrom}
+
+not_false : (b : Bool) → not b ≡ false → b ≡ true
+not_false true e = refl
+not_false false e = absurd (cc)
 
 -- none of so many numbers from a on passes
 find_none : (p : ℕ → Bool) (a n : ℕ) → ((x : ℕ) → a ≤ x → x < a + n → p x ≡ false) → find p (range_with_len a n) ≡ None
@@ -96,13 +103,13 @@ next_is h page k low high size before first =
             ap (is_free_todo h) (sym back) ∙ free_on_page h page o (omega (arith, b, c, k_low))
             ∙ first.before o (omega (arith, b, c))
 
-pub next_none : (h : HeapState) (page : ℕ) → page ≡ length h.todo + 1 → NoneBefore h page → None ≡ next_todo h
+pub next_none : (h : HeapState) (page : ℕ) → length h.todo + 1 ≤ page → NoneBefore h page → None ≡ next_todo h
 unfolding next_todo
 next_none h page e before = sym (find_none (is_free_todo h) h.store.words (length h.todo * h.store.words)
-    (λ x low high. before x low (omega (arith, high, all))))
+    (λ x low high. before x low (omega (arith, high, all, one_more (length h.todo) h.store.words))))
   where
-    all : page * h.store.words ≡ length h.todo * h.store.words + h.store.words
-    all = ap (λ n. n * h.store.words) e ∙ one_more (length h.todo) h.store.words
+    all : (length h.todo + 1) * h.store.words ≤ page * h.store.words
+    all = mul-le-mul_right h.store.words e
 
 -- pages and their rows
 
@@ -131,6 +138,42 @@ pub next_on_row : (h : HeapState) (page : ℕ) (row : List Bool) (r : Option ℕ
 next_on_row h page row r z e n =
     subst (λ (ws : List Bool). IsNextFree h ws page r) (sym (row_is h.todo page (Some row) z e)) n
 
+-- what an index of rows says of each
+get_or_mapped : {X Y : Type 0} (f : X → Y) (xs : List X) (i : ℕ) (d : X) → get_or (map f xs) i (f d) ≡ f (get_or xs i d)
+get_or_mapped f [] i d = refl
+get_or_mapped f (x ∷ xs) zero d = refl
+get_or_mapped f (x ∷ xs) (suc i) d = get_or_mapped f xs i d
+
+-- nothing is free on a page whose row has no bit
+none_on_blank : (h : HeapState) (i j : ℕ) → slice_index_or (map has_bits h.todo) i false ≡ false
+    → is_free_on h (of_page h.todo (i + 1)) (i + 1) j ≡ false
+unfolding is_free_on
+none_on_blank h i j e = subst
+    (λ n. slice_index_or (of_page h.todo n) j false && not (is_taken h (n * h.store.words + j)) ≡ false)
+    one_behind (ap (λ b. b && not (is_taken h (suc i * h.store.words + j))) blank)
+  where
+    one_behind : suc i ≡ i + 1
+    one_behind = omega arith
+
+    row : List Bool
+    row = get_or h.todo i []
+
+    counted : count_by (λ b. b) row ≡ 0
+    counted = eqb-true (count_by (λ b. b) row) 0
+        (not_false (count_by (λ b. b) row == 0) (sym (get_or_mapped has_bits h.todo i []) ∙ e))
+
+    blank : get_or row j false ≡ false
+    blank = none_counted row counted j
+
+-- pages that are passed over
+pub none_skipped : (h : HeapState) (from n to : ℕ) → to ≡ from + n → NoneBefore h (from + 1)
+    → ((i : ℕ) → from ≤ i → i < to → slice_index_or (map has_bits h.todo) i false ≡ false) → NoneBefore h (to + 1)
+none_skipped h from zero to e before blank = subst (λ n. NoneBefore h (n + 1)) (omega (arith, e)) before
+none_skipped h from (suc n) to e before blank =
+    none_skipped h (from + 1) n to (omega (arith, e))
+    (none_more h (from + 1) before (λ j. none_on_blank h from j (blank from (omega arith) (omega (arith, e)))))
+    (λ i low high. blank i (omega (arith, low)) high)
+
 -- there is a row for each record, of a bit for each word
 pub rows_many : (h : HeapState) → IsStore h.store → IsHeap h → length h.todo ≡ length h.store.pages
 rows_many h s i = i.todo.pages ∙ ap (λ n. record_count n h.config.pages) (sym i.sizes.frames)
@@ -142,3 +185,48 @@ row_size h page i low high =
     let found = get_within h.todo (page - 1) (omega (arith, low, high)) in
     ap length (row_is h.todo page (Some found.0) (λ e. absurd (omega (arith, e, low))) found.1)
     ∙ i.todo.words (page - 1) found.0 found.1 ∙ sym i.sizes.words
+
+-- the next row that has a bit
+
+pub busy_is : (todo rows : List (List Bool)) (from index : ℕ) (r : Option ℕ) → rows ≡ todo → r ≡ Some index
+    → IsNextPlace (map has_bits rows) from r → IsFirstFrom (map has_bits todo) from index
+busy_is todo rows from index r e f n = subst (λ (x : List (List Bool)). IsFirstFrom (map has_bits x) from index) e
+    (subst (IsNextPlace (map has_bits rows) from) f n)
+
+pub none_busy : (todo rows : List (List Bool)) (from : ℕ) (r : Option ℕ) → rows ≡ todo → r ≡ None
+    → IsNextPlace (map has_bits rows) from r → (j : ℕ) → from ≤ j → slice_index_or (map has_bits todo) j false ≡ false
+none_busy todo rows from r e f n = subst (λ (x : List (List Bool)). (j : ℕ) → from ≤ j
+    → slice_index_or (map has_bits x) j false ≡ false) e (subst (IsNextPlace (map has_bits rows) from) f n)
+
+-- it is there
+pub busy_there : (todo : List (List Bool)) (i : ℕ) → slice_index_or (map has_bits todo) i false ≡ true → i < length todo
+busy_there todo i e = by_place (cases_lt i (length todo))
+  where
+    by_place : (i < length todo) ⊎ (length todo ≤ i) → i < length todo
+    by_place (inl m) = m
+    by_place (inr m) = absurd (true≢false (sym e
+        ∙ get_or_past (map has_bits todo) i false (omega (arith, m, length-map todo has_bits))))
+
+-- an object is found on it
+pub found_on : (h : HeapState) (from i k : ℕ) → IsHeap h → NoneBefore h (from + 1)
+    → IsFirstFrom (map has_bits h.todo) from i → IsFirstFree h (of_page h.todo (i + 1)) (i + 1) k
+    → (k < h.store.words) × (Some ((i + 1) * h.store.words + k) ≡ next_todo h)
+found_on h from i k d before busy first =
+    let there = busy_there h.todo i busy.here in
+    let size = row_size h (i + 1) d (omega arith) (omega (arith, there)) in
+    let skipped = none_skipped h from (i - from) i (omega (arith, busy.low)) before (λ j low high. busy.before j low high) in (
+      omega (arith, first.within, size),
+      next_is h (i + 1) k (omega arith) (omega (arith, there)) size skipped first,
+    )
+
+-- none is found on it
+pub none_found_on : (h : HeapState) (from i : ℕ) → NoneBefore h (from + 1) → IsFirstFrom (map has_bits h.todo) from i
+    → IsNextFree h (of_page h.todo (i + 1)) (i + 1) None → NoneBefore h (i + 1 + 1)
+none_found_on h from i before busy none = none_more h (i + 1)
+    (none_skipped h from (i - from) i (omega (arith, busy.low)) before (λ j low high. busy.before j low high)) none
+
+-- none is left
+pub none_left : (h : HeapState) (from : ℕ) → NoneBefore h (from + 1)
+    → ((j : ℕ) → from ≤ j → slice_index_or (map has_bits h.todo) j false ≡ false) → None ≡ next_todo h
+none_left h from before none = next_none h (from + length h.todo + 1) (omega arith)
+    (none_skipped h from (length h.todo) (from + length h.todo) refl before (λ j low high. none j low))

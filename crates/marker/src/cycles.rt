@@ -55,8 +55,7 @@ fn has_todo_global(heap: &Heap) -> bool
 fn has_todo(heap: &Heap) -> bool
     ensures { result ≡ has_todo heap.now }
 {
-    heap.law();
-    heap.todo().count() != 0 || has_todo_global(heap)
+    !heap.todo().is_empty() || has_todo_global(heap)
 }
 
 /// Whether a page is protected.

@@ -41,17 +41,18 @@ fn next_on(heap: &Heap, page: u32) -> Option<u32>
 }
 
 /// The least address of an object that is still to be scanned and that no worker has, if there is
-/// one. It looks at the pages that have records, and in these at what is still to be scanned alone.
+/// one. It looks only at pages that have an object to be scanned, and in these only at such objects.
 pub fn next_todo(heap: &Heap) -> Option<Addr>
     ensures { result ≡ next_todo heap.now }
 {
     heap.law();
-    let pages = heap.store().pages().len();
-    for index in 0..pages {
-        let page = (index + 1) as u32;
+    let mut from = 0;
+    while let Some(index) = heap.todo().next_busy(from) {
+        let page = index + 1;
         if let Some(place) = next_on(heap, page) {
             return Some(address_on(heap, page, place));
         }
+        from = index as usize + 1;
     }
     None
 }

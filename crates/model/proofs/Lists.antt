@@ -143,3 +143,17 @@ count_positive p (y ∷ ys) (suc i) x h e =
 -- what is at an index that was read
 pub get_read : {X : Type 0} (xs : List X) (i : ℕ) (x : X) → i < length xs → x ≡ get_or xs i x → slice_get xs i ≡ Some x
 get_read xs i x h e = slice_get_read xs (length xs) i x refl h e
+
+get_or_none : {X : Type 0} (xs : List X) (i : ℕ) (d : X) → slice_get xs i ≡ None → get_or xs i d ≡ d
+get_or_none [] i d e = refl
+get_or_none (x ∷ xs) zero d e = absurd (cc)
+get_or_none (x ∷ xs) (suc i) d e = get_or_none xs i d e
+
+-- where no bit is counted, none is set
+pub none_counted : (row : List Bool) → count_by (λ b. b) row ≡ 0 → (i : ℕ) → get_or row i false ≡ false
+none_counted row e i = by_bit (slice_get row i) refl
+  where
+    by_bit : (o : Option Bool) → slice_get row i ≡ o → get_or row i false ≡ false
+    by_bit None f = get_or_none row i false f
+    by_bit (Some false) f = get_or_from_slice_get row i false false f
+    by_bit (Some true) f = absurd (omega (arith, e, count_positive (λ b. b) row i true f refl))

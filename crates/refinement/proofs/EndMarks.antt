@@ -9,7 +9,7 @@ use Rattle.std.specs.Option.{option_map, option_and_then}
 use Rattle.std.proofs.lemmas.Bool.{cases_eq, or_parts, eqb-true, true≢false}
 use Rattle.std.proofs.lemmas.List.Sums.{sum_by-cons}
 use Rattle.std.proofs.lemmas.List.{length-map, length-replicate}
-use Rattle.std.proofs.lemmas.Option.{none-some, same_Some, get_or_from_slice_get}
+use Rattle.std.proofs.lemmas.Option.{none-some, same_Some}
 use Rattle.model.specs.declared.steps.Actor.TheVariants.{Worker}
 use Rattle.model.specs.declared.steps.Step.TheVariants as steps
 use Rattle.model.specs.declared.steps.Answer.{Answer}
@@ -31,7 +31,7 @@ use Rattle.model.specs.Scans.{may_scan}
 use Rattle.model.specs.Cycles.{has_todo, first_pending, none_pending, is_lent, end_mark, end_mark_outcome}
 use Rattle.model.specs.Refusing.{refuse_if}
 use Rattle.model.specs.Plain.{PlainHeap, plain_step, plain_answer}
-use Rattle.model.proofs.Lists.{count_positive, none_passes, position_none, each_replicate, no_some}
+use Rattle.model.proofs.Lists.{none_counted, none_passes, position_none, each_replicate, no_some}
 use Rattle.page.proofs.Keeping.{page_at_record, page_at_zero}
 use Rattle.laws.specs.Edits.{state_after_mark}
 use Rattle.laws.specs.Edits as edits
@@ -177,20 +177,6 @@ rows_blank n m rows r = record { pages = length-map rows blank_row ∙ r.pages; 
     words (r ∷ rows) k zero row e =
         ap length (sym (same_Some _ _ e)) ∙ length-replicate (length r) false ∙ k zero r refl
     words (r ∷ rows) k (suc i) row e = words rows (λ j x f. k (suc j) x f) i row e
-
-get_or_none : {X : Type 0} (xs : List X) (i : ℕ) (d : X) → slice_get xs i ≡ None → get_or xs i d ≡ d
-get_or_none [] i d e = refl
-get_or_none (x ∷ xs) zero d e = absurd (cc)
-get_or_none (x ∷ xs) (suc i) d e = get_or_none xs i d e
-
--- where no bit is counted, none is set
-none_counted : (row : List Bool) → count_by (λ b. b) row ≡ 0 → (i : ℕ) → get_or row i false ≡ false
-none_counted row e i = by_bit (slice_get row i) refl
-  where
-    by_bit : (o : Option Bool) → slice_get row i ≡ o → get_or row i false ≡ false
-    by_bit None f = get_or_none row i false f
-    by_bit (Some false) f = get_or_from_slice_get row i false false f
-    by_bit (Some true) f = absurd (omega (arith, e, count_positive (λ b. b) row i true f refl))
 
 bits_more : (r : List Bool) (rows : List (List Bool)) → bit_count (r ∷ rows) ≡ count_by (λ b. b) r + bit_count rows
 bits_more r rows = sum_by-cons (count_by (λ b. b)) r rows

@@ -1,7 +1,7 @@
 //! The first state of a heap, through its readers.
 
 use crate::configs::sizes;
-use crate::rows::has_counts;
+use crate::rows::{has_counts, has_indexed_counts};
 use heap::{Config, Heap, Thread};
 use layout::{Layout, Layouts};
 use model::{Page, PageState, Phase};
@@ -92,7 +92,8 @@ fn has_clear_rows(rt: &impl Abort, heap: &Heap) {
     has_counts(rt, heap.starts(), &counts);
     has_counts(rt, heap.live(), &counts);
     has_counts(rt, heap.mark(), &counts);
-    has_counts(rt, heap.todo(), &counts);
+    has_indexed_counts(rt, heap.todo(), &counts);
+    assert!(rt; heap.todo().is_empty());
 }
 
 /// Its pages, frames and rows of bits.

@@ -17,6 +17,8 @@ mod histories;
 #[cfg(test)]
 mod loads;
 #[cfg(test)]
+mod marks;
+#[cfg(test)]
 mod objects;
 #[cfg(test)]
 mod pages;

@@ -1,6 +1,6 @@
 //! Rows of bits, and lists of copies, made where there is memory.
 
-use heap::{Row, Rows};
+use heap::{IndexedRows, Row, Rows};
 use page::many;
 use std::process::Abort;
 use std::test::Fail;
@@ -38,6 +38,42 @@ fn rows_of_clear_bits(rt: HostRuntime) -> Result<(), Fail> {
     has_counts(&rt, &rows, &[1, 2, 0]);
     rows.clear(1);
     has_counts(&rt, &rows, &[1, 0, 0]);
+    Ok(())
+}
+
+/// How many bits are set in the first rows of a table with an index, and that there are no more.
+pub fn has_indexed_counts(rt: &impl Abort, rows: &IndexedRows, counts: &[usize]) {
+    for (index, count) in counts.iter().enumerate() {
+        assert_eq!(rt;
+            rows.get(index).map(Row::count),
+            Some(*count),
+            "in row {index}"
+        );
+    }
+    assert!(rt; rows.get(counts.len()).is_none());
+}
+
+/// The rows that have a bit are found, up to the last and behind it.
+fn finds_busy_rows(rt: &impl Abort, rows: &IndexedRows, found: &[Option<u32>]) {
+    for (index, busy) in found.iter().enumerate() {
+        assert_eq!(rt; rows.next_busy(index), *busy, "from row {index}");
+    }
+}
+
+#[test]
+fn rows_with_an_index(rt: HostRuntime) -> Result<(), Fail> {
+    let mut rows = IndexedRows::new(rt.alloc(), 3, 16)?;
+    has_indexed_counts(&rt, &rows, &[0, 0, 0]);
+    finds_busy_rows(&rt, &rows, &[None; 4]);
+    for (index, offset) in [(0, 0), (2, 15), (2, 16), (1, 20), (3, 0)] {
+        rows.put(index, offset, true);
+    }
+    has_indexed_counts(&rt, &rows, &[1, 0, 1]);
+    finds_busy_rows(&rt, &rows, &[Some(0), Some(2), Some(2), None]);
+    rows.clear(2);
+    finds_busy_rows(&rt, &rows, &[Some(0), None, None, None]);
+    rows.put(0, 0, false);
+    assert!(rt; rows.is_empty());
     Ok(())
 }
 

@@ -14,7 +14,7 @@ ghost use Rattle.model.specs.Phases.{is_marking, is_mark_crossing};
 
 use crate::heap::Heap;
 use layout::{Header, Layout};
-use markbits::Rows;
+use markbits::{IndexedRows, Rows};
 use model::{Answer, Buffer, Phase, Refusal, Reply};
 use page::Store;
 use refword::{Addr, Word};
@@ -42,7 +42,13 @@ fn write_new(store: &mut Store, buffer: Buffer, header: u64, others: u32)
 
 /// Notes that an object starts at the head of a buffer. While a mark runs it is marked at once,
 /// and to be scanned while threads have still to cross (ours).
-fn note_start(starts: &mut Rows, mark: &mut Rows, todo: &mut Rows, phase: Phase, buffer: Buffer)
+fn note_start(
+    starts: &mut Rows,
+    mark: &mut Rows,
+    todo: &mut IndexedRows,
+    phase: Phase,
+    buffer: Buffer,
+)
     ensures starts { starts.new ≡ change_at starts.old (buffer.page - 1) (put_bit buffer.next true) }
     ensures mark { mark.new ≡ change_at mark.old (buffer.page - 1) (put_bit buffer.next (is_marking phase)) }
     ensures todo { todo.new ≡ change_at todo.old (buffer.page - 1) (put_bit buffer.next (is_mark_crossing phase)) }

@@ -8,11 +8,20 @@ ghost use Rattle.model.specs.Outcome.{Passes};
 ghost use Rattle.model.specs.declared.steps.Step.TheVariants as steps;
 
 use crate::heap::Heap;
-use markbits::Rows;
+use markbits::{IndexedRows, Rows};
 use model::{Answer, Buffer, Refusal, Reply, Room};
 
 /// Clears the row of a page of which a buffer is the first.
 fn open_row(rows: &mut Rows, buffer: Buffer)
+    ensures { rows.new ≡ opened_rows buffer rows.old }
+{
+    if buffer.next == 0 {
+        rows.clear(buffer.page.saturating_sub(1) as usize);
+    }
+}
+
+/// The same of rows with an index.
+fn open_indexed_row(rows: &mut IndexedRows, buffer: Buffer)
     ensures { rows.new ≡ opened_rows buffer rows.old }
 {
     if buffer.next == 0 {
@@ -39,7 +48,7 @@ impl Heap {
         open_row(&mut self.starts, buffer);
         open_row(&mut self.live, buffer);
         open_row(&mut self.mark, buffer);
-        open_row(&mut self.todo, buffer);
+        open_indexed_row(&mut self.todo, buffer);
     }
 
     /// Gives a thread a buffer that was taken of the store.

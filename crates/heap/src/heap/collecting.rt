@@ -15,9 +15,9 @@ ghost use Rattle.page.specs.Ending.{with_mark_ended_at};
 
 use crate::heap::Heap;
 use crate::heap::crossing::{first_behind, is_lent, phase_behind};
-use crate::heap::marks::{bit_at, put_bit};
+use crate::heap::marks::{bit_at, put_bit, put_indexed_bit};
 use crate::thread::Thread;
-use markbits::Rows;
+use markbits::{IndexedRows, Rows};
 use model::{Global, PageState, Phase, Scan};
 use page::Store;
 use refword::{Addr, Word};
@@ -55,12 +55,12 @@ pub trait CollectorEdits {
 }
 
 /// Marks the object at an address: it is to be scanned where it wasn't marked before.
-fn mark_at(mark: &mut Rows, todo: &mut Rows, store: &Store, address: Addr)
+fn mark_at(mark: &mut Rows, todo: &mut IndexedRows, store: &Store, address: Addr)
     ensures mark { mark.new ≡ with_bit mark.old store.now.words address true }
     ensures todo { todo.new ≡ (if bit_at mark.old store.now.words address then todo.old else with_bit todo.old store.now.words address true) }
 {
     if !bit_at(mark, store, address) {
-        put_bit(todo, store, address, true);
+        put_indexed_bit(todo, store, address, true);
     }
     put_bit(mark, store, address, true);
 }
@@ -167,7 +167,7 @@ impl CollectorEdits for Heap {
     fn end_scan(&mut self, worker: u32, scan: Scan)
         ensures { self.new ≡ with_scan_end self.old worker scan }
     {
-        put_bit(&mut self.todo, &self.store, scan.object, false);
+        put_indexed_bit(&mut self.todo, &self.store, scan.object, false);
         self.set_scan(worker, None);
     }
 

@@ -8,7 +8,7 @@ ghost use Rattle.heap.specs.Making.{Makes};
 use crate::fault::NewFault;
 use crate::heap::Heap;
 use crate::thread::Thread;
-use markbits::Rows;
+use markbits::{IndexedRows, Rows};
 use model::{Config, Global, Phase, Scan};
 use page::{Store, many, record_count};
 use refword::Word;
@@ -58,7 +58,7 @@ struct BlankRows {
     starts: Rows,
     live: Rows,
     mark: Rows,
-    todo: Rows,
+    todo: IndexedRows,
 }
 
 /// A row for each page record that the configuration needs, with all bits clear.
@@ -74,7 +74,7 @@ fn blank_rows(alloc: Memory, config: &Config) -> Result<BlankRows, AllocError>
     let starts = Rows::new(alloc, records, words)?;
     let live = Rows::new(alloc, records, words)?;
     let mark = Rows::new(alloc, records, words)?;
-    let todo = Rows::new(alloc, records, words)?;
+    let todo = IndexedRows::new(alloc, records, words)?;
     Ok(BlankRows {
         starts,
         live,

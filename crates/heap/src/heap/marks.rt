@@ -6,7 +6,7 @@ ghost use Rattle.model.specs.Cycles.{uncopied_from};
 ghost use Rattle.model.specs.Marks.{resolve, marked_word};
 
 use crate::heap::Heap;
-use markbits::Rows;
+use markbits::{IndexedRows, Rows};
 use page::Store;
 use refword::{Addr, Word};
 
@@ -19,6 +19,14 @@ pub(crate) fn bit_at(rows: &Rows, store: &Store, address: Addr) -> bool
 
 /// Sets or clears the bit of an address, if its page has a row.
 pub(crate) fn put_bit(rows: &mut Rows, store: &Store, address: Addr, bit: bool)
+    ensures { rows.new ≡ with_bit rows.old store.now.words address bit }
+{
+    let index = store.page_of(address).saturating_sub(1) as usize;
+    rows.put(index, store.offset_of(address) as usize, bit);
+}
+
+/// The same of rows with an index.
+pub(crate) fn put_indexed_bit(rows: &mut IndexedRows, store: &Store, address: Addr, bit: bool)
     ensures { rows.new ≡ with_bit rows.old store.now.words address bit }
 {
     let index = store.page_of(address).saturating_sub(1) as usize;
