@@ -1,4 +1,5 @@
-//! Which threads have still to cross (the paper's checkpoints), and which have an open barrier.
+//! What is asked of all threads: who has still to cross (the paper's checkpoints), who has an open
+//! barrier, and whether a buffer of a page is lent.
 
 ghost use Rattle.std.specs.Prelude.{◌≡◌, ◌<◌, length, IfSome};
 ghost use Rattle.model.specs.Checkpoints.{first_behind, phase_behind};
