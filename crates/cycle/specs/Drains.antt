@@ -7,6 +7,7 @@ use Rattle.model.specs.declared.steps.Refusal.TheVariants as refusals
 use Rattle.model.specs.Scans.{next_drain}
 use Rattle.cycle.specs.Books.{BookState, Reply, act_outcome}
 use Rattle.cycle.specs.Loads.{Told, tell, step_then, Leaves}
+use Rattle.cycle.specs.Replays.{IsBook}
 
 -- a worker's step, if one is left, and what follows where it is accepted
 abbrev pub drain_step : BookState → ℕ → Option Step → (BookState → Told) → Told
@@ -23,6 +24,11 @@ drain_within (suc n) b worker =
 -- refused.
 abbrev pub drain : BookState → ℕ → Told
 drain b worker = drain_within (b.heap.config.history + 1) b worker
+
+-- of a book, no more steps are ever asked for: to allow more changes nothing
+abbrev pub DrainsEnd : Type 0
+DrainsEnd = (b : BookState) → IsBook b → (worker more : ℕ)
+    → drain_within (b.heap.config.history + 1 + more) b worker ≡ drain b worker
 
 -- what replies come to: the first refusal, where one was refused
 abbrev pub verdict : List Reply → Result Unit Refusal
