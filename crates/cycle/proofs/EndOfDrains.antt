@@ -1,7 +1,8 @@
 -- A drain comes to its end within the steps that its history has room for, and one more.
 use Rattle.std.proofs.Common.{◌≡◌, ℕ, zero, suc, ◌+◌, ◌<◌, ◌≤◌, Bool, true, false, [], ◌∷◌, length, Option}
 use Rattle.std.proofs.Common.{Some, None, refl, ap, sym, subst, ◌∙◌, arith, length-append}
-use Rattle.std.specs.Prelude.{Result, Ok, Err, position, is_some, if◌then◌else◌, ◌*◌, ◌&&◌, ◌||◌, not, nat_lt, slice_get}
+use Rattle.std.specs.Prelude.{Result, Ok, Err, position, is_some, if◌then◌else◌, ◌*◌, ◌&&◌, ◌||◌, not, nat_lt}
+use Rattle.std.specs.Prelude.{slice_get}
 use Rattle.std.proofs.lemmas.Bool.{leb-false}
 use Rattle.model.specs.declared.config.Config.{Config}
 use Rattle.model.specs.declared.records.Global.{Global}

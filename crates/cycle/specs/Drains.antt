@@ -20,8 +20,8 @@ drain_within zero b worker = tell b []
 drain_within (suc n) b worker =
     drain_step b worker (next_drain b.heap worker) (λ c. drain_within n c worker)
 
--- A whole drain. Each accepted step enters the history, so one step more than it may have entries is enough: it would be
--- refused.
+-- A whole drain. Each accepted step enters the history, so one step more than it may have entries is enough: that one
+-- would be refused.
 abbrev pub drain : BookState → ℕ → Told
 drain b worker = drain_within (b.heap.config.history + 1) b worker
 

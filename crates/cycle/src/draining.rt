@@ -78,7 +78,8 @@ impl Book {
         worker: u32,
         replies: &mut Vec<Reply>,
     ) -> Result<Result<(), Refusal>, AllocError>
-        ensures steps { OnOk result (Leaves (drain_within most self.old worker) replies.old.items self.new replies.new.items) }
+        ensures steps { OnOk result
+            (Leaves (drain_within most self.old worker) replies.old.items self.new replies.new.items) }
         ensures end { IfOk result (λ end. end ≡ verdict (drain_within most self.old worker).replies) }
     {
         for _ in 0..most {
