@@ -150,7 +150,7 @@ acted_heap b actor y e = by_full (is_full b) e
     by_full true f = absurd cc
     by_full false f = by_outcome (outcome b.heap actor steps.Trap) f
 
-stepped_same : (b : BookState) (o : BookOutcome) (f g : BookState → Answer → Told)
+pub stepped_same : (b : BookState) (o : BookOutcome) (f g : BookState → Answer → Told)
     → ((c : BookState) (a : Answer) → o ≡ Ok (c, a) → f c a ≡ g c a) → step_then b o f ≡ step_then b o g
 unfolding step_then
 stepped_same b (Ok x) f g same =

@@ -14,7 +14,7 @@ use Rattle.cycle.proofs.WholeLoads.{accepted, refused, step_ok, step_err, nothin
 
 -- ---- one step
 
-drained_next : (k n : ℕ) (b : BookState) (w : ℕ) (o : Option Step) → k ≡ suc n → next_drain b.heap w ≡ o
+pub drained_next : (k n : ℕ) (b : BookState) (w : ℕ) (o : Option Step) → k ≡ suc n → next_drain b.heap w ≡ o
     → drain_within k b w ≡ drain_step b w o (λ c. drain_within n c w)
 unfolding drain_within
 drained_next k n b w o e next = rw (e, next) refl

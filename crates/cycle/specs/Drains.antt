@@ -7,6 +7,7 @@ use Rattle.model.specs.declared.steps.Refusal.TheVariants as refusals
 use Rattle.model.specs.Scans.{next_drain}
 use Rattle.cycle.specs.Books.{BookState, Reply, act_outcome}
 use Rattle.cycle.specs.Loads.{Told, tell, step_then, Leaves}
+use Rattle.cycle.specs.Replays.{IsBook}
 
 -- a worker's step, if one is left, and what follows where it is accepted
 abbrev pub drain_step : BookState → ℕ → Option Step → (BookState → Told) → Told
@@ -19,11 +20,15 @@ drain_within zero b worker = tell b []
 drain_within (suc n) b worker =
     drain_step b worker (next_drain b.heap worker) (λ c. drain_within n c worker)
 
--- A whole drain. Each accepted step enters the history, so one step more than it may have entries is enough: it would
--- be
--- refused.
+-- A whole drain. Each accepted step enters the history, so one step more than it may have entries is enough: that one
+-- would be refused.
 abbrev pub drain : BookState → ℕ → Told
 drain b worker = drain_within (b.heap.config.history + 1) b worker
+
+-- of a book, no more steps are ever asked for: to allow more changes nothing
+abbrev pub DrainsEnd : Type 0
+DrainsEnd = (b : BookState) → IsBook b → (worker more : ℕ)
+    → drain_within (b.heap.config.history + 1 + more) b worker ≡ drain b worker
 
 -- what replies come to: the first refusal, where one was refused
 abbrev pub verdict : List Reply → Result Unit Refusal

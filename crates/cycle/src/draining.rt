@@ -5,13 +5,19 @@ ghost use Rattle.std.specs.Prelude.{◌≡◌, ◌<◌, ◌^◌, position, is_so
 ghost use Rattle.model.specs.declared.records.Global.{Global};
 ghost use Rattle.model.specs.Scans.{scan_of, next_drain};
 ghost use Rattle.cycle.specs.Loads.{Leaves};
-ghost use Rattle.cycle.specs.Drains.{drain_within, drain, verdict, DrainsWhole};
+ghost use Rattle.cycle.specs.Drains.{drain_within, drain, verdict, DrainsEnd, DrainsWhole};
 
 use crate::book::Book;
 use heap::Heap;
 use marker::next_todo;
 use model::{Actor, Refusal, Reply, Step};
 use std::alloc::AllocError;
+
+/// Of a book, a drain comes to its end within as many steps as the history may have entries, and one
+/// more. It does nothing: its contract is the law.
+pub fn drains_end()
+    ensures { DrainsEnd }
+{}
 
 /// Whether a worker has an object.
 fn has_scan(heap: &Heap, worker: u32) -> bool
@@ -72,7 +78,8 @@ impl Book {
         worker: u32,
         replies: &mut Vec<Reply>,
     ) -> Result<Result<(), Refusal>, AllocError>
-        ensures steps { OnOk result (Leaves (drain_within most self.old worker) replies.old.items self.new replies.new.items) }
+        ensures steps { OnOk result
+            (Leaves (drain_within most self.old worker) replies.old.items self.new replies.new.items) }
         ensures end { IfOk result (λ end. end ≡ verdict (drain_within most self.old worker).replies) }
     {
         for _ in 0..most {

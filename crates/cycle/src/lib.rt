@@ -48,7 +48,7 @@ mod running;
 mod stepping;
 
 pub use book::{Book, Entry};
-pub use draining::verdict;
+pub use draining::{drains_end, verdict};
 pub use loading::three_traps;
 pub use model::{Actor, Answer, PageList, Reply, Step};
 pub use running::run;

@@ -55,9 +55,9 @@ fn do_drain(
     Ok(())
 }
 
-/// Does a command: one step, or the steps of a load or a drain up to its end or its first refusal. `replies`
-/// is room that is used again: what it holds is lost, and then it holds what the steps said, in
-/// order. The fault is want of memory, also in a step.
+/// Does a command: one step, or the steps of a load or a drain up to its end or its first refusal.
+/// `replies` is room that is used again: what it holds is lost, and then it holds what the steps
+/// said, in order. The fault is want of memory, also in a step.
 #[tactic(auto, unfolding(crate::specs::Output::done), using(crate::proofs::Commands::same_book, crate::proofs::Commands::same_replies))]
 pub fn do_command(
     book: &mut Book,

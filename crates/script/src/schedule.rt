@@ -56,7 +56,8 @@ fn tell_command<W: io::Write>(
     text: &mut String,
     w: &mut W,
 ) -> Result<(), RunFault>
-    ensures { OnOk result (Appends (W.contents w.old) (W.contents w.new) (command_line number command.now replies.now)) }
+    ensures { OnOk result
+        (Appends (W.contents w.old) (W.contents w.new) (command_line number command.now replies.now)) }
 {
     text.clear();
     put_command(text, number, command, replies)?;
