@@ -58,16 +58,15 @@ pub record IsBook (b : BookState) : Type 0 where
   pub marks : LastFinds b
 
 -- what it promises: the heap stands for the plain heap of its history; no register that may be used names a page
--- without
--- memory; and where its last step has ended a mark, all that can be reached is live, and what is live could be reached
--- as that mark began, or is born since
+-- without memory; and where its last step has ended a mark, all that can be reached is live, and what is live could
+-- be reached as that mark began, or is born since
 pub record KeepsPromises (b : BookState) : Type 0 where
   pub stands : StandsForPlain (world_of b.heap) (births_of (replayed b).now)
   pub usable : UsableHasMemory (world_of b.heap)
   pub marks : LastFinds b
 
--- what a step with this reply promises: what its book does, and where it is accepted, that it has moved the phase as it
--- may
+-- what a step with this reply promises: what its book does, and where it is accepted, that it has moved the phase as
+-- it may
 pub record StepPromises (old : BookState) (step : Step) (reply : Reply) (new : BookState) : Type 0 where
   pub book : KeepsPromises new
   pub phase : IfOk reply (λ answer. MovesPhase old.heap step new.heap)

@@ -9,8 +9,7 @@ use Rattle.laws.specs.First.{first, plain_first}
 use Rattle.laws.specs.Transitions.{IsUsable, Uses, Run, MayEndMark}
 
 -- birth b has exactly one current object, which is on a page with memory and has the layout, the data and the
--- references
--- of the plain heap; each reference word stands for the plain reference
+-- references of the plain heap; each reference word stands for the plain reference
 pub record HasOneCopy (w : AddressHeap) (p : BirthHeap) (b : ℕ) : Type 0 where
   pub address : ℕ
   pub object : HeapObject

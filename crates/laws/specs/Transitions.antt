@@ -1,7 +1,6 @@
--- What an accepted step does to the heap by addresses and to the plain heap. The premises are the tests of the step, as
--- far as the invariant needs them: a step that tests more is a transition too. A step that changes neither heap, such
--- as
--- a read of a datum or a buffer given back, is none.
+-- What an accepted step does to the heap by addresses and to the plain heap. The premises are the tests of the step,
+-- as far as the invariant needs them: a step that tests more is a transition too. A step that changes neither heap,
+-- such as a read of a datum or a buffer given back, is none.
 use Rattle.std.specs.Prelude.{◌≡◌, ◌≢◌, ◌⊎◌, ◌<◌, ◌≤◌, ℕ, Bool, true, false, Option, Some, None, List, length, get_or}
 use Rattle.model.specs.declared.records.Phase.{Phase}
 use Rattle.model.specs.declared.records.Phase.TheVariants.{Idle, MarkCrossing, Scanning, ProtectCrossing, Relocating}
@@ -32,8 +31,7 @@ pub record Uses (w : AddressHeap) (t r a : ℕ) (o : HeapObject) : Type 0 where
   pub here : w.object_at a ≡ Some o
 
 -- f is the phase after thread t crosses: the same where another has still to cross, and the next one where t is the
--- last
--- (the paper's checkpoints)
+-- last (the paper's checkpoints)
 abbrev pub IsPhaseAfter : AddressHeap → ℕ → Phase → Phase → Phase → Type 0
 IsPhaseAfter w t now next f =
     ((f ≡ now) × (u : ℕ) × (u ≢ t) × (w.crossed u ≡ false))
@@ -127,8 +125,8 @@ pub data Transition (w : AddressHeap) (p p0 : BirthHeap) : AddressHeap → Birth
   -- an NMT trap: the object is marked, and the word becomes clean (the paper's read barrier)
   TrapMarked : (t : ℕ) (k : OpenBarrier) → w.barrier t ≡ Some k → is_marking w.phase ≡ true
       → Transition w p p0 (set_barrier t (record k { now = marked_word w k.now }) (mark_word k.now w)) p p0
-  -- the repaired word is written back to its global (the paper's read barrier), where that still holds what was loaded
-  -- (ours)
+  -- the repaired word is written back to its global (the paper's read barrier), where that still holds what was
+  -- loaded (ours)
   HealGlobal : (t : ℕ) (k : OpenBarrier) (g : ℕ) → w.barrier t ≡ Some k → k.place ≡ AtGlobal g → w.global g ≡ k.raw
       → nmt_trap_due w t k.now ≡ false
       → Transition w p p0 (set_barrier t (record k { healed = true }) (set_global g k.now w)) p p0

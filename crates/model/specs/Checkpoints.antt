@@ -55,8 +55,7 @@ with_marked_registers h t zero = h
 with_marked_registers h t (suc r) = with_marked_register (with_marked_registers h t r) t r
 
 -- how many registers of a thread a crossing marks: at a mark's checkpoint all (the paper's checkpoints: each thread
--- marks
--- its own roots), at that of protected pages none (ours)
+-- marks its own roots), at that of protected pages none (ours)
 abbrev pub marked_at_crossing : HeapState → ℕ
 marked_at_crossing h = if is_mark_crossing h.phase then h.config.registers else 0
 

@@ -191,8 +191,7 @@ Takes old (Err e) new outcome = (outcome ≡ Err e) × (new ≡ old)
 -- pages after a mark
 
 -- a page after a mark: an open one without a lent buffer closes (ours), and a protected one is unused again (the
--- paper's
--- Remap phase)
+-- paper's Remap phase)
 abbrev pub page_after_mark : Bool → Page → Page
 page_after_mark lent p =
     if is_protected p.state then record p { state = Unused; frame = None } else

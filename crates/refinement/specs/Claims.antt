@@ -1,6 +1,5 @@
 -- What lies where in memory: the runs of addresses that objects, buffers, planned places and the free ends of open
--- pages
--- have, of which no two overlap.
+-- pages have, of which no two overlap.
 use Rattle.std.specs.Prelude.{◌≡◌, ◌⊎◌, ◌<◌, ◌≤◌, ◌+◌, ◌*◌, ◌%◌, ℕ, Bool, true, false, List, length, Option, Some}
 use Rattle.std.specs.Prelude.{None, option_map, if◌then◌else◌}
 use Rattle.model.specs.declared.records.Forwarding.{Forwarding}
