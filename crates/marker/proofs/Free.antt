@@ -13,7 +13,7 @@ use Rattle.model.specs.Owning.{IsStore}
 use Rattle.model.specs.Holding.{IsHeap}
 use Rattle.model.proofs.Lists.{get_within, none_counted}
 use Rattle.std.proofs.lemmas.Nat.{div-mul-add}
-use Rattle.std.proofs.lemmas.Bool.{cases_lt, cases_eq, eqb-true, true≢false}
+use Rattle.std.proofs.lemmas.Bool.{cases_lt, cases_eq, eqb-true, not-false, true≢false}
 use Rattle.std.proofs.Math.Nat.{mul-add-mod_self_right, mod-eq_of_lt, mul-le-mul_right}
 use Rattle.model.specs.States.{HeapState}
 use Rattle.model.specs.Bits.{of_page, bit_on}
@@ -21,10 +21,6 @@ use Rattle.model.specs.Scans.{is_taken, is_free_todo, next_todo}
 use Rattle.marker.specs.Free.{is_free_on, IsFirstFree, IsNextFree}
 use Rattle.markbits.specs.Indexing.{has_bits}
 use Rattle.markbits.specs.Words.{IsNextPlace, IsFirstFrom}
-
-not_false : (b : Bool) → not b ≡ false → b ≡ true
-not_false true e = refl
-not_false false e = absurd (cc)
 
 -- none of so many numbers from a on passes
 find_none : (p : ℕ → Bool) (a n : ℕ) → ((x : ℕ) → a ≤ x → x < a + n → p x ≡ false) → find p (range_with_len a n) ≡ None
@@ -162,7 +158,7 @@ none_on_blank h i j e = subst
 
     counted : count_by (λ b. b) row ≡ 0
     counted = eqb-true (count_by (λ b. b) row) 0
-        (not_false (count_by (λ b. b) row == 0) (sym (get_or_mapped has_bits h.todo i []) ∙ e))
+        (not-false (count_by (λ b. b) row == 0) (sym (get_or_mapped has_bits h.todo i []) ∙ e))
 
     blank : get_or row j false ≡ false
     blank = none_counted row counted j

@@ -2,6 +2,7 @@
 use Rattle.std.proofs.Common.{◌≡◌, ℕ, Bool, true, false, not, ◌<◌, length, refl}
 use Rattle.std.specs.Prelude.{Result, Ok, Err}
 use Rattle.std.specs.List.{slice_get}
+use Rattle.std.proofs.lemmas.Bool.{not-false}
 use Rattle.model.specs.declared.steps.Actor.TheVariants.{Thread, Worker}
 use Rattle.model.specs.declared.steps.Step.TheVariants as steps
 use Rattle.model.specs.Owning.{IsStore}
@@ -21,7 +22,7 @@ use Rattle.refinement.specs.PlainHeaps.{births_of}
 use Rattle.refinement.specs.Standing.{Holds}
 use Rattle.refinement.proofs.Accepted.{OnAccepted, on_bind, on_has, on_test, on_truth}
 use Rattle.refinement.proofs.Carrying.{RowHolds, row_by, read_by, stays}
-use Rattle.refinement.proofs.Crossings.{thread_crosses, not_false}
+use Rattle.refinement.proofs.Crossings.{thread_crosses}
 use Rattle.refinement.proofs.Threads.{parked_carries}
 use Rattle.refinement.proofs.Verdicts.{Passed, closed_barrier}
 
@@ -29,7 +30,7 @@ use Rattle.refinement.proofs.Verdicts.{Passed, closed_barrier}
 pub is_open : (h : HeapState) (t : ℕ) → OnAccepted (λ (u : Unit {0}). is_crossing h.phase ≡ true) (may_cross h t)
 unfolding may_cross
 is_open h t = on_test (not (is_crossing h.phase)) _ _ _ (λ e. on_test (has_crossed (slice_get h.threads t)) _ _ _
-    (λ b. not_false (is_crossing h.phase) e))
+    (λ b. not-false (is_crossing h.phase) e))
 
 module _ {h : HeapState} {p p0 : PlainHeap} (s : IsStore h.store) (d : IsHeap h) (k : Holds h p p0) (t : ℕ) where
   -- a thread crosses
@@ -66,6 +67,6 @@ cross_for_holds {h = h} {p = p} {p0 = p0} s k w t low =
     on_has (may_cross h t) _ _ _ (is_open h t) (λ u crossing.
     let (x, at) = get_within h.threads t low in
     let closed = parked_none (world_of h) (births_of p) (births_of p0) k.invariant t
-    (not_false (is_parked_in (slice_get h.threads t)) e) in
+    (not-false (is_parked_in (slice_get h.threads t)) e) in
     let (holds, config) = thread_crosses s k t x at closed crossing in
     record { config = config; holds = holds; answers = tt }))

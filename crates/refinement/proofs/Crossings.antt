@@ -4,7 +4,7 @@ use Rattle.std.proofs.Common.{is_none, List, Option, Some, None, refl, sym, ◌�
 use mathlib.Core.Path.{fun_ext}
 use Rattle.std.specs.List.{slice_get}
 use Rattle.std.proofs.lemmas.Option.{slice_get_within, slice_get_past}
-use Rattle.std.proofs.lemmas.Bool.{cases_eq, false≢true, true≢false}
+use Rattle.std.proofs.lemmas.Bool.{cases_eq, false≢true, true≢false, not-false, not-true}
 use Rattle.model.specs.declared.config.Config.{Config}
 use Rattle.model.specs.declared.records.Phase.{Phase}
 use Rattle.model.specs.declared.records.Phase.TheVariants.{Idle, MarkCrossing, Scanning, ProtectCrossing, Relocating}
@@ -110,14 +110,6 @@ crossed_carries h t x at = records_carry h (record (records_of h) {
     f : ThreadState → ThreadState
     f = set_crossed_of true
 
-pub not_false : (b : Bool) → not b ≡ false → b ≡ true
-not_false true e = refl
-not_false false e = absurd (cc)
-
-not_true : (b : Bool) → not b ≡ true → b ≡ false
-not_true false e = refl
-not_true true e = absurd (cc)
-
 -- where no thread is behind, all have crossed
 pub none_is_behind : (threads : List ThreadState) → first_behind threads ≡ None → (t : ℕ)
     → has_crossed (slice_get threads t) ≡ true
@@ -126,7 +118,7 @@ none_is_behind threads e t = by_thread (slice_get threads t) refl
   where
     by_thread : (o : Option ThreadState) → slice_get threads t ≡ o → has_crossed o ≡ true
     by_thread None g = refl
-    by_thread (Some x) g = not_false x.crossed (position_none (λ (y : ThreadState). not y.crossed) threads e t x g)
+    by_thread (Some x) g = not-false x.crossed (position_none (λ (y : ThreadState). not y.crossed) threads e t x g)
 
 -- one that is behind hasn't crossed
 one_is_behind : (threads : List ThreadState) (t : ℕ) → first_behind threads ≡ Some t
@@ -134,7 +126,7 @@ one_is_behind : (threads : List ThreadState) (t : ℕ) → first_behind threads 
 unfolding first_behind
 one_is_behind threads t e =
     let (x, at) = position_finds (λ (y : ThreadState). not y.crossed) threads t e in
-    ap has_crossed at ∙ not_true x.crossed (position_passes (λ (y : ThreadState). not y.crossed) threads t x e at)
+    ap has_crossed at ∙ not-true x.crossed (position_passes (λ (y : ThreadState). not y.crossed) threads t x e at)
 
 -- the phase after a crossing is as the laws have it
 after_crossing : (h : HeapState) (t : ℕ) (x : ThreadState) → slice_get h.threads t ≡ Some x

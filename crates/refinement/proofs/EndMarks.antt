@@ -7,7 +7,7 @@ use mathlib.Core.Path.{fun_ext}
 use Rattle.std.specs.List.{slice_get, list_any}
 use Rattle.std.specs.Prelude.{◌==◌}
 use Rattle.std.specs.Option.{option_map, option_and_then}
-use Rattle.std.proofs.lemmas.Bool.{cases_eq, or_parts, eqb-true, true≢false}
+use Rattle.std.proofs.lemmas.Bool.{cases_eq, or_parts, eqb-true, true≢false, not-false}
 use Rattle.std.proofs.lemmas.List.Sums.{sum_by-cons}
 use Rattle.std.proofs.lemmas.List.{length-map, length-replicate}
 use Rattle.std.proofs.lemmas.Option.{none-some, same_Some}
@@ -371,10 +371,6 @@ module _ {h : HeapState} {p p0 : PlainHeap} (s : IsStore h.store) (k : Holds h p
 
 -- what is left to do
 
-not_false : (b : Bool) → not b ≡ false → b ≡ true
-not_false true e = refl
-not_false false e = absurd (cc)
-
 nothing_todo : (h : HeapState) → OnAccepted (λ (u : Unit {0}). ((a : ℕ) → (world_of h).todo a ≡ false)
     × ((g : ℕ) → (world_of h).global_todo g ≡ false)) (refuse_if (has_todo h) refusals.TodoLeft)
 unfolding has_todo
@@ -392,7 +388,7 @@ nothing_todo h = by_test (not (bit_count h.todo == 0) || list_any (λ (g : Globa
     by_test false e =
         let (bits, globals) = or_parts (not (bit_count h.todo == 0)) (list_any (λ
             (g : Global). g.todo) h.globals) e in (
-          (λ a. none_set h.todo (eqb-true (bit_count h.todo) 0 (not_false (bit_count h.todo == 0) bits))
+          (λ a. none_set h.todo (eqb-true (bit_count h.todo) 0 (not-false (bit_count h.todo == 0) bits))
               (a / h.store.words) (a % h.store.words)),
           (λ g. todo_at globals g (slice_get h.globals g) refl),
         )

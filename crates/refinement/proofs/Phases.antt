@@ -3,6 +3,7 @@ use Rattle.std.proofs.Common.{◌≡◌, ◌⊎◌, inl, inr, ℕ, zero, suc, �
 use Rattle.std.proofs.Common.{nat_le, nat_lt}
 use Rattle.std.proofs.Common.{is_some, is_none, Option, Some, None, length, ◌+◌, ◌*◌, refl, sym, ◌∙◌, ap, subst}
 use Rattle.std.specs.List.{slice_get}
+use Rattle.std.proofs.lemmas.Bool.{not-false}
 use Rattle.std.specs.Prelude.{Result, Ok, Err}
 use Rattle.layout.specs.Objects.{size_of}
 use Rattle.model.specs.declared.records.Barrier.{Barrier}
@@ -56,8 +57,8 @@ use Rattle.refinement.proofs.Accepted.{OnAccepted, accepted, of_accepted, on_acc
 use Rattle.refinement.proofs.Accepted.{on_test}
 use Rattle.refinement.proofs.Accepted.{on_truth}
 use Rattle.refinement.proofs.Checkpoints.{is_open}
-use Rattle.refinement.proofs.Crossings.{not_false}
 use Rattle.refinement.proofs.EndMarks.{may_end}
+use Rattle.refinement.proofs.StartMarks.{in_phase}
 
 -- an accepted step leaves the phase
 abbrev Stays : HeapState → Outcome → Type 0
@@ -219,14 +220,7 @@ module _ {h : HeapState} {p p0 : PlainHeap} (k : Holds h p p0) where
   unfolding start_mark_outcome start_mark
   start_moves = on_test (not (may_start_mark h.phase)) _ _ _ (λ e.
       on_bind (none_uncopied (uncopied_from h 1 (length h.store.pages))) _ _ (λ u f.
-      (in_phase h.phase (not_false (may_start_mark h.phase) e), refl)))
-    where
-      in_phase : (f : Phase) → may_start_mark f ≡ true → (f ≡ Idle) ⊎ (f ≡ Relocating)
-      in_phase Idle e = inl refl
-      in_phase Relocating e = inr refl
-      in_phase MarkCrossing e = absurd (cc)
-      in_phase Scanning e = absurd (cc)
-      in_phase ProtectCrossing e = absurd (cc)
+      (in_phase h.phase (not-false (may_start_mark h.phase) e), refl)))
 
   end_moves : Moves h steps.EndMark (end_mark_outcome h)
   unfolding end_mark

@@ -6,7 +6,7 @@ use Rattle.std.specs.List.{slice_get}
 use Rattle.std.specs.Option.{option_map}
 use Rattle.std.specs.Prelude.{Result, Ok, Err}
 use Rattle.std.proofs.Math.ListN.{length-set}
-use Rattle.std.proofs.lemmas.Bool.{ltb-true, ltb-false, eq-eqb, true≢false, and_parts}
+use Rattle.std.proofs.lemmas.Bool.{ltb-true, ltb-false, eq-eqb, true≢false, and_parts, not-false}
 use Rattle.std.proofs.lemmas.Nat.{div-mul-add, mod-mul-add}
 use Rattle.refword.specs.Words.{IsWord}
 use Rattle.model.specs.declared.steps.Actor.TheVariants.{Worker}
@@ -50,7 +50,7 @@ use Rattle.refinement.proofs.Changes.{kept_of, read_changed}
 use Rattle.refinement.proofs.Records.{records_of, records_carry}
 use Rattle.refinement.proofs.Rooted.{global_word}
 use Rattle.refinement.proofs.Marks.{LeadsTo, leads_to, marked_same, marked_is_word, mark_carries, bit_with, rows_with}
-use Rattle.refinement.proofs.Crossings.{none_is_behind, not_false}
+use Rattle.refinement.proofs.Crossings.{none_is_behind}
 use Rattle.refinement.proofs.Written.{field_carries, word_there}
 use Rattle.refinement.proofs.Loads.{field_is, read_named, global_same}
 use Rattle.refinement.proofs.References.{less_is}
@@ -167,7 +167,7 @@ module _ {h : HeapState} {p p0 : PlainHeap} (s : IsStore h.store) (d : IsHeap h)
   pick_holds page offset = on_has (may_scan h) _ _ _ (is_scanning h) (λ u i.
       on_test (not (nat_lt offset h.store.words && bit_on h.todo page offset)) _ _ _ (λ e.
       on_test (is_some (scan_of h w) || is_taken h (page * h.store.words + offset)) _ _ _ (λ f.
-      let (within, todo) = and_parts (nat_lt offset h.store.words) (bit_on h.todo page offset) (not_false _ e) in
+      let (within, todo) = and_parts (nat_lt offset h.store.words) (bit_on h.todo page offset) (not-false _ e) in
       let a = page * h.store.words + offset in
       let inside : offset < h.store.words = ltb-true offset h.store.words within in
       let set_there : bit_at h.todo h.store.words a ≡ true = ap₂ (bit_on h.todo)

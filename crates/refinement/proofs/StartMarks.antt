@@ -6,7 +6,7 @@ use Rattle.std.proofs.Common.{refl, sym, ◌∙◌, ap, subst, arith}
 use mathlib.Core.Path.{fun_ext}
 use Rattle.std.specs.List.{slice_get, list_any}
 use Rattle.std.specs.Option.{option_map}
-use Rattle.std.proofs.lemmas.Bool.{true≢false, ltb-true, ltb-false}
+use Rattle.std.proofs.lemmas.Bool.{true≢false, ltb-true, ltb-false, not-false}
 use Rattle.std.proofs.lemmas.Bool.Decides.{nat_tests}
 use Rattle.std.proofs.lemmas.List.{length-map}
 use Rattle.std.proofs.lemmas.Option.{slice_get-map, slice_get_within}
@@ -40,7 +40,6 @@ use Rattle.refinement.specs.Roots.{HoldsWords}
 use Rattle.refinement.specs.Standing.{Holds}
 use Rattle.refinement.proofs.Accepted.{OnAccepted, on_has, on_test}
 use Rattle.refinement.proofs.Carrying.{Carries, RowHolds, row_by, stays}
-use Rattle.refinement.proofs.Crossings.{not_false}
 use Rattle.refinement.proofs.Records.{records_of, records_carry}
 use Rattle.refinement.proofs.References.{less_is}
 
@@ -145,6 +144,14 @@ emptied_there s n e = by_page (page_at s n) refl e
     by_page (Some q) a k = let (one, at) = page_there s n q a in
         let under = slice_get_within s.pages (n - 1) q at in (omega (arith, one), omega (arith, one, under))
 
+-- in these phases a mark may start
+pub in_phase : (f : Phase) → may_start_mark f ≡ true → (f ≡ Idle) ⊎ (f ≡ Relocating)
+in_phase Idle e = inl refl
+in_phase Relocating e = inr refl
+in_phase MarkCrossing e = absurd (cc)
+in_phase Scanning e = absurd (cc)
+in_phase ProtectCrossing e = absurd (cc)
+
 module _ {h : HeapState} {p p0 : PlainHeap} (s : IsStore h.store) (d : IsHeap h) (k : Holds h p p0) where
   -- nothing has still to be copied
   all_copied : OnAccepted (λ (u : Unit {0}). (a n : ℕ) → (world_of h).side_entry a ≢ Planned n)
@@ -162,14 +169,6 @@ module _ {h : HeapState} {p p0 : PlainHeap} (s : IsStore h.store) (d : IsHeap h)
           true≢false (sym (planned_uncopied (of_page h.sides m) (a % h.store.words) n planned)
           ∙ ap (λ f. is_from f && list_any is_uncopied (of_page h.sides m)) (sym from)
           ∙ none_from h 1 (length h.store.pages) e m low high)
-
-  -- in these phases a mark may start
-  in_phase : (f : Phase) → may_start_mark f ≡ true → (f ≡ Idle) ⊎ (f ≡ Relocating)
-  in_phase Idle e = inl refl
-  in_phase Relocating e = inr refl
-  in_phase MarkCrossing e = absurd (cc)
-  in_phase Scanning e = absurd (cc)
-  in_phase ProtectCrossing e = absurd (cc)
 
   first_waits : (threads : List ThreadState) → 1 ≤ length threads
       → has_crossed (slice_get (map (set_crossed_of false) threads) 0) ≡ false
@@ -193,7 +192,7 @@ module _ {h : HeapState} {p p0 : PlainHeap} (s : IsStore h.store) (d : IsHeap h)
       on_has (none_uncopied (uncopied_from h 1 (length h.store.pages))) _ _ _ all_copied (λ u copied.
       let threads : 1 ≤ length h.threads = omega (arith, d.config.threads_low, k.sizes.threads) in
       row_by k (start_carries h) (stays h p) (StartMark _ (record {
-        phase = in_phase h.phase (not_false (may_start_mark h.phase) e);
+        phase = in_phase h.phase (not-false (may_start_mark h.phase) e);
         copied = copied;
         waits = (0, first_waits h.threads threads);
         no_thread = no_thread;
