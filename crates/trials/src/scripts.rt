@@ -131,6 +131,25 @@ fn steps_of_orders(rt: HostRuntime) -> Result<(), Fail> {
 }
 
 #[test]
+fn steps_of_workers(rt: HostRuntime) -> Result<(), Fail> {
+    let rest = "w0 mark\nw0 pick 1.15\nw0 pick 4294967295.0\nw0 scan\nw0 scang 7\nw0 crossfor t0\n\
+        w0 endmark\nw0 drain\n";
+    let texts = [
+        "StartMark Nothing",
+        "Pick { page: 1, offset: 15 } Nothing",
+        "Pick { page: 4294967295, offset: 0 } Nothing",
+        "ScanField Nothing",
+        "ScanGlobal(7) Nothing",
+        "CrossFor(0) Nothing",
+        "EndMark Nothing",
+        "ScanField Drains",
+    ];
+    let script = parse_parts(rt.alloc(), HEAD, rest)?;
+    assert!(rt; has_steps(rt.alloc(), &script, &texts)?);
+    Ok(())
+}
+
+#[test]
 fn the_size_of_a_command(rt: HostRuntime) {
     assert_eq!(rt; std::mem::size_of::<Command>(), 32);
 }
