@@ -8,7 +8,7 @@ use Rattle.cycle.specs.Replays.{StepPromises, Ran}
 
 pub ran_more : (ss : List (Actor × Step)) (rs : List Reply) (b c d : BookState) (s : Actor × Step) (r : Reply)
     → Ran b ss rs c → Acts c r d (act_outcome c s.0 s.1) → StepPromises c s.1 r d
-        → Ran b (ss ++ s ∷ []) (rs ++ r ∷ []) d
+    → Ran b (ss ++ s ∷ []) (rs ++ r ∷ []) d
 ran_more [] [] b c d s r h a m =
     (d, subst (λ e. Acts e r d (act_outcome e s.0 s.1)) h a, subst (λ e. StepPromises e s.1 r d) h m, refl)
 ran_more [] (q ∷ rs) b c d s r h a m = absurd h

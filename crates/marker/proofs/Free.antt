@@ -213,7 +213,7 @@ found_on h from i k d before busy first =
     let there = busy_there h.todo i busy.here in
     let size = row_size h (i + 1) d (omega arith) (omega (arith, there)) in
     let skipped = none_skipped h from (i - from) i (omega (arith, busy.low)) before
-        (λ j low high. busy.before j low high) in (
+    (λ j low high. busy.before j low high) in (
       omega (arith, first.within, size),
       next_is h (i + 1) k (omega arith) (omega (arith, there)) size skipped first,
     )

@@ -198,8 +198,11 @@ module _ {h : HeapState} {p p0 : PlainHeap} (s : IsStore h.store) (k : Holds h p
   at_protection e =
       let next = phase_of_other (world_of h) (world_of h) t _ _ ProtectCrossing Relocating _ refl e
       (ap phase_behind e) (after_crossing h t x at) in
-      let whole = crossed_carries h t x at in (step_by k whole (stays h p)
-          (CrossProtect t _ e b next), whole.size.config)
+      let whole = crossed_carries h t x at in (
+        step_by k whole (stays h p)
+            (CrossProtect t _ e b next),
+        whole.size.config,
+      )
 
   -- a thread crosses
   pub thread_crosses : is_crossing h.phase ≡ true

@@ -288,7 +288,7 @@ module _ {h : HeapState} {p p0 : PlainHeap} (s : IsStore h.store) (k : Holds h p
             upto = n * h.store.words + h.store.words;
           })) None) was_open
           ∙ ap (λ t. Some (record { from = n * h.store.words + t; upto = n * h.store.words + h.store.words }))
-              (sym same)
+          (sym same)
           ∙ g
 
       by_page : (o : Option Page) → page_at h.store n ≡ o
@@ -387,7 +387,7 @@ nothing_todo h = by_test (not (bit_count h.todo == 0) || list_any (λ (g : Globa
     by_test true e = tt
     by_test false e =
         let (bits, globals) = or_parts (not (bit_count h.todo == 0)) (list_any (λ
-            (g : Global). g.todo) h.globals) e in (
+        (g : Global). g.todo) h.globals) e in (
           (λ a. none_set h.todo (eqb-true (bit_count h.todo) 0 (not-false (bit_count h.todo == 0) bits))
               (a / h.store.words) (a % h.store.words)),
           (λ g. todo_at globals g (slice_get h.globals g) refl),

@@ -82,7 +82,7 @@ module _ (h : HeapState) (t : ℕ) where
   unfolding new_outcome place_object
   new_stays r number = on_some (buffer_of_thread h t) _ _ _ (λ b e.
       on_some (slice_get h.config.layouts number) _ _ _ (λ l f. on_test (nat_lt (b.end - b.next)
-          (size_of l)) _ _ _ (λ u.
+      (size_of l)) _ _ _ (λ u.
       on_test (nat_le h.config.births h.births) _ _ _ (λ v. refl))))
 
   load_stays : (r o i : ℕ) → Stays h (load_outcome h t r o i)

@@ -137,7 +137,7 @@ global_marked {h = h} s l g low leads =
     becomes (and_then m (written_global (with_mark h v) g (marked_word h v) x at word)) _
     (ap (λ y. end_global_scan g (set_global g y (mark_word (as_word v) (world_of h)))) (marked_same h v)
     ∙ ap (λ y. end_global_scan g (set_global g (edits.marked_word (world_of h) y) (mark_word y (world_of h))))
-        (sym same))
+    (sym same))
 
 -- a worker's object, as the laws speak of it
 scan_same : (o : Option (Option Scan)) (c : Scan) → flat o ≡ Some c → scan_in o ≡ Some (as_scan c)
