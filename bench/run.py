@@ -25,6 +25,11 @@ many pages. A step's cost must not grow with the heap, so the ratios that are
 printed at the end should be about 1. Once all frames are used up a take is
 refused, after it has looked for a page and a frame in vain; with more pages
 more takes succeed.
+
+Then marks: lists of several lengths are marked and drained by one command, on
+heaps of several sizes, and the time for each object is the difference to the
+same script without the drain and the mark's end. Last, marks of nothing on the
+largest heap, all of whose frames are in use.
 """
 
 import os
@@ -36,6 +41,12 @@ import time
 RUNS = 5
 COMMANDS = [50_000, 100_000, 200_000]
 WORDS = [16, 4096]
+
+# Marks: words of a page, configured pages, threads, and objects of two words in a list.
+MARKS = [(16, 4_096, 2, 1_000), (16, 4_096, 2, 10_000), (16, 65_535, 2, 1_000), (16, 65_535, 2, 28_000),
+         (4_096, 1_000, 2, 1_000), (4_096, 1_000, 2, 10_000), (4_096, 1_000, 2, 90_000),
+         (4_096, 65_535, 2, 90_000), (4_096, 1_000, 64, 90_000)]
+EMPTY_MARKS = 1_000
 
 # Heaps of several sizes, all with pages of so many words.
 PAGES = [16, 1_024, 65_535]
@@ -195,6 +206,58 @@ def print_heaps(program, folder):
         print(f"- {pages:,} pages: {ratio:.2f}")
 
 
+def mark_script(words, pages, threads, objects):
+    """A list of so many objects, and a mark that all threads have crossed."""
+    frames = min(pages, MOST_FRAMES)
+    head = [f"heap words {words} frames {frames} pages {pages} threads {threads} workers 1"
+            " registers 4 globals 1", "layout 1 0"]
+    each = words // 2
+    page = (["t0 new r1 0", "t0 store r1 0 r0", "t0 new r0 0", "t0 store r0 0 r1"] * each)[:2 * each]
+    lines = []
+    for _ in range(objects // each + 1):
+        lines += [f"t0 take {words}"] + page + ["t0 give"]
+    lines = lines[:2 * objects + 2 * (objects // each)]
+    return head + lines + ["t0 clear r1", "w0 mark"] + [f"t{number} cross" for number in range(threads)]
+
+
+def measure_mark(program, folder, words, pages, threads, objects):
+    """Nanoseconds for each object that a drain finds."""
+    script = mark_script(words, pages, threads, objects)
+    took = {}
+    for form, lines in (("start", script), ("whole", script + ["w0 drain"])):
+        write(os.path.join(folder, form + ".script"), lines)
+        took[form] = float("inf")
+    for _ in range(RUNS):
+        for form in took:
+            took[form] = min(took[form], timed(program, os.path.join(folder, form + ".script"), 0))
+    return (took["whole"] - took["start"]) / objects * 1e9
+
+
+def measure_empty_marks(program, folder):
+    """Microseconds for a mark that finds nothing, on the largest heap with all frames in use."""
+    head = [f"heap words 4096 frames {MOST_FRAMES} pages {MOST_FRAMES} threads 1 workers 1"
+            " registers 1 globals 0", "layout 0 0",
+            f"times {MOST_FRAMES}", "t0 take 4096", "t0 give", "end"]
+    marks = [f"times {EMPTY_MARKS}", "w0 mark", "t0 cross", "w0 endmark", "end"]
+    took = {}
+    for form, lines in (("start", head), ("whole", head + marks)):
+        write(os.path.join(folder, form + ".script"), lines)
+        took[form] = min(timed(program, os.path.join(folder, form + ".script"), 0) for _ in range(RUNS))
+    return (took["whole"] - took["start"]) / EMPTY_MARKS * 1e6
+
+
+def print_marks(program, folder):
+    """Times marks of lists, and of nothing."""
+    print("| Words a page | Pages | Threads | Objects | ns an object |")
+    print("|---|---|---|---|---|")
+    for words, pages, threads, objects in MARKS:
+        cost = measure_mark(program, folder, words, pages, threads, objects)
+        print(f"| {words:,} | {pages:,} | {threads} | {objects:,} | {cost:.1f} |", flush=True)
+    print()
+    cost = measure_empty_marks(program, folder)
+    print(f"A mark of nothing, with {MOST_FRAMES:,} pages of 4,096 words in use: {cost:.1f} microseconds")
+
+
 def main():
     program = os.path.abspath(sys.argv[1] if len(sys.argv) > 1 else "./pauseless")
     if not os.access(program, os.X_OK):
@@ -222,6 +285,8 @@ def main():
     print()
     with tempfile.TemporaryDirectory() as folder:
         print_heaps(program, folder)
+        print()
+        print_marks(program, folder)
 
 
 if __name__ == "__main__":
