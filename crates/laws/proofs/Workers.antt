@@ -126,13 +126,9 @@ scan_global_keeps w p p0 i g n e =
 
 -- Copy, once all have crossed
 pub copy_step_keeps : (w : AddressHeap) (p p0 : BirthHeap) → Invariant w p p0 → (a n : ℕ) (o : HeapObject)
-    → ((t : ℕ) → w.crossed t ≡ true) → w.side_entry a ≡ Planned n → w.object_at a ≡ Some o
+    → w.phase ≢ ProtectCrossing → w.side_entry a ≡ Planned n → w.object_at a ≡ Some o
     → Invariant (copy_object a n o w) p p0
-copy_step_keeps w p p0 i a n o c e h = copy_object_keeps w p p0 i a n o (record {
-  entry = e;
-  here = h;
-  phase = λ f. (let t = i.phases.waits (ap is_crossing f) in let y = t.1 in let z = c t.0 in cc);
-})
+copy_step_keeps w p p0 i a n o c e h = copy_object_keeps w p p0 i a n o (record { entry = e; here = h; phase = c })
 
 -- the mark checkpoint marks a register
 mark_register_keeps : (w : AddressHeap) (p p0 : BirthHeap) → Invariant w p p0 → (t r : ℕ) → is_marking w.phase ≡ true

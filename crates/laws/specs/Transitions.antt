@@ -68,7 +68,7 @@ pub record MayProtect (w : AddressHeap) (states : ℕ → PageState) (entries : 
   pub uncopied : (a n : ℕ) → entries a ≢ Copied n
   pub from : (a n : ℕ) → entries a ≡ Planned n → states a ≡ From
   pub planned_live : (a n : ℕ) → entries a ≡ Planned n → w.live a ≡ true
-  pub target : (a n : ℕ) → entries a ≡ Planned n → (w.page_state n ≡ Unused) × (states n ≡ Open)
+  pub target : (a n : ℕ) → entries a ≡ Planned n → (w.object_at n ≡ None) × (states n ≡ Open)
   pub planned_once : (a b n : ℕ) → entries a ≡ Planned n → entries b ≡ Planned n → a ≡ b
   pub live : (a : ℕ) (o : HeapObject) → states a ≡ From → w.object_at a ≡ Some o → w.live a ≡ true
       → (n : ℕ) × (entries a ≡ Planned n)
@@ -208,8 +208,7 @@ pub data Transition (w : AddressHeap) (p p0 : BirthHeap) : AddressHeap → Birth
   Protect : (states : ℕ → PageState) (entries : ℕ → SideEntry) (c : ℕ → Bool) → MayProtect w states entries c
       → Transition w p p0 (protect_pages states entries c w) p p0
   -- a worker copies a planned object, once all have crossed (the paper's Relocate phase; that it waits is ours)
-  Copy : (a n : ℕ) (o : HeapObject) → ((t : ℕ) → w.crossed t ≡ true) → w.side_entry a ≡ Planned n
-      → w.object_at a ≡ Some o
+  Copy : (a n : ℕ) (o : HeapObject) → w.phase ≢ ProtectCrossing → w.side_entry a ≡ Planned n → w.object_at a ≡ Some o
       → Transition w p p0 (copy_object a n o w) p p0
   -- a page gives its memory up; inside is true of its addresses (the paper's Relocate phase)
   Release : (inside : ℕ → Bool) → MayRelease w inside

@@ -5,4 +5,5 @@ pub mod Results
 pub mod Usual
 pub mod Tables
 pub mod Passing
+pub mod Plans
 mod Examples

@@ -18,6 +18,8 @@ pub mod Loads
 pub mod Checkpoints
 pub mod Scans
 pub mod Cycles
+pub mod Plans
+pub mod Protections
 pub mod Outcome
 pub mod Plain
 pub mod Texts

@@ -37,3 +37,8 @@ abbrev pub may_start_mark : Phase → Bool
 may_start_mark Idle = true
 may_start_mark Relocating = true
 may_start_mark _ = false
+
+-- no mark runs, and no page is protected
+abbrev pub is_idle : Phase → Bool
+is_idle Idle = true
+is_idle _ = false

@@ -1,6 +1,6 @@
 -- Scans: workers mark what objects and globals refer to (the paper's Mark phase).
 use Rattle.std.specs.List.{list_any, range_with_len}
-use Rattle.std.specs.Prelude.{ℕ, ◌+◌, ◌*◌, ◌/◌, ◌%◌, ◌==◌, ◌&&◌, ◌||◌, Bool, true, false, not, length, find, position}
+use Rattle.std.specs.Prelude.{ℕ, ◌+◌, ◌*◌, ◌/◌, ◌%◌, ◌==◌, ◌&&◌, ◌||◌, Bool, false, not, length, find, position}
 use Rattle.std.specs.Prelude.{Option, Some, None, is_some, nat_lt, slice_get, slice_set, if◌then◌else◌, Result, Ok, Err}
 use Rattle.refword.specs.Words.{bits_of}
 use Rattle.model.specs.declared.records.Global.{Global}
