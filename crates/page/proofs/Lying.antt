@@ -105,7 +105,7 @@ well_given s i n p e o room = record {
   stays = λ c h. given_stays s i n p c e o h;
 }
 
-well_opened : (s : StoreState) (i f n : ℕ) (p : Page) → slice_get s.pages i ≡ Some p → n ≤ s.words
+pub well_opened : (s : StoreState) (i f n : ℕ) (p : Page) → slice_get s.pages i ≡ Some p → n ≤ s.words
     → TakesWell s (give_words (open_fresh s i f) i n).0 (give_words (open_fresh s i f) i n).1
 well_opened s i f n p e room =
     let at = opened_at s i f p e in

@@ -39,7 +39,7 @@ use Rattle.refinement.proofs.Verdicts.{Passed, first_false, second_false}
 use Rattle.refinement.proofs.Threads.{given_back_carries}
 
 -- what each element has, and the last of two that are put in one place
-each_set_again : {X : Type 0} (P : X → Type 0) (xs : List X) (i : ℕ) (v w : X) → Each xs P → P w
+pub each_set_again : {X : Type 0} (P : X → Type 0) (xs : List X) (i : ℕ) (v w : X) → Each xs P → P w
     → Each (set (set xs i v) i w) P
 each_set_again P xs i v w h q j y e = go (get_set (set xs i v) i j w y e)
   where
@@ -63,7 +63,7 @@ lent_open h t i p n low = λ z. record (granted h t i p n) {
   todo = same_rows (buffer_of i p.top n) h.todo low z;
 }
 
-blank_rows : (i n : ℕ) (rows : List (List Bool)) → opened_rows (buffer_of i 0 n) rows ≡ change_at rows i blank_row
+pub blank_rows : (i n : ℕ) (rows : List (List Bool)) → opened_rows (buffer_of i 0 n) rows ≡ change_at rows i blank_row
 blank_rows i n rows = ap (λ j. change_at rows j blank_row) (omega arith)
 
 lent_fresh : (h : HeapState) (t i f n : ℕ)
@@ -87,7 +87,7 @@ fresh_carries : {h : HeapState} (s : IsStore h.store) (d : IsHeap h) (l : IsLaid
     → Carries h (granted (opened_heap h i f) t i (fresh_page f) n) (open_page (on_page h i))
 unfolding open_fresh
 fresh_carries {h = h} s d l o m {i = i} {f = f} {q = q} w t n x at had low room =
-    let laid = opened_laid s d l o m w in
+    let laid = opened_laid s d.buffers l o m w in
     let may : MayGrant (opened_heap h i f) t i (fresh_page f) n x = record {
       at = opened_at h.store i f q w.at;
       is_so = refl;
@@ -104,7 +104,7 @@ fresh_carries {h = h} s d l o m {i = i} {f = f} {q = q} w t n x at had low room 
       given = λ z. each_set_again HasGiven h.store.pages i (fresh_page f) (with_more (fresh_page f) n) z
           (λ e. omega (arith, low));
       words = λ w. c.words (record { threads = w.threads; globals = w.globals });
-      world = c.world ∙ opened_world s d l o m w;
+      world = c.world ∙ opened_world s d.buffers l o m w;
     }
 
 -- what the store gave out goes to the thread
@@ -142,7 +142,7 @@ module _ {h : HeapState} {p p0 : PlainHeap} (s : IsStore h.store) (d : IsHeap h)
       subst (λ (z : StoreState × Buffer). Holds (lend_buffer h t z.0 z.1) p p0) same
       (subst (λ g. Holds g p p0) (sym (lent_fresh h t w.index w.frame n)) (step_by k
       (fresh_carries s d k.laid o m may t n x at had low high) (stays h p)
-      (TakeFresh (on_page h w.index) (was_unused s d k.laid o m may))))
+      (TakeFresh (on_page h w.index) (was_unused s d.buffers k.laid o m may))))
 
   -- a buffer is taken
   pub take_holds : (n : ℕ) → Passed h t (steps.Take n) → RowHolds h p p0 (Thread t) (steps.Take n) (take_outcome h t n)

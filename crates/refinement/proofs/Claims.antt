@@ -49,6 +49,20 @@ pub record Within (x y : Extent) : Type 0 where
   pub from : y.from ≤ x.from
   pub upto : x.upto ≤ y.upto
 
+-- where each claim has a part of what it had, no two overlap
+pub shrunk_apart : (e f : Claim → Option Extent) → Apart e
+    → ((c : Claim) (y : Extent) → f c ≡ Some y → (x : Extent) × (e c ≡ Some x) × Within y x) → Apart f
+shrunk_apart e f a shrinks c d x y h k =
+    let (v, had, in_c) = shrinks c x h in
+    let (u, has, in_d) = shrinks d y k in
+    elim (a c d v u had has) [
+      | inl q ↦ inl q
+      | inr z ↦ inr (elim z [
+        | inl l ↦ inl (omega (arith, l, in_c.upto, in_d.from))
+        | inr l ↦ inr (omega (arith, l, in_c.from, in_d.upto))
+      ])
+    ]
+
 -- claim c had a whole extent, of which it and d now have parts, and no other claim changes
 pub record Splits (e f : Claim → Option Extent) (c d : Claim) : Type 0 where
   pub whole : Extent

@@ -15,8 +15,8 @@ use Rattle.model.specs.declared.records.PageState.TheVariants.{Unused, Open}
 use Rattle.model.specs.declared.records.Buffer.{Buffer}
 use Rattle.model.specs.Stores.{words_at, state_at, state_in, frame_in, page_at, has_memory, is_open, is_unused}
 use Rattle.model.specs.Stores.{open_fresh, fresh_page}
-use Rattle.model.specs.Owning.{IsStore, LiesIn}
-use Rattle.model.specs.Holding.{IsHeap}
+use Rattle.model.specs.Owning.{Each, IsStore, LiesIn}
+use Rattle.model.specs.Holding.{FillsIn}
 use Rattle.model.specs.States.{HeapState, ThreadState, change_at}
 use Rattle.model.specs.Threads.{buffer_in}
 use Rattle.model.specs.Registers.{register_of}
@@ -48,7 +48,8 @@ pub record LiesOnPage (h : HeapState) (x : Extent) : Type 0 where
   pub from : page * h.store.words ≤ x.from
   pub upto : x.upto ≤ page * h.store.words + h.store.words
 
-module _ (h : HeapState) (s : IsStore h.store) (k : IsHeap h) (l : IsLaid h) (o : SoundObjects (world_of h)) where
+module _ (h : HeapState) (s : IsStore h.store) (k : Each h.threads (FillsIn h.store)) (l : IsLaid h)
+    (o : SoundObjects (world_of h)) where
   object_lies : (a : ℕ) (q : HeapObject) (x : Extent) → object_at h a ≡ Some q → sized_extent a (object_size q) ≡ x
       → LiesOnPage h x
   object_lies a q x e f =
@@ -84,7 +85,7 @@ module _ (h : HeapState) (s : IsStore h.store) (k : IsHeap h) (l : IsLaid h) (o 
   thread_claim : (u : ℕ) (x : Extent) (y : Option ThreadState) → slice_get h.threads u ≡ y
       → option_map (buffer_extent h.store.words) (buffer_in y) ≡ Some x → LiesOnPage h x
   thread_claim u x None e f = absurd (cc)
-  thread_claim u x (Some y) e f = by_buffer y.buffer (k.buffers u y e) f
+  thread_claim u x (Some y) e f = by_buffer y.buffer (k u y e) f
     where
       by_buffer : (c : Option Buffer) → IfSome c (LiesIn h.store) → option_map (buffer_extent h.store.words) c ≡ Some x
           → LiesOnPage h x
@@ -154,8 +155,8 @@ pub record MayOpen (h : HeapState) (i f : ℕ) (p : Page) : Type 0 where
   pub unused : is_unused p.state ≡ true
   pub free : slice_get h.store.owners f ≡ Some None
 
-module _ {h : HeapState} (s : IsStore h.store) (k : IsHeap h) (l : IsLaid h) (o : SoundObjects (world_of h))
-    (m : SoundMarks (world_of h)) {i f : ℕ} {p : Page} (w : MayOpen h i f p) where
+module _ {h : HeapState} (s : IsStore h.store) (k : Each h.threads (FillsIn h.store)) (l : IsLaid h)
+    (o : SoundObjects (world_of h)) (m : SoundMarks (world_of h)) {i f : ℕ} {p : Page} (w : MayOpen h i f p) where
   abbrev after : HeapState
   after = opened_heap h i f
 
@@ -258,7 +259,7 @@ module _ {h : HeapState} (s : IsStore h.store) (k : IsHeap h) (l : IsLaid h) (o 
   not_live : (a : ℕ) → a / h.store.words ≡ i + 1 → bit_at h.live h.store.words a ≡ false
   not_live a e = l.unused a (ap (state_at h.store) e ∙ state)
 
-  states : (a : ℕ)
+  pub states : (a : ℕ)
       → state_at after.store (a / h.store.words) ≡ cond (on_page h i a) Open (state_at h.store (a / h.store.words))
   unfolding state_at
   states a = ap state_in (pages (a / h.store.words)) ∙ by_test (on_page h i a)
@@ -292,7 +293,7 @@ module _ {h : HeapState} (s : IsStore h.store) (k : IsHeap h) (l : IsLaid h) (o 
   ends n = ap (end_extent h.store.words n) (pages n)
 
   -- a claim of before, or the words of the page
-  old_or_new : (c : Claim) → (c ≡ OfEnd (i + 1)) ⊎ (extent after c ≡ extent h c)
+  pub old_or_new : (c : Claim) → (c ≡ OfEnd (i + 1)) ⊎ (extent after c ≡ extent h c)
   unfolding open_fresh
   old_or_new (OfObject a) = inr (ap (option_map (sized_extent a)) (sizes a))
   old_or_new (OfBuffer u) = inr refl

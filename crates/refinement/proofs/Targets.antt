@@ -1,0 +1,212 @@
+-- Targets: pages that are opened for what is planned, wholly given out and to nobody. What was in the heap stays as it was.
+use Rattle.std.proofs.Common.{◌≡◌, ◌≢◌, ◌⊎◌, inl, inr, ℕ, zero, suc, ◌+◌, ◌-◌, ◌*◌, ◌/◌, ◌<◌, ◌≤◌, Bool, true, false}
+use Rattle.std.proofs.Common.{List, [], ◌∷◌, length, set, position, count_by, is_none, cond, replicate, Option, Some, None}
+use Rattle.std.proofs.Common.{IfSome, refl, sym, ◌∙◌, ap, subst, arith}
+use Rattle.std.specs.List.{slice_get}
+use Rattle.std.specs.Prelude.{Result, Ok, Err}
+use Rattle.std.proofs.Math.ListN.{length-set}
+use Rattle.std.proofs.lemmas.Bool.{cases_eq}
+use Rattle.std.proofs.lemmas.List.Sums.{sum_by-cons}
+use Rattle.std.proofs.lemmas.Option.{same_Some}
+use Rattle.std.specs.Option.{option_map}
+use Rattle.model.specs.declared.records.Page.{Page}
+use Rattle.model.specs.declared.records.PageState.TheVariants.{Unused, Open}
+use Rattle.model.specs.declared.records.Buffer.{Buffer}
+use Rattle.model.specs.declared.records.Room.{Room}
+use Rattle.model.specs.Stores.{StoreState, state_at, is_unused, free_frame, unused_page, unused_in, open_fresh, fresh_page}
+use Rattle.model.specs.Stores.{give_words, take_fresh, buffer_of}
+use Rattle.model.specs.Owning.{Each, IsStore, LiesIn}
+use Rattle.model.specs.Holding.{FillsIn}
+use Rattle.model.specs.States.{HeapState, ThreadState}
+use Rattle.model.specs.Bits.{bit_at}
+use Rattle.model.specs.Plain.{PlainHeap}
+use Rattle.model.specs.Protections.{take_target, with_target, with_targets, behind_target, free_count, unused_count}
+use Rattle.model.proofs.Lists.{get_set_same, get_within, count_set, position_none, none_far, as_number}
+use Rattle.model.proofs.Plans.{IsIn, at_in}
+use Rattle.page.specs.Records.{is_unused_in}
+use Rattle.page.proofs.Found.{position_within, free_found, free_within, unused_found}
+use Rattle.page.proofs.Keeping.{open_keeps, raise_keeps, opened_at, given_at, unused_as}
+use Rattle.page.proofs.Lying.{well_opened}
+use Rattle.laws.specs.Transitions.{TakeFresh}
+use Rattle.laws.specs.Edits.{open_page}
+use Rattle.refinement.specs.Worlds.{world_of, object_at}
+use Rattle.refinement.specs.Claims.{Claim, OfEnd, Extent, extent, HasGiven}
+use Rattle.refinement.specs.Standing.{Holds}
+use Rattle.refinement.proofs.Carrying.{Carries, alike, step_by, stays}
+use Rattle.refinement.proofs.Granted.{with_more}
+use Rattle.refinement.proofs.Opened.{MayOpen, opened_heap, opened_world, opened_laid, opened_objects, on_page}
+use Rattle.refinement.proofs.Opened.{was_unused, old_or_new}
+use Rattle.refinement.proofs.Opened as opened
+use Rattle.refinement.proofs.Raised.{raised, raised_carries}
+use Rattle.refinement.proofs.Raised as raising
+use Rattle.refinement.proofs.Buffers.{each_set_again, blank_rows}
+
+-- a fresh page
+
+none_counts : {X : Type 0} (p : X → Bool) (xs : List X) → Each xs (λ x. p x ≡ false) → count_by p xs ≡ 0
+none_counts p [] h = refl
+none_counts p (x ∷ xs) h =
+    let here : as_number (p x) ≡ 0 = ap as_number (h zero x refl) in
+    omega (arith, sum_by-cons (λ y. cond (p y) 1 0) x xs, here, none_counts p xs (λ i. h (suc i)))
+
+-- an unused page and a free frame, on which the next target opens
+pub record NextTarget (s : StoreState) : Type 0 where
+  pub index : ℕ
+  pub frame : ℕ
+  pub page : Page
+  pub at : slice_get s.pages index ≡ Some page
+  pub unused : is_unused page.state ≡ true
+  pub free : slice_get s.owners frame ≡ Some None
+  pub is : take_target s ≡ Ok (give_words (open_fresh s index frame) index s.words)
+
+-- a target opens where a frame is free and a page unused
+pub next_target : (s : StoreState) → IsStore s → 0 < free_count s → 0 < unused_count s → NextTarget s
+unfolding take_target free_count unused_count free_frame unused_page
+next_target s h free unused = by_frame (free_frame s.owners) refl
+  where
+    by_page : (f : ℕ) → free_frame s.owners ≡ Some f → (o : Option ℕ)
+        → position (λ (p : Page). is_unused p.state) s.pages ≡ o → NextTarget s
+    by_page f a None b = absurd (
+        let few = none_counts (λ (p : Page). is_unused p.state) s.pages
+        (position_none (λ (p : Page). is_unused p.state) s.pages b) in
+        let all : s.count ≤ length s.pages = none_far (length s.pages) s.count
+        (ap (unused_in s.count s.pages) (sym b) ∙ sym (unused_as s h free None (sym b))) in
+        omega (arith, few, all, unused)
+        )
+    by_page f a (Some i) b =
+        let (p, at) = get_within s.pages i (position_within (λ (p : Page). is_unused p.state) s.pages i b (fresh_page f)) in
+        record {
+          index = i;
+          frame = f;
+          page = p;
+          at = at;
+          unused = sym (ap is_unused_in at) ∙ unused_found s.pages i
+              (position_within (λ (p : Page). is_unused p.state) s.pages i b (fresh_page f)) b;
+          free = free_found s.owners f (free_within s.owners f a) a;
+          is = ap (λ o. take_fresh s s.words o (unused_page s.count s.pages)) a
+              ∙ ap (take_fresh s s.words (Some f)) (sym (unused_as s h free (Some i) (sym b)));
+        }
+
+    by_frame : (o : Option ℕ) → free_frame s.owners ≡ o → NextTarget s
+    by_frame None a = absurd (no (none_counts is_none s.owners (position_none is_none s.owners a)))
+      where
+        no : count_by is_none s.owners ≡ 0 → ⊥
+        no e = absurd (omega (arith, e, free))
+    by_frame (Some f) a = by_page f a (position (λ (p : Page). is_unused p.state) s.pages) refl
+
+-- one target
+
+-- the heap with page i + 1 opened on frame f, and wholly given out
+abbrev pub target_heap : HeapState → ℕ → ℕ → HeapState
+target_heap h i f = raised (opened_heap h i f) i (fresh_page f) h.store.words
+
+-- it is what the store gave out
+as_target : (h : HeapState) (i f : ℕ) (p : Page) → slice_get h.store.pages i ≡ Some p
+    → with_target h (give_words (open_fresh h.store i f) i h.store.words) ≡ target_heap h i f
+unfolding with_target
+as_target h i f p at = ap (with_target h)
+    (given_at (open_fresh h.store i f) i h.store.words (fresh_page f) (opened_at h.store i f p at)) ∙ whole
+  where
+    whole : with_target h (
+      record (open_fresh h.store i f) {
+        pages = set (open_fresh h.store i f).pages i (with_more (fresh_page f) h.store.words);
+      },
+      buffer_of i 0 h.store.words,
+    ) ≡ target_heap h i f
+    whole = λ z. record (target_heap h i f) {
+      starts = blank_rows i h.store.words h.starts z;
+      live = blank_rows i h.store.words h.live z;
+      mark = blank_rows i h.store.words h.mark z;
+      todo = blank_rows i h.store.words h.todo z;
+    }
+
+-- g is h with pages ts opened as targets, which were unused: all claims of g were there before, or are the ends of
+-- targets, with no words left
+pub record HasTargets (h g : HeapState) (ts : List ℕ) : Type 0 where
+  pub store : IsStore g.store
+  pub fills : Each g.threads (FillsIn g.store)
+  pub config : g.config ≡ h.config
+  pub words : g.store.words ≡ h.store.words
+  pub threads : g.threads ≡ h.threads
+  pub sides : g.sides ≡ h.sides
+  pub phase : g.phase ≡ h.phase
+  pub old : (n : ℕ) → IsIn n ts ⊎ (state_at g.store n ≡ state_at h.store n)
+  pub new : (n : ℕ) → IsIn n ts → (state_at h.store n ≡ Unused) × (state_at g.store n ≡ Open)
+  pub objects : (a : ℕ) → object_at g a ≡ object_at h a
+  pub live : (a : ℕ) → bit_at g.live h.store.words a ≡ bit_at h.live h.store.words a
+  pub once : (i j n : ℕ) → slice_get ts i ≡ Some n → slice_get ts j ≡ Some n → i ≡ j
+  pub extents : (c : Claim) (y : Extent) → extent g c ≡ Some y
+      → (extent h c ≡ Some y)
+      ⊎ ((t : ℕ) × IsIn t ts × (y.from ≡ t * h.store.words + h.store.words)
+      × (y.upto ≡ t * h.store.words + h.store.words))
+
+no_targets : (h : HeapState) → IsStore h.store → Each h.threads (FillsIn h.store) → HasTargets h h []
+no_targets h s k = record {
+  store = s;
+  fills = k;
+  config = refl;
+  words = refl;
+  threads = refl;
+  sides = refl;
+  phase = refl;
+  old = λ n. inr refl;
+  new = λ n e. absurd e;
+  objects = λ a. refl;
+  live = λ a. refl;
+  once = λ i j n e f. absurd (cc);
+  extents = λ c y e. inl e;
+}
+
+unused_open : Unused ≡ Open → ⊥
+unused_open e = cc
+
+module _ (h : HeapState) (p p0 : PlainHeap) (s : IsStore h.store) (d : Each h.threads (FillsIn h.store))
+    (k : Holds h p p0) (x : NextTarget h.store) where
+  abbrev after : HeapState
+  after = target_heap h x.index x.frame
+
+  may : MayOpen h x.index x.frame x.page
+  may = record { at = x.at; unused = x.unused; free = x.free }
+
+  at : slice_get (open_fresh h.store x.index x.frame).pages x.index ≡ Some (fresh_page x.frame)
+  at = opened_at h.store x.index x.frame x.page x.at
+
+  low : 0 < h.store.words
+  low = s.sized.words_low
+
+  target_store : IsStore after.store
+  unfolding open_fresh
+  target_store = raise_keeps (open_fresh h.store x.index x.frame) x.index (fresh_page x.frame) (0 + h.store.words)
+      (open_keeps h.store x.index x.frame x.page s x.at x.unused x.free) at (omega arith)
+
+  target_fills : Each after.threads (FillsIn after.store)
+  target_fills i y e = by_buffer y.buffer (d i y e)
+    where
+      stay : (c : Buffer) → LiesIn h.store c → LiesIn after.store c
+      stay c lies = subst (λ (z : StoreState × Buffer). LiesIn z.0 c)
+          (given_at (open_fresh h.store x.index x.frame) x.index h.store.words (fresh_page x.frame) at)
+          ((well_opened h.store x.index x.frame h.store.words x.page x.at (omega arith)).stays c lies)
+
+      by_buffer : (o : Option Buffer) → IfSome o (LiesIn h.store) → IfSome o (LiesIn after.store)
+      by_buffer None f = tt
+      by_buffer (Some c) f = stay c f
+
+  target_carries : Carries h after (open_page (on_page h x.index))
+  unfolding open_fresh
+  target_carries =
+      let laid = opened_laid s d k.laid k.invariant.objects k.invariant.marks may in
+      let c = raised_carries (opened_heap h x.index x.frame) x.index (fresh_page x.frame) h.store.words at refl low in
+      record {
+        size = alike h after refl refl
+            (length-set h.store.frames x.frame (replicate h.store.words 0)) refl refl refl refl;
+        laid = λ z. c.laid laid;
+        given = λ z. each_set_again HasGiven h.store.pages x.index (fresh_page x.frame)
+            (with_more (fresh_page x.frame) h.store.words) z (λ e. omega (arith, low));
+        words = λ w. c.words (record { threads = w.threads; globals = w.globals });
+        world = c.world ∙ opened_world s d k.laid k.invariant.objects k.invariant.marks may;
+      }
+
+  -- a heap with a target stands for what it stood for
+  target_holds : Holds after p p0
+  target_holds = step_by k target_carries (stays h p)
+      (TakeFresh (on_page h x.index) (was_unused s d k.laid k.invariant.objects k.invariant.marks may))
