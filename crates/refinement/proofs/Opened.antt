@@ -160,7 +160,7 @@ module _ {h : HeapState} (s : IsStore h.store) (k : Each h.threads (FillsIn h.st
   abbrev after : HeapState
   after = opened_heap h i f
 
-  state : state_at h.store (i + 1) ≡ Unused
+  pub state : state_at h.store (i + 1) ≡ Unused
   unfolding state_at
   state = ap state_in (page_here h.store i p w.at) ∙ unused_state p.state w.unused
 
@@ -259,15 +259,18 @@ module _ {h : HeapState} (s : IsStore h.store) (k : Each h.threads (FillsIn h.st
   not_live : (a : ℕ) → a / h.store.words ≡ i + 1 → bit_at h.live h.store.words a ≡ false
   not_live a e = l.unused a (ap (state_at h.store) e ∙ state)
 
-  pub states : (a : ℕ)
-      → state_at after.store (a / h.store.words) ≡ cond (on_page h i a) Open (state_at h.store (a / h.store.words))
+  pub page_states : (n : ℕ) → state_at after.store n ≡ cond (nat_eq n (i + 1)) Open (state_at h.store n)
   unfolding state_at
-  states a = ap state_in (pages (a / h.store.words)) ∙ by_test (on_page h i a)
+  page_states n = ap state_in (pages n) ∙ by_test (nat_eq n (i + 1))
     where
-      by_test : (b : Bool) → state_in (cond b (Some (fresh_page f)) (page_at h.store (a / h.store.words)))
-          ≡ cond b Open (state_in (page_at h.store (a / h.store.words)))
+      by_test : (b : Bool) → state_in (cond b (Some (fresh_page f)) (page_at h.store n))
+          ≡ cond b Open (state_in (page_at h.store n))
       by_test true = refl
       by_test false = refl
+
+  states : (a : ℕ)
+      → state_at after.store (a / h.store.words) ≡ cond (on_page h i a) Open (state_at h.store (a / h.store.words))
+  states a = page_states (a / h.store.words)
 
   -- the heap by addresses has the page open
   pub opened_world : world_of after ≡ open_page (on_page h i) (world_of h)

@@ -1,7 +1,7 @@
 -- Targets: pages that are opened for what is planned, wholly given out and to nobody. What was in the heap stays as it was.
 use Rattle.std.proofs.Common.{◌≡◌, ◌≢◌, ◌⊎◌, inl, inr, ℕ, zero, suc, ◌+◌, ◌-◌, ◌*◌, ◌/◌, ◌<◌, ◌≤◌, Bool, true, false}
 use Rattle.std.proofs.Common.{List, [], ◌∷◌, length, set, position, count_by, is_none, cond, replicate, Option, Some, None}
-use Rattle.std.proofs.Common.{IfSome, refl, sym, ◌∙◌, ap, subst, arith}
+use Rattle.std.proofs.Common.{IfSome, nat_eq, eq-eqb, ne_eqb, refl, sym, ◌∙◌, ap, subst, arith}
 use Rattle.std.specs.List.{slice_get}
 use Rattle.std.specs.Prelude.{Result, Ok, Err}
 use Rattle.std.proofs.Math.ListN.{length-set}
@@ -27,6 +27,7 @@ use Rattle.page.specs.Records.{is_unused_in}
 use Rattle.page.proofs.Found.{position_within, free_found, free_within, unused_found}
 use Rattle.page.proofs.Keeping.{open_keeps, raise_keeps, opened_at, given_at, unused_as}
 use Rattle.page.proofs.Lying.{well_opened}
+use Rattle.laws.specs.AddressHeap.{AddressHeap}
 use Rattle.laws.specs.Transitions.{TakeFresh}
 use Rattle.laws.specs.Edits.{open_page}
 use Rattle.refinement.specs.Worlds.{world_of, object_at}
@@ -210,3 +211,183 @@ module _ (h : HeapState) (p p0 : PlainHeap) (s : IsStore h.store) (d : Each h.th
   target_holds : Holds after p p0
   target_holds = step_by k target_carries (stays h p)
       (TakeFresh (on_page h x.index) (was_unused s d k.laid k.invariant.objects k.invariant.marks may))
+
+  state_was : (n : ℕ) → n ≡ x.index + 1 → state_at h.store n ≡ Unused
+  state_was n e = ap (state_at h.store) e ∙ opened.state s d k.laid k.invariant.objects k.invariant.marks may
+
+  -- the state of a page, as the store has it
+  state_now : (n : ℕ) → state_at after.store n ≡ cond (nat_eq n (x.index + 1)) Open (state_at h.store n)
+  state_now n = raising.states (opened_heap h x.index x.frame) x.index (fresh_page x.frame) h.store.words at refl n
+      ∙ opened.page_states s d k.laid k.invariant.objects k.invariant.marks may n
+
+  claims : (c : Claim) (y : Extent) → extent after c ≡ Some y
+      → (extent h c ≡ Some y)
+      ⊎ ((t : ℕ) × IsIn t ((x.index + 1) ∷ []) × (y.from ≡ t * h.store.words + h.store.words)
+      × (y.upto ≡ t * h.store.words + h.store.words))
+  unfolding open_fresh
+  claims c y e =
+      by_end (raising.others (opened_heap h x.index x.frame) x.index (fresh_page x.frame) h.store.words at refl c)
+    where
+      the_end : c ≡ OfEnd (x.index + 1)
+          → (t : ℕ) × IsIn t ((x.index + 1) ∷ []) × (y.from ≡ t * h.store.words + h.store.words)
+          × (y.upto ≡ t * h.store.words + h.store.words)
+      the_end is =
+          let has = raising.end_has (opened_heap h x.index x.frame) x.index (fresh_page x.frame) h.store.words at refl in
+          let z = same_Some _ _ (sym has ∙ ap (extent after) (sym is) ∙ e) in
+          let from : (x.index + 1) * h.store.words + (0 + h.store.words) ≡ y.from = ap (λ (u : Extent). u.from) z in
+          let upto : (x.index + 1) * h.store.words + h.store.words ≡ y.upto = ap (λ (u : Extent). u.upto) z in
+          (x.index + 1, inl refl, omega (arith, from), omega (arith, upto))
+
+      by_end : (c ≡ OfEnd (x.index + 1)) ⊎ (extent after c ≡ extent (opened_heap h x.index x.frame) c)
+          → (extent h c ≡ Some y)
+          ⊎ ((t : ℕ) × IsIn t ((x.index + 1) ∷ []) × (y.from ≡ t * h.store.words + h.store.words)
+          × (y.upto ≡ t * h.store.words + h.store.words))
+      by_end (inl is) = inr (the_end is)
+      by_end (inr same) = elim (old_or_new s d k.laid k.invariant.objects k.invariant.marks may c) [
+        | inl is ↦ inr (the_end is)
+        | inr before ↦ inl (sym before ∙ sym same ∙ e)
+      ]
+
+  -- one target is opened
+  one_target : HasTargets h after ((x.index + 1) ∷ [])
+  unfolding open_fresh
+  one_target = record {
+    store = target_store;
+    fills = target_fills;
+    config = refl;
+    words = refl;
+    threads = refl;
+    sides = refl;
+    phase = refl;
+    old = λ n. elim (cases_eq n (x.index + 1)) [
+      | inl e ↦ inl (inl (sym e))
+      | inr m ↦ inr (state_now n ∙ ap (λ b. cond b Open (state_at h.store n)) (ne_eqb n (x.index + 1) m))
+    ];
+    new = λ n e. elim e [
+      | inl is ↦ (
+        state_was n (sym is),
+        state_now n ∙ ap (λ b. cond b Open (state_at h.store n)) (eq-eqb n (x.index + 1) (sym is)),
+      )
+      | inr none ↦ absurd none
+    ];
+    objects = λ a. raising.objects (opened_heap h x.index x.frame) x.index (fresh_page x.frame) h.store.words at refl a
+        ∙ opened_objects s d k.laid k.invariant.objects k.invariant.marks may a;
+    live = λ a. ap (λ (w : AddressHeap). w.live a) (opened_world s d k.laid k.invariant.objects k.invariant.marks may);
+    once = once;
+    extents = claims;
+  }
+    where
+      once : (i j n : ℕ) → slice_get ((x.index + 1) ∷ []) i ≡ Some n → slice_get ((x.index + 1) ∷ []) j ≡ Some n → i ≡ j
+      once zero zero n e f = refl
+      once zero (suc j) n e f = absurd (cc)
+      once (suc i) j n e f = absurd (cc)
+
+  -- and a frame and a page less are left
+  free_less : free_count after.store + 1 ≡ free_count h.store
+  unfolding open_fresh free_count
+  free_less = omega (arith, count_set is_none h.store.owners x.frame None (Some (x.index + 1)) x.free)
+
+  unused_less : unused_count after.store + 1 ≡ unused_count h.store
+  unfolding open_fresh unused_count
+  unused_less =
+      let q : Page = fresh_page x.frame in
+      let opens = count_set (λ (z : Page). is_unused z.state) h.store.pages x.index x.page q x.at in
+      let fills = count_set (λ (z : Page). is_unused z.state) (set h.store.pages x.index q) x.index q
+      (with_more q h.store.words) at in
+      let was : as_number (is_unused x.page.state) ≡ 1 = ap as_number x.unused in
+      let first : length (set h.store.pages x.index q) ≡ length h.store.pages = length-set h.store.pages x.index q in
+      let second : length (set (set h.store.pages x.index q) x.index (with_more q h.store.words))
+      ≡ length (set h.store.pages x.index q) =
+      length-set (set h.store.pages x.index q) x.index (with_more q h.store.words) in
+      omega (arith, opens, fills, was, first, second)
+
+-- targets behind a target
+more_targets : (h g m : HeapState) (t : ℕ) (ts : List ℕ) → HasTargets h g (t ∷ []) → HasTargets g m ts
+    → HasTargets h m (t ∷ ts)
+more_targets h g m t ts a b = record {
+  store = b.store;
+  fills = b.fills;
+  config = b.config ∙ a.config;
+  words = b.words ∙ a.words;
+  threads = b.threads ∙ a.threads;
+  sides = b.sides ∙ a.sides;
+  phase = b.phase ∙ a.phase;
+  old = λ n. elim (b.old n) [
+    | inl is ↦ inl (inr is)
+    | inr same ↦ elim (a.old n) [
+      | inl is ↦ elim is [ inl e ↦ inl (inl e) | inr none ↦ absurd none ]
+      | inr before ↦ inr (same ∙ before)
+    ]
+  ];
+  new = new;
+  objects = λ x. b.objects x ∙ a.objects x;
+  live = λ x. ap (λ w. bit_at m.live w x) (sym a.words) ∙ b.live x ∙ ap (λ w. bit_at g.live w x) a.words ∙ a.live x;
+  once = once;
+  extents = λ c y e. elim (b.extents c y e) [
+    | inl before ↦ elim (a.extents c y before) [
+      | inl first ↦ inl first
+      | inr (n, is, from, upto) ↦ inr (n, elim is [ inl z ↦ inl z | inr none ↦ absurd none ], from, upto)
+    ]
+    | inr (n, is, from, upto) ↦ inr (n, inr is, from ∙ ends n, upto ∙ ends n)
+  ];
+}
+  where
+    ends : (n : ℕ) → n * g.store.words + g.store.words ≡ n * h.store.words + h.store.words
+    ends n = ap (λ w. n * w + w) a.words
+
+    fresh : state_at g.store t ≡ Open
+    fresh = (a.new t (inl refl)).1
+
+    -- the first isn't among the others
+    other : (n : ℕ) → IsIn n ts → t ≢ n
+    other n is e = unused_open (sym (b.new n is).0 ∙ ap (state_at g.store) (sym e) ∙ fresh)
+
+    new : (n : ℕ) → IsIn n (t ∷ ts) → (state_at h.store n ≡ Unused) × (state_at m.store n ≡ Open)
+    new n (inl e) = (
+      (a.new n (inl e)).0,
+      elim (b.old n) [ inl is ↦ absurd (other n is e) | inr same ↦ same ∙ (a.new n (inl e)).1 ],
+    )
+    new n (inr is) = (
+      elim (a.old n) [
+        | inl k ↦ elim k [ inl e ↦ absurd (other n is e) | inr none ↦ absurd none ]
+        | inr same ↦ sym same ∙ (b.new n is).0
+      ],
+      (b.new n is).1,
+    )
+
+    once : (i j n : ℕ) → slice_get (t ∷ ts) i ≡ Some n → slice_get (t ∷ ts) j ≡ Some n → i ≡ j
+    once zero zero n e f = refl
+    once zero (suc j) n e f = absurd (other n (at_in n ts j f) (same_Some _ _ e))
+    once (suc i) zero n e f = absurd (other n (at_in n ts i e) (same_Some _ _ f))
+    once (suc i) (suc j) n e f = ap suc (b.once i j n e f)
+
+-- so many targets are opened, and the heap stands for what it stood for
+pub record TargetsHold (h : HeapState) (k : ℕ) (x : HeapState × List ℕ) (p p0 : PlainHeap) : Type 0 where
+  pub targets : HasTargets h x.0 x.1
+  pub holds : Holds x.0 p p0
+  pub many : length x.1 ≡ k
+
+opened_first : (k : ℕ) (h : HeapState) (x : NextTarget h.store)
+    → with_targets (suc k) h
+    ≡ ((with_targets k (target_heap h x.index x.frame)).0,
+    (x.index + 1) ∷ (with_targets k (target_heap h x.index x.frame)).1)
+opened_first k h x = ap (behind_target (with_targets k) h) x.is ∙ ap
+    (λ (g : HeapState). ((with_targets k g).0, (give_words (open_fresh h.store x.index x.frame) x.index
+    h.store.words).1.page ∷ (with_targets k g).1)) (as_target h x.index x.frame x.page x.at)
+    ∙ ap (λ (z : StoreState × Buffer). ((with_targets k (target_heap h x.index x.frame)).0,
+    z.1.page ∷ (with_targets k (target_heap h x.index x.frame)).1)) (given_at (open_fresh h.store x.index x.frame)
+    x.index h.store.words (fresh_page x.frame) (opened_at h.store x.index x.frame x.page x.at))
+
+pub targets_hold : (k : ℕ) (h : HeapState) (p p0 : PlainHeap) → IsStore h.store → Each h.threads (FillsIn h.store)
+    → Holds h p p0 → k ≤ free_count h.store → k ≤ unused_count h.store → TargetsHold h k (with_targets k h) p p0
+targets_hold zero h p p0 s d k free unused = record { targets = no_targets h s d; holds = k; many = refl }
+targets_hold (suc n) h p p0 s d k free unused =
+    let x = next_target h.store s (omega (arith, free)) (omega (arith, unused)) in
+    let rest = targets_hold n (target_heap h x.index x.frame) p p0 (target_store h p p0 s d k x)
+    (target_fills h p p0 s d k x) (target_holds h p p0 s d k x)
+    (omega (arith, free, free_less h p p0 s d k x)) (omega (arith, unused, unused_less h p p0 s d k x)) in
+    subst (λ z. TargetsHold h (suc n) z p p0) (sym (opened_first n h x)) (record {
+      targets = more_targets h (target_heap h x.index x.frame) _ (x.index + 1) _ (one_target h p p0 s d k x) rest.targets;
+      holds = rest.holds;
+      many = ap suc rest.many;
+    })
