@@ -41,6 +41,22 @@ use Rattle.refinement.proofs.Granted.{page_set, page_here}
 mul_less : (a b w : ℕ) → a < b → a * w + w ≤ b * w
 mul_less a b w e = let z : suc a * w ≤ b * w = mul-le-mul_right w (omega (arith, e)) in omega (arith, z, suc-mul a w)
 
+-- an extent lies in page n
+pub record LiesOn (w n : ℕ) (x : Extent) : Type 0 where
+  pub from : n * w ≤ x.from
+  pub upto : x.upto ≤ n * w + w
+
+-- what lies in two pages is apart
+pub pages_apart : (w m n : ℕ) (x y : Extent) → m ≢ n → LiesOn w m x → LiesOn w n y → AreApart x y
+pages_apart w m n x y d a b = by_order (less m n d)
+  where
+    less : (m n : ℕ) → m ≢ n → (m < n) ⊎ (n < m)
+    less m n d = grind arith
+
+    by_order : (m < n) ⊎ (n < m) → AreApart x y
+    by_order (inl e) = inl (omega (arith, a.upto, b.from, mul_less m n w e))
+    by_order (inr e) = inr (omega (arith, a.from, b.upto, mul_less n m w e))
+
 -- an extent lies in a page with memory
 pub record LiesOnPage (h : HeapState) (x : Extent) : Type 0 where
   pub page : ℕ

@@ -144,7 +144,7 @@ null_or_used h t r = by_word (register_of h t r) refl
 -- data
 
 -- the layout of an object that is there
-shape_there : (h : HeapState) (a : ℕ) (q : HeapObject) (t : IsThere h a q) → layout_at h a ≡ Some t.read.shape
+pub shape_there : (h : HeapState) (a : ℕ) (q : HeapObject) (t : IsThere h a q) → layout_at h a ≡ Some t.read.shape
 unfolding layout_at
 shape_there h a q t = ap (λ o. layout_in h.config.layouts (header_layout o)) (word_on_page h.store a
     ∙ ap (option_and_then (λ ws. slice_get ws (a % h.store.words))) t.page ∙ t.read.at) ∙ t.read.known
