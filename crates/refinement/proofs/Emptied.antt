@@ -94,14 +94,14 @@ module _ (h g : HeapState) (p p0 : PlainHeap) (ts pages : List ℕ) (m : MayEmpt
   abbrev after : HeapState
   after = with_protected h g pages moves
 
-  idle : g.phase ≡ Idle
+  pub idle : g.phase ≡ Idle
   idle = m.targets.phase ∙ m.idle
 
   state_zero : state_at h.store 0 ≡ Unused
   unfolding state_at
   state_zero = ap state_in (page_at_zero h.store 0 refl)
 
-  positive : ArePages pages
+  pub positive : ArePages pages
   positive zero e = absurd (no (sym state_zero ∙ m.closed zero e))
     where
       no : Unused ≡ Closed → ⊥
@@ -267,7 +267,7 @@ module _ (h g : HeapState) (p p0 : PlainHeap) (ts pages : List ℕ) (m : MayEmpt
         ∙ ap (λ n. Planned n) (same_place a);
   }
 
-  in_or_out : (n : ℕ) → IsIn n pages ⊎ IsOut n pages
+  pub in_or_out : (n : ℕ) → IsIn n pages ⊎ IsOut n pages
   in_or_out n = elim (page_after n) [ inl (there, e) ↦ inl there | inr (out, e) ↦ inr out ]
 
   pub entry_after : (a : ℕ) → GoesTo a ⊎ ((world_of after).side_entry a ≡ NoEntry)

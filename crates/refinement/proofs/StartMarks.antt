@@ -44,7 +44,7 @@ use Rattle.refinement.proofs.Records.{records_of, records_carry}
 use Rattle.refinement.proofs.References.{less_is}
 
 -- what a change of all elements leaves of each
-kept_of_all : {X B : Type 0} (P : Option X → B) (xs : List X) (f : X → X)
+pub kept_of_all : {X B : Type 0} (P : Option X → B) (xs : List X) (f : X → X)
     → ((x : X) → P (Some (f x)) ≡ P (Some x)) → (u : ℕ) → P (slice_get (map f xs) u) ≡ P (slice_get xs u)
 kept_of_all {X} P xs f h u = ap P (slice_get-map f xs u) ∙ here (slice_get xs u)
   where
@@ -52,7 +52,7 @@ kept_of_all {X} P xs f h u = ap P (slice_get-map f xs u) ∙ here (slice_get xs 
     here None = refl
     here (Some x) = h x
 
-each_of_all : {X : Type 0} (P : X → Type 0) (xs : List X) (f : X → X) → ((x : X) → P x → P (f x)) → Each xs P
+pub each_of_all : {X : Type 0} (P : X → Type 0) (xs : List X) (f : X → X) → ((x : X) → P x → P (f x)) → Each xs P
     → Each (map f xs) P
 each_of_all P [] f h k i x e = absurd (cc)
 each_of_all {X} P (x ∷ xs) f h k zero y e = by_equal (cc) (h x (k zero x refl))
@@ -152,6 +152,12 @@ in_phase MarkCrossing e = absurd (cc)
 in_phase Scanning e = absurd (cc)
 in_phase ProtectCrossing e = absurd (cc)
 
+-- where all have to cross, the first thread has
+pub first_waits : (threads : List ThreadState) → 1 ≤ length threads
+    → has_crossed (slice_get (map (set_crossed_of false) threads) 0) ≡ false
+first_waits [] m = absurd (omega (arith, m))
+first_waits (x ∷ xs) m = refl
+
 module _ {h : HeapState} {p p0 : PlainHeap} (s : IsStore h.store) (d : IsHeap h) (k : Holds h p p0) where
   -- nothing has still to be copied
   all_copied : OnAccepted (λ (u : Unit {0}). (a n : ℕ) → (world_of h).side_entry a ≢ Planned n)
@@ -169,11 +175,6 @@ module _ {h : HeapState} {p p0 : PlainHeap} (s : IsStore h.store) (d : IsHeap h)
           true≢false (sym (planned_uncopied (of_page h.sides m) (a % h.store.words) n planned)
           ∙ ap (λ f. is_from f && list_any is_uncopied (of_page h.sides m)) (sym from)
           ∙ none_from h 1 (length h.store.pages) e m low high)
-
-  first_waits : (threads : List ThreadState) → 1 ≤ length threads
-      → has_crossed (slice_get (map (set_crossed_of false) threads) 0) ≡ false
-  first_waits [] m = absurd (omega (arith, m))
-  first_waits (x ∷ xs) m = refl
 
   no_thread : (t r : ℕ) → has_crossed (slice_get (behind h) t) ≡ true → (world_of h).register t r ≡ Null
   unfolding register_of
