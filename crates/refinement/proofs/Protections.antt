@@ -194,3 +194,169 @@ module _ (h g : HeapState) (p p0 : PlainHeap) (ts pages : List ℕ) (d : IsHeap 
               → barrier_in o ≡ None
           by_thread None f = refl
           by_thread (Some x) f = absurd (cc)
+
+  -- claims
+
+  -- a claim of before, or a place that is planned
+  plans : (a : ℕ) (y : Extent) → extent after (OfPlan a) ≡ Some y
+      → (n : ℕ) × (x : Goes a n) × (y ≡ place_extent h m.store laid pages m.closed ts m.enough a n x)
+  plans a y e = elim (entry_after h g p p0 ts pages m a) [
+    | inl k ↦ (let x = plan_at a k in (
+      place_of (moves_of h pages ts) a,
+      x,
+      sym (same_Some _ _ (sym (ap (λ z. planned_extent z (size_at after a)) k.is
+      ∙ ap (λ o. option_map (sized_extent (place_of (moves_of h pages ts) a)) (option_map object_size o))
+      (objects_after h g p p0 ts pages m a ∙ m.targets.objects a ∙ x.is_live.here)) ∙ e)),
+    ))
+    | inr none ↦ absurd (none-some _ (sym (ap (λ z. planned_extent z (size_at after a)) none) ∙ e))
+  ]
+
+  claims : (c : Claim) → ((a : ℕ) × (c ≡ OfPlan a)) ⊎ (extent after c ≡ extent g c)
+  unfolding with_protected
+  claims (OfObject a) = inr (ap (λ o. option_map (sized_extent a) (option_map object_size o))
+      (objects_after h g p p0 ts pages m a))
+  claims (OfBuffer u) = inr (ap (option_map (buffer_extent g.store.words))
+      (kept_of_all buffer_in g.threads (set_crossed_of false) (λ y. refl) u))
+  claims (OfPlan a) = inl (a, refl)
+  claims (OfEnd n) = inr (page_keeps h g p p0 ts pages m (end_extent g.store.words n) (λ q e. shut q e) n)
+    where
+      shut : (q : Page) → q.state ≡ Closed
+          → end_extent g.store.words n (Some (set_from_of q)) ≡ end_extent g.store.words n (Some q)
+      shut q e = sym (ap (λ b. cond b (Some (record {
+        from = n * g.store.words + q.top;
+        upto = n * g.store.words + g.store.words;
+      })) None) (ap is_open e))
+
+  -- a planned place is apart from what was claimed before
+  plan_apart : (a n : ℕ) (x : Goes a n) (c : Claim) (y : Extent) → extent g c ≡ Some y
+      → AreApart (place_extent h m.store laid pages m.closed ts m.enough a n x) y
+  plan_apart a n x c y e = elim (m.targets.extents c y e) [
+    | inl before ↦ (
+      let z = claim_lies h m.store d.buffers laid m.before.invariant.objects c y before in
+      pages_apart h.store.words x.target z.page _ y
+      (λ q. false≢true (sym (ap (λ t. has_memory (state_at h.store t)) (sym q)
+      ∙ ap has_memory (target_new x.target x.place.0 x.in_target).0) ∙ z.memory))
+      lies (record { from = z.from; upto = z.upto })
+      )
+    | inr (t, is, from, upto) ↦ elim (cases_eq x.target t) [
+      | inl q ↦ inl (let base : x.target * h.store.words ≡ t * h.store.words = ap (λ k. k * h.store.words) q in
+        omega (arith, lies.upto, base, from))
+      | inr k ↦ pages_apart h.store.words x.target t _ y k lies
+          (record { from = omega (arith, from); upto = omega (arith, upto) })
+    ]
+  ]
+    where
+      lies : LiesOn h.store.words x.target (place_extent h m.store laid pages m.closed ts m.enough a n x)
+      lies = place_lies h m.store laid pages m.closed ts m.enough a n x
+
+  apart : Apart (extent after)
+  apart c b x y e f = by_claims (claims c) (claims b)
+    where
+      swap : AreApart y x → AreApart x y
+      swap (inl z) = inr z
+      swap (inr z) = inl z
+
+      one : (a : ℕ) → c ≡ OfPlan a → extent after b ≡ extent g b → AreApart x y
+      one a is same =
+          let (n, w, at) = plans a x (ap (extent after) (sym is) ∙ e) in
+          subst (λ z. AreApart z y) (sym at) (plan_apart a n w b y (sym same ∙ f))
+
+      other : (a : ℕ) → b ≡ OfPlan a → extent after c ≡ extent g c → AreApart y x
+      other a is same =
+          let (n, w, at) = plans a y (ap (extent after) (sym is) ∙ f) in
+          subst (λ z. AreApart z x) (sym at) (plan_apart a n w c x (sym same ∙ e))
+
+      both : (a k : ℕ) → c ≡ OfPlan a → b ≡ OfPlan k → (c ≡ b) ⊎ AreApart x y
+      both a k is also =
+          let (n, w, at) = plans a x (ap (extent after) (sym is) ∙ e) in
+          let (l, v, to) = plans k y (ap (extent after) (sym also) ∙ f) in
+          elim (planned_apart h m.store laid pages m.closed ts m.enough m.targets.once a k n l w v) [
+            | inl same ↦ inl (is ∙ ap OfPlan same ∙ sym also)
+            | inr z ↦ inr (subst (λ u. AreApart u y) (sym at)
+                (subst (AreApart (place_extent h m.store laid pages m.closed ts m.enough a n w)) (sym to) z))
+          ]
+
+      by_claims : ((a : ℕ) × (c ≡ OfPlan a)) ⊎ (extent after c ≡ extent g c)
+          → ((a : ℕ) × (b ≡ OfPlan a)) ⊎ (extent after b ≡ extent g b) → (c ≡ b) ⊎ AreApart x y
+      by_claims (inl (a, is)) (inl (k, also)) = both a k is also
+      by_claims (inl (a, is)) (inr same) = inr (one a is same)
+      by_claims (inr same) (inl (a, is)) = inr (swap (other a is same))
+      by_claims (inr one) (inr two) = m.holds.laid.apart c b x y (sym one ∙ e) (sym two ∙ f)
+
+  -- memory
+
+  rows : (xs : List (List Bool)) → AreRowsOf g.store xs → AreRowsOf after.store xs
+  unfolding with_protected
+  rows xs r = record { pages = r.pages ∙ sym (pages_many pages g.store.pages); words = r.words }
+
+  memory : (a : ℕ) → has_memory ((world_of after).page_state a) ≡ has_memory ((world_of g).page_state a)
+  unfolding state_at with_protected
+  memory a = page_keeps h g p p0 ts pages m (λ o. has_memory (state_in o))
+      (λ q e. ap has_memory (sym e)) (a / g.store.words)
+
+  -- the offsets of a side array rise
+  rising : (i : ℕ) (fs : List Forwarding) → slice_get after.sides i ≡ Some fs → AreRising g.store.words 0 fs
+  unfolding side_of live_offsets with_protected
+  rising i fs e = elim (in_or_out h g p p0 ts pages m (suc i)) [
+    | inl there ↦ subst (AreRising g.store.words 0) (sym (side_after h g p p0 ts pages m (suc i) there) ∙ read)
+        (subst (λ w. AreRising w 0 (side_of h (moves_of h pages ts) (suc i))) (sym m.targets.words)
+        (side_rises h.store.words 0 (of_page h.live (suc i))
+        (λ o. place_of (moves_of h pages ts) (suc i * h.store.words + o)) (long (slice_get h.live i) refl)))
+    | inr out ↦ by_old (slice_get g.sides i) refl
+        (sym (sym (list_read g.sides i) ∙ sym (side_stays h g p p0 ts pages m (suc i) out) ∙ read))
+  ]
+    where
+      read : of_page after.sides (suc i) ≡ fs
+      read = list_read after.sides i ∙ ap list_of e
+
+      long : (o : Option (List Bool)) → slice_get h.live i ≡ o → 0 + length (of_page h.live (suc i)) ≤ h.store.words
+      long None z = omega (arith, ap length (list_read h.live i ∙ ap list_of z))
+      long (Some row) z =
+          omega (arith, ap length (list_read h.live i ∙ ap list_of z), laid.live.words i row z)
+
+      by_old : (o : Option (List Forwarding)) → slice_get g.sides i ≡ o → fs ≡ list_of (slice_get g.sides i)
+          → AreRising g.store.words 0 fs
+      by_old None z same = subst (AreRising g.store.words 0) (sym (same ∙ ap list_of z)) tt
+      by_old (Some x) z same =
+          subst (AreRising g.store.words 0) (sym (same ∙ ap list_of z)) (m.holds.laid.sides.rising i x z)
+
+  protected_laid : IsLaid after
+  unfolding with_protected
+  protected_laid = record {
+    starts = rows g.starts l.starts;
+    live = rows g.live l.live;
+    mark = rows g.mark l.mark;
+    todo = rows g.todo l.todo;
+    sides = record {
+      pages = sides_many h (moves_of h pages ts) pages g.sides ∙ l.sides.pages ∙ sym (pages_many pages g.store.pages);
+      rising = rising;
+    };
+    registers = each_of_all (λ y. length y.registers ≡ g.config.registers) g.threads (set_crossed_of false)
+        (λ y e. e) l.registers;
+    objects = λ a e k. let (o, is) = l.objects a e (sym (memory a) ∙ k) in
+        (o, objects_after h g p p0 ts pages m a ∙ is);
+    apart = apart;
+    planned = λ a n q e f. fits a n q (goes a n e).1 (sym (m.targets.objects a)
+        ∙ sym (objects_after h g p p0 ts pages m a) ∙ f);
+    live_objects = λ a e k. let (o, is) = l.live_objects a e (sym (memory a) ∙ k) in
+        (o, objects_after h g p p0 ts pages m a ∙ is);
+    unused = λ a e. l.unused a (elim (in_or_out h g p p0 ts pages m (a / g.store.words)) [
+      | inl there ↦ absurd (no (sym (state_emptied h g p p0 ts pages m (a / g.store.words) there) ∙ e))
+      | inr out ↦ sym (state_stays h g p p0 ts pages m (a / g.store.words) out) ∙ e
+    ]);
+  }
+    where
+      l : IsLaid g
+      l = m.holds.laid
+
+      no : From ≡ Unused → ⊥
+      no z = cc
+
+      fits : (a n : ℕ) (q : HeapObject) (x : Goes a n) → object_at h a ≡ Some q
+          → n % g.store.words + object_size q ≤ g.store.words
+      fits a n q x f =
+          let same : x.is_live.object ≡ q = same_Some _ _ (sym x.is_live.here ∙ f) in
+          let offset : n % g.store.words ≡ x.place.1 = ap (λ w. n % w) m.targets.words
+          ∙ ap (λ z. z % h.store.words) (sym x.is)
+          ∙ mod-mul-add x.target h.store.words x.place.1 (omega (arith, x.room)) in
+          omega (arith, offset, x.room, ap object_size same, m.targets.words)
