@@ -1,7 +1,8 @@
 -- Pages are protected. Letters are those of `Emptied`.
 use Rattle.std.proofs.Common.{◌≡◌, ◌≢◌, ◌⊎◌, inl, inr, ℕ, zero, suc, ◌+◌, ◌*◌, ◌/◌, ◌%◌, ◌<◌, ◌≤◌, Bool, true, false}
 use Rattle.std.proofs.Common.{cond, not, nat_lt, List, [], ◌∷◌, length, map, get_or, Option, Some, None, refl, sym, ◌∙◌}
-use Rattle.std.proofs.Common.{ap, subst, arith}
+use Rattle.std.proofs.Common.{◌&&◌, ap, subst, arith}
+use Rattle.std.specs.Prelude.{Result, Ok, Err}
 use mathlib.Core.Path.{fun_ext}
 use Rattle.std.specs.List.{slice_get}
 use Rattle.std.specs.Option.{option_map}
@@ -12,8 +13,15 @@ use Rattle.std.proofs.lemmas.Option.{slice_get-map, same_Some, none-some}
 use Rattle.model.specs.declared.records.Forwarding.{Forwarding}
 use Rattle.model.specs.declared.records.Page.{Page}
 use Rattle.model.specs.declared.records.PageState.{PageState}
-use Rattle.model.specs.declared.records.PageState.TheVariants.{Unused, Open, Closed, From}
-use Rattle.model.specs.declared.records.Phase.TheVariants.{ProtectCrossing}
+use Rattle.model.specs.declared.records.PageState.TheVariants.{Unused, Open, Closed, From, Gone}
+use Rattle.model.specs.declared.records.Phase.{Phase}
+use Rattle.model.specs.declared.records.Phase.TheVariants.{Idle, MarkCrossing, Scanning, ProtectCrossing, Relocating}
+use Rattle.model.specs.declared.steps.Actor.TheVariants.{Worker}
+use Rattle.model.specs.declared.steps.Step.TheVariants as steps
+use Rattle.model.specs.declared.steps.Refusal.TheVariants as refusals
+use Rattle.model.specs.Phases.{is_idle}
+use Rattle.model.specs.Refusing.{◌>>=◌, refuse_if}
+use Rattle.model.specs.Cycles.{is_lent}
 use Rattle.model.specs.Stores.{state_at, state_in, page_at, has_memory, is_open, is_protected}
 use Rattle.model.specs.Owning.{Each, IsStore}
 use Rattle.model.specs.Holding.{IsHeap, AreRising}
@@ -21,23 +29,26 @@ use Rattle.model.specs.States.{HeapState, ThreadState}
 use Rattle.model.specs.Threads.{register_in, buffer_in, has_crossed, is_parked_in, set_crossed_of}
 use Rattle.model.specs.Registers.{register_of}
 use Rattle.model.specs.Bits.{of_page, bit_at}
-use Rattle.model.specs.Plain.{PlainHeap}
-use Rattle.model.specs.Plans.{live_offsets, live_objects, moves_of, place_of, side_of, with_sides}
-use Rattle.model.specs.Protections.{set_from_of, with_from_pages, with_protected}
+use Rattle.model.specs.Plain.{PlainHeap, plain_step, plain_answer}
+use Rattle.model.specs.Plans.{live_offsets, live_objects, plan_of, target_count, moves_of, place_of, side_of, with_sides}
+use Rattle.model.specs.Protections.{set_from_of, with_from_pages, with_protected, protect, protect_with, with_targets, is_closed, ripe, all_ripe}
+use Rattle.model.specs.Protections.{free_count, unused_count, room_for, protect_outcome}
 use Rattle.model.proofs.Plans.{IsIn, at_in, bit_told, side_rises}
 use Rattle.laws.specs.AddressHeap.{AddressHeap, HeapObject, SideEntry, NoEntry, Planned, Copied}
 use Rattle.laws.specs.Edits.{protect_pages}
-use Rattle.laws.specs.Transitions.{MayProtect}
+use Rattle.laws.specs.Transitions.{MayProtect, Protect}
 use Rattle.refinement.specs.Worlds.{world_of, object_at, as_word, barrier_in, entry_at}
 use Rattle.refinement.specs.Claims.{IsLaid, AreRowsOf, Apart, AreApart, Claim, OfObject, OfBuffer, OfPlan, OfEnd}
 use Rattle.refinement.specs.Claims.{Extent, extent, object_size, sized_extent, planned_extent, buffer_extent, end_extent}
 use Rattle.refinement.specs.Claims.{size_at, HasGiven}
 use Rattle.refinement.specs.Roots.{HoldsWords}
-use Rattle.refinement.proofs.Carrying.{Carries, alike}
+use Rattle.refinement.specs.Standing.{Holds}
+use Rattle.refinement.proofs.Accepted.{OnAccepted, on_has, on_test, on_accepted}
+use Rattle.refinement.proofs.Carrying.{Carries, RowHolds, alike, step_by, stays}
 use Rattle.refinement.proofs.Changes.{list_of, list_read}
 use Rattle.refinement.proofs.StartMarks.{kept_of_all, each_of_all, first_waits}
 use Rattle.refinement.proofs.Opened.{LiesOn, pages_apart, claim_lies}
-use Rattle.refinement.proofs.Targets.{HasTargets}
+use Rattle.refinement.proofs.Targets.{targets_hold}
 use Rattle.refinement.proofs.Protecting.{IsOut, sides_many, pages_many, pages_read}
 use Rattle.refinement.proofs.Planned.{IsLive, IsPlanned, live_of, of_live, planned, place_extent, place_lies}
 use Rattle.refinement.proofs.Planned.{planned_apart}
@@ -360,3 +371,121 @@ module _ (h g : HeapState) (p p0 : PlainHeap) (ts pages : List ℕ) (d : IsHeap 
           ∙ ap (λ z. z % h.store.words) (sym x.is)
           ∙ mod-mul-add x.target h.store.words x.place.1 (omega (arith, x.room)) in
           omega (arith, offset, x.room, ap object_size same, m.targets.words)
+
+  -- the edit
+
+  protected_world : world_of after ≡ protect_pages (world_of after).page_state (world_of after).side_entry
+      (world_of after).crossed (world_of g)
+  unfolding register_of with_protected
+  protected_world = λ z. record (world_of g) {
+    page_state = (world_of after).page_state;
+    object_at = fun_ext (objects_after h g p p0 ts pages m) z;
+    side_entry = (world_of after).side_entry;
+    register = fun_ext (λ u. fun_ext
+        (λ r. kept_of_all (λ o. as_word (register_in o r)) g.threads (set_crossed_of false) (λ y. refl) u)) z;
+    crossed = (world_of after).crossed;
+    parked = fun_ext (kept_of_all is_parked_in g.threads (set_crossed_of false) (λ y. refl)) z;
+    barrier = fun_ext (kept_of_all barrier_in g.threads (set_crossed_of false) (λ y. refl)) z;
+    phase = ProtectCrossing;
+  }
+
+  protected_given : Each g.store.pages HasGiven → Each after.store.pages HasGiven
+  unfolding with_protected
+  protected_given z i q e is_so = elim (pages_read pages g.store.pages i (positive h g p p0 ts pages m)) [
+    | inl (there, is) ↦ absurd (by_page (slice_get g.store.pages i) (sym is ∙ e))
+    | inr (out, same) ↦ z i q (sym same ∙ e) is_so
+  ]
+    where
+      by_page : (o : Option Page) → option_map set_from_of o ≡ Some q → ⊥
+      by_page None k = absurd (cc)
+      by_page (Some x) k =
+          absurd (false≢true (ap (λ (y : Page). is_open y.state) (same_Some _ _ k) ∙ is_so))
+
+  protected_carries : Carries g after (protect_pages (world_of after).page_state (world_of after).side_entry
+      (world_of after).crossed)
+  unfolding with_protected
+  protected_carries = record {
+    size = alike g after refl refl refl refl (length-map g.threads (set_crossed_of false)) refl refl;
+    laid = λ z. protected_laid;
+    given = protected_given;
+    words = λ z. record {
+      threads = each_of_all (HoldsWords g.config.registers) g.threads (set_crossed_of false)
+          (λ y e. record { registers_hold = e.registers_hold; barrier = e.barrier }) z.threads;
+      globals = z.globals;
+    };
+    world = protected_world;
+  }
+
+  -- the heap stands for what it stood for
+  pub protected_holds : Holds after p p0
+  protected_holds = step_by m.holds protected_carries (stays g p) (Protect _ _ _ may_protect)
+
+-- the row
+
+-- all of these pages are closed
+ripe_closed : (h : HeapState) (n : ℕ) → OnAccepted (λ (u : Unit {0}). state_at h.store n ≡ Closed) (ripe h n)
+unfolding ripe
+ripe_closed h n = by_lent (is_open (state_at h.store n) && is_lent h.threads n)
+  where
+    is : (x : PageState) → OnAccepted (λ (u : Unit {0}). x ≡ Closed) (cond (is_closed x) (Ok tt) (Err (refusals.Unripe n)))
+    is Unused = tt
+    is Open = tt
+    is Closed = refl
+    is From = tt
+    is Gone = tt
+
+    by_lent : (b : Bool) → OnAccepted (λ (u : Unit {0}). state_at h.store n ≡ Closed)
+        (cond b (Err (refusals.Lent n)) (cond (is_closed (state_at h.store n)) (Ok tt) (Err (refusals.Unripe n))))
+    by_lent true = tt
+    by_lent false = is (state_at h.store n)
+
+all_closed : (h : HeapState) (pages : List ℕ)
+    → OnAccepted (λ (u : Unit {0}). (n : ℕ) → IsIn n pages → state_at h.store n ≡ Closed) (all_ripe h pages)
+all_closed h [] = λ n e. absurd e
+all_closed h (k ∷ pages) = on_has (ripe h k) _ _ _ (ripe_closed h k) (λ u first.
+    on_accepted (all_ripe h pages) _ _ (all_closed h pages) (λ v others.
+    λ n e. elim e [ inl is ↦ ap (state_at h.store) (sym is) ∙ first | inr there ↦ others n there ]))
+
+-- there is room for so many targets
+pub record HasRoomFor (h : HeapState) (need : ℕ) : Type 0 where
+  pub frames : need ≤ free_count h.store
+  pub pages : need ≤ unused_count h.store
+
+has_room : (h : HeapState) (need : ℕ) → OnAccepted (λ (u : Unit {0}). HasRoomFor h need) (room_for h.store need)
+unfolding room_for
+has_room h need = on_test (nat_lt (free_count h.store) need) _ _ _ (λ e.
+    on_test (nat_lt (unused_count h.store) need) _ _ _ (λ f.
+    record { frames = ltb-false (free_count h.store) need e; pages = ltb-false (unused_count h.store) need f }))
+
+idle_is : (f : Phase) → OnAccepted (λ (u : Unit {0}). f ≡ Idle) (refuse_if (not (is_idle f)) refusals.Phase)
+idle_is Idle = refl
+idle_is MarkCrossing = tt
+idle_is Scanning = tt
+idle_is ProtectCrossing = tt
+idle_is Relocating = tt
+
+module _ {h : HeapState} {p p0 : PlainHeap} (s : IsStore h.store) (d : IsHeap h) (k : Holds h p p0) (w : ℕ) where
+  -- pages are protected
+  pub protect_holds : (pages : List ℕ) → RowHolds h p p0 (Worker w) (steps.Protect pages) (protect_outcome h pages)
+  unfolding protect_outcome protect with_protected plain_step plain_answer
+  protect_holds pages = on_has (refuse_if (not (is_idle h.phase)) refusals.Phase) _ _ _ (idle_is h.phase) (λ u idle.
+      on_has (all_ripe h pages) _ _ _ (all_closed h pages) (λ v closed.
+      on_has (room_for h.store (target_count (plan_of h pages))) _ _ _
+      (has_room h (target_count (plan_of h pages))) (λ z room.
+      let x = targets_hold (target_count (plan_of h pages)) h p p0 s d.buffers k room.frames room.pages in
+      record {
+        config = config (with_targets (target_count (plan_of h pages)) h) x.targets.config;
+        holds = protected_holds h _ p p0 _ pages d (record {
+          store = s;
+          before = k;
+          targets = x.targets;
+          holds = x.holds;
+          idle = idle;
+          closed = closed;
+          enough = x.many;
+        });
+        answers = tt;
+      })))
+    where
+      config : (x : HeapState × List ℕ) → x.0.config ≡ h.config → (protect_with h pages x).config ≡ h.config
+      config x e = e
