@@ -37,22 +37,22 @@ use Rattle.model.specs.First.{first_heap}
 use Rattle.model.specs.Outcome.{no_register, no_global, no_page, thread_gate, worker_gate, outcome}
 
 -- a step of an actor, and its reply
-record Line : Type 0 where
-  actor : Actor
-  step : Step
-  reply : Result Answer Refusal
+pub record Line : Type 0 where
+  pub actor : Actor
+  pub step : Step
+  pub reply : Result Answer Refusal
 
-thread : ℕ → Step → Result Answer Refusal → Line
+unfoldable pub thread : ℕ → Step → Result Answer Refusal → Line
 thread t s r = record { actor = Thread t; step = s; reply = r }
 
-worker : ℕ → Step → Result Answer Refusal → Line
+unfoldable pub worker : ℕ → Step → Result Answer Refusal → Line
 worker w s r = record { actor = Worker w; step = s; reply = r }
 
-heap_after : HeapState → Outcome → HeapState
+unfoldable pub heap_after : HeapState → Outcome → HeapState
 heap_after h (Ok y) = y.0
 heap_after h (Err e) = h
 
-reply_of : Outcome → Result Answer Refusal
+unfoldable pub reply_of : Outcome → Result Answer Refusal
 reply_of (Ok y) = Ok y.1
 reply_of (Err e) = Err e
 
@@ -63,7 +63,7 @@ replies h (l ∷ ls) =
     reply_of (outcome h l.actor l.step) ∷ replies (heap_after h (outcome h l.actor l.step)) ls
 
 -- pages of 16 words, three frames, two threads and a worker; an object has one reference and one datum
-config : Config
+unfoldable pub config : Config
 config = record {
   words = 16;
   frames = 3;

@@ -7,3 +7,4 @@ pub mod Tables
 pub mod Passing
 pub mod Plans
 mod Examples
+mod MovingExamples

@@ -20,6 +20,7 @@ pub mod Scans
 pub mod Cycles
 pub mod Plans
 pub mod Protections
+pub mod Moves
 pub mod Outcome
 pub mod Plain
 pub mod Texts

@@ -1,5 +1,6 @@
 -- Pages are protected, and targets opened for their live objects (the paper's Relocate phase; plan and targets are ours).
-use Rattle.std.specs.Prelude.{ℕ, ◌+◌, ◌-◌, ◌&&◌, zero, suc, not, Bool, true, false, List, [], ◌∷◌, map}
+use Rattle.std.specs.List.{list_any}
+use Rattle.std.specs.Prelude.{ℕ, ◌+◌, ◌-◌, ◌==◌, ◌&&◌, ◌||◌, zero, suc, not, Bool, true, false, List, [], ◌∷◌, map}
 use Rattle.std.specs.Prelude.{length, count_by, is_none, nat_lt, if◌then◌else◌, Result, Ok, Err}
 use Rattle.model.specs.declared.records.Buffer.{Buffer}
 use Rattle.model.specs.declared.records.Page.{Page}
@@ -90,6 +91,20 @@ ripe h n =
 abbrev pub all_ripe : HeapState → List ℕ → Result Unit Refusal
 all_ripe h [] = Ok tt
 all_ripe h (n ∷ ns) = ripe h n >>= λ _. all_ripe h ns
+
+-- there is no page of this number
+abbrev pub no_page_in : StoreState → ℕ → Bool
+no_page_in s n = (n == 0) || nat_lt s.count n
+
+-- a number stands in a list twice
+abbrev pub has_twice : List ℕ → Bool
+has_twice [] = false
+has_twice (n ∷ ns) = list_any (λ m. m == n) ns || has_twice ns
+
+-- pages that can't be named together: none, one that isn't there, or one twice
+abbrev pub are_bad_pages : HeapState → List ℕ → Bool
+are_bad_pages h [] = true
+are_bad_pages h (n ∷ ns) = list_any (no_page_in h.store) (n ∷ ns) || has_twice (n ∷ ns)
 
 -- how many frames are free
 unfoldable pub free_count : StoreState → ℕ

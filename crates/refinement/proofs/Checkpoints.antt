@@ -1,6 +1,5 @@
 -- Threads that cross checkpoints, that are parked and run again, and registers that need no correction.
-use Rattle.std.proofs.Common.{◌≡◌, ℕ, Bool, true, false, not, ◌<◌, length, refl}
-use Rattle.std.specs.Prelude.{Result, Ok, Err}
+use Rattle.std.proofs.Common.{◌≡◌, ℕ, true, false, not, ◌<◌, length, refl}
 use Rattle.std.specs.List.{slice_get}
 use Rattle.std.proofs.lemmas.Bool.{not-false}
 use Rattle.model.specs.declared.steps.Actor.TheVariants.{Thread, Worker}

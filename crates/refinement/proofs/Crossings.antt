@@ -1,29 +1,26 @@
 -- A thread crosses a checkpoint: its registers are marked, and the last one begins the next phase.
-use Rattle.std.proofs.Common.{◌≡◌, ◌≢◌, ◌⊎◌, inl, inr, ℕ, zero, suc, ◌<◌, ◌≤◌, Bool, true, false, cond, not, length}
+use Rattle.std.proofs.Common.{◌≡◌, ◌≢◌, inl, inr, ℕ, zero, suc, ◌<◌, ◌≤◌, true, false, cond, not, length}
 use Rattle.std.proofs.Common.{is_none, List, Option, Some, None, refl, sym, ◌∙◌, ap, subst, arith}
 use mathlib.Core.Path.{fun_ext}
 use Rattle.std.specs.List.{slice_get}
 use Rattle.std.proofs.lemmas.Option.{slice_get_within, slice_get_past}
-use Rattle.std.proofs.lemmas.Bool.{cases_eq, false≢true, true≢false, not-false, not-true}
+use Rattle.std.proofs.lemmas.Bool.{true≢false, not-false, not-true}
 use Rattle.model.specs.declared.config.Config.{Config}
 use Rattle.model.specs.declared.records.Phase.{Phase}
 use Rattle.model.specs.declared.records.Phase.TheVariants.{Idle, MarkCrossing, Scanning, ProtectCrossing, Relocating}
 use Rattle.model.specs.Phases.{is_marking, is_crossing, is_mark_crossing}
-use Rattle.model.specs.Stores.{StoreState}
 use Rattle.model.specs.Owning.{IsStore}
-use Rattle.model.specs.States.{HeapState, ThreadState, Reference, flat, change_at}
+use Rattle.model.specs.States.{HeapState, ThreadState, flat, change_at}
 use Rattle.model.specs.Threads.{register_in, set_crossed_of, buffer_in, has_crossed, is_parked_in}
 use Rattle.model.specs.Registers.{register_of, with_register}
 use Rattle.model.specs.Marks.{with_mark, marked_word}
-use Rattle.model.specs.Checkpoints.{first_behind, none_behind, all_crossed, phase_behind, with_crossed}
+use Rattle.model.specs.Checkpoints.{first_behind, phase_behind, with_crossed}
 use Rattle.model.specs.Checkpoints.{with_marked_register, with_marked_registers, marked_at_crossing, cross_thread}
 use Rattle.model.specs.Plain.{PlainHeap}
 use Rattle.model.proofs.Lists.{get_within, each_changed, position_none, position_passes, position_finds}
 use Rattle.model.proofs.Tables.{length_changed}
 use Rattle.laws.specs.AddressHeap.{AddressHeap, Null, names, put}
-use Rattle.laws.specs.AddressHeap as laws
 use Rattle.laws.specs.Edits.{mark_word, cross_checkpoint}
-use Rattle.laws.specs.Edits as edits
 use Rattle.laws.specs.Effects.{set_register, mark_register, mark_registers}
 use Rattle.laws.specs.Transitions.{IsPhaseAfter, CrossMark, CrossProtect}
 use Rattle.laws.proofs.Basics.{put_other, put_same}
@@ -34,7 +31,7 @@ use Rattle.refinement.specs.Claims.{IsLaid}
 use Rattle.refinement.specs.Roots.{HoldsWords}
 use Rattle.refinement.specs.Standing.{Holds}
 use Rattle.refinement.proofs.Carrying.{Carries, and_then, becomes, moved, same_carries, step_by, stays}
-use Rattle.refinement.proofs.Changes.{kept_of, read_changed, get_changed}
+use Rattle.refinement.proofs.Changes.{kept_of, read_changed}
 use Rattle.refinement.proofs.Marks.{leads_to, marked_same, marked_is_word, mark_carries}
 use Rattle.refinement.proofs.Records.{records_of, records_carry}
 use Rattle.refinement.proofs.Threads.{register_carries}

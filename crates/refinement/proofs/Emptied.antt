@@ -3,23 +3,22 @@
 -- Letters, beside those of other files: h is the heap before, g the one with its targets, ts the pages of these, and
 -- pages those that are protected.
 use Rattle.std.proofs.Common.{◌≡◌, ◌≢◌, ◌⊎◌, inl, inr, ℕ, zero, suc, ◌+◌, ◌-◌, ◌*◌, ◌/◌, ◌%◌, ◌<◌, ◌≤◌, Bool, true, false}
-use Rattle.std.proofs.Common.{cond, nat_eq, nat_lt, List, [], ◌∷◌, length, map, Option, Some, None, refl, sym, ◌∙◌, ap}
-use Rattle.std.proofs.Common.{subst, arith, eq-eqb, ne_eqb, div-add-mod'}
+use Rattle.std.proofs.Common.{cond, nat_lt, List, [], ◌∷◌, length, map, Option, Some, None, refl, sym, ◌∙◌, ap}
+use Rattle.std.proofs.Common.{arith, eq-eqb, ne_eqb, div-add-mod'}
 use Rattle.std.specs.List.{slice_get}
 use Rattle.std.specs.Option.{option_map}
 use Rattle.std.proofs.lemmas.Bool.{cases_eq, ltb-true, ltb-false}
-use Rattle.std.proofs.lemmas.Option.{slice_get_within, slice_get_past, same_Some, none-some}
+use Rattle.std.proofs.lemmas.Option.{slice_get_within, slice_get_past}
 use Rattle.model.specs.declared.records.Forwarding.{Forwarding}
 use Rattle.model.specs.declared.records.Page.{Page}
-use Rattle.model.specs.declared.records.PageState.{PageState}
-use Rattle.model.specs.declared.records.PageState.TheVariants.{Unused, Open, Closed, From}
+use Rattle.model.specs.declared.records.PageState.TheVariants.{Unused, Closed, From}
 use Rattle.model.specs.declared.records.Phase.TheVariants.{Idle}
 use Rattle.model.specs.Stores.{StoreState, page_at, state_at, state_in, frame_in, words_at, is_protected}
 use Rattle.model.specs.Owning.{IsStore}
 use Rattle.model.specs.States.{HeapState}
 use Rattle.model.specs.Bits.{of_page, bit_at}
 use Rattle.model.specs.Plain.{PlainHeap}
-use Rattle.model.specs.Plans.{live_offsets, live_objects, plan_of, target_count, moves_of, place_of, side_of, with_sides}
+use Rattle.model.specs.Plans.{live_offsets, plan_of, target_count, moves_of, place_of, side_of}
 use Rattle.model.specs.Protections.{set_from_of, with_from_pages, with_protected}
 use Rattle.model.proofs.Memory.{page_there, words_in}
 use Rattle.model.proofs.Plans.{IsIn}
@@ -29,7 +28,7 @@ use Rattle.refinement.specs.Worlds.{world_of, object_at, object_in, entry_at}
 use Rattle.refinement.specs.Standing.{Holds}
 use Rattle.refinement.proofs.Changes.{list_of, list_read}
 use Rattle.refinement.proofs.Targets.{HasTargets}
-use Rattle.refinement.proofs.Protecting.{IsOut, ArePages, sides_many, sides_read, pages_many, pages_read}
+use Rattle.refinement.proofs.Protecting.{IsOut, ArePages, sides_many, sides_read, pages_read}
 
 -- the entries of a page's live objects
 

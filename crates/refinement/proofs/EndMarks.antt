@@ -1,13 +1,13 @@
 -- A mark ends: what the pages become, and that memory stays in order.
-use Rattle.std.proofs.Common.{◌≡◌, ◌≢◌, ◌⊎◌, inl, inr, ℕ, zero, suc, ◌+◌, ◌-◌, ◌/◌, ◌%◌, ◌<◌, ◌≤◌, ◌*◌, ◌&&◌, ◌||◌}
-use Rattle.std.proofs.Common.{Bool, true, false, not, cond, count_by, sum, List, [], ◌∷◌, length, map, replicate}
+use Rattle.std.proofs.Common.{◌≡◌, ◌≢◌, ◌⊎◌, inl, inr, ℕ, zero, suc, ◌+◌, ◌-◌, ◌/◌, ◌%◌, ◌*◌, ◌||◌}
+use Rattle.std.proofs.Common.{Bool, true, false, not, cond, count_by, List, [], ◌∷◌, length, map, replicate}
 use Rattle.std.proofs.Common.{get_or}
 use Rattle.std.proofs.Common.{Option, Some, None, is_some, refl, sym, ◌∙◌, ap, subst, arith}
 use mathlib.Core.Path.{fun_ext}
 use Rattle.std.specs.List.{slice_get, list_any}
 use Rattle.std.specs.Prelude.{◌==◌}
 use Rattle.std.specs.Option.{option_map, option_and_then}
-use Rattle.std.proofs.lemmas.Bool.{cases_eq, or_parts, eqb-true, true≢false, not-false}
+use Rattle.std.proofs.lemmas.Bool.{cases_eq, or_parts, eqb-true, not-false}
 use Rattle.std.proofs.lemmas.List.Sums.{sum_by-cons}
 use Rattle.std.proofs.lemmas.List.{length-map, length-replicate}
 use Rattle.std.proofs.lemmas.Option.{none-some, same_Some}
@@ -24,7 +24,7 @@ use Rattle.model.specs.declared.records.Phase.TheVariants.{Idle}
 use Rattle.model.specs.Stores.{StoreState, words_at, page_at, frame_in, state_at, state_in, is_open, is_protected}
 use Rattle.model.specs.Stores.{has_memory, page_after_mark, pages_after_mark, store_after_mark}
 use Rattle.model.specs.Owning.{Each, IsStore}
-use Rattle.model.specs.Holding.{AreRows, AreRising, IsHeap}
+use Rattle.model.specs.Holding.{AreRows, AreRising}
 use Rattle.model.specs.States.{HeapState, ThreadState}
 use Rattle.model.specs.Registers.{register_of}
 use Rattle.model.specs.Bits.{of_page, bit_at, blank_row, blank_all, bit_count}
@@ -36,10 +36,10 @@ use Rattle.model.proofs.Lists.{none_counted, none_passes, position_none, each_re
 use Rattle.page.proofs.Keeping.{page_at_record, page_at_zero}
 use Rattle.laws.specs.Edits.{state_after_mark}
 use Rattle.laws.specs.Edits as edits
-use Rattle.laws.specs.AddressHeap.{HeapObject, SideEntry, NoEntry, Planned}
+use Rattle.laws.specs.AddressHeap.{HeapObject, NoEntry, Planned}
 use Rattle.laws.specs.Promises.{ReachableIsLive, LiveWasReachable}
 use Rattle.laws.proofs.Promises.{reachable_is_live, live_was_reachable}
-use Rattle.laws.specs.Transitions.{MayEndMark, EndMark, IsScanning}
+use Rattle.laws.specs.Transitions.{MayEndMark, EndMark}
 use Rattle.refinement.specs.Worlds.{world_of, object_at, object_in, entry_at, as_barrier, barrier_in, todo_in}
 use Rattle.refinement.specs.PlainHeaps.{births_of}
 use Rattle.refinement.specs.Claims.{IsLaid, AreRowsOf, HasGiven, Claim, OfObject, OfBuffer, OfPlan, OfEnd, Extent}

@@ -1,19 +1,18 @@
 -- Words are marked: the rows, and the word that is left.
-use Rattle.std.proofs.Common.{◌≡◌, ℕ, suc, ◌+◌, ◌-◌, ◌*◌, ◌/◌, ◌%◌, ◌<◌, ◌≤◌, Bool, true, false, cond, nat_eq, List, []}
+use Rattle.std.proofs.Common.{◌≡◌, ℕ, suc, ◌-◌, ◌*◌, ◌/◌, ◌%◌, ◌<◌, ◌≤◌, Bool, true, false, cond, nat_eq, List, []}
 use Rattle.std.proofs.Common.{◌∷◌, length, Option, Some, None, refl, sym, ◌∙◌, ap, arith, div-add-mod'}
 use mathlib.Core.Path.{fun_ext}
-use Rattle.std.specs.List.{slice_get}
 use Rattle.std.proofs.Math.Nat.{mul-le-mul_left}
 use Rattle.std.proofs.lemmas.Nat.{mul-add-lt}
 use Rattle.std.proofs.lemmas.Option.{slice_get_within}
 use Rattle.refword.specs.Words.{IsAddress, IsWord}
 use Rattle.model.specs.declared.records.Forwarding.{Forwarding}
 use Rattle.model.specs.declared.records.Page.{Page}
-use Rattle.model.specs.Stores.{StoreState, words_at, page_at, frame_in, state_at}
+use Rattle.model.specs.Stores.{StoreState, words_at, page_at, frame_in}
 use Rattle.model.specs.Owning.{IsStore}
 use Rattle.model.specs.States.{HeapState, Reference}
 use Rattle.model.specs.Registers.{register_of}
-use Rattle.model.specs.Bits.{of_page, bit_at, with_bit, put_bit}
+use Rattle.model.specs.Bits.{of_page, bit_at, with_bit}
 use Rattle.model.specs.Marks.{entry_of, entry_at, forward_by, resolve, with_mark, mark_after, todo_after, marked_word}
 use Rattle.model.proofs.Lists.{get_within}
 use Rattle.model.proofs.Memory.{page_there, words_in, words_sized}

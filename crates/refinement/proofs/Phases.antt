@@ -1,7 +1,7 @@
 -- The phase moves as the collector's cycle has it.
-use Rattle.std.proofs.Common.{◌≡◌, ◌⊎◌, inl, inr, ℕ, zero, suc, ◌-◌, ◌&&◌, ◌||◌, Bool, true, false, cond, not}
+use Rattle.std.proofs.Common.{◌≡◌, inl, inr, ℕ, zero, suc, ◌-◌, ◌&&◌, ◌||◌, Bool, true, false, cond, not}
 use Rattle.std.proofs.Common.{nat_le, nat_lt}
-use Rattle.std.proofs.Common.{is_some, is_none, Option, Some, None, length, ◌+◌, ◌*◌, refl, sym, ◌∙◌, ap, subst}
+use Rattle.std.proofs.Common.{is_some, is_none, Option, Some, None, length, ◌+◌, ◌*◌, refl, sym, ap, subst}
 use Rattle.std.specs.List.{slice_get}
 use Rattle.std.proofs.lemmas.Bool.{not-false}
 use Rattle.std.specs.Prelude.{Result, Ok, Err}
@@ -21,7 +21,7 @@ use Rattle.model.specs.declared.steps.Answer.{Answer}
 use Rattle.model.specs.declared.steps.Answer.TheVariants as answers
 use Rattle.model.specs.declared.steps.Step.{Step}
 use Rattle.model.specs.declared.steps.Step.TheVariants as steps
-use Rattle.model.specs.Phases.{is_crossing, is_mark_crossing, is_marking, may_start_mark}
+use Rattle.model.specs.Phases.{is_crossing, may_start_mark}
 use Rattle.model.specs.Stores.{StoreState, take_buffer, word_at}
 use Rattle.model.specs.Owning.{IsStore}
 use Rattle.model.specs.Holding.{IsHeap}
@@ -37,7 +37,7 @@ use Rattle.model.specs.Buffers.{give_back_outcome}
 use Rattle.model.specs.Births.{place_object, new_outcome}
 use Rattle.model.specs.Marks.{with_mark, marked_word}
 use Rattle.model.specs.Loads.{with_barrier, with_loaded, barrier_of_thread, load_outcome, load_global_outcome}
-use Rattle.model.specs.Loads.{gc_trap_due, nmt_trap_due, trap_due, nmt_trap, trap_outcome, bits_at, are_bits_of}
+use Rattle.model.specs.Loads.{gc_trap_due, nmt_trap_due, trap_due, trap_outcome, bits_at, are_bits_of}
 use Rattle.model.specs.Loads.{set_healed}
 use Rattle.model.specs.Loads.{heal_place, heal_outcome, may_finish, end_load, finish_outcome}
 use Rattle.model.specs.Checkpoints.{with_parked, first_behind, phase_behind, with_crossed, with_marked_register}

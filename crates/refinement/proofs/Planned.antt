@@ -1,11 +1,9 @@
 -- What a plan says of the live objects of closed pages: each has a place of its own in a target, with room for it.
-use Rattle.std.proofs.Common.{◌≡◌, ◌≢◌, ◌⊎◌, inl, inr, ℕ, zero, suc, ◌+◌, ◌-◌, ◌*◌, ◌/◌, ◌%◌, ◌<◌, ◌≤◌, Bool, true, false}
+use Rattle.std.proofs.Common.{◌≡◌, ◌⊎◌, inl, inr, ℕ, zero, suc, ◌+◌, ◌*◌, ◌/◌, ◌%◌, ◌<◌, ◌≤◌, Bool, true, false}
 use Rattle.std.proofs.Common.{List, [], ◌∷◌, length, map, get_or, Option, Some, None, refl, sym, ◌∙◌, ap, subst, arith}
 use Rattle.std.proofs.Common.{div-add-mod'}
-use Rattle.std.specs.List.{slice_get, flat_map}
-use Rattle.std.specs.Prelude.{zip}
+use Rattle.std.specs.List.{slice_get}
 use Rattle.std.specs.Option.{option_map}
-use Rattle.std.proofs.lemmas.Bool.{cases_eq}
 use Rattle.std.proofs.lemmas.List.{length-map}
 use Rattle.std.proofs.lemmas.Nat.{div-mul-add, mod-mul-add}
 use Rattle.std.proofs.lemmas.Option.{slice_get-map, slice_get_within, get_or_from_slice_get, same_Some}
@@ -18,13 +16,13 @@ use Rattle.model.specs.Plans.{live_offsets, live_on, live_objects, object_words,
 use Rattle.model.specs.Plans.{address_in, moves_of, place_of}
 use Rattle.model.proofs.Lists.{get_within}
 use Rattle.model.proofs.Memory.{words_sized}
-use Rattle.model.proofs.Plans.{IsIn, IsBefore, places_length, places_behind, places_apart, places_counted}
-use Rattle.model.proofs.Plans.{in_mapped, mapped_in, in_at, at_in, offset_told, objects_in, in_objects, placed}
+use Rattle.model.proofs.Plans.{IsIn, places_length, places_behind, places_apart, places_counted}
+use Rattle.model.proofs.Plans.{in_mapped, mapped_in, at_in, offset_told, objects_in, in_objects, placed}
 use Rattle.laws.specs.AddressHeap.{HeapObject}
 use Rattle.refinement.specs.Worlds.{object_at}
 use Rattle.refinement.specs.Claims.{IsLaid, Extent, AreApart, object_size, sized_extent}
 use Rattle.refinement.proofs.ObjectWords.{read_fits, read_size}
-use Rattle.refinement.proofs.Objects.{IsThere, there}
+use Rattle.refinement.proofs.Objects.{there}
 use Rattle.refinement.proofs.Verdicts.{shape_there}
 use Rattle.refinement.proofs.Changes.{list_of, list_read}
 use Rattle.refinement.proofs.Opened.{LiesOn, pages_apart}

@@ -1,12 +1,12 @@
 -- Pages are protected. Letters are those of `Emptied`.
-use Rattle.std.proofs.Common.{◌≡◌, ◌≢◌, ◌⊎◌, inl, inr, ℕ, zero, suc, ◌+◌, ◌*◌, ◌/◌, ◌%◌, ◌<◌, ◌≤◌, Bool, true, false}
+use Rattle.std.proofs.Common.{◌≡◌, ◌⊎◌, inl, inr, ℕ, zero, suc, ◌+◌, ◌*◌, ◌/◌, ◌%◌, ◌≤◌, Bool, true, false}
 use Rattle.std.proofs.Common.{cond, not, nat_lt, List, [], ◌∷◌, length, map, get_or, Option, Some, None, refl, sym, ◌∙◌}
 use Rattle.std.proofs.Common.{◌&&◌, ap, subst, arith}
-use Rattle.std.specs.Prelude.{Result, Ok, Err}
+use Rattle.std.specs.Prelude.{Ok, Err}
 use mathlib.Core.Path.{fun_ext}
 use Rattle.std.specs.List.{slice_get}
 use Rattle.std.specs.Option.{option_map}
-use Rattle.std.proofs.lemmas.Bool.{cases_eq, not-false, ltb-false, false≢true}
+use Rattle.std.proofs.lemmas.Bool.{cases_eq, ltb-false, false≢true}
 use Rattle.std.proofs.lemmas.List.{length-map}
 use Rattle.std.proofs.lemmas.Nat.{div-mul-add, mod-mul-add}
 use Rattle.std.proofs.lemmas.Option.{slice_get-map, same_Some, none-some}
@@ -20,9 +20,9 @@ use Rattle.model.specs.declared.steps.Actor.TheVariants.{Worker}
 use Rattle.model.specs.declared.steps.Step.TheVariants as steps
 use Rattle.model.specs.declared.steps.Refusal.TheVariants as refusals
 use Rattle.model.specs.Phases.{is_idle}
-use Rattle.model.specs.Refusing.{◌>>=◌, refuse_if}
+use Rattle.model.specs.Refusing.{refuse_if}
 use Rattle.model.specs.Cycles.{is_lent}
-use Rattle.model.specs.Stores.{state_at, state_in, page_at, has_memory, is_open, is_protected}
+use Rattle.model.specs.Stores.{state_at, state_in, has_memory, is_open, is_protected}
 use Rattle.model.specs.Owning.{Each, IsStore}
 use Rattle.model.specs.Holding.{IsHeap, AreRising}
 use Rattle.model.specs.States.{HeapState, ThreadState}
@@ -30,14 +30,14 @@ use Rattle.model.specs.Threads.{register_in, buffer_in, has_crossed, is_parked_i
 use Rattle.model.specs.Registers.{register_of}
 use Rattle.model.specs.Bits.{of_page, bit_at}
 use Rattle.model.specs.Plain.{PlainHeap, plain_step, plain_answer}
-use Rattle.model.specs.Plans.{live_offsets, live_objects, plan_of, target_count, moves_of, place_of, side_of, with_sides}
-use Rattle.model.specs.Protections.{set_from_of, with_from_pages, with_protected, protect, protect_with, with_targets, is_closed, ripe, all_ripe}
+use Rattle.model.specs.Plans.{live_offsets, plan_of, target_count, moves_of, place_of, side_of}
+use Rattle.model.specs.Protections.{set_from_of, with_protected, protect, protect_with, with_targets, is_closed, ripe, all_ripe}
 use Rattle.model.specs.Protections.{free_count, unused_count, room_for, protect_outcome}
 use Rattle.model.proofs.Plans.{IsIn, at_in, bit_told, side_rises}
-use Rattle.laws.specs.AddressHeap.{AddressHeap, HeapObject, SideEntry, NoEntry, Planned, Copied}
+use Rattle.laws.specs.AddressHeap.{HeapObject, NoEntry, Planned, Copied}
 use Rattle.laws.specs.Edits.{protect_pages}
 use Rattle.laws.specs.Transitions.{MayProtect, Protect}
-use Rattle.refinement.specs.Worlds.{world_of, object_at, as_word, barrier_in, entry_at}
+use Rattle.refinement.specs.Worlds.{world_of, object_at, as_word, barrier_in}
 use Rattle.refinement.specs.Claims.{IsLaid, AreRowsOf, Apart, AreApart, Claim, OfObject, OfBuffer, OfPlan, OfEnd}
 use Rattle.refinement.specs.Claims.{Extent, extent, object_size, sized_extent, planned_extent, buffer_extent, end_extent}
 use Rattle.refinement.specs.Claims.{size_at, HasGiven}
@@ -49,11 +49,11 @@ use Rattle.refinement.proofs.Changes.{list_of, list_read}
 use Rattle.refinement.proofs.StartMarks.{kept_of_all, each_of_all, first_waits}
 use Rattle.refinement.proofs.Opened.{LiesOn, pages_apart, claim_lies}
 use Rattle.refinement.proofs.Targets.{targets_hold}
-use Rattle.refinement.proofs.Protecting.{IsOut, sides_many, pages_many, pages_read}
-use Rattle.refinement.proofs.Planned.{IsLive, IsPlanned, live_of, of_live, planned, place_extent, place_lies}
+use Rattle.refinement.proofs.Protecting.{sides_many, pages_many, pages_read}
+use Rattle.refinement.proofs.Planned.{IsPlanned, of_live, planned, place_extent, place_lies}
 use Rattle.refinement.proofs.Planned.{planned_apart}
 use Rattle.refinement.proofs.Emptied.{MayEmpty, GoesTo, IsEmptied, idle, positive, page_after, page_keeps}
-use Rattle.refinement.proofs.Emptied.{state_emptied, state_stays, objects_after, no_entry, side_after, side_stays}
+use Rattle.refinement.proofs.Emptied.{state_emptied, state_stays, objects_after, side_after, side_stays}
 use Rattle.refinement.proofs.Emptied.{goes_to, entry_after, in_or_out}
 
 -- a bit that is read as set is there

@@ -1,18 +1,16 @@
 -- Workers scan: objects are picked, and fields and globals are marked and written back.
-use Rattle.std.proofs.Common.{◌≡◌, ◌≢◌, inr, ℕ, ◌+◌, ◌*◌, ◌/◌, ◌%◌, ◌<◌, ◌≤◌, ◌&&◌, ◌||◌, Bool, true, false, cond, not}
+use Rattle.std.proofs.Common.{◌≡◌, ◌≢◌, inr, ℕ, ◌+◌, ◌*◌, ◌%◌, ◌<◌, ◌&&◌, ◌||◌, true, false, not}
 use Rattle.std.proofs.Common.{nat_lt, length, set, Option, Some, None, refl, sym, ◌∙◌, ap, ap₂, subst, arith, is_some}
 use mathlib.Core.Path.{fun_ext}
 use Rattle.std.specs.List.{slice_get}
 use Rattle.std.specs.Option.{option_map}
-use Rattle.std.specs.Prelude.{Result, Ok, Err}
 use Rattle.std.proofs.Math.ListN.{length-set}
-use Rattle.std.proofs.lemmas.Bool.{ltb-true, ltb-false, eq-eqb, true≢false, and_parts, not-false}
+use Rattle.std.proofs.lemmas.Bool.{ltb-true, eq-eqb, true≢false, and_parts, not-false}
 use Rattle.std.proofs.lemmas.Nat.{div-mul-add, mod-mul-add}
 use Rattle.refword.specs.Words.{IsWord}
 use Rattle.model.specs.declared.steps.Actor.TheVariants.{Worker}
 use Rattle.model.specs.declared.steps.Step.TheVariants as steps
 use Rattle.model.specs.declared.steps.Answer.TheVariants as answers
-use Rattle.model.specs.declared.steps.Refusal.TheVariants as refusals
 use Rattle.model.specs.declared.records.Global.{Global}
 use Rattle.model.specs.declared.records.Scan.{Scan}
 use Rattle.model.specs.Phases.{is_marking}
@@ -21,9 +19,9 @@ use Rattle.model.specs.Owning.{IsStore}
 use Rattle.model.specs.Holding.{IsHeap}
 use Rattle.model.specs.States.{HeapState, Reference, flat, change_at}
 use Rattle.model.specs.Registers.{register_of}
-use Rattle.model.specs.References.{read_reference, field_at, field_place, field_address, global_of}
+use Rattle.model.specs.References.{read_reference, field_at, global_of}
 use Rattle.model.specs.Bits.{bit_at, bit_on, with_bit}
-use Rattle.model.specs.Marks.{with_mark, mark_after, todo_after, marked_word}
+use Rattle.model.specs.Marks.{with_mark, marked_word}
 use Rattle.model.specs.Checkpoints.{first_behind, none_behind, all_crossed}
 use Rattle.model.specs.Scans.{scan_of, with_scan, first_field, next_field, is_scan_of, is_taken, may_scan, pick_outcome}
 use Rattle.model.specs.Scans.{reference_in, with_marked_place, with_scan_end, scan_next, scan_field_outcome}
@@ -46,9 +44,8 @@ use Rattle.refinement.specs.Claims.{IsLaid}
 use Rattle.refinement.specs.Standing.{Holds, StepHolds}
 use Rattle.refinement.proofs.Accepted.{OnAccepted, on_has, on_some, on_test, on_truth}
 use Rattle.refinement.proofs.Carrying.{Carries, RowHolds, and_then, becomes, row_by, stays}
-use Rattle.refinement.proofs.Changes.{kept_of, read_changed}
+use Rattle.refinement.proofs.Changes.{read_changed}
 use Rattle.refinement.proofs.Records.{records_of, records_carry}
-use Rattle.refinement.proofs.Rooted.{global_word}
 use Rattle.refinement.proofs.Marks.{LeadsTo, leads_to, marked_same, marked_is_word, mark_carries, bit_with, rows_with}
 use Rattle.refinement.proofs.Crossings.{none_is_behind}
 use Rattle.refinement.proofs.Written.{field_carries, word_there}
@@ -56,7 +53,7 @@ use Rattle.refinement.proofs.Loads.{field_is, read_named, global_same}
 use Rattle.refinement.proofs.References.{less_is}
 use Rattle.refinement.proofs.ObjectWords.{read_fits}
 use Rattle.refinement.proofs.Objects.{there}
-use Rattle.refinement.proofs.Verdicts.{first_false, second_false, field_there, field_past}
+use Rattle.refinement.proofs.Verdicts.{second_false, field_there, field_past}
 
 -- what workers scan then
 scans : (h : HeapState) (w : ℕ) → w < length h.workers → (c : Option Scan) (u : ℕ)

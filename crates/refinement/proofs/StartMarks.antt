@@ -31,9 +31,9 @@ use Rattle.model.specs.Cycles.{is_uncopied, has_uncopied, uncopied_from, none_un
 use Rattle.model.specs.Cycles.{start_mark_outcome}
 use Rattle.model.specs.Plain.{PlainHeap, plain_step, plain_answer}
 use Rattle.model.proofs.Memory.{page_there}
-use Rattle.laws.specs.AddressHeap.{AddressHeap, Null, Planned, Copied}
+use Rattle.laws.specs.AddressHeap.{Null, Planned}
 use Rattle.laws.specs.Edits as edits
-use Rattle.laws.specs.Transitions.{MayStartMark, StartMark}
+use Rattle.laws.specs.Transitions.{StartMark}
 use Rattle.refinement.specs.Worlds.{world_of, as_word, barrier_in, global_in, todo_in, entry_of}
 use Rattle.refinement.specs.Worlds as worlds
 use Rattle.refinement.specs.Roots.{HoldsWords}

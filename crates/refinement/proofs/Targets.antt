@@ -1,27 +1,25 @@
 -- Targets: pages that are opened for what is planned, wholly given out and to nobody. What was in the heap stays as it was.
-use Rattle.std.proofs.Common.{◌≡◌, ◌≢◌, ◌⊎◌, inl, inr, ℕ, zero, suc, ◌+◌, ◌-◌, ◌*◌, ◌/◌, ◌<◌, ◌≤◌, Bool, true, false}
+use Rattle.std.proofs.Common.{◌≡◌, ◌≢◌, ◌⊎◌, inl, inr, ℕ, zero, suc, ◌+◌, ◌*◌, ◌<◌, ◌≤◌, Bool, true, false}
 use Rattle.std.proofs.Common.{List, [], ◌∷◌, length, set, position, count_by, is_none, cond, replicate, Option, Some, None}
 use Rattle.std.proofs.Common.{IfSome, nat_eq, eq-eqb, ne_eqb, refl, sym, ◌∙◌, ap, subst, arith}
 use Rattle.std.specs.List.{slice_get}
-use Rattle.std.specs.Prelude.{Result, Ok, Err}
+use Rattle.std.specs.Prelude.{Ok}
 use Rattle.std.proofs.Math.ListN.{length-set}
 use Rattle.std.proofs.lemmas.Bool.{cases_eq}
 use Rattle.std.proofs.lemmas.List.Sums.{sum_by-cons}
 use Rattle.std.proofs.lemmas.Option.{same_Some}
-use Rattle.std.specs.Option.{option_map}
 use Rattle.model.specs.declared.records.Page.{Page}
 use Rattle.model.specs.declared.records.PageState.TheVariants.{Unused, Open}
 use Rattle.model.specs.declared.records.Buffer.{Buffer}
-use Rattle.model.specs.declared.records.Room.{Room}
 use Rattle.model.specs.Stores.{StoreState, state_at, is_unused, free_frame, unused_page, unused_in, open_fresh, fresh_page}
 use Rattle.model.specs.Stores.{give_words, take_fresh, buffer_of}
 use Rattle.model.specs.Owning.{Each, IsStore, LiesIn}
 use Rattle.model.specs.Holding.{FillsIn}
-use Rattle.model.specs.States.{HeapState, ThreadState}
+use Rattle.model.specs.States.{HeapState}
 use Rattle.model.specs.Bits.{bit_at}
 use Rattle.model.specs.Plain.{PlainHeap}
 use Rattle.model.specs.Protections.{take_target, with_target, with_targets, behind_target, free_count, unused_count}
-use Rattle.model.proofs.Lists.{get_set_same, get_within, count_set, position_none, none_far, as_number}
+use Rattle.model.proofs.Lists.{get_within, count_set, position_none, none_far, as_number}
 use Rattle.model.proofs.Plans.{IsIn, at_in}
 use Rattle.page.specs.Records.{is_unused_in}
 use Rattle.page.proofs.Found.{position_within, free_found, free_within, unused_found}
@@ -30,7 +28,7 @@ use Rattle.page.proofs.Lying.{well_opened}
 use Rattle.laws.specs.AddressHeap.{AddressHeap}
 use Rattle.laws.specs.Transitions.{TakeFresh}
 use Rattle.laws.specs.Edits.{open_page}
-use Rattle.refinement.specs.Worlds.{world_of, object_at}
+use Rattle.refinement.specs.Worlds.{object_at}
 use Rattle.refinement.specs.Claims.{Claim, OfEnd, Extent, extent, HasGiven}
 use Rattle.refinement.specs.Standing.{Holds}
 use Rattle.refinement.proofs.Carrying.{Carries, alike, step_by, stays}

@@ -1,0 +1,229 @@
+-- Worked examples of pages that are protected and emptied, computed by the definitions of these steps.
+use Rattle.std.proofs.Common.{◌≡◌, ℕ, List, [], ◌∷◌, ◌++◌, map, refl}
+use Rattle.std.specs.Prelude.{true, Result, Ok, Err, if◌then◌else◌}
+use Rattle.model.specs.declared.steps.Actor.{Actor}
+use Rattle.model.specs.declared.steps.Actor.TheVariants.{Thread, Worker}
+use Rattle.model.specs.declared.steps.Step.{Step}
+use Rattle.model.specs.declared.steps.Step.TheVariants as steps
+use Rattle.model.specs.declared.steps.Answer.{Answer}
+use Rattle.model.specs.declared.steps.Answer.TheVariants as answers
+use Rattle.model.specs.declared.steps.Refusal.{Refusal}
+use Rattle.model.specs.declared.steps.Refusal.TheVariants as refusals
+use Rattle.model.specs.States.{HeapState}
+use Rattle.model.specs.Refusing.{◌>>=◌, or_refuse, Outcome}
+use Rattle.model.specs.Stores.{page_at, state_at, spot_of, word_at, with_words, with_word, words_at}
+use Rattle.model.specs.Stores.{page_with_room, free_frame, unused_page, open_fresh, give_words, take_buffer}
+use Rattle.model.specs.Stores.{store_after_mark, first_store}
+use Rattle.model.specs.Registers.{register_of, with_register, let_through, usable, usable_or_null}
+use Rattle.model.specs.Registers.{same_outcome, is_null_outcome, copy_register_outcome}
+use Rattle.model.specs.Registers.{clear_register_outcome}
+use Rattle.model.specs.Data.{layout_at, datum_at, datum_outcome, set_datum_outcome}
+use Rattle.model.specs.References.{field_at, global_of, with_global, store_outcome, store_global_outcome}
+use Rattle.model.specs.Buffers.{with_buffer, lend_buffer, take_outcome, give_back_outcome}
+use Rattle.model.specs.Births.{place_object, new_outcome}
+use Rattle.model.specs.Marks.{entry_at, resolve, with_mark, marked_word}
+use Rattle.model.specs.Loads.{with_barrier, with_loaded, load_outcome, load_global_outcome, trap_due}
+use Rattle.model.specs.Loads.{trap_outcome, heal_place, heal_outcome, end_load, finish_outcome, barrier_of_thread}
+use Rattle.model.specs.Loads.{gc_trap_due, nmt_trap}
+use Rattle.model.specs.Checkpoints.{with_parked, first_behind, all_crossed, with_crossed}
+use Rattle.model.specs.Checkpoints.{with_marked_register, cross_thread, may_cross, cross_outcome}
+use Rattle.model.specs.Checkpoints.{cross_for_outcome, scrub_outcome, park_outcome, unpark_outcome}
+use Rattle.model.specs.Scans.{with_scan, is_taken, may_scan, pick_outcome, with_marked_place, with_scan_end}
+use Rattle.model.specs.Scans.{scan_field_outcome, with_marked_global, scan_global_outcome, is_free_todo}
+use Rattle.model.specs.Scans.{next_todo, next_drain}
+use Rattle.model.specs.Cycles.{has_uncopied, start_mark, start_mark_outcome, has_todo, first_pending}
+use Rattle.model.specs.Cycles.{is_lent, end_mark, retired_count, end_mark_outcome}
+use Rattle.model.specs.First.{first_heap}
+use Rattle.model.specs.Outcome.{no_register, no_global, no_page, thread_gate, worker_gate, outcome}
+use Rattle.model.specs.Plans.{live_offsets, live_objects, object_words, plan_of, moves_of, side_of}
+use Rattle.model.specs.Protections.{take_target, with_target, with_protected, protect, ripe, free_count, unused_count}
+use Rattle.model.specs.Protections.{room_for, protect_outcome, are_bad_pages}
+use Rattle.model.specs.Moves.{with_copied_words, with_copy, copied_first, moved_word, entry_on, copy_outcome}
+use Rattle.model.specs.Moves.{gc_trap, scrub_word, with_released, crossed_if_protecting, release_outcome}
+use Rattle.model.proofs.Examples.{Line, thread, worker, heap_after, reply_of, config}
+
+-- what a worker's step does, those that move objects too
+for_worker : HeapState → ℕ → Step → Outcome
+for_worker h w (steps.Protect pages) =
+    if are_bad_pages h pages then Err refusals.BadIndex else protect_outcome h pages
+for_worker h w (steps.Copy page entry) = copy_outcome h page entry
+for_worker h w (steps.Release page) = release_outcome h page
+for_worker h w s = outcome h (Worker w) s
+
+-- what a thread's step does
+for_thread : HeapState → ℕ → Step → Outcome
+for_thread h t steps.Trap = do
+  _ ← thread_gate h t steps.Trap
+  b ← or_refuse (barrier_of_thread h t) refusals.NotBusy
+  if gc_trap_due h t b.now then gc_trap h t b b.now else nmt_trap h t b
+for_thread h t (steps.Scrub r) = do
+  _ ← thread_gate h t (steps.Scrub r)
+  w ← or_refuse (register_of h t r) refusals.Null
+  scrub_word h t r w
+for_thread h t s = outcome h (Thread t) s
+
+moving_outcome : HeapState → Actor → Step → Outcome
+moving_outcome h (Worker w) s = for_worker h w s
+moving_outcome h (Thread t) s = for_thread h t s
+
+-- the replies to the steps of these lines, one after another
+replies : HeapState → List Line → List (Result Answer Refusal)
+replies h [] = []
+replies h (l ∷ ls) = reply_of (moving_outcome h l.actor l.step)
+    ∷ replies (heap_after h (moving_outcome h l.actor l.step)) ls
+
+-- Page 1 is closed, and has one live object with a datum of 5, which a global and a register of each thread name.
+closed_page : List Line
+closed_page =
+    thread 0 (steps.Take 16) (Ok (answers.Lent 1 0)) ∷
+    thread 0 (steps.New 0 0) (Ok (answers.Birth 0)) ∷
+    thread 0 (steps.SetDatum 0 0 5) (Ok answers.Done) ∷
+    thread 0 (steps.StoreGlobal 0 0) (Ok answers.Done) ∷
+    thread 0 steps.GiveBack (Ok answers.Done) ∷
+    thread 1 (steps.LoadGlobal 0 0) (Ok answers.Loaded) ∷
+    thread 1 steps.Trap (Ok answers.Clear) ∷
+    thread 1 steps.Finish (Ok answers.Done) ∷
+    worker 0 steps.StartMark (Ok answers.Done) ∷
+    thread 0 steps.Cross (Ok answers.Done) ∷
+    thread 1 steps.Cross (Ok answers.Done) ∷
+    worker 0 (steps.ScanGlobal 0) (Ok answers.Done) ∷
+    worker 0 (steps.Pick 1 0) (Ok answers.Done) ∷
+    worker 0 steps.ScanField (Ok answers.Scanned) ∷
+    worker 0 steps.ScanField (Ok answers.Finished) ∷
+    worker 0 steps.EndMark (Ok (answers.Ended 1 0)) ∷
+    []
+
+-- A thread that has crossed stalls, until all have; then it corrects its register, which copies the object.
+scrubbed : List Line
+scrubbed =
+    worker 0 (steps.Protect (1 ∷ [])) (Ok (answers.Protected 1 1)) ∷
+    thread 0 steps.Cross (Ok answers.Done) ∷
+    thread 0 (steps.Datum 0 0) (Err refusals.Stall) ∷
+    worker 0 (steps.Copy 1 0) (Err (refusals.NotCrossed 1)) ∷
+    thread 1 (steps.SetDatum 0 0 9) (Ok answers.Done) ∷
+    thread 1 steps.Cross (Ok answers.Done) ∷
+    thread 1 (steps.Datum 0 0) (Err refusals.Stale) ∷
+    thread 1 (steps.Scrub 0) (Ok answers.Moved) ∷
+    thread 0 (steps.Scrub 0) (Ok answers.Moved) ∷
+    thread 0 (steps.Datum 0 0) (Ok (answers.Datum 9)) ∷
+    thread 1 (steps.Datum 0 0) (Ok (answers.Datum 9)) ∷
+    worker 0 (steps.Copy 1 0) (Err refusals.Copied) ∷
+    thread 0 (steps.LoadGlobal 1 0) (Ok answers.Loaded) ∷
+    thread 0 steps.Trap (Ok answers.Moved) ∷
+    thread 0 steps.Trap (Ok answers.Clear) ∷
+    thread 0 steps.Heal (Ok answers.Healed) ∷
+    thread 0 steps.Finish (Ok answers.Done) ∷
+    thread 0 (steps.Same 0 1) (Ok (answers.Truth true)) ∷
+    thread 0 (steps.Scrub 0) (Ok answers.Clean) ∷
+    []
+
+-- A page gives its frame up once its objects are copied, and its number is used again only behind the next mark.
+released : List Line
+released =
+    worker 0 (steps.Protect (1 ∷ [])) (Ok (answers.Protected 1 1)) ∷
+    thread 0 steps.Cross (Ok answers.Done) ∷
+    thread 1 steps.Cross (Ok answers.Done) ∷
+    worker 0 (steps.Release 1) (Err (refusals.Uncopied 1)) ∷
+    worker 0 (steps.Copy 1 0) (Ok (answers.MovedTo 2 0)) ∷
+    worker 0 (steps.Release 1) (Ok (answers.Released 2)) ∷
+    worker 0 steps.StartMark (Ok answers.Done) ∷
+    thread 0 steps.Cross (Ok answers.Done) ∷
+    thread 1 steps.Cross (Ok answers.Done) ∷
+    thread 0 (steps.LoadGlobal 1 0) (Ok answers.Loaded) ∷
+    thread 0 steps.Trap (Ok answers.Moved) ∷
+    thread 0 steps.Trap (Ok answers.Marked) ∷
+    worker 0 (steps.ScanGlobal 0) (Ok answers.Done) ∷
+    worker 0 (steps.Pick 2 0) (Ok answers.Done) ∷
+    worker 0 steps.ScanField (Ok answers.Scanned) ∷
+    worker 0 steps.ScanField (Ok answers.Finished) ∷
+    worker 0 steps.EndMark (Err (refusals.Pending 0)) ∷
+    thread 0 steps.Heal (Ok answers.Changed) ∷
+    thread 0 steps.Finish (Ok answers.Done) ∷
+    worker 0 steps.EndMark (Ok (answers.Ended 1 1)) ∷
+    thread 1 (steps.Take 16) (Ok (answers.Lent 1 0)) ∷
+    []
+
+-- A mutator copies what it meets, once all have crossed.
+copied_by_a_thread : List Line
+copied_by_a_thread =
+    worker 0 (steps.Protect (1 ∷ [])) (Ok (answers.Protected 1 1)) ∷
+    thread 0 steps.Cross (Ok answers.Done) ∷
+    thread 0 (steps.LoadGlobal 1 0) (Ok answers.Loaded) ∷
+    thread 0 steps.Trap (Err refusals.Stall) ∷
+    thread 0 steps.Heal (Err refusals.Busy) ∷
+    thread 0 steps.Cross (Err refusals.Busy) ∷
+    thread 1 steps.Cross (Ok answers.Done) ∷
+    thread 0 steps.Trap (Ok answers.Moved) ∷
+    thread 0 steps.Trap (Ok answers.Clear) ∷
+    thread 0 steps.Finish (Err refusals.Busy) ∷
+    thread 0 steps.Heal (Ok answers.Healed) ∷
+    thread 0 steps.Finish (Ok answers.Done) ∷
+    thread 0 (steps.Datum 1 0) (Ok (answers.Datum 5)) ∷
+    worker 0 (steps.Copy 1 0) (Err refusals.Copied) ∷
+    []
+
+-- What can't be protected.
+unripe : List Line
+unripe =
+    thread 1 (steps.Take 3) (Ok (answers.Lent 2 0)) ∷
+    thread 1 (steps.New 1 0) (Ok (answers.Birth 1)) ∷
+    worker 0 (steps.Protect (2 ∷ [])) (Err (refusals.Lent 2)) ∷
+    thread 1 steps.GiveBack (Ok answers.Done) ∷
+    worker 0 (steps.Protect (2 ∷ [])) (Err (refusals.Unripe 2)) ∷
+    worker 0 (steps.Protect (1 ∷ 1 ∷ [])) (Err refusals.BadIndex) ∷
+    worker 0 (steps.Protect (9 ∷ [])) (Err refusals.BadIndex) ∷
+    worker 0 (steps.Protect []) (Err refusals.BadIndex) ∷
+    worker 0 (steps.Copy 1 0) (Err refusals.Phase) ∷
+    worker 0 (steps.Release 1) (Err refusals.Phase) ∷
+    thread 1 (steps.Take 16) (Ok (answers.Lent 3 0)) ∷
+    worker 0 (steps.Protect (1 ∷ [])) (Err (refusals.NoFrames 1 0)) ∷
+    []
+
+-- A page without live objects needs no target.
+emptied_at_once : List Line
+emptied_at_once =
+    thread 0 (steps.Take 16) (Ok (answers.Lent 1 0)) ∷
+    thread 0 (steps.New 0 0) (Ok (answers.Birth 0)) ∷
+    thread 0 (steps.ClearReg 0) (Ok answers.Done) ∷
+    thread 0 steps.GiveBack (Ok answers.Done) ∷
+    worker 0 steps.StartMark (Ok answers.Done) ∷
+    thread 0 steps.Cross (Ok answers.Done) ∷
+    thread 1 steps.Cross (Ok answers.Done) ∷
+    worker 0 (steps.ScanGlobal 0) (Ok answers.Done) ∷
+    worker 0 steps.EndMark (Ok (answers.Ended 0 0)) ∷
+    worker 0 (steps.Protect (1 ∷ [])) (Ok (answers.Protected 0 0)) ∷
+    thread 0 steps.Cross (Ok answers.Done) ∷
+    worker 0 (steps.Release 1) (Err (refusals.NotCrossed 1)) ∷
+    thread 1 steps.Cross (Ok answers.Done) ∷
+    worker 0 (steps.Release 1) (Ok (answers.Released 3)) ∷
+    thread 0 (steps.Take 16) (Ok (answers.Lent 2 0)) ∷
+    worker 0 steps.StartMark (Ok answers.Done) ∷
+    thread 0 steps.Cross (Ok answers.Done) ∷
+    thread 1 steps.Cross (Ok answers.Done) ∷
+    worker 0 (steps.ScanGlobal 0) (Ok answers.Done) ∷
+    worker 0 steps.EndMark (Ok (answers.Ended 0 1)) ∷
+    []
+
+-- the heap of this configuration has these replies
+abbrev Computes : List Line → Type 0
+Computes lines = replies (first_heap config) lines ≡ map (λ (l : Line). l.reply) lines
+
+moves_compute : Computes (closed_page ++ scrubbed) × Computes (closed_page ++ released)
+    × Computes (closed_page ++ copied_by_a_thread) × Computes (closed_page ++ unripe) × Computes emptied_at_once
+unfolding page_at state_at spot_of word_at with_words with_word words_at page_with_room free_frame unused_page
+    open_fresh give_words take_buffer store_after_mark first_store register_of with_register let_through usable
+    usable_or_null same_outcome is_null_outcome copy_register_outcome clear_register_outcome layout_at datum_at
+    datum_outcome set_datum_outcome field_at global_of with_global store_outcome store_global_outcome with_buffer
+    lend_buffer take_outcome give_back_outcome place_object new_outcome entry_at resolve with_mark marked_word
+    with_barrier with_loaded load_outcome load_global_outcome trap_due trap_outcome heal_place heal_outcome end_load
+    finish_outcome with_parked first_behind all_crossed with_crossed with_marked_register cross_thread may_cross
+    cross_outcome cross_for_outcome scrub_outcome park_outcome unpark_outcome with_scan is_taken may_scan
+    pick_outcome with_marked_place with_scan_end scan_field_outcome with_marked_global scan_global_outcome
+    is_free_todo next_todo next_drain has_uncopied start_mark start_mark_outcome has_todo first_pending is_lent
+    end_mark retired_count end_mark_outcome first_heap no_register no_global no_page thread_gate worker_gate outcome
+    live_offsets live_objects object_words plan_of moves_of side_of take_target with_target with_protected protect
+    ripe free_count unused_count room_for protect_outcome with_copied_words with_copy copied_first
+    moved_word entry_on copy_outcome with_released crossed_if_protecting release_outcome
+    for_worker for_thread moving_outcome replies reply_of heap_after config thread worker closed_page scrubbed
+    released copied_by_a_thread unripe emptied_at_once
+moves_compute = (refl, refl, refl, refl, refl)
