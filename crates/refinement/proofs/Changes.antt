@@ -72,8 +72,8 @@ list_read [] i = refl
 list_read (x ∷ xs) zero = refl
 list_read (x ∷ xs) (suc i) = list_read xs i
 
--- the rows of the pages with the row of one changed
-pub page_changed : (rows : List (List Bool)) (i : ℕ) (f : List Bool → List Bool) (row : List Bool)
+-- what the pages have, with that of one changed
+pub page_changed : {X : Type 0} (rows : List (List X)) (i : ℕ) (f : List X → List X) (row : List X)
     → slice_get rows i ≡ Some row → (m : ℕ) → of_page (change_at rows i f) m ≡ put (of_page rows) (suc i) (f row) m
 page_changed rows i f row e =
     put_all (λ m y. of_page (change_at rows i f) m ≡ y) (of_page rows) (suc i) (f row) here elsewhere

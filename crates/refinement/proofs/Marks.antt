@@ -34,7 +34,7 @@ use Rattle.refinement.proofs.Carrying.{Carries}
 use Rattle.refinement.proofs.Records.{records_of, records_carry}
 
 -- a page with words has a record
-record_there : (s : StoreState) (n : ℕ) (ws : List ℕ) → words_at s n ≡ Some ws
+pub record_there : (s : StoreState) (n : ℕ) (ws : List ℕ) → words_at s n ≡ Some ws
     → (n ≡ suc (n - 1)) × (n - 1 < length s.pages)
 unfolding words_at
 record_there s n ws e = by_page (page_at s n) refl e

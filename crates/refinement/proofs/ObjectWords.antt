@@ -36,7 +36,7 @@ object b n xs ds = record { birth = b; layout = n; refs = xs; data_words = ds }
 abbrev parted : ℕ → List Word → List ℕ → HeapObject
 parted header xs ds = record { birth = header % 2 ^ 32; layout = header / 2 ^ 32; refs = xs; data_words = ds }
 
-abbrev built : ℕ → List ℕ → List ℕ → HeapObject
+abbrev pub built : ℕ → List ℕ → List ℕ → HeapObject
 built header xs ds =
     record { birth = header % 2 ^ 32; layout = header / 2 ^ 32; refs = map word_in_memory xs; data_words = ds }
 
