@@ -3,7 +3,7 @@
 use Rattle.std.proofs.Common.{◌≡◌, Bool, true, false, cond, Option, Some, None, refl, subst}
 use Rattle.std.specs.Prelude.{Result, Ok, Err}
 use Rattle.model.specs.declared.steps.Refusal.{Refusal}
-use Rattle.model.specs.Refusing.{◌>>=◌, or_refuse}
+use Rattle.model.specs.Refusing.{◌>>=◌, or_refuse, refuse_if}
 use Rattle.model.proofs.Results.{same_result}
 
 abbrev pub accepted : {A : Type 0} → A → Result A Refusal
@@ -54,3 +54,9 @@ pub on_accepted : {A : Type 0} (r : Result A Refusal) (P Q : A → Type 0) → O
     → OnAccepted Q r
 on_accepted (Ok x) P Q h f = f x h
 on_accepted (Err n) P Q h f = tt
+
+-- _ ← refuse_if b n
+pub on_unless : {B : Type 0} (b : Bool) (n : Refusal) (f : Unit {0} → Result B Refusal) (P : B → Type 0)
+    → (b ≡ false → OnAccepted P (f tt)) → OnAccepted P (refuse_if b n >>= f)
+on_unless true n f P h = tt
+on_unless false n f P h = h refl

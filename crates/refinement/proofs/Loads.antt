@@ -180,13 +180,13 @@ marks_run h t (Some w) e = by_phase h.phase (has_crossed (slice_get h.threads t)
 module _ {h : HeapState} {p p0 : PlainHeap} (s : IsStore h.store) (d : IsHeap h) (k : Holds h p p0) (t : ℕ)
     (x : ThreadState) (at : slice_get h.threads t ≡ Some x) where
   module _ (b : Barrier) (first : barrier_of_thread h t ≡ Some b) where
-    load : IsLoad h.config.registers b
+    pub load : IsLoad h.config.registers b
     load = load_there h t x b k.words at (ap barrier_of (sym at) ∙ first)
 
-    in_world : (world_of h).barrier t ≡ Some (as_barrier b)
+    pub in_world : (world_of h).barrier t ≡ Some (as_barrier b)
     in_world = barrier_same (slice_get h.threads t) ∙ ap (option_map as_barrier) first
 
-    opened : OpenLoad (world_of h) (births_of p) t (as_barrier b)
+    pub opened : OpenLoad (world_of h) (births_of p) t (as_barrier b)
     opened = opened_of (world_of h) (births_of p) (births_of p0) k.invariant t (as_barrier b) in_world
 
     unmarked : trap_due h t b.now ≡ false → effects.nmt_trap_due (world_of h) t (as_word b.now) ≡ false
