@@ -1,14 +1,13 @@
 -- An object is copied to its planned place: the words there read as it, and its side entry says so.
-use Rattle.std.proofs.Common.{◌≡◌, ◌≢◌, ◌⊎◌, inl, inr, ℕ, zero, suc, ◌+◌, ◌-◌, ◌*◌, ◌/◌, ◌%◌, ◌<◌, ◌≤◌, Bool, true, false}
-use Rattle.std.proofs.Common.{◌||◌, cond, nat_eq, List, [], ◌∷◌, length, take, drop, map, get_or, set, Option, Some, None}
+use Rattle.std.proofs.Common.{◌≡◌, ◌≢◌, ◌⊎◌, inl, inr, ℕ, suc, ◌+◌, ◌-◌, ◌*◌, ◌/◌, ◌%◌, ◌<◌, ◌≤◌, Bool, true, false}
+use Rattle.std.proofs.Common.{◌||◌, cond, nat_eq, List, [], ◌∷◌, length, map, Option, Some, None}
 use Rattle.std.proofs.Common.{refl, sym, ◌∙◌, ap, ap₂, subst, arith, div-add-mod', ne_eqb}
 use mathlib.Core.Path.{fun_ext}
 use Rattle.std.specs.List.{slice_get}
 use Rattle.std.specs.Option.{option_map}
 use Rattle.std.proofs.lemmas.Bool.{cases_eq, eqb-true}
-use Rattle.std.proofs.lemmas.Option.{same_Some, slice_get_within}
+use Rattle.std.proofs.lemmas.Option.{same_Some}
 use Rattle.layout.specs.declared.shape.Layout.{Layout}
-use Rattle.layout.specs.Objects.{size_of}
 use Rattle.model.specs.declared.records.Forwarding.{Forwarding}
 use Rattle.model.specs.declared.records.PageState.TheVariants.{Open, From}
 use Rattle.model.specs.Stores.{words_at, with_words, state_at, page_at, has_memory, overlay}
@@ -20,7 +19,7 @@ use Rattle.model.specs.Bits.{of_page, bit_at, with_bit, put_bit}
 use Rattle.model.specs.Plans.{object_words}
 use Rattle.model.specs.Moves.{with_copy, with_copied_words, words_from, set_copied_of}
 use Rattle.model.proofs.Lists.{get_within, each_changed}
-use Rattle.model.proofs.Memory.{words_sized, words_memory, memory_words, length_overlaid, frames_stay}
+use Rattle.model.proofs.Memory.{words_sized, memory_words, length_overlaid}
 use Rattle.model.proofs.Tables.{length_changed, rows_changed}
 use Rattle.laws.specs.AddressHeap.{HeapObject, SideEntry, NoEntry, Planned, Copied, put}
 use Rattle.laws.specs.Invariant.{SoundObjects}
@@ -31,11 +30,10 @@ use Rattle.refinement.specs.Claims.{IsLaid, AreRowsOf, AreApart, Claim, OfObject
 use Rattle.refinement.specs.Claims.{Extent, extent, object_size, size_at, sized_extent, planned_extent}
 use Rattle.refinement.proofs.Slices.{Agree, same_lists, get_run, length_run, overlaid_in, overlaid_before}
 use Rattle.refinement.proofs.Slices.{overlaid_behind}
-use Rattle.refinement.proofs.ObjectWords.{IsRead, read_fits, read_size, read_refs, read_data, built}
+use Rattle.refinement.proofs.ObjectWords.{IsRead, read_fits, read_size, built}
 use Rattle.refinement.proofs.Objects.{Rewrites, IsThere, there, rewritten}
 use Rattle.refinement.proofs.Changes.{list_of, list_read, page_changed, length_put, bit_put, same_place}
 use Rattle.refinement.proofs.Claims.{object_extent, Splits, split_apart, Within}
-use Rattle.refinement.proofs.Carrying.{Carries, alike}
 use Rattle.refinement.proofs.Marks.{record_there}
 use Rattle.refinement.proofs.Planned as plans
 

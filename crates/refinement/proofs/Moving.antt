@@ -3,13 +3,13 @@ use Rattle.std.proofs.Common.{◌≡◌, ◌≢◌, ◌⊎◌, inl, inr, ℕ, ze
 use Rattle.std.proofs.Common.{not, cond, List, [], ◌∷◌, Option, Some, None, refl, sym, ◌∙◌, ap, ap₂, subst, arith}
 use Rattle.std.proofs.Common.{div-add-mod', ne_eqb, eq-eqb}
 use Rattle.std.specs.List.{slice_get}
-use Rattle.std.specs.Prelude.{Result, Ok, Err}
+use Rattle.std.specs.Prelude.{Ok, Err}
 use Rattle.std.specs.Option.{option_map}
 use Rattle.std.proofs.Math.Nat.{mod-lt, mul-le-mul_left}
-use Rattle.std.proofs.lemmas.Bool.{false≢true, true≢false, not-false}
+use Rattle.std.proofs.lemmas.Bool.{true≢false}
 use Rattle.std.proofs.lemmas.Nat.{div-mul-add, mod-mul-add, mul-add-lt}
 use Rattle.std.proofs.lemmas.Option.{slice_get_within, same_Some}
-use Rattle.refword.specs.Words.{IsAddress, IsWord}
+use Rattle.refword.specs.Words.{IsAddress}
 use Rattle.model.specs.declared.records.Barrier.{Barrier}
 use Rattle.model.specs.declared.records.Forwarding.{Forwarding}
 use Rattle.model.specs.declared.records.Page.{Page}
@@ -18,7 +18,6 @@ use Rattle.model.specs.declared.records.Phase.{Phase}
 use Rattle.model.specs.declared.records.Phase.TheVariants.{Idle, MarkCrossing, Scanning, ProtectCrossing, Relocating}
 use Rattle.model.specs.declared.steps.Actor.TheVariants.{Thread, Worker}
 use Rattle.model.specs.declared.steps.Step.TheVariants as steps
-use Rattle.model.specs.declared.steps.Answer.{Answer}
 use Rattle.model.specs.declared.steps.Answer.TheVariants as answers
 use Rattle.model.specs.declared.steps.Refusal.TheVariants as refusals
 use Rattle.model.specs.Phases.{is_crossing, is_moving, is_protect_crossing}
@@ -29,7 +28,6 @@ use Rattle.model.specs.States.{HeapState, ThreadState, Reference}
 use Rattle.model.specs.Threads.{has_crossed}
 use Rattle.model.specs.Bits.{of_page}
 use Rattle.model.specs.Marks.{entry_at}
-use Rattle.model.specs.Refusing.{◌>>=◌, or_refuse, refuse_if}
 use Rattle.model.specs.Registers.{register_of, with_register, let_through, held_back}
 use Rattle.model.specs.Loads.{barrier_of_thread, with_barrier, set_now_of, is_refused, gc_trap_due}
 use Rattle.model.specs.Checkpoints.{first_behind, none_behind, all_crossed}
@@ -38,9 +36,8 @@ use Rattle.model.specs.Moves.{with_copied_words, with_copy, copied_by, copied_fi
 use Rattle.model.specs.Moves.{copy_outcome, gc_trap, scrub_word}
 use Rattle.model.proofs.Memory.{page_there, frames_stay}
 use Rattle.page.proofs.Lying.{records_few}
-use Rattle.laws.specs.AddressHeap.{HeapObject, SideEntry, To, NoEntry, Planned, Copied, names}
-use Rattle.laws.specs.Edits.{copy_object, set_barrier}
-use Rattle.laws.specs.Effects.{set_register}
+use Rattle.laws.specs.AddressHeap.{HeapObject, To, Planned, Copied, names}
+use Rattle.laws.specs.Edits.{copy_object}
 use Rattle.laws.specs.Invariant.{IsKept}
 use Rattle.laws.specs.Transitions.{Copy, TrapMoved, TrapCopied, ScrubMoved, ScrubCopied}
 use Rattle.laws.proofs.Barriers as barriers
@@ -161,7 +158,7 @@ module _ {h : HeapState} {p p0 : PlainHeap} (s : IsStore h.store) (k : Holds h p
     world = copy_world h s k.laid k.invariant.objects a n q here plan;
   }
 
-  crossed : OnAccepted (λ (u : Unit {0}). (t : ℕ) → (world_of h).crossed t ≡ true) (all_crossed h)
+  pub crossed : OnAccepted (λ (u : Unit {0}). (t : ℕ) → (world_of h).crossed t ≡ true) (all_crossed h)
   unfolding all_crossed
   crossed = by_found (first_behind h.threads) refl
     where
