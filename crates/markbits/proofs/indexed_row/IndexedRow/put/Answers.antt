@@ -3,5 +3,5 @@ use Rattle.markbits.proofs.indexed_row.IndexedRow.put.Goals as goal
 
 pub invariant_of-self : goal.invariant_of-self
 invariant_of-self c =
-    put_index c.self.inside.row c.self.inside.blocks c.args.offset c.args.bit c.self.invariant _ _ _ _ c.put.ensures
+    put_index c.self.inside.row c.self.inside.blocks c.args.offset _ c.self.invariant _ _ _ _ c.put.ensures
     c.next_in_block.ensures c.is_some-has_bit.ensures c.put-2.ensures
