@@ -212,12 +212,13 @@ def mark_script(words, pages, threads, objects):
     head = [f"heap words {words} frames {frames} pages {pages} threads {threads} workers 1"
             " registers 4 globals 1", "layout 1 0"]
     each = words // 2
-    page = (["t0 new r1 0", "t0 store r1 0 r0", "t0 new r0 0", "t0 store r0 0 r1"] * each)[:2 * each]
     lines = []
-    for _ in range(objects // each + 1):
-        lines += [f"t0 take {words}"] + page + ["t0 give"]
-    lines = lines[:2 * objects + 2 * (objects // each)]
-    return head + lines + ["t0 clear r1", "w0 mark"] + [f"t{number} cross" for number in range(threads)]
+    for number in range(objects):
+        first, rest = ("r0", "r1") if number % 2 else ("r1", "r0")
+        lines += [f"t0 take {words}"] if number % each == 0 else []
+        lines += [f"t0 new {first} 0", f"t0 store {first} 0 {rest}"]
+        lines += ["t0 give"] if number % each == each - 1 else []
+    return head + lines + [f"t0 clear {rest}", "w0 mark"] + [f"t{number} cross" for number in range(threads)]
 
 
 def measure_mark(program, folder, words, pages, threads, objects):

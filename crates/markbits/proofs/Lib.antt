@@ -2,3 +2,4 @@ pub mod RowBits
 pub mod RowWords
 pub mod ManyRows
 pub mod Busy
+pub mod Blocks

@@ -7,6 +7,7 @@ ghost use Rattle.model.specs.Bits.{blank_row, put_bit, bit_on, bit_count};
 ghost use Rattle.markbits.specs.Words.{IsNextPlace};
 ghost use Rattle.markbits.specs.Indexing.{has_bits, settle};
 
+use crate::indexed_row::IndexedRow;
 use crate::rows::{Row, Rows};
 use std::alloc::{AllocError, Global};
 use std::marker::Model;
@@ -17,7 +18,7 @@ use std::marker::Model;
 pub struct IndexedRows {
     rows: Rows,
     /// Bit `i` is set where row `i` has a bit.
-    busy: Row,
+    busy: IndexedRow,
 }
 
 impl Model for IndexedRows {
@@ -32,7 +33,7 @@ impl Model for IndexedRows {
 }
 
 /// Sets the entry of an index as the row of this index has it, if there is one.
-fn settle(busy: &mut Row, rows: &Rows, index: usize)
+fn settle(busy: &mut IndexedRow, rows: &Rows, index: usize)
     ensures { busy.new ≡ settle busy.old index (slice_get rows.now index) }
 {
     if let Some(row) = rows.get(index) {
@@ -48,7 +49,7 @@ impl IndexedRows {
         ensures { IfOk result (λ r. r ≡ replicate count (replicate words false)) }
     {
         let rows = Rows::new(alloc, count, words)?;
-        let busy = Row::new(alloc, count)?;
+        let busy = IndexedRow::new(alloc, count)?;
         Ok(IndexedRows { rows, busy })
     }
 

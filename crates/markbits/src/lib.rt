@@ -3,7 +3,9 @@
 #![tactic(auto)]
 
 mod indexed;
+mod indexed_row;
 mod rows;
 
 pub use indexed::IndexedRows;
+pub use indexed_row::IndexedRow;
 pub use rows::{Row, Rows};

@@ -8,6 +8,7 @@ ghost use Rattle.model.specs.Bits.{blank_row, put_bit, bit_on, bit_count};
 ghost use Rattle.markbits.specs.Words.{bit_of, IsNextPlace};
 ghost use Rattle.std.specs.Borrow.{sem};
 ghost use Rattle.markbits.specs.Lending.{LendsRow};
+ghost use Rattle.markbits.specs.Blocks.{IsNextInBlock};
 
 use std::alloc::{AllocError, Global};
 use std::marker::Model;
@@ -103,6 +104,23 @@ impl Row {
             mask = u64::MAX;
         }
         None
+    }
+
+    /// The first place from an offset on where a bit is set, if there is one in the word of the
+    /// offset.
+    pub(crate) fn next_in_block(&self, offset: usize) -> Option<u32>
+        ensures { IsNextInBlock self.now offset result }
+    {
+        let index = offset / 64;
+        if index >= self.words.len() {
+            return None;
+        }
+        let word = self.words[index] & (u64::MAX << (offset % 64));
+        if word == 0 {
+            return None;
+        }
+        let place = index * 64 + word.trailing_zeros() as usize;
+        Some(place as u32)
     }
 
     /// How many bits are set below an offset; all of them from the row's end on.

@@ -77,6 +77,57 @@ fn rows_with_an_index(rt: HostRuntime) -> Result<(), Fail> {
     Ok(())
 }
 
+/// A row gets a bit, is found from itself and from the row below it on, and loses it again.
+fn finds_one_busy_row(rt: &impl Abort, rows: &mut IndexedRows, index: usize) {
+    rows.put(index, 15, true);
+    assert_eq!(rt;
+        rows.next_busy(0),
+        Some(index as u32),
+        "row {index} from the first"
+    );
+    assert_eq!(rt;
+        rows.next_busy(index),
+        Some(index as u32),
+        "row {index} from itself"
+    );
+    assert_eq!(rt; rows.next_busy(index + 1), None, "behind row {index}");
+    rows.put(index, 15, false);
+    assert!(rt; rows.is_empty(), "without row {index}");
+}
+
+/// The rows of a list have a bit: from each on it is found, and from behind it the next one.
+fn finds_each_busy_row(rt: &impl Abort, rows: &mut IndexedRows, busy: &[u32]) {
+    for index in busy {
+        rows.put(*index as usize, 0, true);
+    }
+    let mut from = 0;
+    for index in busy {
+        assert_eq!(rt; rows.next_busy(from), Some(*index), "from row {from}");
+        assert_eq!(rt; rows.next_busy(*index as usize), Some(*index));
+        from = *index as usize + 1;
+    }
+    assert_eq!(rt; rows.next_busy(from), None);
+}
+
+#[test]
+fn busy_rows_of_a_large_table(rt: HostRuntime) -> Result<(), Fail> {
+    let mut rows = IndexedRows::new(rt.alloc(), 8_192, 16)?;
+    let busy = [0, 1, 63, 64, 127, 128, 4_095, 4_096, 4_159, 8_191];
+    for index in busy {
+        finds_one_busy_row(&rt, &mut rows, index as usize);
+    }
+    finds_each_busy_row(&rt, &mut rows, &busy);
+    rows.put(8_192, 0, true);
+    assert_eq!(rt; rows.next_busy(8_192), None);
+    assert_eq!(rt; rows.next_busy(usize::MAX), None);
+    for index in [0, 1, 63, 64, 4_096] {
+        rows.clear(index);
+    }
+    assert_eq!(rt; rows.next_busy(0), Some(127));
+    assert_eq!(rt; rows.next_busy(4_096), Some(4_159));
+    Ok(())
+}
+
 #[test]
 fn copies_of_an_item(rt: HostRuntime) -> Result<(), Fail> {
     assert_eq!(rt; many(rt.alloc(), 3, 7u32)?.as_slice(), [7, 7, 7].as_slice());
