@@ -1,7 +1,7 @@
 use Rattle.std.proofs.Common.{◌∙◌, sym, ap, false}
 use Rattle.model.specs.Threads.{set_crossed_of}
-use Rattle.heap.proofs.Looping.{mapped_more}
-use Rattle.heap.proofs.heap.collecting.uncross_all.Goals as goal
+use Rattle.threads.proofs.Looping.{mapped_more}
+use Rattle.threads.proofs.threads.uncross_each.Goals as goal
 
 pub loop-thread-preserved : goal.loop-thread-preserved
 loop-thread-preserved c = mapped_more (set_crossed_of false) c.args.threads.now c.loop-thread.threads

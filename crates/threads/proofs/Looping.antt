@@ -1,6 +1,6 @@
 -- Loops that change each element of a list.
 use Rattle.std.proofs.Common.{◌≡◌, ℕ, ◌+◌, ◌<◌, ◌≤◌, List, [], ◌∷◌, ◌++◌, length, map, take, drop, get_or, set, refl}
-use Rattle.std.proofs.Common.{sym}
+use Rattle.std.proofs.Common.{sym, suc}
 use Rattle.std.proofs.Common.{◌∙◌, ap, arith, length-set}
 use Rattle.std.proofs.lemmas.List.{get_or-drop, take_more, take_more_set, map-append, drop-set-lt, take_all}
 use Rattle.std.proofs.lemmas.Grind.{drop_more_same}
@@ -35,3 +35,12 @@ pub mapped_all : {X : Type 0} (f : X → X) (old new : List X) (i : ℕ) → Are
     → new ≡ map f old
 mapped_all f old new i all past = sym (take_all i new past) ∙ all.before
     ∙ ap (map f) (take_all i old (omega (arith, all.many, past)))
+
+pub length_mapped : {X Y : Type 0} (f : X → Y) (xs : List X) → length (map f xs) ≡ length xs
+length_mapped f [] = refl
+length_mapped f (x ∷ xs) = ap suc (length_mapped f xs)
+
+-- a list that was changed element by element is as long as before
+pub mapped_many : {X : Type 0} (f : X → X) (old new : List X) (n : ℕ) → new ≡ map f old → length old ≡ n
+    → length new ≡ n
+mapped_many f old new n e k = ap length e ∙ length_mapped f old ∙ k

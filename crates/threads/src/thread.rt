@@ -5,6 +5,7 @@ ghost use Rattle.std.specs.Prelude.{◌≡◌, ◌<◌, length, slice_get, slice
 ghost use Rattle.model.specs.States.{flat};
 ghost use Rattle.model.specs.Threads.{set_register_of, set_buffer_of, set_barrier_of, set_loaded_of, set_parked_of, set_crossed_of};
 ghost use Rattle.model.specs.First.{blank_thread};
+ghost use Rattle.threads.specs.Counting.{counted_behind};
 
 use model::{Barrier, Buffer};
 use page::many;
@@ -65,6 +66,13 @@ impl Thread {
         ensures { result ≡ self.now.crossed }
     {
         self.crossed
+    }
+
+    /// As how many it counts of those that have still to cross.
+    pub(crate) fn counted_behind(&self) -> usize
+        ensures { result ≡ counted_behind self.now }
+    {
+        if self.crossed { 0 } else { 1 }
     }
 
     /// Whether it is blocked.
