@@ -239,13 +239,13 @@ impl Threads {
     /// A thread, if it is there, has made an object: a register, by its number from 0, gets the
     /// object's word, and its buffer is what is left of it.
     #[tactic(auto, using(crate::proofs::Counting::still_behind))]
-    pub fn hand_object(&mut self, thread: u32, register: u32, word: Word, rest: Buffer)
-        ensures { self.new ≡ change_at self.old thread (hand_object register word rest) }
+    pub fn hand_object(&mut self, thread: u32, target: u32, word: Word, rest: Buffer)
+        ensures { self.new ≡ change_at self.old thread (hand_object target word rest) }
     {
         if (thread as usize) < self.list.len() {
             let record = &mut self.list[thread as usize];
             record.set_buffer(Some(rest));
-            record.set_register(register, word);
+            record.set_register(target, word);
         }
     }
 
