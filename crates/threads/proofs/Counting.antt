@@ -29,7 +29,7 @@ pub still_behind : (ts : List ThreadState) (i n : ℕ) (x y : ThreadState) → n
     → x ≡ get_or ts i x → y.crossed ≡ x.crossed → n ≡ behind_count (set ts i y)
 still_behind ts i n x y e h read same =
     let there : slice_get ts i ≡ Some x = get_read ts i x h read in
-    let alike : as_number (not y.crossed) ≡ as_number (not x.crossed) = ap (λ b. as_number (not b)) same in
+    let alike : counted_behind y ≡ counted_behind x = ap (λ b. as_number (not b)) same in
     omega (arith, e, alike, count_set is_behind ts i x y there)
 
 -- a thread that has still to cross is counted
@@ -38,9 +38,9 @@ pub counted : (ts : List ThreadState) (i n left : ℕ) (x : ThreadState) → n �
 counted ts i n left x e h read is = by_truth (not x.crossed) refl
   where
     by_truth : (b : Bool) → not x.crossed ≡ b → left ≤ n
-    by_truth false f = let none : as_number (not x.crossed) ≡ 0 = ap as_number f in omega (arith, is, none)
+    by_truth false f = let none : counted_behind x ≡ 0 = ap as_number f in omega (arith, is, none)
     by_truth true f =
-        let one : as_number (not x.crossed) ≡ 1 = ap as_number f in
+        let one : counted_behind x ≡ 1 = ap as_number f in
         omega (arith, is, one, e, count_positive is_behind ts i x (get_read ts i x h read) f)
 
 -- a thread has crossed: the count is less by as much as it counted
@@ -48,17 +48,19 @@ pub one_less : (ts : List ThreadState) (i n left : ℕ) (x y : ThreadState) → 
     → x ≡ get_or ts i x → left ≡ counted_behind x → y.crossed ≡ true → n - left ≡ behind_count (set ts i y)
 one_less ts i n left x y e h read is crossed =
     let there : slice_get ts i ≡ Some x = get_read ts i x h read in
-    let none : as_number (not y.crossed) ≡ 0 = ap (λ b. as_number (not b)) crossed in
+    let none : counted_behind y ≡ 0 = ap (λ b. as_number (not b)) crossed in
     omega (arith, e, is, none, count_set is_behind ts i x y there)
 
 -- where all have still to cross, they are as many as the threads
 pub all_behind : (ts new : List ThreadState) → new ≡ map (set_crossed_of false) ts → length new ≡ behind_count new
 all_behind ts new e = subst (λ us. length us ≡ behind_count us) (sym e) (each ts)
   where
-    each : (ts : List ThreadState) → length (map (set_crossed_of false) ts) ≡ behind_count (map (set_crossed_of false) ts)
+    each : (ts : List ThreadState)
+        → length (map (set_crossed_of false) ts) ≡ behind_count (map (set_crossed_of false) ts)
     each [] = refl
     each (t ∷ ts) =
-        omega (arith, each ts, sum_by-cons (λ t. as_number (is_behind t)) (set_crossed_of false t) (map (set_crossed_of false) ts))
+        let rest = map (set_crossed_of false) ts in
+        omega (arith, each ts, sum_by-cons counted_behind (set_crossed_of false t) rest)
 
 -- where none counts, there is no first one, and else there is
 pub all_crossed : (ts : List ThreadState) (n : ℕ) → n ≡ behind_count ts → (n == 0) ≡ is_none (first_behind ts)
@@ -75,7 +77,7 @@ all_crossed ts n e = by_found (position is_behind ts) refl
     none_counts [] h = refl
     none_counts (u ∷ us) h =
         let here : as_number (is_behind u) ≡ 0 = ap as_number (h zero u refl) in
-        omega (arith, here, none_counts us (λ i x g. h (suc i) x g), sum_by-cons (λ t. as_number (is_behind t)) u us)
+        omega (arith, here, none_counts us (λ i x g. h (suc i) x g), sum_by-cons counted_behind u us)
 
     by_found : (o : Option ℕ) → position is_behind ts ≡ o → (n == 0) ≡ is_none o
     by_found None f = zero_is n (e ∙ none_counts ts (position_none is_behind ts f))

@@ -20,6 +20,9 @@ use std::marker::Model;
 ///
 /// It keeps how many have still to cross the open checkpoint, so that 'all have crossed' is known
 /// without a look at each.
+///
+/// What changes a thread is a raw edit for the crate that makes a heap, and not for a user: it does
+/// what it says and tests nothing.
 #[derive(Debug, Drop)]
 pub struct Threads {
     list: Vec<Thread>,
