@@ -1,8 +1,10 @@
 -- The count of threads that have still to cross.
 use Rattle.std.proofs.Common.{◌≡◌, ℕ, zero, suc, ◌-◌, ◌*◌, ◌<◌, ◌≤◌, Bool, true, false, not, List, [], ◌∷◌, map}
-use Rattle.std.proofs.Common.{replicate, set, length, get_or, position, is_none}
+use Rattle.std.proofs.Common.{replicate, set, length, get_or, position, is_none, take, drop, ◌++◌}
 use Rattle.std.proofs.Common.{Option, Some, None, refl, sym, ◌∙◌, ap, subst, arith}
 use Rattle.std.specs.List.{slice_get}
+use Rattle.std.proofs.lemmas.List.{take_all, take-append-le}
+use Rattle.threads.proofs.Looping.{length_mapped}
 use Rattle.std.specs.Prelude.{◌==◌}
 use Rattle.std.proofs.lemmas.List.Sums.{sum_by-cons}
 use Rattle.std.proofs.lemmas.Bool.Decides.{nat_tests}
@@ -52,7 +54,7 @@ one_less ts i n left x y e h read is crossed =
     omega (arith, e, is, none, count_set is_behind ts i x y there)
 
 -- where all have still to cross, they are as many as the threads
-pub all_behind : (ts new : List ThreadState) → new ≡ map (set_crossed_of false) ts → length new ≡ behind_count new
+all_behind : (ts new : List ThreadState) → new ≡ map (set_crossed_of false) ts → length new ≡ behind_count new
 all_behind ts new e = subst (λ us. length us ≡ behind_count us) (sym e) (each ts)
   where
     each : (ts : List ThreadState)
@@ -93,3 +95,14 @@ none_found ts n e h = sym (is_missing (first_behind ts) (sym (all_crossed ts n e
     is_missing : (o : Option ℕ) → is_none o ≡ true → o ≡ None
     is_missing None e = refl
     is_missing (Some i) e = absurd (cc)
+
+-- the same, as they are written back over the list that they were lent of
+pub all_behind_back : (items old new : List ThreadState) (len n : ℕ) → n ≡ len → length old ≡ len
+    → new ≡ map (set_crossed_of false) old → n ≡ behind_count (take len (new ++ drop (length new) items))
+all_behind_back items old new len n e many is =
+    let size : length new ≡ len = ap length is ∙ length_mapped (set_crossed_of false) old ∙ many in
+    e ∙ sym size ∙ all_behind old new is ∙ ap behind_count (sym (taken len size))
+  where
+    taken : (len : ℕ) → length new ≡ len → take len (new ++ drop (length new) items) ≡ new
+    taken len size = subst (λ n. take n (new ++ drop (length new) items) ≡ new) size
+        (take-append-le (length new) new _ (omega arith) ∙ take_all (length new) new (omega arith))

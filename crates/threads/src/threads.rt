@@ -266,11 +266,12 @@ impl Threads {
     }
 
     /// All have still to cross (the paper's checkpoints).
-    #[tactic(auto, using(crate::proofs::Counting::all_behind))]
+    #[tactic(auto, using(crate::proofs::Counting::all_behind_back))]
     pub fn uncross_all(&mut self)
         ensures { self.new ≡ map (set_crossed_of false) self.old }
     {
+        let count = self.list.len();
         uncross_each(&mut self.list);
-        self.behind = self.list.len();
+        self.behind = count;
     }
 }
