@@ -1,14 +1,13 @@
 //! The record of a mutator thread. Its barrier, and whether it has crossed, are of the paper's read
 //! barrier and checkpoints; the rest is ours.
 
-ghost use Rattle.std.specs.Prelude.{◌≡◌, ◌<◌, length, slice_get, slice_set, IfOk};
+ghost use Rattle.std.specs.Prelude.{◌≡◌, ◌<◌, length, slice_get, slice_set, replicate, None, IfOk};
 ghost use Rattle.model.specs.States.{flat};
 ghost use Rattle.model.specs.Threads.{set_register_of, set_buffer_of, set_barrier_of, set_loaded_of, set_parked_of, set_crossed_of};
 ghost use Rattle.model.specs.First.{blank_thread};
 ghost use Rattle.threads.specs.Counting.{counted_behind};
 
 use model::{Barrier, Buffer};
-use page::many;
 use refword::Word;
 use std::alloc::{AllocError, Global};
 use std::marker::Model;
@@ -31,13 +30,24 @@ impl Model for Thread {
     ghost view = { λ t. record { registers = t.registers.items; buffer = t.buffer; crossed = t.crossed; parked = t.parked; barrier = t.barrier } };
 }
 
+/// So many registers, which are null. Fails only by memory.
+fn null_registers(alloc: Global, count: u32) -> Result<Vec<Word>, AllocError>
+    ensures { IfOk result (λ v. v.items ≡ replicate count None) }
+{
+    let mut registers = Vec::with_capacity(alloc, count as usize)?;
+    for _register in 0..count {
+        registers.push(Word::null())?;
+    }
+    Ok(registers)
+}
+
 impl Thread {
     /// A thread of so many registers, in a heap 1 to 16, which are null. It has crossed, and it
     /// runs. Fails only by memory.
     pub(crate) fn new(alloc: Global, registers: u32) -> Result<Thread, AllocError>
         ensures { IfOk result (λ t. t ≡ blank_thread registers) }
     {
-        let registers = many(alloc, registers, Word::null())?;
+        let registers = null_registers(alloc, registers)?;
         Ok(Thread {
             registers,
             buffer: None,
