@@ -19,10 +19,7 @@ use Rattle.model.specs.Bits.{blank_row, blank_all}
 use Rattle.model.specs.Cycles.{is_lent, is_buffer_on, set_todo_of}
 use Rattle.model.specs.Holding.{IsHeap, FillsIn, AreRowsFor}
 use Rattle.page.proofs.Ended.{ended_sized, ended_lies}
-
-length_mapped : {X Y : Type 0} (f : X → Y) (xs : List X) → length (map f xs) ≡ length xs
-length_mapped f [] = refl
-length_mapped f (x ∷ xs) = ap suc (length_mapped f xs)
+use Rattle.threads.proofs.Looping.{length_mapped}
 
 -- each element of a list comes of one before it
 each_mapped : {X Y : Type 0} (P : X → Type 0) (Q : Y → Type 0) (f : X → Y) (xs : List X) → ((x : X) → P x → Q (f x))
@@ -102,11 +99,3 @@ started_keeps h threads globals nmt i e f = record {
   buffers = subst (λ ts. Each ts (FillsIn h.store)) (sym e)
       (each_mapped (FillsIn h.store) (FillsIn h.store) (set_crossed_of false) h.threads (λ t k. k) i.buffers);
 }
-
--- lists that were changed element by element are as long as before
-pub crossed_many : (ts us : List ThreadState) (n : ℕ) → us ≡ map (set_crossed_of false) ts → length ts ≡ n
-    → length us ≡ n
-crossed_many ts us n e k = ap length e ∙ length_mapped (set_crossed_of false) ts ∙ k
-
-pub todo_many : (gs us : List Global) (n : ℕ) → us ≡ map set_todo_of gs → length gs ≡ n → length us ≡ n
-todo_many gs us n e k = ap length e ∙ length_mapped set_todo_of gs ∙ k

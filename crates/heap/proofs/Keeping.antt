@@ -1,7 +1,6 @@
 -- What is done to a heap keeps its invariant.
 use Rattle.std.proofs.Common.{◌≡◌, ℕ, Bool, ◌-◌, ◌<◌, ◌≤◌, ◌+◌, List, Option, Some, None, replicate, arith, rules}
-use Rattle.std.proofs.Common.{set, length, ◌∙◌, sym, subst, true}
-use Rattle.std.proofs.Math.ListN.{length-set}
+use Rattle.std.proofs.Common.{length, ap, ◌∙◌, sym, subst, true}
 use Rattle.std.specs.Option.{IfSome}
 use Rattle.model.specs.declared.records.Buffer.{Buffer}
 use Rattle.model.specs.Stores.{StoreState}
@@ -11,9 +10,9 @@ use Rattle.model.specs.Holding.{IsHeap, HasSizes, FillsIn, AreRowsFor}
 use Rattle.model.specs.States.{HeapState, ThreadState, change_at}
 use Rattle.model.specs.Bits.{put_bit}
 use Rattle.model.specs.Buffers.{opened_rows}
-use Rattle.model.proofs.Tables.{rows_put, rows_opened}
+use Rattle.model.proofs.Tables.{length_changed, rows_put, rows_opened}
 use Rattle.model.specs.First.{blank_thread}
-use Rattle.model.proofs.Lists.{each_set, each_replicate}
+use Rattle.model.proofs.Lists.{each_changed, each_replicate}
 
 -- threads of a new heap have no buffers
 pub first_fills : (s : StoreState) (n registers : ℕ) (threads : List ThreadState)
@@ -42,20 +41,22 @@ store_sized h s k z = record {
   globals = z.globals;
 }
 
-pub thread_keeps : (h : HeapState) (t : ℕ) (x : ThreadState) → IsHeap h → FillsIn h.store x
-    → IsHeap (record h { threads = set h.threads t x })
-thread_keeps h t x i f =
-    record {
-      config = i.config;
-      sizes = threads_sized h (set h.threads t x) (length-set h.threads t x) i.sizes;
-      starts = i.starts;
-      live = i.live;
-      mark = i.mark;
-      todo = i.todo;
-      sides = i.sides;
-      births = i.births;
-      buffers = each_set (FillsIn h.store) h.threads t x i.buffers f;
-    }
+-- a thread is changed, whose buffer then lies in an open page
+pub thread_keeps : (h : HeapState) (t : ℕ) (change : ThreadState → ThreadState) (threads : List ThreadState) → IsHeap h
+    → threads ≡ change_at h.threads t change
+    → ((x : ThreadState) → FillsIn h.store x → FillsIn h.store (change x)) → IsHeap (record h { threads = threads })
+thread_keeps h t change threads i e fills = record {
+  config = i.config;
+  sizes = threads_sized h threads (ap length e ∙ length_changed h.threads t change) i.sizes;
+  starts = i.starts;
+  live = i.live;
+  mark = i.mark;
+  todo = i.todo;
+  sides = i.sides;
+  births = i.births;
+  buffers = subst (λ ts. Each ts (FillsIn h.store)) (sym e)
+      (each_changed (FillsIn h.store) h.threads t change i.buffers fills);
+}
 
 fills_in : (s t : StoreState) (b : Option Buffer) → ((c : Buffer) → LiesIn s c → LiesIn t c) → IfSome b (LiesIn s)
     → IfSome b (LiesIn t)

@@ -1,5 +1,4 @@
 pub mod Cycling
 pub mod Keeping
-pub mod Looping
 pub mod Marking
 pub mod Writing

@@ -1,25 +1,20 @@
 -- Marks keep what holds of a heap.
 use Rattle.std.proofs.Common.{None, ◌≡◌, ℕ, zero, suc, ◌+◌, ◌&&◌, ◌-◌, ◌/◌, ◌%◌, Bool, true, false, List, [], get_or}
 use Rattle.std.proofs.Common.{replicate, refl}
-use Rattle.std.proofs.Common.{◌∙◌, sym, ap, subst, set, Option, Some}
-use Rattle.std.specs.List.{slice_get}
-use Rattle.std.specs.Option.{IfSome}
+use Rattle.std.proofs.Common.{◌∙◌, sym, ap, subst}
 use Rattle.std.specs.Prelude.{if◌then◌else◌}
 use Rattle.model.specs.declared.config.Config.{Config}
 use Rattle.model.specs.declared.records.Forwarding.{Forwarding}
 use Rattle.model.specs.First.{no_sides}
-use Rattle.model.specs.declared.records.Buffer.{Buffer}
 use Rattle.model.specs.declared.records.Phase.{Phase}
-use Rattle.model.specs.States.{HeapState, ThreadState}
+use Rattle.model.specs.States.{HeapState}
 use Rattle.model.specs.Holding.{IsHeap, AreRowsFor}
-use Rattle.model.specs.Owning.{LiesIn}
 use Rattle.model.proofs.Tables.{rows_put}
 use Rattle.model.specs.Bits.{of_page, with_bit}
 use Rattle.model.specs.Marks.{entry_of, entry_at, forward_by, resolve}
 use Rattle.std.specs.List.{list_any}
 use Rattle.model.specs.Stores.{state_at, is_from}
 use Rattle.model.specs.Cycles.{is_uncopied, has_uncopied, uncopied_from}
-use Rattle.heap.proofs.Keeping.{thread_keeps}
 
 no_entries : (n m : ℕ) → get_or {A = List Forwarding} (replicate n []) m [] ≡ []
 no_entries zero m = refl
@@ -85,12 +80,6 @@ pub bit_kept : (c : Config) (rows new : List (List Bool)) (words a : ℕ) (bit u
     → new ≡ (if unless then rows else with_bit rows words a bit) → AreRowsFor c new
 bit_kept c rows new words a bit true r e = subst (AreRowsFor c) (sym e) r
 bit_kept c rows new words a bit false r e = bit_keeps c rows new words a bit r e
-
--- a thread has crossed
-pub crossed_keeps : (h : HeapState) (t : ℕ) (x y : ThreadState) → IsHeap h → slice_get h.threads t ≡ Some x
-    → y.buffer ≡ x.buffer → IsHeap (record h { threads = set h.threads t y })
-crossed_keeps h t x y i at same =
-    thread_keeps h t y i (subst (λ (b : Option Buffer). IfSome b (LiesIn h.store)) (sym same) (i.buffers t x at))
 
 -- another phase
 pub phase_keeps : (h : HeapState) (p : Phase) → IsHeap h → IsHeap (record h { phase = p })

@@ -9,17 +9,16 @@ mod making;
 mod marks;
 pub mod references;
 mod registers;
-mod threads;
 
 ghost use Rattle.std.specs.Prelude.{◌≡◌};
 ghost use Rattle.model.specs.Owning.{IsStore};
 ghost use Rattle.model.specs.Holding.{IsHeap};
 
-use crate::thread::Thread;
 use markbits::{IndexedRows, Rows};
 use model::{Config, Global, Phase, Scan};
 use page::Store;
 use std::marker::Model;
+use threads::{Thread, Threads};
 
 /// The heap of a program: objects on pages, the threads that use them, and the collector.
 ///
@@ -43,7 +42,7 @@ pub struct Heap {
     live: Rows,
     mark: Rows,
     todo: IndexedRows,
-    threads: Vec<Thread>,
+    threads: Threads,
     workers: Vec<Option<Scan>>,
     globals: Vec<Global>,
     phase: Phase,
@@ -121,7 +120,7 @@ impl Heap {
     pub fn threads(&self) -> &[Thread]
         ensures { result.now ≡ self.now.threads }
     {
-        &self.threads
+        self.threads.as_slice()
     }
 
     /// What each worker scans, by number from 0 (the paper's Mark phase).

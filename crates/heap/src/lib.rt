@@ -6,7 +6,6 @@
 
 mod fault;
 mod heap;
-mod thread;
 
 pub use fault::NewFault;
 pub use heap::Heap;
@@ -15,4 +14,4 @@ pub use heap::edits::Edits;
 pub use heap::references::read_reference;
 pub use markbits::{IndexedRows, Row, Rows};
 pub use model::{Config, ConfigFault, Refusal};
-pub use thread::Thread;
+pub use threads::Thread;

@@ -121,15 +121,12 @@ impl Heap {
     }
 
     /// A thread's register gets a new object's word, and its buffer is what is left of it.
+    #[tactic(auto, using(crate::proofs::Keeping::thread_keeps))]
     fn hand_over(&mut self, thread: u32, target: u32, word: Word, rest: Buffer)
         requires { LiesIn self.old.store rest }
         ensures { self.new ≡ record self.old { threads = change_at self.old.threads thread (hand_object target word rest) } }
     {
-        if (thread as usize) < self.threads.len() {
-            let record = &mut self.threads[thread as usize];
-            record.set_buffer(Some(rest));
-            record.set_register(target, word);
-        }
+        self.threads.hand_object(thread, target, word, rest);
     }
 
     /// The address at which the next object of a buffer starts.

@@ -35,10 +35,7 @@ impl Heap {
         ensures value { result ≡ buffer_of_thread self.now thread }
         ensures lies { IfSome result (LiesIn self.now.store) }
     {
-        match self.threads.get(thread as usize) {
-            None => None,
-            Some(record) => record.buffer(),
-        }
+        self.threads.buffer(thread)
     }
 
     /// Clears the rows of a page of which a buffer is the first.
@@ -52,16 +49,13 @@ impl Heap {
     }
 
     /// Gives a thread a buffer that was taken of the store.
-    #[tactic(auto, unfolding(model::specs::Buffers::lend_buffer))]
+    #[tactic(auto, unfolding(model::specs::Buffers::lend_buffer), using(crate::proofs::Keeping::thread_keeps))]
     fn lend(&mut self, thread: u32, buffer: Buffer)
         requires { LiesIn self.old.store buffer }
         ensures { self.new ≡ lend_buffer self.old thread self.old.store buffer }
     {
         self.open_rows(buffer);
-        if (thread as usize) < self.threads.len() {
-            let record = &mut self.threads[thread as usize];
-            record.set_buffer(Some(buffer));
-        }
+        self.threads.set_buffer(thread, Some(buffer));
     }
 
     /// A thread takes a buffer of 1 to the words of a page, in the lowest open page with room,
@@ -92,7 +86,7 @@ impl Heap {
 
     /// A thread gives its buffer back, whose rest is lost. Refused where it has none (`NoRoom`).
     ///
-    #[tactic(auto, unfolding(model::specs::Buffers::give_back_outcome, model::specs::Buffers::with_buffer))]
+    #[tactic(auto, unfolding(model::specs::Buffers::give_back_outcome, model::specs::Buffers::with_buffer), using(crate::proofs::Keeping::thread_keeps))]
     pub fn give_back(&mut self, thread: u32) -> Reply
         requires { Passes self.old thread steps.GiveBack }
         ensures { Does self.old result self.new (give_back_outcome self.old thread) }
@@ -101,10 +95,7 @@ impl Heap {
             return Err(Refusal::NoRoom);
         };
         self.store.give_back(buffer);
-        if (thread as usize) < self.threads.len() {
-            let record = &mut self.threads[thread as usize];
-            record.set_buffer(None);
-        }
+        self.threads.set_buffer(thread, None);
         Ok(Answer::Done)
     }
 }

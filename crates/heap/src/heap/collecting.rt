@@ -14,13 +14,12 @@ ghost use Rattle.model.specs.Threads.{set_crossed_of};
 ghost use Rattle.page.specs.Ending.{with_mark_ended_at};
 
 use crate::heap::Heap;
-use crate::heap::crossing::{first_behind, is_lent, phase_behind};
 use crate::heap::marks::{bit_at, put_bit, put_indexed_bit};
-use crate::thread::Thread;
 use markbits::{IndexedRows, Rows};
 use model::{Global, PageState, Phase, Scan};
 use page::Store;
 use refword::{Addr, Word};
+use threads::Threads;
 
 /// Edits for the crates that do rows of the collector's steps. As those of `Edits`, each does what
 /// it says and tests nothing. Threads, workers and globals count from 0.
@@ -65,18 +64,8 @@ fn mark_at(mark: &mut Rows, todo: &mut IndexedRows, store: &Store, address: Addr
     put_bit(mark, store, address, true);
 }
 
-/// All threads have still to cross.
-#[tactic(auto, using(crate::proofs::Looping::mapped_none, crate::proofs::Looping::mapped_more, crate::proofs::Looping::mapped_all))]
-fn uncross_all(threads: &mut [Thread])
-    ensures { threads.new ≡ map (set_crossed_of false) threads.old }
-{
-    for thread in threads.iter_mut() {
-        thread.set_crossed(false);
-    }
-}
-
 /// All globals have still to be marked.
-#[tactic(auto, using(crate::proofs::Looping::mapped_none, crate::proofs::Looping::mapped_more, crate::proofs::Looping::mapped_all))]
+#[tactic(auto, using(threads::proofs::Looping::mapped_none, threads::proofs::Looping::mapped_more, threads::proofs::Looping::mapped_all))]
 fn set_all_todo(globals: &mut [Global])
     ensures { globals.new ≡ map set_todo_of globals.old }
 {
@@ -96,20 +85,20 @@ fn is_open_at(store: &Store, index: usize) -> bool
 }
 
 /// Ends a mark for the page of an index. Threads are asked for their buffers where it is open.
-fn end_page(store: &mut Store, threads: &[Thread], index: usize)
+fn end_page(store: &mut Store, threads: &Threads, index: usize)
     requires { index < length store.old.pages }
     ensures { store.new ≡ with_mark_ended_at store.old index (is_lent threads.now (index + 1)) }
 {
     store.law();
     if is_open_at(store, index) {
-        store.end_mark_at(index, is_lent(threads, (index + 1) as u32));
+        store.end_mark_at(index, threads.is_lent((index + 1) as u32));
     } else {
         store.end_mark_at(index, false);
     }
 }
 
 /// Ends a mark for all pages.
-fn end_pages(store: &mut Store, threads: &[Thread])
+fn end_pages(store: &mut Store, threads: &Threads)
     ensures { store.new ≡ store_after_mark (is_lent threads.now) store.old }
 {
     let count = store.pages().len();
@@ -120,11 +109,22 @@ fn end_pages(store: &mut Store, threads: &[Thread])
     store.law();
 }
 
+/// The phase behind a checkpoint (the paper's checkpoints).
+fn phase_behind(phase: Phase) -> Phase
+    ensures { result ≡ phase_behind phase }
+{
+    match phase {
+        Phase::MarkCrossing => Phase::Scanning,
+        Phase::ProtectCrossing => Phase::Relocating,
+        other => other,
+    }
+}
+
 /// The phase after a thread has crossed: the next one where no thread is behind.
-fn phase_after(threads: &[Thread], phase: Phase) -> Phase
+fn phase_after(threads: &Threads, phase: Phase) -> Phase
     ensures { result ≡ (if is_none (first_behind threads.now) then phase_behind phase else phase) }
 {
-    if first_behind(threads).is_none() {
+    if threads.all_crossed() {
         phase_behind(phase)
     } else {
         phase
@@ -133,13 +133,11 @@ fn phase_after(threads: &[Thread], phase: Phase) -> Phase
 
 impl Heap {
     /// A thread, if it is there, has crossed; the phase stays.
+    #[tactic(auto, using(crate::proofs::Keeping::thread_keeps))]
     fn cross(&mut self, thread: u32)
         ensures { self.new ≡ record self.old { threads = change_at self.old.threads thread (set_crossed_of true) } }
     {
-        if (thread as usize) < self.threads.len() {
-            let record = &mut self.threads[thread as usize];
-            record.set_crossed(true);
-        }
+        self.threads.set_crossed(thread);
     }
 }
 
@@ -200,7 +198,7 @@ impl CollectorEdits for Heap {
         ensures { self.new ≡ start_mark self.old }
     {
         self.nmt = !self.nmt;
-        uncross_all(&mut self.threads);
+        self.threads.uncross_all();
         set_all_todo(&mut self.globals);
         self.phase = Phase::MarkCrossing;
     }

@@ -1,58 +1,53 @@
-//! What is asked of all threads: who has still to cross (the paper's checkpoints), who has an open
-//! barrier, and whether a buffer of a page is lent.
+//! What threads take part in: loads that aren't finished, and checkpoints, both the paper's; and
+//! being parked, which is ours.
 
-ghost use Rattle.std.specs.Prelude.{◌≡◌, ◌<◌, length, IfSome};
-ghost use Rattle.model.specs.Checkpoints.{first_behind, phase_behind};
-ghost use Rattle.model.specs.Cycles.{first_pending, is_buffer_on, is_lent};
+ghost use Rattle.std.specs.Prelude.{◌≡◌, slice_get};
+ghost use Rattle.model.specs.Loads.{barrier_of_thread};
+ghost use Rattle.model.specs.Checkpoints.{first_behind};
+ghost use Rattle.model.specs.Cycles.{first_pending};
+ghost use Rattle.model.specs.Threads.{has_crossed, is_parked_in};
 
-use crate::thread::Thread;
-use model::{Buffer, Phase};
+use crate::heap::Heap;
+use model::Barrier;
 
-/// The least of some threads that hasn't crossed, by its number from 0.
-#[tactic(auto, unfolding(model::specs::Checkpoints::first_behind))]
-pub(crate) fn first_behind(threads: &[Thread]) -> Option<usize>
-    ensures value { result ≡ first_behind threads.now }
-    ensures there { IfSome result (λ t. t < length threads.now) }
-{
-    threads.iter().position(|thread| !thread.has_crossed())
-}
-
-/// The least of some threads that has an open barrier, by its number from 0.
-#[tactic(auto, unfolding(model::specs::Cycles::first_pending))]
-pub(crate) fn first_pending(threads: &[Thread]) -> Option<usize>
-    ensures value { result ≡ first_pending threads.now }
-    ensures there { IfSome result (λ t. t < length threads.now) }
-{
-    threads.iter().position(|thread| thread.barrier().is_some())
-}
-
-/// Whether a buffer, if there is one, lies on a page, by the page's number.
-fn is_buffer_on(page: u32, buffer: Option<Buffer>) -> bool
-    ensures { result ≡ is_buffer_on page buffer }
-{
-    match buffer {
-        None => false,
-        Some(buffer) => buffer.page == page,
+impl Heap {
+    /// Whether a thread has crossed the open checkpoint, by its number from 0; true where there is
+    /// no such thread.
+    pub fn has_crossed(&self, thread: u32) -> bool
+        ensures { result ≡ has_crossed (slice_get self.now.threads thread) }
+    {
+        self.threads.has_crossed(thread)
     }
-}
 
-/// Whether one of some threads has a buffer on a page, by the page's number.
-#[tactic(auto, unfolding(model::specs::Cycles::is_lent))]
-pub(crate) fn is_lent(threads: &[Thread], page: u32) -> bool
-    ensures { result ≡ is_lent threads.now page }
-{
-    threads
-        .iter()
-        .any(|thread| is_buffer_on(page, thread.buffer()))
-}
+    /// Whether a thread is parked, by its number from 0; false where there is no such thread.
+    pub fn is_parked(&self, thread: u32) -> bool
+        ensures { result ≡ is_parked_in (slice_get self.now.threads thread) }
+    {
+        self.threads.is_parked(thread)
+    }
 
-/// The phase behind a checkpoint (the paper's checkpoints).
-pub(crate) fn phase_behind(phase: Phase) -> Phase
-    ensures { result ≡ phase_behind phase }
-{
-    match phase {
-        Phase::MarkCrossing => Phase::Scanning,
-        Phase::ProtectCrossing => Phase::Relocating,
-        other => other,
+    /// The load of a thread that isn't finished, by the thread's number from 0, if there is one.
+    pub fn barrier(&self, thread: u32) -> Option<Barrier>
+        ensures { result ≡ barrier_of_thread self.now thread }
+    {
+        self.threads.barrier(thread)
+    }
+
+    /// The least thread that hasn't crossed the open checkpoint, by its number from 0.
+    pub fn first_behind(&self) -> Option<u32>
+        ensures { result ≡ first_behind self.now.threads }
+    {
+        let _ = &self.config;
+        let thread = self.threads.first_behind()?;
+        Some(thread as u32)
+    }
+
+    /// The least thread that has an open barrier, by its number from 0.
+    pub fn first_pending(&self) -> Option<u32>
+        ensures { result ≡ first_pending self.now.threads }
+    {
+        let _ = &self.config;
+        let thread = self.threads.first_pending()?;
+        Some(thread as u32)
     }
 }

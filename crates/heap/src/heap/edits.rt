@@ -57,43 +57,31 @@ impl Edits for Heap {
         }
     }
 
-    #[tactic(auto, unfolding(model::specs::Loads::with_barrier))]
+    #[tactic(auto, unfolding(model::specs::Loads::with_barrier), using(crate::proofs::Keeping::thread_keeps))]
     fn set_barrier(&mut self, thread: u32, barrier: Barrier)
         ensures { self.new ≡ with_barrier self.old thread barrier }
     {
-        if (thread as usize) < self.threads.len() {
-            let record = &mut self.threads[thread as usize];
-            record.set_barrier(Some(barrier));
-        }
+        self.threads.set_barrier(thread, Some(barrier));
     }
 
-    #[tactic(auto, unfolding(model::specs::Loads::with_loaded))]
+    #[tactic(auto, unfolding(model::specs::Loads::with_loaded), using(crate::proofs::Keeping::thread_keeps))]
     fn set_loaded(&mut self, thread: u32, register: u32, word: Word)
         ensures { self.new ≡ with_loaded self.old thread register word }
     {
-        if (thread as usize) < self.threads.len() {
-            let record = &mut self.threads[thread as usize];
-            record.set_loaded(register, word);
-        }
+        self.threads.set_loaded(thread, register, word);
     }
 
-    #[tactic(auto, unfolding(model::specs::Registers::with_register))]
+    #[tactic(auto, unfolding(model::specs::Registers::with_register), using(crate::proofs::Keeping::thread_keeps))]
     fn set_register(&mut self, thread: u32, register: u32, word: Word)
         ensures { self.new ≡ with_register self.old thread register word }
     {
-        if (thread as usize) < self.threads.len() {
-            let record = &mut self.threads[thread as usize];
-            record.set_register(register, word);
-        }
+        self.threads.set_register(thread, register, word);
     }
 
-    #[tactic(auto, unfolding(model::specs::Checkpoints::with_parked))]
+    #[tactic(auto, unfolding(model::specs::Checkpoints::with_parked), using(crate::proofs::Keeping::thread_keeps))]
     fn set_parked(&mut self, thread: u32, parked: bool)
         ensures { self.new ≡ with_parked self.old thread parked }
     {
-        if (thread as usize) < self.threads.len() {
-            let record = &mut self.threads[thread as usize];
-            record.set_parked(parked);
-        }
+        self.threads.set_parked(thread, parked);
     }
 }

@@ -7,34 +7,24 @@ ghost use Rattle.heap.specs.Making.{Makes};
 
 use crate::fault::NewFault;
 use crate::heap::Heap;
-use crate::thread::Thread;
 use markbits::{IndexedRows, Rows};
 use model::{Config, Global, Phase, Scan};
 use page::{Store, many, record_count};
 use refword::Word;
 use std::alloc::{AllocError, Global as Memory};
-
-fn blank_threads(alloc: Memory, count: u32, registers: u32) -> Result<Vec<Thread>, AllocError>
-    ensures { IfOk result (λ v. v.items ≡ replicate count (blank_thread registers)) }
-{
-    let mut threads = Vec::with_capacity(alloc, count as usize)?;
-    for _thread in 0..count {
-        threads.push(Thread::new(alloc, registers)?)?;
-    }
-    Ok(threads)
-}
+use threads::Threads;
 
 /// Threads, workers and globals of a new heap.
 #[derive(Drop)]
 struct BlankActors {
-    threads: Vec<Thread>,
+    threads: Threads,
     workers: Vec<Option<Scan>>,
     globals: Vec<Global>,
 }
 
 /// As many as the configuration says; all registers and globals are null, and no worker scans.
 fn blank_actors(alloc: Memory, config: &Config) -> Result<BlankActors, AllocError>
-    ensures threads { IfOk result (λ a. a.threads.items ≡ replicate config.now.threads (blank_thread config.now.registers)) }
+    ensures threads { IfOk result (λ a. a.threads ≡ replicate config.now.threads (blank_thread config.now.registers)) }
     ensures workers { IfOk result (λ a. a.workers.items ≡ replicate config.now.workers None) }
     ensures globals { IfOk result (λ a. a.globals.items ≡ replicate config.now.globals (record { word = None; todo = false })) }
 {
@@ -42,7 +32,7 @@ fn blank_actors(alloc: Memory, config: &Config) -> Result<BlankActors, AllocErro
         word: Word::null(),
         todo: false,
     };
-    let threads = blank_threads(alloc, config.threads, config.registers)?;
+    let threads = Threads::new(alloc, config.threads, config.registers)?;
     let workers = many(alloc, config.workers, None)?;
     let globals = many(alloc, config.globals, global)?;
     Ok(BlankActors {

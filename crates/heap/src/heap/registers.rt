@@ -18,10 +18,7 @@ impl Heap {
     pub fn register(&self, thread: u32, register: u32) -> Word
         ensures { result ≡ register_of self.now thread register }
     {
-        match self.threads.get(thread as usize) {
-            None => Word::null(),
-            Some(record) => record.register(register),
-        }
+        self.threads.register(thread, register)
     }
 
     /// Whether a thread, by its number from 0, may use an address: not on a protected page, unless

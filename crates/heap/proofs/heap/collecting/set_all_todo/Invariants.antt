@@ -1,5 +1,5 @@
 use Rattle.model.specs.Cycles.{set_todo_of}
-use Rattle.heap.proofs.Looping.{AreMapped}
+use Rattle.threads.proofs.Looping.{AreMapped}
 use Rattle.heap.proofs.heap.collecting.set_all_todo.Given as goal
 
 abbrev pub invariant-loop-global : goal.invariant-loop-global

@@ -1,12 +1,10 @@
 use Rattle.std.proofs.Common.{◌∙◌, ap, map}
 use Rattle.model.specs.Bits.{blank_row}
-use Rattle.model.specs.Cycles.{is_lent}
-use Rattle.model.specs.Stores.{store_after_mark}
 use Rattle.heap.specs.Views.{heap_of}
 use Rattle.heap.proofs.Cycling.{ended_keeps}
 use Rattle.heap.proofs.heap.collecting.HeapCollectorEdits.end_mark.Goals as goal
 
 pub invariant_of-self : goal.invariant_of-self
 invariant_of-self c = ended_keeps (heap_of c.self.inside) _ _ _ c.self.invariant
-    (c.end_pages.ensures ∙ ap (λ ts. store_after_mark (is_lent ts) c.self.inside.store) c.deref.ensures.value)
+    c.end_pages.ensures
     c.swap.ensures.here (c.clear_all.ensures ∙ ap (map blank_row) c.swap.ensures.there)
