@@ -12,13 +12,13 @@ use Rattle.model.specs.declared.records.Buffer.{Buffer}
 use Rattle.model.specs.declared.records.Global.{Global}
 use Rattle.model.specs.declared.records.Phase.TheVariants.{Idle, MarkCrossing}
 use Rattle.model.specs.Stores.{StoreState, store_after_mark}
-use Rattle.model.specs.Owning.{Each, LiesIn}
+use Rattle.model.specs.Owning.{Each, LiesIn, NoneProtected}
 use Rattle.model.specs.States.{HeapState, ThreadState}
 use Rattle.model.specs.Threads.{set_crossed_of}
 use Rattle.model.specs.Bits.{blank_row, blank_all}
 use Rattle.model.specs.Cycles.{is_lent, is_buffer_on, set_todo_of}
 use Rattle.model.specs.Holding.{IsHeap, FillsIn, AreRowsFor}
-use Rattle.page.proofs.Ended.{ended_sized, ended_lies}
+use Rattle.page.proofs.Ended.{ended_sized, ended_lies, ended_unprotected}
 use Rattle.threads.proofs.Looping.{length_mapped}
 
 -- each element of a list comes of one before it
@@ -70,6 +70,7 @@ ended_keeps h s live mark i e f g =
       births = i.births;
       buffers = λ j t a. subst (λ (s : StoreState). FillsIn s t) (sym e)
           (by_buffer j t a t.buffer refl (i.buffers j t a));
+      idle = λ _. subst NoneProtected (sym e) (ended_unprotected h.store (is_lent h.threads));
     }
   where
     by_buffer : (j : ℕ) (t : ThreadState) → slice_get h.threads j ≡ Some t → (o : Option Buffer) → t.buffer ≡ o
@@ -98,4 +99,8 @@ started_keeps h threads globals nmt i e f = record {
   births = i.births;
   buffers = subst (λ ts. Each ts (FillsIn h.store)) (sym e)
       (each_mapped (FillsIn h.store) (FillsIn h.store) (set_crossed_of false) h.threads (λ t k. k) i.buffers);
+  idle = λ z. absurd (marking z);
 }
+  where
+    marking : MarkCrossing ≡ Idle → ⊥
+    marking z = cc

@@ -4,7 +4,7 @@ use Rattle.std.proofs.Common.{length, ap, ◌∙◌, sym, subst, true}
 use Rattle.std.specs.Option.{IfSome}
 use Rattle.model.specs.declared.records.Buffer.{Buffer}
 use Rattle.model.specs.Stores.{StoreState}
-use Rattle.model.specs.Owning.{Each, LiesIn, AreSized}
+use Rattle.model.specs.Owning.{Each, LiesIn, AreSized, NoneProtected}
 use Rattle.model.specs.Phases.{is_marking, is_mark_crossing}
 use Rattle.model.specs.Holding.{IsHeap, HasSizes, FillsIn, AreRowsFor}
 use Rattle.model.specs.States.{HeapState, ThreadState, change_at}
@@ -56,6 +56,7 @@ thread_keeps h t change threads i e fills = record {
   births = i.births;
   buffers = subst (λ ts. Each ts (FillsIn h.store)) (sym e)
       (each_changed (FillsIn h.store) h.threads t change i.buffers fills);
+  idle = i.idle;
 }
 
 fills_in : (s t : StoreState) (b : Option Buffer) → ((c : Buffer) → LiesIn s c → LiesIn t c) → IfSome b (LiesIn s)
@@ -64,8 +65,9 @@ fills_in s t None h f = f
 fills_in s t (Some b) h f = h b f
 
 pub store_keeps : (h : HeapState) (s : StoreState) → IsHeap h → AreSized h.store s
-    → ((c : Buffer) → LiesIn h.store c → LiesIn s c) → IsHeap (record h { store = s })
-store_keeps h s i z k = record {
+    → ((c : Buffer) → LiesIn h.store c → LiesIn s c) → (NoneProtected h.store → NoneProtected s)
+    → IsHeap (record h { store = s })
+store_keeps h s i z k q = record {
   config = i.config;
   sizes = store_sized h s z i.sizes;
   starts = i.starts;
@@ -75,16 +77,17 @@ store_keeps h s i z k = record {
   sides = i.sides;
   births = i.births;
   buffers = λ t x e. fills_in h.store s x.buffer k (i.buffers t x e);
+  idle = λ e. q (i.idle e);
 }
 
 -- an object is made: other words in a page, other bits, one more birth
 pub birth_keeps : (h : HeapState) (s : StoreState) (b : Buffer) (starts mark todo : List (List Bool))
     → IsHeap h → h.births < h.config.births → AreSized h.store s → ((c : Buffer) → LiesIn h.store c → LiesIn s c)
-    → starts ≡ change_at h.starts (b.page - 1) (put_bit b.next true)
+    → (NoneProtected h.store → NoneProtected s) → starts ≡ change_at h.starts (b.page - 1) (put_bit b.next true)
     → mark ≡ change_at h.mark (b.page - 1) (put_bit b.next (is_marking h.phase))
     → todo ≡ change_at h.todo (b.page - 1) (put_bit b.next (is_mark_crossing h.phase))
     → IsHeap (record h { store = s; starts = starts; mark = mark; todo = todo; births = h.births + 1 })
-birth_keeps h s b starts mark todo i low z k e f g = let sizes = store_sized h s z i.sizes in record {
+birth_keeps h s b starts mark todo i low z k q e f g = let sizes = store_sized h s z i.sizes in record {
   config = i.config;
   sizes = record {
     words = sizes.words;
@@ -101,6 +104,7 @@ birth_keeps h s b starts mark todo i low z k e f g = let sizes = store_sized h s
   sides = i.sides;
   births = omega arith;
   buffers = λ t x e. fills_in h.store s x.buffer k (i.buffers t x e);
+  idle = λ e. q (i.idle e);
 }
   where
     put_row : (rows new : List (List Bool)) (bit : Bool) → new ≡ change_at rows (b.page - 1) (put_bit b.next bit)
@@ -128,6 +132,7 @@ opened_keeps h b starts live mark todo i e f g k = record {
   sides = i.sides;
   births = i.births;
   buffers = i.buffers;
+  idle = i.idle;
 }
   where
     opened : (rows new : List (List Bool)) → new ≡ opened_rows b rows → AreRowsFor h.config rows

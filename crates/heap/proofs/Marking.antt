@@ -7,6 +7,8 @@ use Rattle.model.specs.declared.config.Config.{Config}
 use Rattle.model.specs.declared.records.Forwarding.{Forwarding}
 use Rattle.model.specs.First.{no_sides}
 use Rattle.model.specs.declared.records.Phase.{Phase}
+use Rattle.model.specs.declared.records.Phase.TheVariants.{Idle, MarkCrossing, Scanning, ProtectCrossing, Relocating}
+use Rattle.model.specs.Checkpoints.{phase_behind}
 use Rattle.model.specs.States.{HeapState}
 use Rattle.model.specs.Holding.{IsHeap, AreRowsFor}
 use Rattle.model.proofs.Tables.{rows_put}
@@ -67,6 +69,7 @@ marks_keep h live mark todo i l m t = record {
   sides = i.sides;
   births = i.births;
   buffers = i.buffers;
+  idle = i.idle;
 }
 
 -- a bit is put by an address
@@ -81,9 +84,19 @@ pub bit_kept : (c : Config) (rows new : List (List Bool)) (words a : ℕ) (bit u
 bit_kept c rows new words a bit true r e = subst (AreRowsFor c) (sym e) r
 bit_kept c rows new words a bit false r e = bit_keeps c rows new words a bit r e
 
--- another phase
-pub phase_keeps : (h : HeapState) (p : Phase) → IsHeap h → IsHeap (record h { phase = p })
-phase_keeps h p i = record {
+-- a checkpoint isn't followed by being idle
+was_idle : (last : Bool) (p q : Phase) → q ≡ (if last then phase_behind p else p) → q ≡ Idle → p ≡ Idle
+was_idle false p q e f = sym e ∙ f
+was_idle true Idle q e f = refl
+was_idle true MarkCrossing q e f = absurd (cc)
+was_idle true Scanning q e f = absurd (cc)
+was_idle true ProtectCrossing q e f = absurd (cc)
+was_idle true Relocating q e f = absurd (cc)
+
+-- the phase after a crossing
+pub phase_keeps : (h : HeapState) (p : Phase) (last : Bool) → IsHeap h
+    → p ≡ (if last then phase_behind h.phase else h.phase) → IsHeap (record h { phase = p })
+phase_keeps h p last i next = record {
   config = i.config;
   sizes = record {
     words = i.sizes.words;
@@ -100,4 +113,5 @@ phase_keeps h p i = record {
   sides = i.sides;
   births = i.births;
   buffers = i.buffers;
+  idle = λ e. i.idle (was_idle last h.phase p next e);
 }

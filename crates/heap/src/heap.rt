@@ -24,7 +24,8 @@ use threads::{Thread, Threads};
 ///
 /// A contract sees all of it as plain data. It keeps, beside what its store keeps, that it has the
 /// sizes that it was made with, that its rows have a bit for each word of each page, that each
-/// thread's buffer lies in an open page, and that births stay within their limit.
+/// thread's buffer lies in an open page, that births stay within their limit, and that no page is
+/// protected while the collector is idle.
 ///
 /// A user makes one, reads it, and asks for steps by `Stepping` of `cycle`. For the crates that do
 /// steps there are rows besides: `take`, `give_back`, `new_object`, `store_reference`,
@@ -66,7 +67,7 @@ impl Heap {
     /// What holds of every heap: its frames have one owner each; it has the words of a page, the
     /// frames, pages, threads, workers and globals that it was made with; each page record has rows
     /// of a bit a word, and a side array whose entries rise; each thread's buffer lies in an open
-    /// page; and births are within their limit.
+    /// page; births are within their limit; and in `Idle` no page is protected.
     pub fn law(&self)
         ensures store { IsStore self.now.store }
         ensures heap { IsHeap self.now }

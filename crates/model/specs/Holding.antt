@@ -3,7 +3,8 @@ use Rattle.std.specs.Prelude.{◌≡◌, ℕ, ◌+◌, ◌<◌, ◌≤◌, Bool,
 use Rattle.model.specs.declared.config.Config.{Config}
 use Rattle.model.specs.declared.records.Forwarding.{Forwarding}
 use Rattle.model.specs.Configs.{IsRanged}
-use Rattle.model.specs.Owning.{Each, LiesIn}
+use Rattle.model.specs.declared.records.Phase.TheVariants.{Idle}
+use Rattle.model.specs.Owning.{Each, LiesIn, NoneProtected}
 use Rattle.model.specs.Stores.{StoreState, record_count}
 use Rattle.model.specs.States.{HeapState, ThreadState}
 
@@ -54,3 +55,4 @@ pub record IsHeap (h : HeapState) : Type 0 where
   pub sides : AreSidesFor h.config h.sides
   pub births : h.births ≤ h.config.births
   pub buffers : Each h.threads (FillsIn h.store)
+  pub idle : h.phase ≡ Idle → NoneProtected h.store

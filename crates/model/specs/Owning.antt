@@ -1,5 +1,5 @@
 -- What holds of every store: each frame is the memory of one page, or free.
-use Rattle.std.specs.Prelude.{◌≡◌, ℕ, ◌+◌, ◌≤◌, ◌<◌, true, List, length, count_by, is_some, is_none, Some, slice_get}
+use Rattle.std.specs.Prelude.{◌≡◌, ℕ, ◌+◌, ◌≤◌, ◌<◌, true, false, List, length, count_by, is_some, is_none, Some, slice_get}
 use Rattle.model.specs.declared.limits.TheConstants.{MOST_WORDS, MOST_FRAMES, MOST_PAGES}
 use Rattle.model.specs.declared.records.Page.{Page}
 use Rattle.model.specs.declared.records.Buffer.{Buffer}
@@ -49,14 +49,20 @@ pub record LiesIn (s : StoreState) (b : Buffer) : Type 0 where
   pub order : b.next ≤ b.end
   pub end : b.end ≤ s.words
 
+-- no page is being emptied, or was
+abbrev pub NoneProtected : StoreState → Type 0
+NoneProtected s = Each s.pages (λ p. is_protected p.state ≡ false)
+
 -- two stores have pages of as many words, as many pages, and as many frames
 pub record AreSized (s t : StoreState) : Type 0 where
   pub words : t.words ≡ s.words
   pub count : t.count ≡ s.count
   pub frames : length t.frames ≡ length s.frames
 
--- a buffer that was taken lies in the new store, and so do those that lay in the old one; the sizes stay
+-- a buffer that was taken lies in the new store, and so do those that lay in the old one; the sizes stay, and no page
+-- becomes protected
 pub record TakesWell (s t : StoreState) (b : Buffer) : Type 0 where
   pub sized : AreSized s t
   pub lies : LiesIn t b
   pub stays : (c : Buffer) → LiesIn s c → LiesIn t c
+  pub unprotected : NoneProtected s → NoneProtected t

@@ -13,7 +13,7 @@ use Rattle.model.specs.declared.records.Buffer.{Buffer}
 use Rattle.model.specs.Stores.{StoreState, is_protected, is_open, state_at, state_in, page_after_mark, pages_after_mark}
 use Rattle.model.specs.Stores.{owner_after_mark, store_after_mark}
 use Rattle.model.specs.States.{change_at, change_found}
-use Rattle.model.specs.Owning.{Each, IsStore, LiesIn, AreSized}
+use Rattle.model.specs.Owning.{Each, IsStore, LiesIn, AreSized, NoneProtected}
 use Rattle.model.proofs.Lists.{get_set, get_set_same, get_set_other}
 use Rattle.page.specs.Ending.{with_mark_ended_at}
 use Rattle.page.proofs.Keeping.{page_at_record}
@@ -342,3 +342,21 @@ ended_lies s lent b is_lent h =
     let stays : page_after_mark (lent b.page) p ≡ p = rw (is_lent, open_page) refl in
     lies_by (store_after_mark lent s) b p z
     (page_ended lent 1 b.page s.pages (b.page - 1) p (omega (arith, z)) at ∙ ap Some stays) is_so h.order h.end
+
+-- no page is protected any more
+pub ended_unprotected : (s : StoreState) (lent : ℕ → Bool) → NoneProtected (store_after_mark lent s)
+unfolding store_after_mark
+ended_unprotected s lent = all 1 s.pages
+  where
+    by_tests : (a b : Bool) (p : Page) → is_protected p.state ≡ a
+        → is_protected (cond a (record p { state = Unused; frame = None }) (cond b (record p { state = Closed }) p)).state
+        ≡ false
+    by_tests true b p e = refl
+    by_tests false true p e = refl
+    by_tests false false p e = e
+
+    all : (n : ℕ) (ps : List Page) → Each (pages_after_mark lent n ps) (λ p. is_protected p.state ≡ false)
+    all n [] i x e = absurd (cc)
+    all n (p ∷ ps) zero x e = subst (λ (q : Page). is_protected q.state ≡ false) (same_Some _ _ e)
+        (by_tests (is_protected p.state) (is_open p.state && not (lent n)) p refl)
+    all n (p ∷ ps) (suc i) x e = all (n + 1) ps i x e

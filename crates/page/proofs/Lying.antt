@@ -1,5 +1,5 @@
 -- Buffers lie in open pages, whatever is done to the store.
-use Rattle.std.proofs.Common.{◌≡◌, ◌≢◌, ◌⊎◌, inl, inr, ℕ, zero, suc, ◌+◌, ◌-◌, ◌*◌, ◌/◌, ◌^◌, ◌<◌, ◌≤◌, true, List, []}
+use Rattle.std.proofs.Common.{◌≡◌, ◌≢◌, ◌⊎◌, inl, inr, ℕ, zero, suc, ◌+◌, ◌-◌, ◌*◌, ◌/◌, ◌^◌, ◌<◌, ◌≤◌, true, false, List, []}
 use Rattle.std.proofs.Common.{◌∷◌, length, position, Option, Some, None, set, replicate, refl, sym, ◌∙◌, ap, subst}
 use Rattle.std.proofs.Common.{arith, rules}
 use Rattle.std.specs.List.{slice_get}
@@ -16,12 +16,12 @@ use Rattle.model.specs.declared.records.Page.{Page}
 use Rattle.model.specs.declared.records.Room.{Room}
 use Rattle.model.specs.declared.records.Room.TheVariants.{NoFrames, NoPages}
 use Rattle.model.specs.declared.records.Buffer.{Buffer}
-use Rattle.model.specs.Stores.{StoreState, is_open, is_unused, state_in, open_fresh, give_words, buffer_of}
+use Rattle.model.specs.Stores.{StoreState, is_open, is_unused, is_protected, state_in, open_fresh, give_words, buffer_of}
 use Rattle.model.specs.Stores.{Takes, with_words, with_word, fresh_page, frame_in, page_at, take_buffer}
 use Rattle.model.specs.Stores.{page_with_room, free_frame, unused_page, record_count}
-use Rattle.model.specs.Owning.{IsStore, LiesIn, AreSized, TakesWell}
+use Rattle.model.specs.Owning.{IsStore, LiesIn, AreSized, TakesWell, NoneProtected}
 use Rattle.model.proofs.Memory.{frames_stay}
-use Rattle.model.proofs.Lists.{get_set_same, get_set_other, get_within}
+use Rattle.model.proofs.Lists.{get_set_same, get_set_other, get_within, each_set}
 use Rattle.page.proofs.Found.{position_within, room_left, free_counts, free_within, room_within, room_passes}
 use Rattle.page.proofs.Keeping.{unused_as, page_at_record, page_at_zero, opened_words, opened_at, given_at}
 
@@ -87,6 +87,10 @@ opened_stays : (s : StoreState) (i f : ℕ) (p : Page) (c : Buffer) → slice_ge
 unfolding open_fresh
 opened_stays s i f p c e h = lies_set s (open_fresh s i f) i p (fresh_page f) c refl refl e refl h
 
+opened_unprotected : (s : StoreState) (i f : ℕ) → NoneProtected s → NoneProtected (open_fresh s i f)
+unfolding open_fresh
+opened_unprotected s i f k = each_set (λ q. is_protected q.state ≡ false) s.pages i (fresh_page f) k refl
+
 -- the sizes stay
 given_sized : (s : StoreState) (i n : ℕ) → AreSized s (give_words s i n).0
 unfolding give_words
@@ -103,6 +107,8 @@ well_given s i n p e o room = record {
   sized = given_sized s i n;
   lies = given_lies s i n p e o room;
   stays = λ c h. given_stays s i n p c e o h;
+  unprotected = λ k. subst NoneProtected (sym (ap (λ (x : StoreState × Buffer). x.0) (given_at s i n p e)))
+      (each_set (λ q. is_protected q.state ≡ false) s.pages i (record p { top = p.top + n }) k (k i p e));
 }
 
 pub well_opened : (s : StoreState) (i f n : ℕ) (p : Page) → slice_get s.pages i ≡ Some p → n ≤ s.words
@@ -114,6 +120,10 @@ well_opened s i f n p e room =
       sized = opened_sized s i f n;
       lies = given_lies (open_fresh s i f) i n (fresh_page f) at refl (rw words (omega arith));
       stays = λ c h. given_stays (open_fresh s i f) i n (fresh_page f) c at refl (opened_stays s i f p c e h);
+      unprotected = λ k. subst NoneProtected
+          (sym (ap (λ (x : StoreState × Buffer). x.0) (given_at (open_fresh s i f) i n (fresh_page f) at)))
+          (each_set (λ q. is_protected q.state ≡ false) (open_fresh s i f).pages i
+          (record (fresh_page f) { top = 0 + n }) (opened_unprotected s i f k) refl);
     }
 
 abbrev Taken : Type 0
@@ -187,6 +197,15 @@ words_sized_alike s n change = record { words = refl; count = refl; frames = fra
 pub word_sized_alike : (s : StoreState) (address v : ℕ) → AreSized s (with_word s address v)
 unfolding with_word
 word_sized_alike s address v = words_sized_alike s (address / s.words) _
+
+pub words_unprotected : (s : StoreState) (n : ℕ) (change : List ℕ → List ℕ) → NoneProtected s
+    → NoneProtected (with_words s n change)
+unfolding with_words
+words_unprotected s n change k = k
+
+pub word_unprotected : (s : StoreState) (address v : ℕ) → NoneProtected s → NoneProtected (with_word s address v)
+unfolding with_word with_words
+word_unprotected s address v k = k
 
 pub words_lie : (s : StoreState) (n : ℕ) (change : List ℕ → List ℕ) (b : Buffer) → LiesIn s b
     → LiesIn (with_words s n change) b

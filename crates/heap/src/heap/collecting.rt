@@ -185,7 +185,7 @@ impl CollectorEdits for Heap {
         }
     }
 
-    #[tactic(auto, unfolding(model::specs::Checkpoints::with_crossed))]
+    #[tactic(auto, unfolding(model::specs::Checkpoints::with_crossed), using(crate::proofs::Marking::phase_keeps))]
     fn set_crossed(&mut self, thread: u32)
         ensures { self.new ≡ with_crossed self.old thread }
     {

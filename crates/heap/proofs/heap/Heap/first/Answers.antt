@@ -1,6 +1,8 @@
-use Rattle.std.proofs.Common.{◌≡◌, ◌∙◌, Bool, List, ap, sym, subst, arith, length}
+use Rattle.std.proofs.Common.{◌≡◌, ◌∙◌, Bool, false, List, ap, refl, sym, subst, arith, length}
 use Rattle.std.proofs.Math.ListN.{length-replicate}
-use Rattle.model.specs.Stores.{StoreState, first_store}
+use Rattle.model.specs.Stores.{StoreState, first_store, record_count, blank_page, is_protected}
+use Rattle.model.specs.Owning.{NoneProtected}
+use Rattle.model.proofs.Lists.{each_replicate}
 use Rattle.model.specs.declared.config.Config.{Config}
 use Rattle.model.specs.First.{blank_rows}
 use Rattle.model.specs.Holding.{AreRowsFor}
@@ -31,4 +33,7 @@ invariant_of-result c = record {
   births = omega arith;
   buffers = first_fills _ c.args.config.threads c.args.config.registers
       _ c.in_ok-actors.ensures.threads;
+  idle = λ e. subst NoneProtected (sym c.in_ok-store.ensures)
+      (each_replicate (λ p. is_protected p.state ≡ false) (record_count c.args.config.frames c.args.config.pages)
+      blank_page refl);
 }

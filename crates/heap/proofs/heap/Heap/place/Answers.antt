@@ -1,8 +1,8 @@
 use Rattle.std.proofs.Common.{◌+◌, ◌-◌, ◌≤◌, ◌<◌, sym, subst}
-use Rattle.model.specs.Owning.{LiesIn, AreSized}
+use Rattle.model.specs.Owning.{LiesIn, AreSized, NoneProtected}
 use Rattle.model.specs.States.{HeapState}
 use Rattle.model.specs.Stores.{StoreState}
-use Rattle.page.proofs.Lying.{words_lie, words_sized_alike}
+use Rattle.page.proofs.Lying.{words_lie, words_sized_alike, words_unprotected}
 use Rattle.heap.specs.Views.{heap_of}
 use Rattle.heap.proofs.Keeping.{birth_keeps, rest_lies}
 use Rattle.heap.proofs.heap.Heap.place.Goals as goal
@@ -27,4 +27,6 @@ invariant_of-self c =
     c.note_start.new.todo c.self.invariant low (subst (AreSized c.self.inside.store) (sym c.write_new.ensures)
     (words_sized_alike c.self.inside.store c.args.buffer.page _)) (λ b lies. subst (λ (s : StoreState). LiesIn s b)
     (sym c.write_new.ensures) (words_lie c.self.inside.store c.args.buffer.page _ b lies))
+    (λ k. subst NoneProtected (sym c.write_new.ensures)
+    (words_unprotected c.self.inside.store c.args.buffer.page _ k))
     c.note_start.ensures.starts c.note_start.ensures.mark c.note_start.ensures.todo
