@@ -77,21 +77,22 @@ fn rows_with_an_index(rt: HostRuntime) -> Result<(), Fail> {
     Ok(())
 }
 
-/// A row gets a bit, is found from itself and from the row below it on, and loses it again.
-fn finds_one_busy_row(rt: &impl Abort, rows: &mut IndexedRows, index: usize) {
-    rows.put(index, 15, true);
+/// A row gets a bit, is found from the first row and from itself on, and loses it again.
+fn finds_one_busy_row(rt: &impl Abort, rows: &mut IndexedRows, index: u32) {
+    let place = index as usize;
+    rows.put(place, 15, true);
     assert_eq!(rt;
         rows.next_busy(0),
-        Some(index as u32),
+        Some(index),
         "row {index} from the first"
     );
     assert_eq!(rt;
-        rows.next_busy(index),
-        Some(index as u32),
+        rows.next_busy(place),
+        Some(index),
         "row {index} from itself"
     );
-    assert_eq!(rt; rows.next_busy(index + 1), None, "behind row {index}");
-    rows.put(index, 15, false);
+    assert_eq!(rt; rows.next_busy(place + 1), None, "behind row {index}");
+    rows.put(place, 15, false);
     assert!(rt; rows.is_empty(), "without row {index}");
 }
 
@@ -114,7 +115,7 @@ fn busy_rows_of_a_large_table(rt: HostRuntime) -> Result<(), Fail> {
     let mut rows = IndexedRows::new(rt.alloc(), 8_192, 16)?;
     let busy = [0, 1, 63, 64, 127, 128, 4_095, 4_096, 4_159, 8_191];
     for index in busy {
-        finds_one_busy_row(&rt, &mut rows, index as usize);
+        finds_one_busy_row(&rt, &mut rows, index);
     }
     finds_each_busy_row(&rt, &mut rows, &busy);
     rows.put(8_192, 0, true);
