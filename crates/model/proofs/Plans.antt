@@ -83,10 +83,12 @@ places_apart w t o (x ∷ ns) h i (suc j) n m p q l e f g k =
     (places_apart w (t + 1) x ns (λ j. h (suc j)))
   where
     first : (t2 o2 e2 : ℕ) → e2 ≡ o2 + x → IsBehind w t2 e2 m q → x ≡ n → (t2, o2) ≡ p → IsBefore n p q
-    first t2 o2 e2 sum b is at = subst (λ z. IsBefore n z q) at (record { order = elim b.behind [
-      | inl z ↦ inl z
-      | inr z ↦ inr (z.0, omega (arith, is, sum, z.1))
-    ] })
+    first t2 o2 e2 sum b is at = subst (λ z. IsBefore n z q) at (record {
+      order = elim b.behind [
+        | inl z ↦ inl z
+        | inr z ↦ inr (z.0, omega (arith, is, sum, z.1))
+      ];
+    })
 
     by_test : (b : Bool) → nat_le (o + x) w ≡ b → (i : ℕ) → i < suc j → slice_get (x ∷ ns) i ≡ Some n
         → slice_get (cond b ((t, o) ∷ places_from w t (o + x) ns) ((t + 1, 0) ∷ places_from w (t + 1) x ns)) i ≡ Some p
@@ -100,7 +102,8 @@ places_apart w t o (x ∷ ns) h i (suc j) n m p q l e f g k =
         → slice_get (places_from w (t + 1) x ns) j ≡ Some q → IsBefore n p q)
         → IsBefore n p q
     by_test true b zero z e f k u v =
-        first t o (o + x) refl (places_behind w t (o + x) ns (λ i. h (suc i)) j m q g k) (same_Some _ _ e) (same_Some _ _ f)
+        first t o (o + x) refl (places_behind w t (o + x) ns (λ i. h (suc i)) j m q g k) (same_Some _ _ e)
+        (same_Some _ _ f)
     by_test true b (suc i) z e f k u v = u i j n m p q (omega (arith, z)) e f g k
     by_test false b zero z e f k u v = first (t + 1) 0 x (omega arith)
         (places_behind w (t + 1) x ns (λ i. h (suc i)) j m q g k) (same_Some _ _ e) (same_Some _ _ f)

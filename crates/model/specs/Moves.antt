@@ -32,7 +32,8 @@ words_from offset n (Some ws) = take n (drop offset ws)
 -- the store after n words are copied from an address to one on another page
 unfoldable pub with_copied_words : StoreState → ℕ → ℕ → ℕ → StoreState
 with_copied_words s address to n = with_words s (to / s.words) (λ ws. overlay ws (to % s.words)
-    (if address / s.words == to / s.words then [] else words_from (address % s.words) n (words_at s (address / s.words))))
+    (if address / s.words == to / s.words then []
+    else words_from (address % s.words) n (words_at s (address / s.words))))
 
 -- an entry that is copied, if it is the one of this offset
 abbrev pub set_copied_of : ℕ → Forwarding → Forwarding

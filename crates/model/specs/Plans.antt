@@ -12,8 +12,9 @@ use Rattle.model.specs.Data.{layout_at}
 
 -- places
 
--- Where objects of these sizes go, of which the first begins at this offset of this target if it fits there: each behind
--- the one before, or at the head of the next target where it doesn't fit. A place is a target, from 0, and an offset.
+-- Where objects of these sizes go, of which the first begins at this offset of this target if it fits there: each
+-- behind the one before, or at the head of the next target where it doesn't fit. A place is a target, from 0, and an
+-- offset.
 abbrev pub places_from : ℕ → ℕ → ℕ → List ℕ → List (ℕ × ℕ)
 places_from words target offset [] = []
 places_from words target offset (n ∷ ns) =

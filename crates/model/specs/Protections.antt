@@ -1,4 +1,5 @@
--- Pages are protected, and targets opened for their live objects (the paper's Relocate phase; plan and targets are ours).
+-- Pages are protected, and targets opened for their live objects (the paper's Relocate phase; plan and targets are
+-- ours).
 use Rattle.std.specs.List.{list_any}
 use Rattle.std.specs.Prelude.{ℕ, ◌+◌, ◌-◌, ◌==◌, ◌&&◌, ◌||◌, zero, suc, not, Bool, true, false, List, [], ◌∷◌, map}
 use Rattle.std.specs.Prelude.{length, count_by, is_none, nat_lt, if◌then◌else◌, Result, Ok, Err}

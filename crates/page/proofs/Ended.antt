@@ -349,8 +349,8 @@ unfolding store_after_mark
 ended_unprotected s lent = all 1 s.pages
   where
     by_tests : (a b : Bool) (p : Page) → is_protected p.state ≡ a
-        → is_protected (cond a (record p { state = Unused; frame = None }) (cond b (record p { state = Closed }) p)).state
-        ≡ false
+        → is_protected (cond a (record p { state = Unused; frame = None })
+        (cond b (record p { state = Closed }) p)).state ≡ false
     by_tests true b p e = refl
     by_tests false true p e = refl
     by_tests false false p e = e

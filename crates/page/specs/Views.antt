@@ -1,5 +1,6 @@
 -- A store and its indexes as contracts see them.
-use Rattle.std.specs.Prelude.{◌≡◌, ◌+◌, ◌-◌, ◌*◌, ◌^◌, ◌≤◌, ℕ, Bool, if◌then◌else◌, List, take, drop, map, length, slice_index, count_by, is_none}
+use Rattle.std.specs.Prelude.{◌≡◌, ◌+◌, ◌-◌, ◌*◌, ◌^◌, ◌≤◌, ℕ, Bool, if◌then◌else◌, List, take, drop, map, length}
+use Rattle.std.specs.Prelude.{slice_index, count_by, is_none}
 use Rattle.model.specs.declared.records.Page.{Page}
 use Rattle.model.specs.Stores.{StoreState, is_open, is_unused}
 use Rattle.model.specs.Owning.{IsStore}

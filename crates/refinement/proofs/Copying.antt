@@ -45,7 +45,8 @@ run_moved vs ws a b n h k same = same_lists (run vs a n) (run ws b n) (length_ru
     get_run vs a n i m ∙ same i m ∙ sym (get_run ws b n i m))
 
 -- an object that is copied reads the same at its new place
-pub read_copied : (ls : List Layout) (ws vs : List ℕ) (o p : ℕ) (q : HeapObject) → IsRead ls ws o q → p + object_size q ≤ length vs
+pub read_copied : (ls : List Layout) (ws vs : List ℕ) (o p : ℕ) (q : HeapObject) → IsRead ls ws o q
+    → p + object_size q ≤ length vs
     → IsRead ls (overlay vs p (run ws o (object_size q))) p q
 read_copied ls ws vs o p q r room =
     let n : ℕ = object_size q in
@@ -57,7 +58,8 @@ read_copied ls ws vs o p q r room =
     let at : (i : ℕ) → i < n → slice_get (overlay vs p xs) (p + i) ≡ slice_get ws (o + i) =
     λ i m. overlaid_in vs xs p i (omega (arith, long, room)) (omega (arith, long, m)) ∙ get_run ws o n i m in
     let refs : run (overlay vs p xs) (p + 1) r.shape.refs ≡ run ws (o + 1) r.shape.refs =
-    run_moved (overlay vs p xs) ws (p + 1) (o + 1) r.shape.refs (omega (arith, whole, room, size)) (omega (arith, r.fits))
+    run_moved (overlay vs p xs) ws (p + 1) (o + 1) r.shape.refs (omega (arith, whole, room, size))
+    (omega (arith, r.fits))
     (λ i m. ap (slice_get (overlay vs p xs)) (omega arith) ∙ at (1 + i) (omega (arith, m, size))
     ∙ ap (slice_get ws) (omega arith)) in
     let nums : run (overlay vs p xs) (p + 1 + r.shape.refs) r.shape.nums ≡ run ws (o + 1 + r.shape.refs) r.shape.nums =
@@ -115,7 +117,8 @@ entry_copied (f ∷ fs) x n e = by_test (nat_eq f.offset x) refl e (entry_copied
         ∙ by_copied f.copied k
     by_test false z k next = next k
 
-rising_stays : (w low : ℕ) (x : ℕ) (fs : List Forwarding) → AreRising w low fs → AreRising w low (map (set_copied_of x) fs)
+rising_stays : (w low : ℕ) (x : ℕ) (fs : List Forwarding) → AreRising w low fs
+    → AreRising w low (map (set_copied_of x) fs)
 rising_stays w low x [] r = tt
 rising_stays w low x (f ∷ fs) r = (r.0, r.1, rising_stays w (f.offset + 1) x fs r.2)
 

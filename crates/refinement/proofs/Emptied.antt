@@ -2,7 +2,8 @@
 --
 -- Letters, beside those of other files: h is the heap before, g the one with its targets, ts the pages of these, and
 -- pages those that are protected.
-use Rattle.std.proofs.Common.{◌≡◌, ◌≢◌, ◌⊎◌, inl, inr, ℕ, zero, suc, ◌+◌, ◌-◌, ◌*◌, ◌/◌, ◌%◌, ◌<◌, ◌≤◌, Bool, true, false}
+use Rattle.std.proofs.Common.{◌≡◌, ◌≢◌, ◌⊎◌, inl, inr, ℕ, zero, suc, ◌+◌, ◌-◌, ◌*◌, ◌/◌, ◌%◌, ◌<◌, ◌≤◌, Bool, true}
+use Rattle.std.proofs.Common.{false}
 use Rattle.std.proofs.Common.{cond, nat_lt, List, [], ◌∷◌, length, map, Option, Some, None, refl, sym, ◌∙◌, ap}
 use Rattle.std.proofs.Common.{arith, eq-eqb, ne_eqb, div-add-mod'}
 use Rattle.std.specs.List.{slice_get}
@@ -156,7 +157,8 @@ module _ (h g : HeapState) (p p0 : PlainHeap) (ts pages : List ℕ) (m : MayEmpt
       }
 
   -- what doesn't read the state of a page stays
-  pub page_keeps : {B : Type 0} (P : Option Page → B) → ((q : Page) → q.state ≡ Closed → P (Some (set_from_of q)) ≡ P (Some q))
+  pub page_keeps : {B : Type 0} (P : Option Page → B)
+      → ((q : Page) → q.state ≡ Closed → P (Some (set_from_of q)) ≡ P (Some q))
       → (n : ℕ) → P (page_at after.store n) ≡ P (page_at g.store n)
   page_keeps P same n = elim (page_after n) [
     | inl (there, e) ↦ ap P e.now ∙ same e.page e.closed ∙ ap P (sym e.was)

@@ -1,5 +1,6 @@
 -- Objects are copied, by workers and by threads that meet them, and words are forwarded to the copies.
-use Rattle.std.proofs.Common.{◌≡◌, ◌≢◌, ◌⊎◌, inl, inr, ℕ, zero, suc, ◌+◌, ◌-◌, ◌*◌, ◌/◌, ◌%◌, ◌<◌, ◌≤◌, Bool, true, false}
+use Rattle.std.proofs.Common.{◌≡◌, ◌≢◌, ◌⊎◌, inl, inr, ℕ, zero, suc, ◌+◌, ◌-◌, ◌*◌, ◌/◌, ◌%◌, ◌<◌, ◌≤◌, Bool, true}
+use Rattle.std.proofs.Common.{false}
 use Rattle.std.proofs.Common.{not, cond, List, [], ◌∷◌, Option, Some, None, refl, sym, ◌∙◌, ap, ap₂, subst, arith}
 use Rattle.std.proofs.Common.{div-add-mod', ne_eqb, eq-eqb}
 use Rattle.std.specs.List.{slice_get}
@@ -229,25 +230,30 @@ module _ {h : HeapState} {p p0 : PlainHeap} (s : IsStore h.store) (k : Holds h p
   leads a bit x named kept guarded =
       elim (barriers.entry_of (world_of h) (births_of p) (births_of p0) k.invariant a bit x named kept guarded) [
         | inl (m, e) ↦ (
-          let (f, is, fresh, to) = planned_entry (entry_at h a) m (sym (same_entry a) ∙ e) in
-          let (q, here) = k.invariant.objects.planned_object a m e in
-          record {
-            place = m;
-            is_address = open_address h.store m s (k.invariant.objects.planned_open a m e);
-            word = ap (λ o. place_by o a) is ∙ to;
-            how = inr (q, e, here, ap (copied_by h a) is ∙ ap (λ b. cond b h (with_copy h a f.to)) fresh
-                ∙ ap (with_copy h a) to);
-          }
-          )
+            let (f, is, fresh, to) = planned_entry (entry_at h a) m (sym (same_entry a) ∙ e) in
+            let (q, here) = k.invariant.objects.planned_object a m e in
+            record {
+              place = m;
+              is_address = open_address h.store m s (k.invariant.objects.planned_open a m e);
+              word = ap (λ o. place_by o a) is ∙ to;
+              how = inr (
+                q,
+                e,
+                here,
+                ap (copied_by h a) is ∙ ap (λ b. cond b h (with_copy h a f.to)) fresh
+                    ∙ ap (with_copy h a) to,
+              );
+            }
+            )
         | inr (m, e) ↦ (
-          let (f, is, done, to) = copied_entry (entry_at h a) m (sym (same_entry a) ∙ e) in
-          record {
-            place = m;
-            is_address = open_address h.store m s (k.invariant.objects.copied_open a m e);
-            word = ap (λ o. place_by o a) is ∙ to;
-            how = inl (e, ap (copied_by h a) is ∙ ap (λ b. cond b h (with_copy h a f.to)) done);
-          }
-          )
+            let (f, is, done, to) = copied_entry (entry_at h a) m (sym (same_entry a) ∙ e) in
+            record {
+              place = m;
+              is_address = open_address h.store m s (k.invariant.objects.copied_open a m e);
+              word = ap (λ o. place_by o a) is ∙ to;
+              how = inl (e, ap (copied_by h a) is ∙ ap (λ b. cond b h (with_copy h a f.to)) done);
+            }
+            )
       ]
 
   module _ (d : IsHeap h) (t : ℕ) (x : ThreadState) (at : slice_get h.threads t ≡ Some x) where

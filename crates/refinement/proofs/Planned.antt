@@ -62,8 +62,12 @@ module _ (h : HeapState) (s : IsStore h.store) (l : IsLaid h) (pages : List ℕ)
               none (b ∷ bits) e y = cc
           by_row (Some row) z =
               let long : length row ≡ h.store.words = l.live.words i row z in
-              omega (arith, long, slice_get_within row j true
-              (sym (ap (λ r. slice_get r j) (list_read h.live i ∙ ap list_of z)) ∙ f))
+              omega (
+                arith,
+                long,
+                slice_get_within row j true
+                    (sym (ap (λ r. slice_get r j) (list_read h.live i ∙ ap list_of z)) ∙ f),
+              )
 
       by_bit : (n : ℕ) → (j : ℕ) × (o ≡ 0 + j) × (slice_get (of_page h.live n) j ≡ Some true) → IsIn n pages
           → IsIn o (live_offsets h n) → IsLive h pages (n * h.store.words + o)
@@ -190,8 +194,10 @@ module _ (h : HeapState) (s : IsStore h.store) (l : IsLaid h) (pages : List ℕ)
       in_order : (a b m n : ℕ) (x : IsPlanned a m) (y : IsPlanned b n) → x.index < y.index
           → AreApart (place_extent a m x) (place_extent b n y)
       unfolding plan_of
-      in_order a b m n x y l = by_target (places_apart h.store.words 0 0 sizes all_fit x.index y.index (object_words h a)
-          (object_words h b) x.place y.place l (size_at x.index a x.at) x.placed (size_at y.index b y.at) y.placed).order
+      in_order a b m n x y l = by_target (places_apart h.store.words 0 0 sizes all_fit x.index y.index
+          (object_words h a) (object_words h b) x.place y.place l (size_at x.index a x.at) x.placed
+          (size_at y.index b y.at)
+          y.placed).order
         where
           by_target : (x.place.0 < y.place.0) ⊎ ((x.place.0 ≡ y.place.0) × (x.place.1 + object_words h a ≤ y.place.1))
               → AreApart (place_extent a m x) (place_extent b n y)

@@ -48,7 +48,7 @@ sides_read h moves (m ∷ pages) sides i low within =
         | inl e ↦ inl (
           inl e,
           same ∙ ap (λ j. get_or (set sides j side) i []) (omega (arith, e))
-          ∙ get_or-set_same sides i side [] within ∙ ap (side_of h moves) e,
+              ∙ get_or-set_same sides i side [] within ∙ ap (side_of h moves) e,
         )
         | inr d ↦ inr (
           (λ k is. elim is [ inl e ↦ (λ z. d (e ∙ z)) | inr there ↦ out k there ]),
@@ -77,12 +77,12 @@ pages_read (m ∷ pages) records i low =
         | inl e ↦ inl (
           inl e,
           same ∙ changed ∙ ap (λ j. put (slice_get records) j (option_map set_from_of (slice_get records j)) i)
-          (omega (arith, e)) ∙ put_same (slice_get records) i (option_map set_from_of (slice_get records i)),
+              (omega (arith, e)) ∙ put_same (slice_get records) i (option_map set_from_of (slice_get records i)),
         )
         | inr d ↦ inr (
           (λ k is. elim is [ inl e ↦ (λ z. d (e ∙ z)) | inr there ↦ out k there ]),
           same ∙ changed ∙ put_other (slice_get records) (m - 1)
-          (option_map set_from_of (slice_get records (m - 1))) i (λ z. d (omega (arith, z, one))),
+              (option_map set_from_of (slice_get records (m - 1))) i (λ z. d (omega (arith, z, one))),
         )
       ]
     ]

@@ -31,7 +31,8 @@ use Rattle.model.specs.Registers.{register_of}
 use Rattle.model.specs.Bits.{of_page, bit_at}
 use Rattle.model.specs.Plain.{PlainHeap, plain_step, plain_answer}
 use Rattle.model.specs.Plans.{live_offsets, plan_of, target_count, moves_of, place_of, side_of}
-use Rattle.model.specs.Protections.{set_from_of, with_protected, protect, protect_with, with_targets, is_closed, ripe, all_ripe}
+use Rattle.model.specs.Protections.{set_from_of, with_protected, protect, protect_with, with_targets, is_closed, ripe}
+use Rattle.model.specs.Protections.{all_ripe}
 use Rattle.model.specs.Protections.{free_count, unused_count, room_for, protect_outcome}
 use Rattle.model.proofs.Plans.{IsIn, at_in, bit_told, side_rises}
 use Rattle.laws.specs.AddressHeap.{HeapObject, NoEntry, Planned, Copied}
@@ -39,7 +40,8 @@ use Rattle.laws.specs.Edits.{protect_pages}
 use Rattle.laws.specs.Transitions.{MayProtect, Protect}
 use Rattle.refinement.specs.Worlds.{world_of, object_at, as_word, barrier_in}
 use Rattle.refinement.specs.Claims.{IsLaid, AreRowsOf, Apart, AreApart, Claim, OfObject, OfBuffer, OfPlan, OfEnd}
-use Rattle.refinement.specs.Claims.{Extent, extent, object_size, sized_extent, planned_extent, buffer_extent, end_extent}
+use Rattle.refinement.specs.Claims.{Extent, extent, object_size, sized_extent, planned_extent, buffer_extent}
+use Rattle.refinement.specs.Claims.{end_extent}
 use Rattle.refinement.specs.Claims.{size_at, HasGiven}
 use Rattle.refinement.specs.Roots.{HoldsWords}
 use Rattle.refinement.specs.Standing.{Holds}
@@ -151,7 +153,8 @@ module _ (h g : HeapState) (p p0 : PlainHeap) (ts pages : List ℕ) (d : IsHeap 
       | inr none ↦ absurd (none_copied n (sym none ∙ e))
     ];
     from = from;
-    planned_live = λ a n e. ap (λ w. bit_at g.live w a) m.targets.words ∙ m.targets.live a ∙ (goes a n e).1.is_live.live;
+    planned_live = λ a n e. ap (λ w. bit_at g.live w a) m.targets.words ∙ m.targets.live a
+        ∙ (goes a n e).1.is_live.live;
     target = λ a n e. let x = (goes a n e).1 in (
       m.targets.objects n ∙ none_there a n x,
       ap (state_at after.store) (page_of n ∙ place_on a n x) ∙ (target_new x.target x.place.0 x.in_target).1,
@@ -185,7 +188,7 @@ module _ (h g : HeapState) (p p0 : PlainHeap) (ts pages : List ℕ) (d : IsHeap 
         | inl there ↦ (
           place_of (moves_of h pages ts) a,
           (goes_to h g p p0 ts pages m a there
-          (told a (sym (m.targets.live a) ∙ ap (λ w. bit_at g.live w a) (sym m.targets.words) ∙ bit))).is,
+              (told a (sym (m.targets.live a) ∙ ap (λ w. bit_at g.live w a) (sym m.targets.words) ∙ bit))).is,
         )
         | inr out ↦ absurd (false≢true (sym (m.holds.invariant.phases.idle a (idle h g p p0 ts pages m))
             ∙ ap (λ n. is_protected (state_at g.store n)) (page_of a)
@@ -216,8 +219,8 @@ module _ (h g : HeapState) (p p0 : PlainHeap) (ts pages : List ℕ) (d : IsHeap 
       place_of (moves_of h pages ts) a,
       x,
       sym (same_Some _ _ (sym (ap (λ z. planned_extent z (size_at after a)) k.is
-      ∙ ap (λ o. option_map (sized_extent (place_of (moves_of h pages ts) a)) (option_map object_size o))
-      (objects_after h g p p0 ts pages m a ∙ m.targets.objects a ∙ x.is_live.here)) ∙ e)),
+          ∙ ap (λ o. option_map (sized_extent (place_of (moves_of h pages ts) a)) (option_map object_size o))
+          (objects_after h g p p0 ts pages m a ∙ m.targets.objects a ∙ x.is_live.here)) ∙ e)),
     ))
     | inr none ↦ absurd (none-some _ (sym (ap (λ z. planned_extent z (size_at after a)) none) ∙ e))
   ]
@@ -243,15 +246,15 @@ module _ (h g : HeapState) (p p0 : PlainHeap) (ts pages : List ℕ) (d : IsHeap 
       → AreApart (place_extent h m.store laid pages m.closed ts m.enough a n x) y
   plan_apart a n x c y e = elim (m.targets.extents c y e) [
     | inl before ↦ (
-      let z = claim_lies h m.store d.buffers laid m.before.invariant.objects c y before in
-      pages_apart h.store.words x.target z.page _ y
-      (λ q. false≢true (sym (ap (λ t. has_memory (state_at h.store t)) (sym q)
-      ∙ ap has_memory (target_new x.target x.place.0 x.in_target).0) ∙ z.memory))
-      lies (record { from = z.from; upto = z.upto })
-      )
+        let z = claim_lies h m.store d.buffers laid m.before.invariant.objects c y before in
+        pages_apart h.store.words x.target z.page _ y
+        (λ q. false≢true (sym (ap (λ t. has_memory (state_at h.store t)) (sym q)
+        ∙ ap has_memory (target_new x.target x.place.0 x.in_target).0) ∙ z.memory))
+        lies (record { from = z.from; upto = z.upto })
+        )
     | inr (t, is, from, upto) ↦ elim (cases_eq x.target t) [
       | inl q ↦ inl (let base : x.target * h.store.words ≡ t * h.store.words = ap (λ k. k * h.store.words) q in
-        omega (arith, lies.upto, base, from))
+          omega (arith, lies.upto, base, from))
       | inr k ↦ pages_apart h.store.words x.target t _ y k lies
           (record { from = omega (arith, from); upto = omega (arith, upto) })
     ]
@@ -427,7 +430,8 @@ ripe_closed : (h : HeapState) (n : ℕ) → OnAccepted (λ (u : Unit {0}). state
 unfolding ripe
 ripe_closed h n = by_lent (is_open (state_at h.store n) && is_lent h.threads n)
   where
-    is : (x : PageState) → OnAccepted (λ (u : Unit {0}). x ≡ Closed) (cond (is_closed x) (Ok tt) (Err (refusals.Unripe n)))
+    is : (x : PageState) → OnAccepted (λ (u : Unit {0}). x ≡ Closed)
+        (cond (is_closed x) (Ok tt) (Err (refusals.Unripe n)))
     is Unused = tt
     is Open = tt
     is Closed = refl

@@ -87,14 +87,14 @@ module _ (h : HeapState) (i : ℕ) (p : Page) (n : ℕ) (at : slice_get h.store.
   shrinks c y e = elim (others c) [
     | inr same ↦ (y, sym same ∙ e, record { from = omega arith; upto = omega arith })
     | inl is ↦ (
-      let k = same_Some _ _ (sym end_has ∙ ap (extent after) (sym is) ∙ e) in
-      let from : (i + 1) * h.store.words + (p.top + n) ≡ y.from = ap (λ (z : Extent). z.from) k in
-      let upto : (i + 1) * h.store.words + h.store.words ≡ y.upto = ap (λ (z : Extent). z.upto) k in (
-        record { from = (i + 1) * h.store.words + p.top; upto = (i + 1) * h.store.words + h.store.words },
-        ap (extent h) is ∙ end_had,
-        record { from = omega (arith, from); upto = omega (arith, upto) },
-      )
-      )
+        let k = same_Some _ _ (sym end_has ∙ ap (extent after) (sym is) ∙ e) in
+        let from : (i + 1) * h.store.words + (p.top + n) ≡ y.from = ap (λ (z : Extent). z.from) k in
+        let upto : (i + 1) * h.store.words + h.store.words ≡ y.upto = ap (λ (z : Extent). z.upto) k in (
+          record { from = (i + 1) * h.store.words + p.top; upto = (i + 1) * h.store.words + h.store.words },
+          ap (extent h) is ∙ end_had,
+          record { from = omega (arith, from); upto = omega (arith, upto) },
+        )
+        )
   ]
 
   rows : (xs : List (List Bool)) → AreRowsOf h.store xs → AreRowsOf after.store xs

@@ -169,7 +169,8 @@ module _ {h : HeapState} {p p0 : PlainHeap} (s : IsStore h.store) (k : Holds h p
   had (OfPlan a) y f =
       by_entry ((world_of h).side_entry a) (object_at (record h { store = with_released h.store n }) a) refl f
     where
-      by_entry : (x : SideEntry) (o : Option HeapObject) → object_at (record h { store = with_released h.store n }) a ≡ o
+      by_entry : (x : SideEntry) (o : Option HeapObject)
+          → object_at (record h { store = with_released h.store n }) a ≡ o
           → planned_extent x (option_map object_size o) ≡ Some y
           → planned_extent x (option_map object_size (object_at h a)) ≡ Some y
       by_entry NoEntry o g z = absurd (cc)
@@ -251,15 +252,16 @@ module _ {h : HeapState} {p p0 : PlainHeap} (s : IsStore h.store) (k : Holds h p
   may_release busy all copied = record {
     from = λ a f. ap (state_at h.store) (eqb-true (a / h.store.words) n f) ∙ state_was;
     copied = λ a m f g. true≢false (sym (planned_uncopied (of_page h.sides n) (a % h.store.words) m
-        (sym (ap (λ j. worlds.entry_at (of_page h.sides j) (a % h.store.words)) (eqb-true (a / h.store.words) n f)) ∙ g))
+        (sym (ap (λ j. worlds.entry_at (of_page h.sides j) (a % h.store.words))
+        (eqb-true (a / h.store.words) n f)) ∙ g))
         ∙ copied);
     crossed = all;
     busy = busy;
   }
 
 module _ {h : HeapState} {p p0 : PlainHeap} (s : IsStore h.store) (k : Holds h p p0) where
-  all_where_protecting : OnAccepted (λ (u : Unit {0}). h.phase ≡ ProtectCrossing → (t : ℕ) → (world_of h).crossed t ≡ true)
-      (crossed_if_protecting h)
+  all_where_protecting : OnAccepted
+      (λ (u : Unit {0}). h.phase ≡ ProtectCrossing → (t : ℕ) → (world_of h).crossed t ≡ true) (crossed_if_protecting h)
   unfolding crossed_if_protecting
   all_where_protecting = by_phase (is_protect_crossing h.phase) refl
     where

@@ -105,7 +105,8 @@ start_carries h = records_carry h (record (records_of h) {
 })
 
 -- an entry that is planned isn't copied
-pub planned_uncopied : (fs : List Forwarding) (o n : ℕ) → worlds.entry_at fs o ≡ Planned n → list_any is_uncopied fs ≡ true
+pub planned_uncopied : (fs : List Forwarding) (o n : ℕ) → worlds.entry_at fs o ≡ Planned n
+    → list_any is_uncopied fs ≡ true
 planned_uncopied [] o n e = absurd (cc)
 planned_uncopied (f ∷ fs) o n e = by_test (nat_eq f.offset o) f.copied (planned_uncopied fs o n) e
   where

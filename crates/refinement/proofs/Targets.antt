@@ -1,6 +1,7 @@
--- Targets: pages that are opened for what is planned, wholly given out and to nobody. What was in the heap stays as it was.
+-- Targets: pages that are opened for what is planned, wholly given out and to nobody. What was in the heap stays.
 use Rattle.std.proofs.Common.{◌≡◌, ◌≢◌, ◌⊎◌, inl, inr, ℕ, zero, suc, ◌+◌, ◌*◌, ◌<◌, ◌≤◌, Bool, true, false}
-use Rattle.std.proofs.Common.{List, [], ◌∷◌, length, set, position, count_by, is_none, cond, replicate, Option, Some, None}
+use Rattle.std.proofs.Common.{List, [], ◌∷◌, length, set, position, count_by, is_none, cond, replicate, Option, Some}
+use Rattle.std.proofs.Common.{None}
 use Rattle.std.proofs.Common.{IfSome, nat_eq, eq-eqb, ne_eqb, refl, sym, ◌∙◌, ap, subst, arith}
 use Rattle.std.specs.List.{slice_get}
 use Rattle.std.specs.Prelude.{Ok}
@@ -11,7 +12,8 @@ use Rattle.std.proofs.lemmas.Option.{same_Some}
 use Rattle.model.specs.declared.records.Page.{Page}
 use Rattle.model.specs.declared.records.PageState.TheVariants.{Unused, Open}
 use Rattle.model.specs.declared.records.Buffer.{Buffer}
-use Rattle.model.specs.Stores.{StoreState, state_at, is_unused, free_frame, unused_page, unused_in, open_fresh, fresh_page}
+use Rattle.model.specs.Stores.{StoreState, state_at, is_unused, free_frame, unused_page, unused_in, open_fresh}
+use Rattle.model.specs.Stores.{fresh_page}
 use Rattle.model.specs.Stores.{give_words, take_fresh, buffer_of}
 use Rattle.model.specs.Owning.{Each, IsStore, LiesIn}
 use Rattle.model.specs.Holding.{FillsIn}
@@ -73,7 +75,8 @@ next_target s h free unused = by_frame (free_frame s.owners) refl
         omega (arith, few, all, unused)
         )
     by_page f a (Some i) b =
-        let (p, at) = get_within s.pages i (position_within (λ (p : Page). is_unused p.state) s.pages i b (fresh_page f)) in
+        let (p, at) = get_within s.pages i
+        (position_within (λ (p : Page). is_unused p.state) s.pages i b (fresh_page f)) in
         record {
           index = i;
           frame = f;
@@ -230,7 +233,8 @@ module _ (h : HeapState) (p p0 : PlainHeap) (s : IsStore h.store) (d : Each h.th
           → (t : ℕ) × IsIn t ((x.index + 1) ∷ []) × (y.from ≡ t * h.store.words + h.store.words)
           × (y.upto ≡ t * h.store.words + h.store.words)
       the_end is =
-          let has = raising.end_has (opened_heap h x.index x.frame) x.index (fresh_page x.frame) h.store.words at refl in
+          let has = raising.end_has (opened_heap h x.index x.frame) x.index (fresh_page x.frame) h.store.words at
+          refl in
           let z = same_Some _ _ (sym has ∙ ap (extent after) (sym is) ∙ e) in
           let from : (x.index + 1) * h.store.words + (0 + h.store.words) ≡ y.from = ap (λ (u : Extent). u.from) z in
           let upto : (x.index + 1) * h.store.words + h.store.words ≡ y.upto = ap (λ (u : Extent). u.upto) z in
@@ -367,13 +371,20 @@ pub record TargetsHold (h : HeapState) (k : ℕ) (x : HeapState × List ℕ) (p 
 
 opened_first : (k : ℕ) (h : HeapState) (x : NextTarget h.store)
     → with_targets (suc k) h
-    ≡ ((with_targets k (target_heap h x.index x.frame)).0,
-    (x.index + 1) ∷ (with_targets k (target_heap h x.index x.frame)).1)
+    ≡ (
+      (with_targets k (target_heap h x.index x.frame)).0,
+      (x.index + 1) ∷ (with_targets k (target_heap h x.index x.frame)).1,
+    )
 opened_first k h x = ap (behind_target (with_targets k) h) x.is ∙ ap
-    (λ (g : HeapState). ((with_targets k g).0, (give_words (open_fresh h.store x.index x.frame) x.index
-    h.store.words).1.page ∷ (with_targets k g).1)) (as_target h x.index x.frame x.page x.at)
-    ∙ ap (λ (z : StoreState × Buffer). ((with_targets k (target_heap h x.index x.frame)).0,
-    z.1.page ∷ (with_targets k (target_heap h x.index x.frame)).1)) (given_at (open_fresh h.store x.index x.frame)
+    (λ (g : HeapState). (
+      (with_targets k g).0,
+      (give_words (open_fresh h.store x.index x.frame) x.index
+          h.store.words).1.page ∷ (with_targets k g).1,
+    )) (as_target h x.index x.frame x.page x.at)
+    ∙ ap (λ (z : StoreState × Buffer). (
+      (with_targets k (target_heap h x.index x.frame)).0,
+      z.1.page ∷ (with_targets k (target_heap h x.index x.frame)).1,
+    )) (given_at (open_fresh h.store x.index x.frame)
     x.index h.store.words (fresh_page x.frame) (opened_at h.store x.index x.frame x.page x.at))
 
 pub targets_hold : (k : ℕ) (h : HeapState) (p p0 : PlainHeap) → IsStore h.store → Each h.threads (FillsIn h.store)
@@ -385,7 +396,8 @@ targets_hold (suc n) h p p0 s d k free unused =
     (target_fills h p p0 s d k x) (target_holds h p p0 s d k x)
     (omega (arith, free, free_less h p p0 s d k x)) (omega (arith, unused, unused_less h p p0 s d k x)) in
     subst (λ z. TargetsHold h (suc n) z p p0) (sym (opened_first n h x)) (record {
-      targets = more_targets h (target_heap h x.index x.frame) _ (x.index + 1) _ (one_target h p p0 s d k x) rest.targets;
+      targets = more_targets h (target_heap h x.index x.frame) _ (x.index + 1) _ (one_target h p p0 s d k x)
+          rest.targets;
       holds = rest.holds;
       many = ap suc rest.many;
     })
