@@ -61,7 +61,7 @@ use Rattle.refinement.proofs.EndMarks.{may_end}
 use Rattle.refinement.proofs.StartMarks.{in_phase}
 
 -- an accepted step leaves the phase
-abbrev Stays : HeapState → Outcome → Type 0
+abbrev pub Stays : HeapState → Outcome → Type 0
 Stays h o = OnAccepted (λ (z : HeapState × Answer). z.0.phase ≡ h.phase) o
 
 module _ (h : HeapState) (t : ℕ) where
@@ -188,7 +188,7 @@ module _ (h : HeapState) (t : ℕ) where
   cross_moves = on_has (may_cross h t) _ _ _ (is_open h t) (λ u e. crossed_into e)
 
 -- an accepted step moves the phase so
-abbrev Moves : HeapState → Step → Outcome → Type 0
+abbrev pub Moves : HeapState → Step → Outcome → Type 0
 Moves h step o = OnAccepted (λ (z : HeapState × Answer). MovesPhase h step z.0) o
 
 thread_moves : (h : HeapState) (t : ℕ) (step : Step) → Moves h step (thread_row h t step)

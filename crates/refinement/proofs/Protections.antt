@@ -461,7 +461,7 @@ has_room h need = on_test (nat_lt (free_count h.store) need) _ _ _ (λ e.
     on_test (nat_lt (unused_count h.store) need) _ _ _ (λ f.
     record { frames = ltb-false (free_count h.store) need e; pages = ltb-false (unused_count h.store) need f }))
 
-idle_is : (f : Phase) → OnAccepted (λ (u : Unit {0}). f ≡ Idle) (refuse_if (not (is_idle f)) refusals.Phase)
+pub idle_is : (f : Phase) → OnAccepted (λ (u : Unit {0}). f ≡ Idle) (refuse_if (not (is_idle f)) refusals.Phase)
 idle_is Idle = refl
 idle_is MarkCrossing = tt
 idle_is Scanning = tt
