@@ -18,7 +18,7 @@ use Rattle.parser.specs.Headings.{config_of}
 use Rattle.parser.specs.Reading.{ScriptValue, script_of, ReadSoFar, nothing, line_in, closed, whole}
 use Rattle.parser.specs.Reading.{finished}
 use Rattle.parser.specs.Spelling.{line_of, layout_line_of, size_words, SpellsHeap, Part, Times, part_lines}
-use Rattle.parser.specs.Spelling.{part_commands, ended, IsPart, says_something, Spells, IsLayout, IsCommand, IsScript}
+use Rattle.parser.specs.Spelling.{part_commands, with_newline, IsPart, says_something, Spells, IsLayout, IsCommand, IsScript}
 use Rattle.parser.specs.Faults.{text_of, BeginsScript, EndInBlock, HaveNoFault}
 use Rattle.parser.proofs.HeapLines.{IsSizes}
 use Rattle.parser.proofs.Plain.{no_newlines, words_no_newlines, number_plain, sizes_plain}
@@ -61,7 +61,7 @@ begins_by lines more s valid h = record {
   more = text_of more;
   script = s;
   valid = valid;
-  spelled = subst (λ (x : List ℕ). Spells x s) (flat_map-append ended lines more) h;
+  spelled = subst (λ (x : List ℕ). Spells x s) (flat_map-append with_newline lines more) h;
 }
 
 pub begins_front : (front back : List ℕ) → BeginsScript (front ++ back) → BeginsScript front
@@ -76,7 +76,7 @@ begins_front front back h = record {
 begins_before : (lines : List (List ℕ)) (line : List ℕ) → BeginsScript (text_of (lines ++ line ∷ []))
     → BeginsScript (text_of lines)
 begins_before lines line h = begins_front (text_of lines) (text_of (line ∷ []))
-    (subst BeginsScript (flat_map-append ended lines (line ∷ [])) h)
+    (subst BeginsScript (flat_map-append with_newline lines (line ∷ [])) h)
 
 -- ---- no block is open
 

@@ -6,7 +6,7 @@ use Rattle.std.specs.Prelude.{filter}
 use Rattle.std.specs.List.{All, AllByRecursion, join_with_byte, flat_map, slice_split, onto_first, position_or_len}
 use Rattle.std.proofs.lemmas.Bool.Decides.{nat_tests}
 use Rattle.parser.specs.Reading.{newline}
-use Rattle.parser.specs.Spelling.{ended, IsLine}
+use Rattle.parser.specs.Spelling.{with_newline, IsLine}
 use Rattle.std.proofs.lemmas.List.Splits.{slice_split_first, slice_split_none}
 use Rattle.std.proofs.lemmas.List.Quantifiers.{position-Some}
 use Rattle.std.proofs.lemmas.List.Sums.{position_or_len_is, fails_before_first}
@@ -64,11 +64,11 @@ filter_told p line lines =
     [ true ↦ refl | false ↦ refl ]
 
 -- lines with an empty part behind them, joined by newlines, are the lines that each end in one
-pub joined_lines : (lines : List (List ℕ)) → join_with_byte 10 (lines ++ [] ∷ []) ≡ flat_map ended lines
+pub joined_lines : (lines : List (List ℕ)) → join_with_byte 10 (lines ++ [] ∷ []) ≡ flat_map with_newline lines
 joined_lines [] = refl
 joined_lines (line ∷ []) = sym (append-nil (line ++ 10 ∷ []))
 joined_lines (line ∷ next ∷ lines) = ap (λ (t : List ℕ). line ++ (10 ∷ t)) (joined_lines (next ∷ lines))
-    ∙ sym (append_assoc line (10 ∷ []) (flat_map ended (next ∷ lines)))
+    ∙ sym (append_assoc line (10 ∷ []) (flat_map with_newline (next ∷ lines)))
 
 first_line : (x : ℕ) (parts : List (List ℕ)) → x ≢ 10 → AllByRecursion HasNoNewlines parts
     → AllByRecursion HasNoNewlines (onto_first x parts)

@@ -7,7 +7,7 @@ use Rattle.std.proofs.lemmas.Grind.{flat_map-append}
 use Rattle.std.proofs.lemmas.List.Splits.{slice_split-cons_yes}
 use Rattle.parser.specs.declared.fault.LineFault.{LineFault}
 use Rattle.parser.specs.Reading.{newline}
-use Rattle.parser.specs.Spelling.{ended}
+use Rattle.parser.specs.Spelling.{with_newline}
 use Rattle.parser.specs.Faults.{text_of, BeginsScript, HaveNoFault, IsLineEnd, IsWordEnd, byte_behind, StandsInLine}
 use Rattle.parser.specs.Faults.{StandsAtEnd, LacksNewline, IsFirstFault, HasNoLargeBlock, FaultsShareLine}
 use Rattle.parser.proofs.Lists.{HasNoNewlines, all_to, lines_to}
@@ -32,7 +32,7 @@ no_large bytes lines more small is (inl begins) = begins
 no_large bytes lines more small is (inr large) = absurd (small lines more is large)
 
 text_more : (lines : List (List ℕ)) (line : List ℕ) → text_of (lines ++ line ∷ []) ≡ text_of lines ++ (line ++ 10 ∷ [])
-text_more lines line = flat_map-append ended lines (line ∷ [])
+text_more lines line = flat_map-append with_newline lines (line ∷ [])
     ∙ ap (λ (x : List ℕ). text_of lines ++ x) (append-nil (line ++ 10 ∷ []))
 
 -- the parts of a line and what stands behind it
@@ -183,7 +183,7 @@ not_earlier bytes f g p q h =
     let lines_are : q.before ≡ (p.before ++ p.line ∷ []) ++ order.rest =
     order.later_is ∙ sym (append_assoc p.before (p.line ∷ []) order.rest) in
     let text_is : text_of q.before ≡ text_of (p.before ++ p.line ∷ []) ++ text_of order.rest =
-    ap text_of lines_are ∙ flat_map-append ended (p.before ++ p.line ∷ []) order.rest in
+    ap text_of lines_are ∙ flat_map-append with_newline (p.before ++ p.line ∷ []) order.rest in
     p.never some.0 some.1.0 (order.others_are ∙ some.1.1)
     (begins_front (text_of (p.before ++ p.line ∷ [])) (text_of order.rest) (subst BeginsScript text_is q.begins))
 

@@ -19,7 +19,7 @@ use Rattle.parser.specs.Words.{is_digit, page_in, offset_in}
 use Rattle.parser.specs.Verbs.{row_of}
 use Rattle.parser.specs.Headings.{config_of}
 use Rattle.parser.specs.Reading.{newline}
-use Rattle.parser.specs.Spelling.{line_of, actor_word, address_word, operand_word, order_words, SpellsLimit, ended}
+use Rattle.parser.specs.Spelling.{line_of, actor_word, address_word, operand_word, order_words, SpellsLimit, with_newline}
 use Rattle.std.proofs.lemmas.List.Folds.{list_all-append}
 use Rattle.parser.specs.Spelling.{IsActor, IsOperand, IsOrder}
 use Rattle.parser.proofs.Lists.{HasNoNewlines, all_both, all_from}
@@ -76,11 +76,11 @@ none_ends line h = all_from (λ b. newline b ≡ false) line (none_end line h)
 
 -- lines that each end in a newline are the parts of their bytes, with an empty one behind them
 pub lines_split : (lines : List (List ℕ)) → AllByRecursion HasNoNewlines lines
-    → slice_split newline (flat_map ended lines) ≡ lines ++ [] ∷ []
+    → slice_split newline (flat_map with_newline lines) ≡ lines ++ [] ∷ []
 lines_split [] h = refl
 lines_split (line ∷ lines) h =
-    ap (slice_split newline) (append_assoc line (10 ∷ []) (flat_map ended lines))
-    ∙ slice_split_at newline line 10 (flat_map ended lines) (none_ends line h.0) refl
+    ap (slice_split newline) (append_assoc line (10 ∷ []) (flat_map with_newline lines))
+    ∙ slice_split_at newline line 10 (flat_map with_newline lines) (none_ends line h.0) refl
     ∙ ap (λ (t : List (List ℕ)). line ∷ t) (lines_split lines h.1)
 
 -- ---- words of lines

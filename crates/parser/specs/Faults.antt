@@ -12,11 +12,11 @@ use Rattle.parser.specs.declared.reading.TheConstants.{MOST_COMMANDS}
 use Rattle.parser.specs.Words.{is_number}
 use Rattle.parser.specs.Orders.{first_byte}
 use Rattle.parser.specs.Reading.{ScriptValue}
-use Rattle.parser.specs.Spelling.{line_of, ended, says_something, IsLine, IsLayout, IsCommand, IsScript, Spells}
+use Rattle.parser.specs.Spelling.{line_of, with_newline, says_something, IsLine, IsLayout, IsCommand, IsScript, Spells}
 
 -- the text of lines: each ends in a newline
 abbrev pub text_of : List (List ℕ) → List ℕ
-text_of lines = flat_map ended lines
+text_of lines = flat_map with_newline lines
 
 -- The bytes begin a script: with some bytes more behind them they spell one within all limits.
 pub record BeginsScript (bytes : List ℕ) : Type 0 where

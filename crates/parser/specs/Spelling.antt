@@ -111,8 +111,8 @@ abbrev pub says_something : List ℕ → Bool
 says_something line = not (is_idle line)
 
 -- a line and its newline
-abbrev pub ended : List ℕ → List ℕ
-ended line = line ++ 10 ∷ []
+abbrev pub with_newline : List ℕ → List ℕ
+with_newline line = line ++ 10 ∷ []
 
 -- no newline stands in a line
 abbrev pub IsLine : List ℕ → Type 0
@@ -124,7 +124,7 @@ IsLine line = All (λ b. b ≢ 10) line
 pub record Spells (bytes : List ℕ) (script : ScriptValue) : Type 0 where
   pub lines : List (List ℕ)
   pub each : All IsLine lines
-  pub bytes_are : bytes ≡ flat_map ended lines
+  pub bytes_are : bytes ≡ flat_map with_newline lines
   pub heap : List ℕ
   pub heap_spelled : SpellsHeap heap script.config
   pub parts : List Part

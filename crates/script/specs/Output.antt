@@ -20,6 +20,7 @@ use Rattle.parser.specs.declared.order.Then.{Then}
 use Rattle.parser.specs.declared.order.Then.TheVariants as thens
 use Rattle.parser.specs.Orders.{step_of, then_of}
 use Rattle.parser.specs.Reading.{ScriptValue}
+use Rattle.parser.specs.Spelling.{with_newline}
 use Rattle.text.specs.declared.report.Activity.{Activity}
 use Rattle.text.specs.declared.report.Activity.TheVariants as activities
 use Rattle.text.specs.Texts.{line_text, drained_line}
@@ -32,13 +33,9 @@ use Rattle.text.specs.Reports as lines
 abbrev pub used_frames : HeapState → ℕ
 used_frames h = count_by is_some h.store.owners
 
--- a line and its newline
-abbrev pub ended : List ℕ → List ℕ
-ended line = line ++ 10 ∷ []
-
 -- the first line: the phase, the clean NMT bit, the births, the used frames of all
 abbrev pub head_line : HeapState → List ℕ
-head_line h = ended (lines.head_line h.phase h.nmt h.births (used_frames h) (length h.store.frames))
+head_line h = with_newline (lines.head_line h.phase h.nmt h.births (used_frames h) (length h.store.frames))
 
 -- how many bits are set in a row that may be missing
 abbrev pub bits_of_row : Option (List Bool) → ℕ
@@ -52,7 +49,7 @@ bits_in rows i = bits_of_row (slice_get rows i)
 -- the line of the page whose record stands at i; an unused one has none
 unfoldable pub page_line : HeapState → ℕ → Page → List ℕ
 page_line h i p =
-    if is_unused p.state then [] else ended (lines.page_line (i + 1) p (bits_in h.starts i) (bits_in h.live i))
+    if is_unused p.state then [] else with_newline (lines.page_line (i + 1) p (bits_in h.starts i) (bits_in h.live i))
 
 -- what a thread does
 abbrev pub activity_of : ThreadState → Activity
@@ -61,15 +58,15 @@ activity_of t = if t.parked then activities.Parked else
 
 -- the line of thread n
 abbrev pub thread_line : ℕ → ℕ → ThreadState → List ℕ
-thread_line page_words n t = ended (lines.thread_line n (activity_of t) t.buffer page_words t.registers)
+thread_line page_words n t = with_newline (lines.thread_line n (activity_of t) t.buffer page_words t.registers)
 
 -- the line of global n
 abbrev pub global_line : ℕ → ℕ → Global → List ℕ
-global_line page_words n g = ended (lines.global_line page_words n g.word)
+global_line page_words n g = with_newline (lines.global_line page_words n g.word)
 
 -- the line of mark number k, if the answer ended it
 abbrev pub cycle_line : ℕ → Answer → List ℕ
-cycle_line k (answers.Ended live retired) = ended (lines.cycle_line k live retired)
+cycle_line k (answers.Ended live retired) = with_newline (lines.cycle_line k live retired)
 cycle_line k _ = []
 
 -- the number of the next mark to end
