@@ -56,11 +56,12 @@ frame_keeps s f ws h e =
       balanced = record { frames = h.balanced.frames ∙ sym same; leaving = rw same h.balanced.leaving };
     }
 
--- a page's record becomes another one, with the same frame and alike in what it may do
-pub page_keeps : (s : StoreState) (i : ℕ) (p q : Page) → IsStore s → slice_get s.pages i ≡ Some p → q.frame ≡ p.frame
-    → has_memory q.state ≡ has_memory p.state → is_protected q.state ≡ is_protected p.state → q.top ≤ s.words
+-- a page's record becomes another one, with the same frame, and with memory if it had some
+pub record_keeps : (s : StoreState) (i : ℕ) (p q : Page) → IsStore s → slice_get s.pages i ≡ Some p → q.frame ≡ p.frame
+    → has_memory q.state ≡ has_memory p.state → q.top ≤ s.words
+    → count_by (λ x. is_protected x.state) (set s.pages i q) ≤ length s.frames
     → IsStore (record s { pages = set s.pages i q })
-page_keeps s i p q h e frame memory protected le =
+record_keeps s i p q h e frame memory le leaving =
     let same : length (set s.pages i q) ≡ length s.pages = simp length-set in
     record {
       sized = record {
@@ -87,12 +88,7 @@ page_keeps s i p q h e frame memory protected le =
           count_set (λ x. has_memory x.state) s.pages i p q e,
           ap as_number memory,
         );
-        leaving = omega (
-          arith,
-          h.balanced.leaving,
-          count_set (λ x. is_protected x.state) s.pages i p q e,
-          ap as_number protected,
-        );
+        leaving = leaving;
       };
     }
   where
@@ -117,6 +113,17 @@ page_keeps s i p q h e frame memory protected le =
           frame ∙ ap (λ (z : Page). z.frame) same ∙ d,
         )
         by_place (inr k) = (j, x, b, get_set_other s.pages i j q k ∙ c, d)
+
+-- the same, where it is protected if it was
+pub page_keeps : (s : StoreState) (i : ℕ) (p q : Page) → IsStore s → slice_get s.pages i ≡ Some p → q.frame ≡ p.frame
+    → has_memory q.state ≡ has_memory p.state → is_protected q.state ≡ is_protected p.state → q.top ≤ s.words
+    → IsStore (record s { pages = set s.pages i q })
+page_keeps s i p q h e frame memory protected le = record_keeps s i p q h e frame memory le (omega (
+  arith,
+  h.balanced.leaving,
+  count_set (λ x. is_protected x.state) s.pages i p q e,
+  ap as_number protected,
+))
 
 -- a page gives out more of its words
 pub raise_keeps : (s : StoreState) (i : ℕ) (p : Page) (top : ℕ) → IsStore s → slice_get s.pages i ≡ Some p

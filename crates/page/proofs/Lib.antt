@@ -6,3 +6,4 @@ pub mod Keeping
 pub mod Lying
 pub mod Trees
 pub mod Masks
+pub mod Relocated

@@ -20,7 +20,8 @@ use Rattle.model.specs.declared.records.Buffer.{Buffer}
 use Rattle.model.specs.Stores.{StoreState, is_open, is_unused, is_protected, state_in, open_fresh, give_words}
 use Rattle.model.specs.Stores.{buffer_of}
 use Rattle.model.specs.Stores.{Takes, with_words, with_word, fresh_page, frame_in, page_at, take_buffer}
-use Rattle.model.specs.Stores.{page_with_room, free_frame, unused_page, record_count}
+use Rattle.model.specs.Stores.{page_with_room, free_frame, unused_page, record_count, take_fresh, take_at}
+use Rattle.model.specs.Protections.{take_target}
 use Rattle.model.specs.Owning.{IsStore, LiesIn, AreSized, TakesWell, NoneProtected}
 use Rattle.model.proofs.Memory.{frames_stay}
 use Rattle.model.proofs.Lists.{get_set_same, get_set_other, get_within, each_set}
@@ -142,20 +143,26 @@ taken_given : (s : StoreState) (n i : ℕ) → page_with_room s.words n s.pages 
 unfolding take_buffer
 taken_given s n i a = rw a refl
 
-taken_no_frame : (s : StoreState) (n : ℕ) → page_with_room s.words n s.pages ≡ None → free_frame s.owners ≡ None
-    → take_buffer s n ≡ Err NoFrames
+-- where no open page has room, the words are those of a fresh page
+taken_fresh : (s : StoreState) (n : ℕ) → page_with_room s.words n s.pages ≡ None
+    → take_buffer s n ≡ take_fresh s n (free_frame s.owners) (unused_page s.count s.pages)
 unfolding take_buffer
-taken_no_frame s n r a = rw (r, a) refl
+taken_fresh s n r = ap (take_at s n) r
 
-taken_no_page : (s : StoreState) (n f : ℕ) → page_with_room s.words n s.pages ≡ None → free_frame s.owners ≡ Some f
-    → unused_page s.count s.pages ≡ None → take_buffer s n ≡ Err NoPages
-unfolding take_buffer
-taken_no_page s n f r a c = rw (r, a, c) refl
-
-taken_opened : (s : StoreState) (n f i : ℕ) → page_with_room s.words n s.pages ≡ None → free_frame s.owners ≡ Some f
-    → unused_page s.count s.pages ≡ Some i → take_buffer s n ≡ Ok (give_words (open_fresh s i f) i n)
-unfolding take_buffer
-taken_opened s n f i r a c = rw (r, a, c) refl
+pub fresh_well : (s t : StoreState) (n : ℕ) (b : Buffer) → IsStore s → n ≤ s.words
+    → take_fresh s n (free_frame s.owners) (unused_page s.count s.pages) ≡ Ok (t, b) → TakesWell s t b
+fresh_well s t n b h high e = by_frame (free_frame s.owners) refl (unused_page s.count s.pages) refl e
+  where
+    by_frame : (f : Option ℕ) → free_frame s.owners ≡ f → (o : Option ℕ) → unused_page s.count s.pages ≡ o
+        → take_fresh s n f o ≡ Ok (t, b) → TakesWell s t b
+    by_frame None a o c k = absurd (err_ok NoFrames (t, b) k)
+    by_frame (Some f) a None c k = absurd (err_ok NoPages (t, b) k)
+    by_frame (Some f) a (Some i) c k =
+        let counts = free_counts s.owners f (free_within s.owners f a) a in
+        let at = unused_as s h counts (position (λ (p : Page). is_unused p.state) s.pages) refl ∙ c in
+        let p = get_within s.pages i (position_within (λ (p : Page). is_unused p.state) s.pages i at (fresh_page f)) in
+        subst (λ (y : StoreState × Buffer). TakesWell s y.0 y.1)
+        (same_ok (give_words (open_fresh s i f) i n) (t, b) k) (well_opened s i f n p.0 p.1 high)
 
 pub takes_well : (s t : StoreState) (n : ℕ) (b : Buffer) → IsStore s → 0 < n → n ≤ s.words → take_buffer s n ≡ Ok (t, b)
     → TakesWell s t b
@@ -165,19 +172,8 @@ takes_well s t n b h low high e = by_room (page_with_room s.words n s.pages) ref
     as_taken x k w = let same : x ≡ (t, b) = same_ok x (t, b) (sym k ∙ e) in
         subst (λ (y : StoreState × Buffer). TakesWell s y.0 y.1) same w
 
-    by_fresh : page_with_room s.words n s.pages ≡ None → (f : Option ℕ) → free_frame s.owners ≡ f → (o : Option ℕ)
-        → unused_page s.count s.pages ≡ o → TakesWell s t b
-    by_fresh r None a o c = absurd (err_ok NoFrames (t, b) (sym (taken_no_frame s n r a) ∙ e))
-    by_fresh r (Some f) a None c = absurd (err_ok NoPages (t, b) (sym (taken_no_page s n f r a c) ∙ e))
-    by_fresh r (Some f) a (Some i) c =
-        let frame = free_within s.owners f a in
-        let counts = free_counts s.owners f frame a in
-        let at = unused_as s h counts (position (λ (p : Page). is_unused p.state) s.pages) refl ∙ c in
-        let p = get_within s.pages i (position_within (λ (p : Page). is_unused p.state) s.pages i at (fresh_page f)) in
-        as_taken (give_words (open_fresh s i f) i n) (taken_opened s n f i r a c) (well_opened s i f n p.0 p.1 high)
-
     by_room : (o : Option ℕ) → page_with_room s.words n s.pages ≡ o → TakesWell s t b
-    by_room None a = by_fresh a (free_frame s.owners) refl (unused_page s.count s.pages) refl
+    by_room None a = fresh_well s t n b h high (sym (taken_fresh s n a) ∙ e)
     by_room (Some i) a =
         let within = room_within s.words n s.pages i a (fresh_page 0) in
         let p = get_within s.pages i within in
@@ -186,6 +182,12 @@ takes_well s t n b h low high e = by_room (page_with_room s.words n s.pages) ref
         (and_parts (is_open p.0.state) _ passes).0 (room_left s.words n p.0.top (is_open p.0.state) low passes))
 
 -- the same, of a call that took a buffer or failed
+pub target_by : (s t : StoreState) (r : Result Buffer Room) → IsStore s → Takes s r t (take_target s)
+    → IfOk r (TakesWell s t)
+unfolding take_target
+target_by s t (Ok b) h e = fresh_well s t s.words b h (omega arith) e
+target_by s t (Err x) h e = search rules
+
 pub takes_by : (s t : StoreState) (n : ℕ) (r : Result Buffer Room) → IsStore s → 0 < n → n ≤ s.words
     → Takes s r t (take_buffer s n) → IfOk r (TakesWell s t)
 takes_by s t n (Ok b) h low high e = takes_well s t n b h low high e

@@ -92,12 +92,12 @@ retire_gone_keeps s i p h e none protected =
         ∙ ap (λ (y : Page). y.frame) (same_Some _ _ (sym e ∙ ap (slice_get s.pages) (sym z) ∙ c)) ∙ d) in
         (j, x, b, get_set_other s.pages i j (retired_page p) other ∙ c, d)
 
--- a page with a frame is unused again, and its frame is free
-pub retire_from_keeps : (s : StoreState) (i g : ℕ) (p : Page) → IsStore s → slice_get s.pages i ≡ Some p
-    → p.frame ≡ Some g → is_protected p.state ≡ true
-    → IsStore (record s { pages = set s.pages i (retired_page p); owners = set s.owners g None })
-retire_from_keeps s i g p h e frame protected =
-    let q : Page = retired_page p in
+-- a page with a frame gives it up, and the frame is free
+pub freed_keeps : (s : StoreState) (i g : ℕ) (p q : Page) → IsStore s → slice_get s.pages i ≡ Some p
+    → p.frame ≡ Some g → q.frame ≡ None → has_memory q.state ≡ false → q.top ≤ s.words
+    → count_by (λ x. is_protected x.state) (set s.pages i q) ≤ length s.frames
+    → IsStore (record s { pages = set s.pages i q; owners = set s.owners g None })
+freed_keeps s i g p q h e frame none empty top leaving =
     let pages_same : length (set s.pages i q) ≡ length s.pages = simp length-set in
     let owners_same : length (set s.owners g None) ≡ length s.owners = simp length-set in
     let memory : has_memory p.state ≡ true = sym (h.pages i p e).memory ∙ ap is_some frame in
@@ -111,7 +111,7 @@ retire_from_keeps s i g p h e frame protected =
         pages = pages_same ∙ h.sized.pages;
         frames = h.sized.frames;
       };
-      pages = each_set (IsPage s.words) s.pages i q h.pages (record { memory = refl; top = (h.pages i p e).top });
+      pages = each_set (IsPage s.words) s.pages i q h.pages (record { memory = ap is_some none ∙ sym empty; top = top });
       owning = record {
         owned = λ j f x a b. owned j f x b (get_set s.pages i j q x a);
         owner = λ f n a. owner f n (get_set s.owners g f None (Some n) a);
@@ -123,12 +123,9 @@ retire_from_keeps s i g p h e frame protected =
           count_set (λ x. has_memory x.state) s.pages i p q e,
           count_set is_none s.owners g (Some (i + 1)) None owns,
           ap as_number memory,
+          ap as_number empty,
         );
-        leaving = omega (
-          arith,
-          h.balanced.leaving,
-          count_set (λ x. is_protected x.state) s.pages i p q e,
-        );
+        leaving = leaving;
       };
     }
   where
@@ -136,9 +133,9 @@ retire_from_keeps s i g p h e frame protected =
     owns = h.owning.owned i g p e frame
 
     owned : (j f : ℕ) (x : Page)
-        → x.frame ≡ Some f → ((j ≡ i) × (retired_page p ≡ x)) ⊎ ((j ≢ i) × (slice_get s.pages j ≡ Some x))
+        → x.frame ≡ Some f → ((j ≡ i) × (q ≡ x)) ⊎ ((j ≢ i) × (slice_get s.pages j ≡ Some x))
         → slice_get (set s.owners g None) f ≡ Some (Some (j + 1))
-    owned j f x b (inl a) = absurd (none-some f (ap (λ (z : Page). z.frame) a.1 ∙ b))
+    owned j f x b (inl a) = absurd (none-some f (sym none ∙ ap (λ (z : Page). z.frame) a.1 ∙ b))
     owned j f x b (inr a) =
         let before = h.owning.owned j f x a.1 b in
         let other : f ≢ g = λ z. a.0 (omega (
@@ -148,19 +145,27 @@ retire_from_keeps s i g p h e frame protected =
         get_set_other s.owners g f None other ∙ before
 
     owner : (f n : ℕ) → ((f ≡ g) × (None ≡ Some n)) ⊎ ((f ≢ g) × (slice_get s.owners f ≡ Some (Some n)))
-        → (j : ℕ) × (x : Page) × (n ≡ j + 1) × (slice_get (set s.pages i (retired_page p)) j ≡ Some x)
+        → (j : ℕ) × (x : Page) × (n ≡ j + 1) × (slice_get (set s.pages i (q)) j ≡ Some x)
         × (x.frame ≡ Some f)
     owner f n (inl a) = absurd (none-some n a.1)
     owner f n (inr a) = moved f n a.0 (h.owning.owner f n a.1)
       where
         moved : (f n : ℕ) → f ≢ g
             → (j : ℕ) × (x : Page) × (n ≡ j + 1) × (slice_get s.pages j ≡ Some x) × (x.frame ≡ Some f)
-            → (j : ℕ) × (x : Page) × (n ≡ j + 1) × (slice_get (set s.pages i (retired_page p)) j ≡ Some x)
+            → (j : ℕ) × (x : Page) × (n ≡ j + 1) × (slice_get (set s.pages i (q)) j ≡ Some x)
             × (x.frame ≡ Some f)
         moved f n k (j, x, b, c, d) =
             let other : j ≢ i = λ z. k (same_Some _ _ (sym d ∙ ap (λ (y : Page). y.frame)
             (same_Some _ _ (sym c ∙ ap (slice_get s.pages) z ∙ e)) ∙ frame)) in
-            (j, x, b, get_set_other s.pages i j (retired_page p) other ∙ c, d)
+            (j, x, b, get_set_other s.pages i j (q) other ∙ c, d)
+
+-- a page with a frame is unused again, and its frame is free
+pub retire_from_keeps : (s : StoreState) (i g : ℕ) (p : Page) → IsStore s → slice_get s.pages i ≡ Some p
+    → p.frame ≡ Some g → is_protected p.state ≡ true
+    → IsStore (record s { pages = set s.pages i (retired_page p); owners = set s.owners g None })
+retire_from_keeps s i g p h e frame protected = freed_keeps s i g p (retired_page p) h e frame refl refl
+    (h.pages i p e).top
+    (omega (arith, h.balanced.leaving, count_set (λ x. is_protected x.state) s.pages i p (retired_page p) e))
 
 -- what the two do is what a mark's end does to the page
 

@@ -3,3 +3,4 @@ pub mod Lending
 pub mod Records
 pub mod Tournaments
 pub mod Views
+pub mod Relocating

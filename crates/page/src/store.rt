@@ -1,10 +1,11 @@
 //! Pages and their frames.
 mod ending;
+mod relocating;
 
 ghost use Rattle.std.specs.Prelude.{◌≡◌, ◌≤◌, ◌<◌, ◌+◌, ◌-◌, ◌/◌, ◌%◌, ◌^◌, length, slice_get, slice_set, slice_range, replicate, IfOk, IfSome, count_by, is_some, is_none, Some, None, true};
 ghost use Rattle.std.specs.Option.{option_map};
 ghost use Rattle.std.specs.Borrow.{sem};
-ghost use Rattle.model.specs.Stores.{first_store, page_at, state_at, state_in, spot_of, word_at, with_word, words_at, take_buffer, Takes, give_words, open_fresh, top_in, is_open, page_with_room, free_frame, unused_page, frame_in, record_count};
+ghost use Rattle.model.specs.Stores.{first_store, page_at, state_at, state_in, spot_of, word_at, with_word, words_at, take_buffer, Takes, give_words, open_fresh, top_in, is_open, page_with_room, free_frame, unused_page, frame_in, record_count, take_fresh};
 ghost use Rattle.model.specs.Configs.{is_page_size};
 ghost use Rattle.model.specs.declared.limits.TheConstants.{MOST_WORDS, MOST_FRAMES, MOST_PAGES};
 ghost use Rattle.model.specs.Owning.{IsStore, LiesIn, TakesWell};
@@ -362,9 +363,17 @@ impl Store {
         requires high { n ≤ self.old.words }
         ensures { Takes self.old result self.new (take_buffer self.old n) }
     {
-        if let Some(index) = self.page_with_room(n) {
-            return Ok(self.give(index, n));
+        match self.page_with_room(n) {
+            Some(index) => Ok(self.give(index, n)),
+            None => self.take_fresh(n),
         }
+    }
+
+    /// The first `n` words of a fresh page.
+    fn take_fresh(&mut self, n: u32) -> Result<Buffer, Room>
+        requires { n ≤ self.old.words }
+        ensures { Takes self.old result self.new (take_fresh self.old n (free_frame self.old.owners) (unused_page self.old.count self.old.pages)) }
+    {
         let Some(frame) = self.free_frame() else {
             return Err(Room::NoFrames);
         };

@@ -2,25 +2,25 @@ use Rattle.std.proofs.Common.{◌∙◌, length, ap, arith}
 use Rattle.std.specs.List.{slice_get}
 use Rattle.model.specs.Stores.{StoreState, is_open, state_in, top_in}
 use Rattle.page.proofs.Keeping.{opened_open, opened_pages, opened_top, opened_words}
-use Rattle.page.proofs.store.Store.take_lowest.Goals as goal
+use Rattle.page.proofs.store.Store.take_fresh.Goals as goal
 
-pub give-requires-2-clause-there : goal.give-requires-2-clause-there
-give-requires-2-clause-there c =
+pub give-requires-clause-there : goal.give-requires-clause-there
+give-requires-clause-there c =
     let same = ap (λ (s : StoreState). length s.pages) c.open.ensures
-    ∙ opened_pages c.args.self.now c.in-Some-unused_page.index c.in-Some-free_frame.frame in
+    ∙ opened_pages c.args.self.now c.in-Some-unused_page.index c.in-Some.frame in
     omega (arith, c.in-Some-unused_page.ensures.there)
 
-pub give-requires-2-clause-open : goal.give-requires-2-clause-open
-give-requires-2-clause-open c =
+pub give-requires-clause-open : goal.give-requires-clause-open
+give-requires-clause-open c =
     ap (λ (s : StoreState). is_open (state_in (slice_get s.pages c.in-Some-unused_page.index))) c.open.ensures
-    ∙ opened_open c.args.self.now c.in-Some-unused_page.index c.in-Some-free_frame.frame
+    ∙ opened_open c.args.self.now c.in-Some-unused_page.index c.in-Some.frame
     c.in-Some-unused_page.ensures.there
 
-pub give-requires-2-clause-room : goal.give-requires-2-clause-room
-give-requires-2-clause-room c =
+pub give-requires-clause-room : goal.give-requires-clause-room
+give-requires-clause-room c =
     let top = ap (λ (s : StoreState). top_in (slice_get s.pages c.in-Some-unused_page.index)) c.open.ensures
-    ∙ opened_top c.args.self.now c.in-Some-unused_page.index c.in-Some-free_frame.frame
+    ∙ opened_top c.args.self.now c.in-Some-unused_page.index c.in-Some.frame
     c.in-Some-unused_page.ensures.there in
     let words = ap (λ (s : StoreState). s.words) c.open.ensures
-    ∙ opened_words c.args.self.now c.in-Some-unused_page.index c.in-Some-free_frame.frame in
+    ∙ opened_words c.args.self.now c.in-Some-unused_page.index c.in-Some.frame in
     omega arith

@@ -1,0 +1,103 @@
+//! Targets are opened, and pages protected and released (the paper's Relocate phase; targets are
+//! ours).
+
+ghost use Rattle.std.specs.Prelude.{◌≡◌, ◌-◌, ◌<◌, length, slice_get, count_by, IfOk};
+ghost use Rattle.model.specs.Moves.{set_gone_of, with_free, with_released};
+ghost use Rattle.model.specs.Owning.{TakesWell};
+ghost use Rattle.model.specs.Protections.{set_from_of, take_target, unused_count};
+ghost use Rattle.model.specs.States.{change_at};
+ghost use Rattle.model.specs.Stores.{state_at, state_in, frame_in, is_unused, Takes};
+ghost use Rattle.model.specs.declared.records.PageState.TheVariants.{Closed, From};
+ghost use Rattle.page.specs.Relocating.{NoneGone};
+
+use crate::store::Store;
+use model::{Buffer, Page, PageState, Room};
+
+/// Whether a page is unused.
+fn is_unused(page: &Page) -> bool
+    ensures { result ≡ is_unused page.now.state }
+{
+    matches!(page.state, PageState::Unused)
+}
+
+/// How many of some pages are unused.
+fn unused_in(pages: &[Page]) -> usize
+    ensures { result ≡ count_by (λ p. is_unused p.state) pages.now }
+{
+    pages.iter().filter(|page| is_unused(page)).count()
+}
+
+impl Store {
+    /// A fresh page as one buffer of all its words: the lowest unused page, opened on the lowest
+    /// free frame (ours).
+    ///
+    /// Answers `NoFrames` where no frame is free, else `NoPages` where no page is unused; the
+    /// store is then as it was.
+    #[tactic(auto, unfolding(model::specs::Protections::take_target), using(crate::proofs::Lying::target_by))]
+    pub fn take_target(&mut self) -> Result<Buffer, Room>
+        ensures takes { Takes self.old result self.new (take_target self.old) }
+        ensures buffers { IfOk result (TakesWell self.old self.new) }
+    {
+        self.law();
+        self.take_fresh(self.words)
+    }
+
+    /// How many pages are unused, those without a record too: 0 to the number of pages. It looks at
+    /// all records.
+    #[tactic(auto, unfolding(model::specs::Protections::unused_count))]
+    pub fn unused_pages(&self) -> u32
+        ensures { result ≡ unused_count self.now }
+    {
+        let recorded = self.pages.len();
+        unused_in(&self.pages) as u32 + (self.count - recorded as u32)
+    }
+
+    /// Protects a closed page, by its number from 1: its live objects are to be copied out (the
+    /// paper's Relocate phase).
+    pub fn protect(&mut self, page: u32)
+        requires closed { state_at self.old page ≡ Closed }
+        requires kept { NoneGone self.old }
+        ensures { self.new ≡ record self.old { pages = change_at self.old.pages (page - 1) set_from_of } }
+    {
+        self.protect_at(page.saturating_sub(1) as usize);
+    }
+
+    /// Protects the page of an index.
+    fn protect_at(&mut self, index: usize)
+        requires there { index < length self.old.pages }
+        requires closed { state_in (slice_get self.old.pages index) ≡ Closed }
+        requires kept { NoneGone self.old }
+        ensures { self.new ≡ record self.old { pages = change_at self.old.pages index set_from_of } }
+    {
+        let page = &mut self.pages[index];
+        page.state = PageState::From;
+    }
+
+    /// Releases a page that is being emptied, by its number from 1: its frame is free at once (the
+    /// paper's Relocate phase: memory is free before the references are corrected).
+    pub fn release(&mut self, page: u32)
+        requires { state_at self.old page ≡ From }
+        ensures { self.new ≡ with_released self.old page }
+    {
+        self.release_at(page.saturating_sub(1) as usize);
+    }
+
+    /// Releases the page of an index.
+    fn release_at(&mut self, index: usize)
+        requires there { index < length self.old.pages }
+        requires from { state_in (slice_get self.old.pages index) ≡ From }
+        ensures { self.new ≡ record self.old { pages = change_at self.old.pages index set_gone_of; owners = with_free self.old.owners (frame_in (slice_get self.old.pages index)) } }
+    {
+        let page = self.pages[index];
+        self.pages[index] = Page {
+            state: PageState::Gone,
+            frame: None,
+            top: page.top,
+        };
+        if let Some(frame) = page.frame {
+            self.owners[frame as usize] = None;
+            self.spare.set(frame as usize, 1);
+            self.free += 1;
+        }
+    }
+}
