@@ -1,3 +1,4 @@
 pub mod Entries
 pub mod Copies
 pub mod Places
+pub mod Totals

@@ -4,6 +4,8 @@
 
 mod plan;
 mod side;
+mod sides;
 
 pub use plan::{Plan, Slot};
 pub use side::Side;
+pub use sides::Sides;
