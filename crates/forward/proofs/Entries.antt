@@ -1,0 +1,105 @@
+-- Entries whose offsets rise: one is found by its offset, and noted as copied.
+use Rattle.std.proofs.Common.{◌≡◌, ◌≢◌, ℕ, zero, suc, ◌+◌, ◌<◌, ◌≤◌, Bool, true, false, cond}
+use Rattle.std.proofs.Common.{List, [], ◌∷◌, length, get_or, Some, None, Result, Ok, Err}
+use Rattle.std.proofs.Common.{refl, sym, ◌∙◌, ap, subst, arith, eq-eqb, ne_eqb, inl, inr}
+use Rattle.std.specs.List.{slice_get}
+use Rattle.std.specs.List.Sorted.{IsSearchInRange, IsBinarySearchResult, IsNonDecreasingBy}
+use Rattle.std.specs.Ordering.{nat_cmp, ordering_index}
+use Rattle.std.specs.Result.{result_ok}
+use Rattle.std.specs.Prelude.{◌==◌}
+use Rattle.std.proofs.lemmas.Bool.{cases_lt}
+use Rattle.std.proofs.lemmas.Cmp.{ranked}
+use Rattle.std.proofs.lemmas.List.Sorted.{IsNonDecreasingBy-from_default}
+use Rattle.std.proofs.lemmas.Option.{get_or_from_slice_get, slice_get-get_or, slice_get_within, same_Some}
+use Rattle.std.proofs.lemmas.Bool.Decides.{nat_tests}
+use Rattle.model.specs.declared.records.Forwarding.{Forwarding}
+use Rattle.model.specs.Holding.{AreRising}
+use Rattle.model.specs.Owning.{Each}
+use Rattle.model.specs.Marks.{entry_of}
+use Rattle.forward.specs.Searching.{found_at}
+
+-- order
+
+-- an entry's offset isn't below the lowest one, and lies in the page
+pub at_least : (w low : ℕ) (fs : List Forwarding) (i : ℕ) (f : Forwarding) → AreRising w low fs
+    → slice_get fs i ≡ Some f → (low ≤ f.offset) × (f.offset < w)
+at_least w low [] i f r e = absurd (cc)
+at_least w low (x ∷ fs) zero f r e =
+    let is : x.offset ≡ f.offset = ap (λ (z : Forwarding). z.offset) (same_Some _ _ e) in
+    (omega (arith, r.0, is), omega (arith, r.1, is))
+at_least w low (x ∷ fs) (suc i) f r e =
+    let rest = at_least w (x.offset + 1) fs i f r.2 e in
+    (omega (arith, r.0, rest.0), rest.1)
+
+-- each entry lies behind those before it
+pub ascends : (w low : ℕ) (fs : List Forwarding) (i j : ℕ) (f g : Forwarding) → AreRising w low fs → i < j
+    → slice_get fs i ≡ Some f → slice_get fs j ≡ Some g → f.offset < g.offset
+ascends w low [] i j f g r l e k = absurd (cc)
+ascends w low (x ∷ fs) i zero f g r l e k = absurd (omega (arith, l))
+ascends w low (x ∷ fs) zero (suc j) f g r l e k =
+    let is : x.offset ≡ f.offset = ap (λ (z : Forwarding). z.offset) (same_Some _ _ e) in
+    omega (arith, is, (at_least w (x.offset + 1) fs j g r.2 k).0)
+ascends w low (x ∷ fs) (suc i) (suc j) f g r l e k =
+    ascends w (x.offset + 1) fs i j f g r.2 (omega (arith, l)) e k
+
+-- no more of them than words
+pub no_more : (w low : ℕ) (fs : List Forwarding) → low ≤ w → AreRising w low fs → low + length fs ≤ w
+no_more w low [] l r = omega (arith, l)
+no_more w low (x ∷ fs) l r =
+    omega (arith, r.0, no_more w (x.offset + 1) fs (omega (arith, r.1)) r.2)
+
+-- what is found
+
+entry_none : (fs : List Forwarding) (o : ℕ) → Each fs (λ f. f.offset ≢ o) → entry_of fs o ≡ None
+entry_none [] o h = refl
+entry_none (f ∷ fs) o h = by_test (f.offset == o) (ne_eqb f.offset o (h zero f refl))
+    (entry_none fs o (λ i. h (suc i)))
+  where
+    by_test : (b : Bool) → b ≡ false → entry_of fs o ≡ None → cond b (Some f) (entry_of fs o) ≡ None
+    by_test true e k = absurd (cc)
+    by_test false e k = k
+
+entry_here : (w low : ℕ) (fs : List Forwarding) (o i : ℕ) (f : Forwarding) → AreRising w low fs
+    → slice_get fs i ≡ Some f → f.offset ≡ o → entry_of fs o ≡ Some f
+entry_here w low [] o i f r e k = absurd (cc)
+entry_here w low (x ∷ fs) o zero f r e k =
+    let is : (x.offset == o) ≡ true = eq-eqb x.offset o (ap (λ (z : Forwarding). z.offset) (same_Some _ _ e) ∙ k) in
+    ap (λ b. cond b (Some x) (entry_of fs o)) is ∙ e
+entry_here w low (x ∷ fs) o (suc i) f r e k =
+    let behind = (at_least w (x.offset + 1) fs i f r.2 e).0 in
+    let is : (x.offset == o) ≡ false = ne_eqb x.offset o (λ z. omega (arith, z, k, behind)) in
+    ap (λ b. cond b (Some x) (entry_of fs o)) is ∙ entry_here w (x.offset + 1) fs o i f r.2 e k
+
+-- what a binary search finds
+ranks : (a b o : ℕ) → a ≤ b → ordering_index (nat_cmp a o) ≤ ordering_index (nat_cmp b o)
+ranks a b o l = grind (arith, nat_tests)
+
+module _ (w low : ℕ) (fs : List Forwarding) (rising : AreRising w low fs) (o : ℕ) where
+  blank : Forwarding
+  blank = record { offset = 0; to = 0; copied = false }
+
+  comparisons_rise : IsNonDecreasingBy (λ (f : Forwarding). ordering_index (nat_cmp f.offset o)) fs
+  comparisons_rise = IsNonDecreasingBy-from_default (λ (f : Forwarding). ordering_index (nat_cmp f.offset o)) fs blank
+      (λ i j le within. ranks (get_or fs i blank).offset (get_or fs j blank).offset o (elim (cases_lt i j) [
+        | inl l ↦ (let k = ascends w low fs i j (get_or fs i blank) (get_or fs j blank) rising l
+            (slice_get-get_or fs i blank (omega (arith, le, within))) (slice_get-get_or fs j blank within) in
+            omega (arith, k))
+        | inr l ↦ (let same : i ≡ j = omega (arith, le, l) in
+            subst (λ k. (get_or fs i blank).offset ≤ (get_or fs k blank).offset) same (omega arith))
+      ]))
+
+  pub searched : (r : Result ℕ ℕ) → IsSearchInRange r (length fs)
+      → IsBinarySearchResult (λ (f : Forwarding). nat_cmp f.offset o) fs r → entry_of fs o ≡ found_at fs (result_ok r)
+  searched (Ok i) within equal =
+      let there = slice_get-get_or fs i blank within in
+      entry_here w low fs o i (get_or fs i blank) rising there (ranked _ o _ (sym (equal blank))) ∙ sym there
+  searched (Err i) within parted = entry_none fs o (λ j f e same.
+      let here : (get_or fs j blank).offset ≡ o =
+      ap (λ (z : Forwarding). z.offset) (get_or_from_slice_get fs j f blank e) ∙ same in
+      let parts = parted comparisons_rise in
+      elim (cases_lt j i) [
+        | inl l ↦ (let low : (get_or fs j blank).offset < o = ranked _ o _ (sym (parts.0 j blank (omega arith) l)) in
+            absurd (omega (arith, low, here)))
+        | inr l ↦ (let high : o < (get_or fs j blank).offset =
+            ranked _ o _ (sym (parts.1 j blank l (slice_get_within fs j f e))) in absurd (omega (arith, high, here)))
+      ])

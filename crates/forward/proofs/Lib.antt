@@ -1,0 +1,4 @@
+pub mod Entries
+pub mod Copies
+pub mod Places
+pub mod Totals

@@ -1,0 +1,69 @@
+-- How many entries of all side arrays have still to be copied.
+use Rattle.std.proofs.Common.{◌≡◌, ℕ, zero, suc, ◌+◌, ◌-◌, ◌*◌, ◌<◌, ◌≤◌, ◌^◌, List, [], ◌∷◌, length, take}
+use Rattle.std.proofs.Common.{get_or, set, replicate, Some, refl, sym, ◌∙◌, ap, subst, arith, length-set}
+use Rattle.std.specs.List.{slice_get}
+use Rattle.std.proofs.lemmas.List.{length-replicate, take_all}
+use Rattle.std.proofs.lemmas.List.Sums.{sum_by-set, sum_by-cons}
+use Rattle.model.specs.declared.limits.TheConstants.{MOST_WORDS}
+use Rattle.model.specs.declared.records.Forwarding.{Forwarding}
+use Rattle.model.specs.Owning.{Each}
+use Rattle.model.specs.States.{change_at, change_found}
+use Rattle.model.proofs.Lists.{get_read, each_set, each_replicate}
+use Rattle.forward.specs.Counts.{uncopied_in, uncopied_count, AreCounted}
+
+-- no more than all pages have words
+pub most_left : (sides : List (List Forwarding)) → Each sides (λ side. uncopied_in side ≤ MOST_WORDS)
+    → uncopied_count sides ≤ length sides * MOST_WORDS
+most_left [] few = omega arith
+most_left (side ∷ sides) few =
+    omega (arith, sum_by-cons uncopied_in side sides, few zero side refl, most_left sides (λ i. few (suc i)))
+
+-- none, where all are empty
+pub none_counted : (n : ℕ) → n < 2 ^ 32 → AreCounted (replicate n []) 0
+none_counted n short = record {
+  counted = sym (none n);
+  few = each_replicate (λ side. uncopied_in side ≤ MOST_WORDS) n [] (omega arith);
+  short = omega (arith, short, length-replicate {A = List Forwarding} n []);
+}
+  where
+    none : (n : ℕ) → uncopied_count (replicate n []) ≡ 0
+    none zero = refl
+    none (suc n) = omega (arith, sum_by-cons uncopied_in [] (replicate n []), none n)
+
+-- one side array takes another's place
+module _ (sides : List (List Forwarding)) (left i : ℕ) (old : List Forwarding) (k : AreCounted sides left)
+    (within : i < length sides) (read : old ≡ get_or sides i old) where
+  there : slice_get sides i ≡ Some old
+  there = get_read sides i old within read
+
+  pub some_left : uncopied_in old ≤ left
+  some_left =
+      let total = sum_by-set uncopied_in sides i [] old within in
+      let same : uncopied_in (get_or sides i old) ≡ uncopied_in old = ap uncopied_in (sym read) in
+      omega (arith, total, same, k.counted)
+
+  pub room_left : (b n : ℕ) → b ≡ uncopied_in old → n ≤ MOST_WORDS → left - b + n < 2 ^ 64
+  room_left b n before few = omega (arith, few, k.counted, k.short, most_left sides k.few)
+
+  pub counted_set : (side : List Forwarding) (b n : ℕ) → b ≡ uncopied_in old → n ≡ uncopied_in side → n ≤ MOST_WORDS
+      → AreCounted (set sides i side) (left - b + n)
+  counted_set side b n before after few = record {
+    counted =
+        let total = sum_by-set uncopied_in sides i side old within in
+        let same : uncopied_in (get_or sides i old) ≡ uncopied_in old = ap uncopied_in (sym read) in
+        omega (arith, total, same, k.counted, some_left, before, after);
+    few = each_set (λ side. uncopied_in side ≤ MOST_WORDS) sides i side k.few (omega (arith, after, few));
+    short = omega (arith, k.short, length-set sides i side);
+  }
+
+  pub changed : (now : List (List Forwarding)) (side : List Forwarding) (f : List Forwarding → List Forwarding)
+      → sides ≡ now → side ≡ f old → set sides i side ≡ change_at now i f
+  changed now side f view is =
+      ap (set sides i) is ∙ ap (λ o. change_found sides i o f) (sym there) ∙ ap (λ xs. change_at xs i f) view
+
+-- all of them are let go
+pub emptied : (items old : List (List Forwarding)) (left i : ℕ) → AreCounted old left
+    → take i items ≡ replicate i [] → length items ≡ length old → i ≡ length items → AreCounted items 0
+emptied items old left i k so_far same whole =
+    let all : items ≡ replicate i [] = sym (take_all i items (omega (arith, whole))) ∙ so_far in
+    subst (λ xs. AreCounted xs 0) (sym all) (none_counted i (omega (arith, whole, same, k.short)))

@@ -1,0 +1,5 @@
+use Rattle.std.proofs.Common.{◌≡◌, replicate, []}
+use Rattle.forward.proofs.sides.Sides.new.Given as goal
+
+abbrev pub invariant-loop-side : goal.invariant-loop-side
+invariant-loop-side l = l.sides.items ≡ replicate l._side []

@@ -1,0 +1,27 @@
+-- Entries of side arrays that have still to be copied.
+use Rattle.std.specs.Prelude.{◌≡◌, ℕ, ◌<◌, ◌≤◌, ◌^◌, List, count_by, length}
+use Rattle.std.specs.List.{sum_by}
+use Rattle.model.specs.declared.limits.TheConstants.{MOST_WORDS}
+use Rattle.model.specs.declared.records.Forwarding.{Forwarding}
+use Rattle.model.specs.Holding.{AreRising}
+use Rattle.model.specs.Owning.{Each}
+use Rattle.model.specs.Cycles.{is_uncopied}
+
+-- how many entries of a side array have still to be copied
+abbrev pub uncopied_in : List Forwarding → ℕ
+uncopied_in side = count_by is_uncopied side
+
+-- how many entries of all side arrays have still to be copied
+abbrev pub uncopied_count : List (List Forwarding) → ℕ
+uncopied_count sides = sum_by uncopied_in sides
+
+-- a side array's offsets rise within a page, and this many of its entries have still to be copied
+pub record IsSide (side : List Forwarding) (left : ℕ) : Type 0 where
+  pub rising : AreRising MOST_WORDS 0 side
+  pub counted : left ≡ uncopied_in side
+
+-- this many entries of all side arrays have still to be copied, and of none more than a page has words
+pub record AreCounted (sides : List (List Forwarding)) (left : ℕ) : Type 0 where
+  pub counted : left ≡ uncopied_count sides
+  pub few : Each sides (λ side. uncopied_in side ≤ MOST_WORDS)
+  pub short : length sides < 2 ^ 32

@@ -1,0 +1,106 @@
+//! Places for objects that move.
+
+ghost use Rattle.std.specs.Prelude.{◌≡◌, length, slice_get, IfOk};
+ghost use Rattle.std.specs.Option.{option_copied};
+ghost use Rattle.model.specs.Plans.{places_from, target_count};
+
+use std::alloc::{AllocError, Global};
+use std::marker::Model;
+
+/// Where an object goes: a target, and an offset in it, in words (ours).
+#[derive(Clone, Copy, Debug, PartialEq, Eq)]
+pub struct Slot {
+    target: usize,
+    offset: u32,
+}
+
+impl Model for Slot {
+    ghost use Rattle.std.specs.Prelude.{ℕ};
+
+    ghost Value = { ℕ × ℕ };
+
+    ghost view = { λ s. (s.target, s.offset) };
+
+    ghost inverse = { λ v. record { target = v.0; offset = v.1 } };
+}
+
+impl Slot {
+    /// The number of the target, from 0.
+    pub fn target(self) -> usize
+        ensures { result ≡ self.0 }
+    {
+        self.target
+    }
+
+    /// The offset in the target, in words.
+    pub fn offset(self) -> u32
+        ensures { result ≡ self.1 }
+    {
+        self.offset
+    }
+}
+
+/// The places of objects, in their order (ours). A target is an empty page.
+#[derive(Debug, Drop)]
+pub struct Plan {
+    slots: Vec<Slot, Global>,
+    /// How many targets they are in.
+    targets: usize,
+}
+
+impl Model for Plan {
+    ghost use Rattle.std.specs.Prelude.{◌≡◌, ℕ, List};
+    ghost use Rattle.model.specs.Plans.{target_count};
+
+    ghost Value = { List (ℕ × ℕ) };
+
+    ghost view = { λ p. p.slots.items };
+
+    ghost invariant = { λ p. p.targets ≡ target_count p.slots.items };
+}
+
+impl Plan {
+    /// The places of objects of these sizes, in targets of so many words: each behind the one
+    /// before, or at the head of the next target where it doesn't fit. A size is 1 to the words of
+    /// a target. Fails only by memory.
+    pub fn new(alloc: Global, words: u32, sizes: &[u32]) -> Result<Plan, AllocError>
+        ensures { IfOk result (λ p. p ≡ places_from words 0 0 sizes.now) }
+    {
+        let mut slots = Vec::with_capacity(alloc, sizes.len())?;
+        let mut target = 0;
+        let mut offset = 0;
+        let mut targets = 0;
+        for index in 0..sizes.len() {
+            let size = sizes[index];
+            if u64::from(offset) + u64::from(size) > u64::from(words) {
+                target += 1;
+                offset = 0;
+            }
+            slots.push(Slot { target, offset })?;
+            targets = target + 1;
+            offset += size;
+        }
+        Ok(Plan { slots, targets })
+    }
+
+    /// How many places there are.
+    pub fn len(&self) -> usize
+        ensures { result ≡ length self.now }
+    {
+        self.slots.len()
+    }
+
+    /// How many targets the places are in.
+    pub fn targets(&self) -> usize
+        ensures { result ≡ target_count self.now }
+    {
+        self.targets
+    }
+
+    /// The place of the object of this number, from 0, if there is one.
+    pub fn place(&self, index: usize) -> Option<Slot>
+        ensures { result ≡ slice_get self.now index }
+    {
+        self.slots.get(index).copied()
+    }
+}

@@ -1,0 +1,126 @@
+//! The side arrays of all pages.
+
+ghost use Rattle.std.specs.Prelude.{◌≡◌, length, replicate, map, slice_get, slice_set, slice_index_or, [], IfOk, not};
+ghost use Rattle.std.specs.List.{list_any};
+ghost use Rattle.std.specs.Option.{option_copied};
+ghost use Rattle.model.specs.States.{change_at};
+ghost use Rattle.model.specs.Bits.{of_page};
+ghost use Rattle.model.specs.Marks.{entry_of};
+ghost use Rattle.model.specs.Cycles.{is_uncopied};
+ghost use Rattle.model.specs.Moves.{set_copied_of};
+ghost use Rattle.forward.specs.Counts.{uncopied_count};
+
+use crate::side::Side;
+use model::Forwarding;
+use std::alloc::{AllocError, Global};
+use std::marker::Model;
+
+/// A side array for each page that has a record, by the record's index: empty where nothing moves.
+/// A contract sees the list of them.
+#[derive(Debug, Drop)]
+pub struct Sides {
+    sides: Vec<Side, Global>,
+    /// How many entries of all of them have still to be copied.
+    left: u64,
+}
+
+impl Model for Sides {
+    ghost use Rattle.std.specs.Prelude.{List};
+    ghost use Rattle.model.specs.declared.records.Forwarding.{Forwarding};
+    ghost use Rattle.forward.specs.Counts.{AreCounted};
+
+    ghost Value = { List (List Forwarding) };
+
+    ghost view = { λ s. s.sides.items };
+
+    ghost invariant = { λ s. AreCounted s.sides.items s.left };
+}
+
+impl Sides {
+    /// So many side arrays, all empty: in a heap at most 8,192. Fails only by memory.
+    pub fn new(alloc: Global, count: u32) -> Result<Sides, AllocError>
+        ensures { IfOk result (λ s. s ≡ replicate count []) }
+    {
+        let mut sides = Vec::with_capacity(alloc, count as usize)?;
+        for _side in 0..count {
+            sides.push(Side::empty(alloc))?;
+        }
+        Ok(Sides { sides, left: 0 })
+    }
+
+    /// The side array of an index from 0, if it is there.
+    pub fn get(&self, index: usize) -> Option<&Side>
+        ensures { option_copied result ≡ slice_get self.now index }
+    {
+        self.sides.get(index)
+    }
+
+    /// The entry of an offset of a page, by the page's number from 1: its side array has the index
+    /// below. Where there is no such side array, there is none.
+    pub fn entry_at(&self, page: u32, offset: u32) -> Option<Forwarding>
+        ensures { result ≡ entry_of (of_page self.now page) offset }
+    {
+        if page == 0 {
+            return None;
+        }
+        match self.sides.get((page - 1) as usize) {
+            None => None,
+            Some(side) => side.find(offset),
+        }
+    }
+
+    /// Whether all entries of the side array of an index are copied. Where there is no such side
+    /// array, they are.
+    pub fn is_copied(&self, index: usize) -> bool
+        ensures { result ≡ not (list_any is_uncopied (slice_index_or self.now index [])) }
+    {
+        match self.sides.get(index) {
+            None => true,
+            Some(side) => side.is_copied(),
+        }
+    }
+
+    /// How many entries of all side arrays have still to be copied.
+    pub fn uncopied(&self) -> u64
+        ensures { result ≡ uncopied_count self.now }
+    {
+        self.left
+    }
+
+    /// Replaces the side array of an index, if it is there. The old one is let go.
+    pub fn put(&mut self, index: usize, side: Side)
+        ensures { self.new ≡ slice_set self.old index side }
+    {
+        if index < self.sides.len() {
+            self.left -= self.sides[index].uncopied() as u64;
+            self.left += side.uncopied() as u64;
+            self.sides[index] = side;
+        }
+    }
+
+    /// Notes that the object of an offset is copied, if the side array of this index is there, and
+    /// has an entry of the offset.
+    pub fn set_copied(&mut self, index: usize, offset: u32)
+        ensures { self.new ≡ change_at self.old index (map (set_copied_of offset)) }
+    {
+        if index < self.sides.len() {
+            let side = &mut self.sides[index];
+            self.left -= side.uncopied() as u64;
+            side.set_copied(offset);
+            self.left += side.uncopied() as u64;
+        }
+    }
+
+    /// Lets all entries go. A side array that is empty costs one test.
+    pub fn clear_all(&mut self)
+        ensures { self.new ≡ replicate (length self.old) [] }
+    {
+        let alloc = *self.sides.allocator();
+        for index in 0..self.sides.len() {
+            if self.sides[index].len() != 0 {
+                self.sides[index] = Side::empty(alloc);
+            }
+        }
+        self.left = 0;
+    }
+}
