@@ -99,7 +99,8 @@ still_rising w low o (f ∷ fs) r = (r.0, r.1, still_rising w (f.offset + 1) o f
 pub entry_has : (o : ℕ) (fs : List Forwarding) (f : Forwarding) → entry_of fs o ≡ Some f → f.offset ≡ o
 entry_has o [] f e = absurd (cc)
 entry_has o (x ∷ fs) f e = elim (cases_eq x.offset o) [
-  | inl same ↦ (let here : Some x ≡ Some f = ap (λ b. cond b (Some x) (entry_of fs o)) (sym (eq-eqb x.offset o same)) ∙ e in
+  | inl same ↦ (let here : Some x ≡ Some f =
+      ap (λ b. cond b (Some x) (entry_of fs o)) (sym (eq-eqb x.offset o same)) ∙ e in
       ap (λ (z : Forwarding). z.offset) (sym (same_Some _ _ here)) ∙ same)
   | inr d ↦ entry_has o fs f (ap (λ b. cond b (Some x) (entry_of fs o)) (sym (ne_eqb x.offset o d)) ∙ e)
 ]

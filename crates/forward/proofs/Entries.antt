@@ -12,6 +12,7 @@ use Rattle.std.proofs.lemmas.Cmp.{ranked}
 use Rattle.std.proofs.lemmas.List.Sorted.{IsNonDecreasingBy-from_default}
 use Rattle.std.proofs.lemmas.Option.{get_or_from_slice_get, slice_get-get_or, slice_get_within, same_Some}
 use Rattle.std.proofs.lemmas.Bool.Decides.{nat_tests}
+use Rattle.model.specs.declared.limits.TheConstants.{MOST_WORDS}
 use Rattle.model.specs.declared.records.Forwarding.{Forwarding}
 use Rattle.model.specs.Holding.{AreRising}
 use Rattle.model.specs.Owning.{Each}
@@ -47,6 +48,9 @@ pub no_more : (w low : ℕ) (fs : List Forwarding) → low ≤ w → AreRising w
 no_more w low [] l r = omega (arith, l)
 no_more w low (x ∷ fs) l r =
     omega (arith, r.0, no_more w (x.offset + 1) fs (omega (arith, r.1)) r.2)
+
+pub few_entries : (fs : List Forwarding) → AreRising MOST_WORDS 0 fs → length fs ≤ MOST_WORDS
+few_entries fs r = omega (arith, no_more MOST_WORDS 0 fs (omega arith) r)
 
 -- what is found
 

@@ -28,18 +28,25 @@ placed_more words i target offset t o next n sizes ps so_far within is step = re
       ∙ sym (append_assoc ps ((t, o) ∷ []) (places_from words t next (drop (i + 1) sizes)));
 }
 
+-- where n words go: to the head of the next target, where they don't fit behind the last, and else there
+abbrev pub Goes : (words target offset n t o : ℕ) → Type 0
+Goes words target offset n t o =
+    ((words < offset + n) × (t ≡ target + 1) × (o ≡ 0)) ⊎ ((offset + n ≤ words) × (t ≡ target) × (o ≡ offset))
+
 -- one more goes behind the last where it fits, or to the head of the next target
 pub placed_next : (words i target offset t o n : ℕ) (sizes : List ℕ) (ps new : List (ℕ × ℕ))
     → IsPlaced words sizes i target offset ps → target ≤ i → i < length sizes → n ≡ slice_index_or sizes i 0
-    → ((words < offset + n) × (t ≡ target + 1) × (o ≡ 0)) ⊎ ((offset + n ≤ words) × (t ≡ target) × (o ≡ offset))
+    → Goes words target offset n t o
     → new ≡ ps ++ (t, o) ∷ []
     → IsPlaced words sizes (i + 1) t (o + n) new × (t + 1 ≡ target_count new) × (t ≤ i + 1)
 placed_next words i target offset t o n sizes ps new so_far low within is place pushed =
-    subst (λ qs. IsPlaced words sizes (i + 1) t (o + n) qs × (t + 1 ≡ target_count qs) × (t ≤ i + 1)) (sym pushed)
-    (placed_more words i target offset t o (o + n) n sizes ps so_far within is step, sym (last_target ps t o), by_place place)
+    subst (λ qs. IsPlaced words sizes (i + 1) t (o + n) qs × (t + 1 ≡ target_count qs) × (t ≤ i + 1)) (sym pushed) (
+      placed_more words i target offset t o (o + n) n sizes ps so_far within is (by_case place),
+      sym (last_target ps t o),
+      by_place place,
+    )
   where
-    by_place : ((words < offset + n) × (t ≡ target + 1) × (o ≡ 0)) ⊎ ((offset + n ≤ words) × (t ≡ target) × (o ≡ offset))
-        → t ≤ i + 1
+    by_place : Goes words target offset n t o → t ≤ i + 1
     by_place (inl k) = omega (arith, low, k.1)
     by_place (inr k) = omega (arith, low, k.1)
 
@@ -47,7 +54,7 @@ placed_next words i target offset t o n sizes ps new so_far low within is place 
     branch b ns = cond b ((target, offset) ∷ places_from words target (offset + n) ns)
         ((target + 1, 0) ∷ places_from words (target + 1) n ns)
 
-    by_case : ((words < offset + n) × (t ≡ target + 1) × (o ≡ 0)) ⊎ ((offset + n ≤ words) × (t ≡ target) × (o ≡ offset))
+    by_case : Goes words target offset n t o
         → (ns : List ℕ) → branch (nat_le (offset + n) words) ns ≡ (t, o) ∷ places_from words t (o + n) ns
     by_case (inl k) ns =
         let far : words < offset + n = k.0 in
@@ -60,6 +67,3 @@ placed_next words i target offset t o n sizes ps new so_far low within is place 
         let test : nat_le (offset + n) words ≡ true = grind (arith, nat_tests) in
         ap (λ b. branch b ns) test
         ∙ ap₂ (λ x y. (x, y) ∷ places_from words x (y + n) ns) (sym k.1) (sym k.2)
-
-    step : (ns : List ℕ) → places_from words target offset (n ∷ ns) ≡ (t, o) ∷ places_from words t (o + n) ns
-    step = by_case place

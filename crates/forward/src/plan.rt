@@ -45,7 +45,7 @@ impl Slot {
 pub struct Plan {
     slots: Vec<Slot, Global>,
     /// How many targets they are in.
-    targets: usize,
+    count: usize,
 }
 
 impl Model for Plan {
@@ -56,7 +56,7 @@ impl Model for Plan {
 
     ghost view = { λ p. p.slots.items };
 
-    ghost invariant = { λ p. p.targets ≡ target_count p.slots.items };
+    ghost invariant = { λ p. p.count ≡ target_count p.slots.items };
 }
 
 impl Plan {
@@ -69,7 +69,7 @@ impl Plan {
         let mut slots = Vec::with_capacity(alloc, sizes.len())?;
         let mut target = 0;
         let mut offset = 0;
-        let mut targets = 0;
+        let mut count = 0;
         for index in 0..sizes.len() {
             let size = sizes[index];
             if u64::from(offset) + u64::from(size) > u64::from(words) {
@@ -77,10 +77,10 @@ impl Plan {
                 offset = 0;
             }
             slots.push(Slot { target, offset })?;
-            targets = target + 1;
+            count = target + 1;
             offset += size;
         }
-        Ok(Plan { slots, targets })
+        Ok(Plan { slots, count })
     }
 
     /// How many places there are.
@@ -94,7 +94,7 @@ impl Plan {
     pub fn targets(&self) -> usize
         ensures { result ≡ target_count self.now }
     {
-        self.targets
+        self.count
     }
 
     /// The place of the object of this number, from 0, if there is one.

@@ -58,6 +58,7 @@ impl Side {
     }
 
     /// How many entries there are: at most the words of a page.
+    #[tactic(auto, using(crate::proofs::Entries::few_entries))]
     pub fn len(&self) -> usize
         ensures value { result ≡ length self.now }
         ensures range { result ≤ MOST_WORDS }
@@ -92,6 +93,7 @@ impl Side {
     }
 
     /// Notes that the object of an offset is copied, if it has an entry.
+    #[tactic(auto, using(crate::proofs::Copies::none_noted, crate::proofs::Copies::noted, crate::proofs::Copies::found_copied))]
     pub fn set_copied(&mut self, offset: u32)
         ensures { self.new ≡ map (set_copied_of offset) self.old }
     {
@@ -105,14 +107,16 @@ impl Side {
     }
 
     /// How many entries have still to be copied: at most the words of a page.
-    pub fn uncopied(&self) -> usize
+    #[tactic(auto, using(crate::proofs::Copies::few_left))]
+    pub fn uncopied(&self) -> u32
         ensures value { result ≡ uncopied_in self.now }
         ensures range { result ≤ MOST_WORDS }
     {
-        self.left
+        self.left as u32
     }
 
     /// Whether all entries are copied.
+    #[tactic(auto, using(crate::proofs::Copies::none_left))]
     pub fn is_copied(&self) -> bool
         ensures { result ≡ not (list_any is_uncopied self.now) }
     {

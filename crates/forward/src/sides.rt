@@ -21,7 +21,7 @@ use std::marker::Model;
 pub struct Sides {
     sides: Vec<Side, Global>,
     /// How many entries of all of them have still to be copied.
-    left: u64,
+    left: usize,
 }
 
 impl Model for Sides {
@@ -74,40 +74,39 @@ impl Sides {
     pub fn is_copied(&self, index: usize) -> bool
         ensures { result ≡ not (list_any is_uncopied (slice_index_or self.now index [])) }
     {
-        match self.sides.get(index) {
-            None => true,
-            Some(side) => side.is_copied(),
-        }
+        index >= self.sides.len() || self.sides[index].is_copied()
     }
 
     /// How many entries of all side arrays have still to be copied.
     pub fn uncopied(&self) -> u64
         ensures { result ≡ uncopied_count self.now }
     {
-        self.left
+        self.left as u64
     }
 
     /// Replaces the side array of an index, if it is there. The old one is let go.
+    #[tactic(auto, using(crate::proofs::Totals::room_left))]
     pub fn put(&mut self, index: usize, side: Side)
         ensures { self.new ≡ slice_set self.old index side }
     {
         if index < self.sides.len() {
-            self.left -= self.sides[index].uncopied() as u64;
-            self.left += side.uncopied() as u64;
+            self.left -= self.sides[index].uncopied() as usize;
+            self.left += side.uncopied() as usize;
             self.sides[index] = side;
         }
     }
 
     /// Notes that the object of an offset is copied, if the side array of this index is there, and
     /// has an entry of the offset.
+    #[tactic(auto, using(crate::proofs::Totals::room_left, crate::proofs::Totals::changed))]
     pub fn set_copied(&mut self, index: usize, offset: u32)
         ensures { self.new ≡ change_at self.old index (map (set_copied_of offset)) }
     {
         if index < self.sides.len() {
             let side = &mut self.sides[index];
-            self.left -= side.uncopied() as u64;
+            self.left -= side.uncopied() as usize;
             side.set_copied(offset);
-            self.left += side.uncopied() as u64;
+            self.left += side.uncopied() as usize;
         }
     }
 

@@ -5,8 +5,8 @@ use Rattle.forward.proofs.plan.Plan.new.Goals.{then-from, else-from}
 
 pub loop-index-preserved : goal.loop-index-preserved
 loop-index-preserved c =
-    placed_next c.args.words c.loop-index.index c.loop-index.target c.loop-index.offset c.if-from.target c.if-from.offset _
-    c.args.sizes.now c.loop-index.slots.items _ c.loop-index.invariant.0 c.loop-index.invariant.2
+    placed_next c.args.words c.loop-index.index c.loop-index.target c.loop-index.offset c.if-from.target
+    c.if-from.offset _ c.args.sizes.now c.loop-index.slots.items _ c.loop-index.invariant.0 c.loop-index.invariant.2
     (omega (arith, c.loop-index-test.true)) refl
     (elim c.if-from.branch [
       | then-from w ↦ inl (

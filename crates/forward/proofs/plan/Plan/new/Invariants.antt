@@ -6,4 +6,4 @@ use Rattle.forward.proofs.plan.Plan.new.Given as goal
 abbrev pub invariant-loop-index : goal.invariant-loop-index
 invariant-loop-index l =
     IsPlaced l.words l.sizes l.index l.target l.offset l.slots.items
-    × (l.targets ≡ target_count l.slots.items) × (l.target ≤ l.index)
+    × (l.count ≡ target_count l.slots.items) × (l.target ≤ l.index)

@@ -1,15 +1,6 @@
 use Rattle.std.proofs.Common.{arith}
-use Rattle.forward.proofs.Totals.{room_left, counted_set}
+use Rattle.forward.proofs.Totals.{counted_set}
 use Rattle.forward.proofs.sides.Sides.put.Goals as goal
-
-pub overflow_add-self : goal.overflow_add-self
-overflow_add-self c =
-    omega (
-      arith,
-      room_left c.self.inside.sides.items _ c.args.index _ c.self.invariant
-          (omega (arith, c.if-index-len.true, c.len.ensures, c.self.inside.sides.ok.0)) c.index.ensures _ _
-          c.uncopied.ensures.value c.uncopied-then-index-len.ensures.range,
-    )
 
 pub invariant_of-self : goal.invariant_of-self
 invariant_of-self c =
