@@ -1,17 +1,13 @@
 -- The end of a mark, page by page.
-use Rattle.std.specs.Prelude.{ℕ, Bool, List, Option, None, Some, slice_get, slice_set, option_and_then, if◌then◌else◌}
+use Rattle.std.specs.Prelude.{ℕ, Bool, Option, None, slice_get, option_and_then, if◌then◌else◌}
 use Rattle.model.specs.declared.records.Page.{Page}
 use Rattle.model.specs.Stores.{StoreState, is_protected, page_after_mark}
 use Rattle.model.specs.States.{change_at}
+use Rattle.model.specs.Moves.{with_free}
 
 -- the frame that a page gives up when a mark ends
 abbrev pub given_up : Page → Option ℕ
 given_up p = if is_protected p.state then p.frame else None
-
--- owners with a frame set free, which may be missing
-abbrev pub with_free : List (Option ℕ) → Option ℕ → List (Option ℕ)
-with_free owners None = owners
-with_free owners (Some f) = slice_set owners f None
 
 -- the store after the end of a mark came to the page of an index alone
 unfoldable pub with_mark_ended_at : StoreState → ℕ → Bool → StoreState
