@@ -1,5 +1,6 @@
 -- A page is protected, or gives its memory up: the store stays one.
-use Rattle.std.proofs.Common.{◌≡◌, ◌≢◌, ℕ, zero, suc, ◌+◌, ◌-◌, ◌<◌, ◌≤◌, Bool, true, false, cond, List, [], ◌∷◌, length}
+use Rattle.std.proofs.Common.{◌≡◌, ◌≢◌, ℕ, zero, suc, ◌+◌, ◌-◌, ◌<◌, ◌≤◌, Bool, true, false, cond, List, [], ◌∷◌}
+use Rattle.std.proofs.Common.{length}
 use Rattle.std.proofs.Common.{set, count_by, is_some, is_none, Option, Some, None, refl, sym, ◌∙◌, ap, arith}
 use Rattle.std.specs.List.{slice_get}
 use Rattle.std.proofs.lemmas.List.Sums.{sum_by-cons}
@@ -57,8 +58,12 @@ pub release_keeps : (s : StoreState) (i g : ℕ) (p : Page) → IsStore s → sl
     → p.state ≡ From → p.frame ≡ Some g
     → IsStore (record s { pages = set s.pages i (set_gone_of p); owners = set s.owners g None })
 release_keeps s i g p h e from frame = freed_keeps s i g p (set_gone_of p) h e frame refl refl (h.pages i p e).top
-    (omega (arith, h.balanced.leaving, count_set (λ x. is_protected x.state) s.pages i p (set_gone_of p) e,
-    ap (λ x. as_number (is_protected x)) from))
+    (omega (
+      arith,
+      h.balanced.leaving,
+      count_set (λ x. is_protected x.state) s.pages i p (set_gone_of p) e,
+      ap (λ x. as_number (is_protected x)) from,
+    ))
 
 -- a record that is replaced by what becomes of it
 pub changed_there : {X : Type 0} (xs : List X) (i : ℕ) (f : X → X) (x : X) → slice_get xs i ≡ Some x

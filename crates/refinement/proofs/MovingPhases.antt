@@ -20,7 +20,8 @@ use Rattle.model.specs.Cycles.{is_uncopied}
 use Rattle.model.specs.Plans.{plan_of, target_count}
 use Rattle.model.specs.Protections.{with_protected, protect}
 use Rattle.model.specs.Protections.{all_ripe, room_for, protect_outcome}
-use Rattle.model.specs.Moves.{with_copy, copied_by, copied_first, entry_on, copy_outcome, gc_trap, scrub_word, moved_word}
+use Rattle.model.specs.Moves.{with_copy, copied_by, copied_first, entry_on, copy_outcome, gc_trap, scrub_word}
+use Rattle.model.specs.Moves.{moved_word}
 use Rattle.model.specs.Moves.{crossed_if_protecting, release_outcome}
 use Rattle.refinement.proofs.Accepted.{on_bind, on_has, on_some, on_test, on_unless}
 use Rattle.refinement.proofs.Phases.{Stays, Moves}
