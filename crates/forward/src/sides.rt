@@ -89,11 +89,12 @@ impl Sides {
     pub fn put(&mut self, index: usize, side: Side)
         ensures { self.new ≡ slice_set self.old index side }
     {
-        if index < self.sides.len() {
-            self.left -= self.sides[index].uncopied() as usize;
-            self.left += side.uncopied() as usize;
-            self.sides[index] = side;
+        if index >= self.sides.len() {
+            return;
         }
+        self.left -= self.sides[index].uncopied() as usize;
+        self.left += side.uncopied() as usize;
+        self.sides[index] = side;
     }
 
     /// Notes that the object of an offset is copied, if the side array of this index is there, and
