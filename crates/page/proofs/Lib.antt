@@ -7,3 +7,4 @@ pub mod Lying
 pub mod Trees
 pub mod Masks
 pub mod Relocated
+pub mod Copied

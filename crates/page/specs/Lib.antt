@@ -1,3 +1,4 @@
+pub mod Copying
 pub mod Ending
 pub mod Lending
 pub mod Records

@@ -1,7 +1,8 @@
 //! The memory of a page.
 
-ghost use Rattle.std.specs.Prelude.{◌≡◌, ◌≤◌, ◌<◌, ◌^◌, length, slice_get, slice_set, slice_range, replicate, IfOk};
+ghost use Rattle.std.specs.Prelude.{◌≡◌, ◌≤◌, ◌<◌, ◌^◌, length, slice_get, slice_set, slice_range, replicate, take, drop, [], IfOk};
 ghost use Rattle.std.specs.Borrow.{sem};
+ghost use Rattle.model.specs.Stores.{overlay};
 ghost use Rattle.page.specs.Lending.{LendsRun};
 
 use std::alloc::{AllocError, Global};
@@ -30,6 +31,15 @@ impl Frame {
         Ok(Frame {
             words: vec![in alloc; 0; words as usize]?,
         })
+    }
+
+    /// A frame of no words. It takes no memory.
+    pub fn empty(alloc: Global) -> Frame
+        ensures { result ≡ [] }
+    {
+        Frame {
+            words: Vec::new(alloc),
+        }
     }
 
     /// The word at an offset, or `None` past the end.
@@ -70,5 +80,24 @@ impl Frame {
         ensures* after { sem 𝓛 (LendsRun self.entry start result) }
     {
         run_mut(&mut self.words, start, end)
+    }
+
+    /// So many words from an offset on, as far as the frame goes.
+    pub fn run(&self, offset: usize, count: usize) -> &[u64]
+        ensures { result.now ≡ take count (drop offset self.now) }
+    {
+        let start = offset.min(self.words.len());
+        let end = start + count.min(self.words.len() - start);
+        &self.words[start..end]
+    }
+
+    /// Writes words over its own from an offset on. What would go past the end is left out.
+    pub fn write_run(&mut self, offset: usize, words: &[u64])
+        ensures { self.new ≡ overlay self.old offset words.now }
+    {
+        let start = offset.min(self.words.len());
+        let count = words.len().min(self.words.len() - start);
+        let part = run_mut(&mut self.words, start, start + count);
+        part.copy_from_slice(&words[..count]);
     }
 }

@@ -1,4 +1,5 @@
 //! Pages and their frames.
+mod copying;
 mod ending;
 mod relocating;
 

@@ -1,4 +1,4 @@
-use Rattle.std.proofs.Common.{◌≡◌, ◌-◌, ◌<◌, length, sym, subst}
+use Rattle.std.proofs.Common.{◌≡◌, ◌<◌, length, sym, subst}
 use Rattle.std.specs.List.{slice_get}
 use Rattle.model.specs.declared.records.PageState.TheVariants.{Unused, Closed}
 use Rattle.model.specs.Stores.{state_in}

@@ -1,5 +1,5 @@
-use Rattle.std.proofs.Common.{◌≡◌, ◌<◌, ◌+◌, ℕ, true, false, length, set, Option, Some, None, is_none, refl, sym}
-use Rattle.std.proofs.Common.{subst, ap, ap₂, ◌∙◌, arith, rules, List}
+use Rattle.std.proofs.Common.{◌≡◌, ◌<◌, ◌+◌, ℕ, length, set, Option, Some, None, is_none, refl, sym}
+use Rattle.std.proofs.Common.{subst, ap, ap₂, ◌∙◌, arith, rules}
 use Rattle.std.specs.List.{slice_get}
 use Rattle.model.specs.declared.records.Page.{Page}
 use Rattle.model.specs.declared.records.PageState.TheVariants.{From}

@@ -1,0 +1,18 @@
+use Rattle.std.proofs.Common.{subst, sym}
+use Rattle.model.specs.Owning.{IsStore}
+use Rattle.page.specs.Views.{store_of}
+use Rattle.page.proofs.Copied.{run_keeps}
+use Rattle.page.proofs.store.Store.copy_run.Goals as goal
+
+pub invariant_of-self : goal.invariant_of-self
+invariant_of-self c =
+    let s = store_of c.self.inside in
+    record {
+      size = c.self.invariant.size;
+      store = subst (λ fs. IsStore (record s { frames = fs })) (sym c.copy_between.ensures)
+          (run_keeps s c.args.source c.args.offset c.args.target c.args.at c.args.count c.self.invariant.store);
+      free = c.self.invariant.free;
+      rooms = c.self.invariant.rooms;
+      unused = c.self.invariant.unused;
+      spare = c.self.invariant.spare;
+    }
