@@ -95,6 +95,12 @@ cross_for t = refl
 drain : order_words (order verbs.Drain 0 0 0 0) ≡ codes "drain" ∷ []
 drain = refl
 
+copy : (p e : ℕ) → order_words (order verbs.Copy p e 0 0) ≡ codes "copy" ∷ decimal p ∷ decimal e ∷ []
+copy p e = refl
+
+release : (p : ℕ) → order_words (order verbs.Release p 0 0 0) ≡ codes "release" ∷ decimal p ∷ []
+release p = refl
+
 -- an address, and some that are none
 address : address_at (codes "pick 3.5") 5 16 ≡ Ok (12884901893, 9)
 unfolding address_at word_or word_at point_parts is_number capped_from

@@ -49,6 +49,8 @@ step_with verbs.Scan a b c d = steps.ScanField
 step_with verbs.ScanGlobal global b c d = steps.ScanGlobal global
 step_with verbs.CrossFor thread b c d = steps.CrossFor thread
 step_with verbs.Drain a b c d = steps.ScanField
+step_with verbs.Copy page entry c d = steps.Copy page entry
+step_with verbs.Release page b c d = steps.Release page
 
 -- the step of an order
 abbrev pub step_of : Order → Step

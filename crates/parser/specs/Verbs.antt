@@ -48,6 +48,8 @@ row_of verbs.Scan = row (codes "scan") Nothing Nothing Nothing Nothing
 row_of verbs.ScanGlobal = row (codes "scang") Number Nothing Nothing Nothing
 row_of verbs.CrossFor = row (codes "crossfor") ThreadName Nothing Nothing Nothing
 row_of verbs.Drain = row (codes "drain") Nothing Nothing Nothing Nothing
+row_of verbs.Copy = row (codes "copy") Number Number Nothing Nothing
+row_of verbs.Release = row (codes "release") Number Nothing Nothing Nothing
 
 -- workers do these verbs, and threads all others
 abbrev pub is_for_worker : Verb → Bool
@@ -58,6 +60,8 @@ is_for_worker verbs.Scan = true
 is_for_worker verbs.ScanGlobal = true
 is_for_worker verbs.CrossFor = true
 is_for_worker verbs.Drain = true
+is_for_worker verbs.Copy = true
+is_for_worker verbs.Release = true
 is_for_worker other = false
 
 -- the verb that a word is

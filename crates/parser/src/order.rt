@@ -95,6 +95,8 @@ impl Order {
             Verb::Scan | Verb::Drain => Step::ScanField,
             Verb::ScanGlobal => Step::ScanGlobal(first),
             Verb::CrossFor => Step::CrossFor(first),
+            Verb::Copy => copy(first, second),
+            Verb::Release => Step::Release(first),
         }
     }
 
@@ -144,6 +146,12 @@ fn set_datum(object: u32, index: u32, value: u64) -> Step
         index,
         value,
     }
+}
+
+fn copy(page: u32, entry: u32) -> Step
+    ensures { result ≡ Step.Copy page entry }
+{
+    Step::Copy { page, entry }
 }
 
 /// The step that picks an address of 64 bits.

@@ -82,10 +82,14 @@ pub enum Verb {
     CrossFor,
     /// `drain`: a worker scans until nothing is left that it could scan.
     Drain,
+    /// `copy P e`
+    Copy,
+    /// `release P`
+    Release,
 }
 
 /// All verbs. A word is compared with theirs in this order, so frequent ones stand first.
-const VERBS: [Verb; 29] = [
+const VERBS: [Verb; 31] = [
     Verb::Get,
     Verb::Set,
     Verb::Datum,
@@ -113,6 +117,8 @@ const VERBS: [Verb; 29] = [
     Verb::ScanGlobal,
     Verb::Drain,
     Verb::CrossFor,
+    Verb::Copy,
+    Verb::Release,
     Verb::Mark,
     Verb::EndMark,
 ];
@@ -176,6 +182,8 @@ impl Verb {
             Verb::ScanGlobal => b"scang",
             Verb::CrossFor => b"crossfor",
             Verb::Drain => b"drain",
+            Verb::Copy => b"copy",
+            Verb::Release => b"release",
         }
     }
 
@@ -187,7 +195,9 @@ impl Verb {
     {
         use Kind::{Address, Long, Nothing, Number, Register, ThreadName};
         match self {
-            Verb::Take | Verb::ScanGlobal => make_kinds(Number, Nothing, Nothing, Nothing),
+            Verb::Take | Verb::ScanGlobal | Verb::Release => make_kinds(
+                Number, Nothing, Nothing, Nothing,
+            ),
             Verb::New | Verb::LoadGlobal | Verb::Datum | Verb::GetGlobal => make_kinds(
                 Register, Number, Nothing, Nothing,
             ),
@@ -199,6 +209,7 @@ impl Verb {
             Verb::Null | Verb::Clear | Verb::Scrub => make_kinds(
                 Register, Nothing, Nothing, Nothing,
             ),
+            Verb::Copy => make_kinds(Number, Number, Nothing, Nothing),
             Verb::Pick => make_kinds(Nothing, Nothing, Nothing, Address),
             Verb::CrossFor => make_kinds(ThreadName, Nothing, Nothing, Nothing),
             _ => make_kinds(Nothing, Nothing, Nothing, Nothing),
@@ -218,6 +229,8 @@ impl Verb {
                 | Verb::ScanGlobal
                 | Verb::CrossFor
                 | Verb::Drain
+                | Verb::Copy
+                | Verb::Release
         )
     }
 }
