@@ -38,8 +38,10 @@ small_moves line at v h =
     (Err (flaw at kinds.NumberExpected)) (in_range (capped_from 0 w.0) w.1 at 0 4294967295)) v h in
     let w = b.0 in
     let n = capped_from 0 w.0 in
-    let form = not_refused (not (is_number w.0)) (flaw at kinds.NumberExpected) (in_range n w.1 at 0 4294967295) v b.2 in
-    let range = not_refused (nat_lt n 0 || nat_lt 4294967295 n) (flaw at kinds.NumberOutOfRange) (Ok (n, w.1)) v form.1 in
+    let form = not_refused (not (is_number w.0)) (flaw at kinds.NumberExpected)
+    (in_range n w.1 at 0 4294967295) v b.2 in
+    let range = not_refused (nat_lt n 0 || nat_lt 4294967295 n) (flaw at kinds.NumberOutOfRange)
+    (Ok (n, w.1)) v form.1 in
     subst (λ (x : ℕ × ℕ). at < x.1) (same_result (n, w.1) v range.1)
     (word_moves line at kinds.NumberExpected w b.1)
 

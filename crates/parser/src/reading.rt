@@ -14,7 +14,7 @@ use model::{Config, MOST_LAYOUTS};
 use std::alloc::{AllocError, Global};
 use std::marker::Model;
 
-/// The most commands of a script, with those of a block as often as it says. Each takes 40 bytes.
+/// The most commands of a script, with those of a block as often as it says. Each takes 48 bytes.
 pub const MOST_COMMANDS: usize = 200_000;
 
 /// The most turns of a block.
