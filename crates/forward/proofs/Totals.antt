@@ -1,15 +1,19 @@
 -- How many entries of all side arrays have still to be copied.
 use Rattle.std.proofs.Common.{◌≡◌, ℕ, zero, suc, ◌+◌, ◌-◌, ◌*◌, ◌<◌, ◌≤◌, ◌^◌, List, [], ◌∷◌, length, take}
 use Rattle.std.proofs.Common.{get_or, set, replicate, Some, refl, sym, ◌∙◌, ap, subst, arith, length-set}
-use Rattle.std.specs.List.{slice_get}
+use Rattle.std.proofs.Common.{Bool, true, false, not, ◌==◌}
+use Rattle.std.specs.List.{slice_get, list_any}
 use Rattle.std.proofs.lemmas.List.{length-replicate, take_all}
 use Rattle.std.proofs.lemmas.List.Sums.{sum_by-set, sum_by-cons}
 use Rattle.model.specs.declared.limits.TheConstants.{MOST_WORDS}
 use Rattle.model.specs.declared.records.Forwarding.{Forwarding}
 use Rattle.model.specs.Owning.{Each}
 use Rattle.model.specs.States.{change_at, change_found}
+use Rattle.model.specs.Bits.{of_page}
+use Rattle.model.specs.Cycles.{is_uncopied}
 use Rattle.model.proofs.Lists.{get_read, each_set, each_replicate}
 use Rattle.forward.specs.Counts.{uncopied_in, uncopied_count, AreCounted}
+use Rattle.forward.proofs.Copies.{none_left}
 
 -- no more than all pages have words
 pub most_left : (sides : List (List Forwarding)) → Each sides (λ side. uncopied_in side ≤ MOST_WORDS)
@@ -67,3 +71,18 @@ pub emptied : (items old : List (List Forwarding)) (left i : ℕ) → AreCounted
 emptied items old left i k so_far same whole =
     let all : items ≡ replicate i [] = sym (take_all i items (omega (arith, whole))) ∙ so_far in
     subst (λ xs. AreCounted xs 0) (sym all) (none_counted i (omega (arith, whole, same, k.short)))
+
+-- where no entry is left, each side array is copied
+pub all_copied : (sides : List (List Forwarding)) (n : ℕ) → uncopied_count sides ≡ 0
+    → list_any is_uncopied (of_page sides n) ≡ false
+all_copied sides zero e = refl
+all_copied [] (suc i) e = refl
+all_copied (side ∷ sides) (suc zero) e =
+    let none : uncopied_in side ≡ 0 = omega (arith, sum_by-cons uncopied_in side sides, e) in
+    by_any (list_any is_uncopied side) (ap (λ n. n == 0) (sym none) ∙ none_left side)
+  where
+    by_any : (b : Bool) → true ≡ not b → b ≡ false
+    by_any false k = refl
+    by_any true k = absurd (cc)
+all_copied (side ∷ sides) (suc (suc i)) e =
+    all_copied sides (suc i) (omega (arith, sum_by-cons uncopied_in side sides, e))

@@ -1,5 +1,5 @@
 -- The start and the end of a mark keep what holds of a heap.
-use Rattle.std.proofs.Common.{◌≡◌, ℕ, zero, suc, Bool, true, false, List, [], ◌∷◌, length, map, Option, Some, None}
+use Rattle.std.proofs.Common.{◌≡◌, ℕ, zero, suc, Bool, true, false, List, [], ◌∷◌, length, map, replicate, Option, Some, None}
 use Rattle.std.proofs.Common.{refl, sym, ◌∙◌, ap, subst, rules, arith, nat_eq}
 use Rattle.std.proofs.lemmas.Bool.Decides.{nat_tests}
 use Rattle.std.specs.List.{slice_get}
@@ -9,6 +9,7 @@ use Rattle.std.proofs.lemmas.List.Folds.{list_any_at}
 use Rattle.std.proofs.lemmas.Option.{slice_get_within, get_or_from_slice_get}
 use Rattle.model.specs.declared.config.Config.{Config}
 use Rattle.model.specs.declared.records.Buffer.{Buffer}
+use Rattle.model.specs.declared.records.Forwarding.{Forwarding}
 use Rattle.model.specs.declared.records.Global.{Global}
 use Rattle.model.specs.declared.records.Phase.TheVariants.{Idle, MarkCrossing}
 use Rattle.model.specs.Stores.{StoreState, store_after_mark}
@@ -17,7 +18,8 @@ use Rattle.model.specs.States.{HeapState, ThreadState}
 use Rattle.model.specs.Threads.{set_crossed_of}
 use Rattle.model.specs.Bits.{blank_row, blank_all}
 use Rattle.model.specs.Cycles.{is_lent, is_buffer_on, set_todo_of}
-use Rattle.model.specs.Holding.{IsHeap, FillsIn, AreRowsFor}
+use Rattle.model.specs.Holding.{IsHeap, FillsIn, AreRising, AreRowsFor, AreSidesFor}
+use Rattle.model.proofs.Lists.{each_replicate}
 use Rattle.page.proofs.Ended.{ended_sized, ended_lies, ended_unprotected}
 use Rattle.threads.proofs.Looping.{length_mapped}
 
@@ -47,10 +49,19 @@ lent_by threads i t b e f = list_any_at (λ (t : ThreadState). is_buffer_on b.pa
     same : (n : ℕ) → nat_eq n n ≡ true
     same n = grind (arith, nat_tests)
 
-pub ended_keeps : (h : HeapState) (s : StoreState) (live mark : List (List Bool)) → IsHeap h
-    → s ≡ store_after_mark (is_lent h.threads) h.store → live ≡ h.mark → mark ≡ blank_all h.live
-    → IsHeap (record h { store = s; live = live; mark = mark; phase = Idle })
-ended_keeps h s live mark i e f g =
+-- side arrays that are let go
+sides_emptied : (c : Config) (sides : List (List Forwarding)) → AreSidesFor c sides
+    → AreSidesFor c (replicate (length sides) [])
+sides_emptied c sides k = record {
+  pages = length-replicate (length sides) [] ∙ k.pages;
+  rising = each_replicate (AreRising c.words 0) (length sides) [] tt;
+}
+
+pub ended_keeps : (h : HeapState) (s : StoreState) (live mark : List (List Bool)) (sides : List (List Forwarding))
+    → IsHeap h → s ≡ store_after_mark (is_lent h.threads) h.store → live ≡ h.mark → mark ≡ blank_all h.live
+    → sides ≡ replicate (length h.sides) []
+    → IsHeap (record h { store = s; live = live; mark = mark; sides = sides; phase = Idle })
+ended_keeps h s live mark sides i e f g r =
     let sized = ended_sized h.store (is_lent h.threads) in
     record {
       config = i.config;
@@ -66,7 +77,7 @@ ended_keeps h s live mark i e f g =
       live = subst (AreRowsFor h.config) (sym f) i.mark;
       mark = subst (AreRowsFor h.config) (sym g) (rows_blanked h.config h.live i.live);
       todo = i.todo;
-      sides = i.sides;
+      sides = subst (AreSidesFor h.config) (sym r) (sides_emptied h.config h.sides i.sides);
       births = i.births;
       buffers = λ j t a. subst (λ (s : StoreState). FillsIn s t) (sym e)
           (by_buffer j t a t.buffer refl (i.buffers j t a));

@@ -5,7 +5,8 @@ use Rattle.std.proofs.Common.{◌∙◌, sym, ap, subst}
 use Rattle.std.specs.Prelude.{if◌then◌else◌}
 use Rattle.model.specs.declared.config.Config.{Config}
 use Rattle.model.specs.declared.records.Forwarding.{Forwarding}
-use Rattle.model.specs.First.{no_sides}
+use Rattle.forward.specs.Counts.{uncopied_count}
+use Rattle.forward.proofs.Totals.{all_copied}
 use Rattle.model.specs.declared.records.Phase.{Phase}
 use Rattle.model.specs.declared.records.Phase.TheVariants.{Idle, MarkCrossing, Scanning, ProtectCrossing, Relocating}
 use Rattle.model.specs.Checkpoints.{phase_behind}
@@ -18,35 +19,24 @@ use Rattle.std.specs.List.{list_any}
 use Rattle.model.specs.Stores.{state_at, is_from}
 use Rattle.model.specs.Cycles.{is_uncopied, has_uncopied, uncopied_from}
 
-no_entries : (n m : ℕ) → get_or {A = List Forwarding} (replicate n []) m [] ≡ []
-no_entries zero m = refl
-no_entries (suc n) zero = refl
-no_entries (suc n) (suc m) = no_entries n m
-
-no_entries_on : (n page : ℕ) → of_page {X = Forwarding} (replicate n []) page ≡ []
-no_entries_on n zero = refl
-no_entries_on n (suc i) = no_entries n i
-
--- without side arrays, each object is where its address says
-pub resolved_here : (h : HeapState) (c : Config) (address : ℕ) → h.sides ≡ no_sides c → address ≡ resolve h address
-unfolding resolve entry_at
-resolved_here h c address e = sym (ap (λ fs. forward_by (entry_of fs (address % h.store.words)) address)
-    (ap (λ ss. of_page ss (address / h.store.words)) e ∙ no_entries_on _ (address / h.store.words)))
-
--- without side arrays, no page has an object that isn't copied
-pub none_uncopied : (h : HeapState) (c : Config) (n k : ℕ) → h.sides ≡ no_sides c → uncopied_from h n k ≡ None
+-- without entries that have still to be copied, no page has an object that isn't copied
+pub none_uncopied : (h : HeapState) (n k : ℕ) → uncopied_count h.sides ≡ 0 → uncopied_from h n k ≡ None
 unfolding has_uncopied
-none_uncopied h c n zero e = refl
-none_uncopied h c n (suc k) e =
-    let none : list_any is_uncopied (of_page h.sides n) ≡ false =
-    ap (λ ss. list_any is_uncopied (of_page ss n)) e ∙ ap (list_any is_uncopied) (no_entries_on _ n) in
+none_uncopied h n zero e = refl
+none_uncopied h n (suc k) e =
+    let none : list_any is_uncopied (of_page h.sides n) ≡ false = all_copied h.sides n e in
     let same : has_uncopied h n ≡ false =
     ap (λ b. is_from (state_at h.store n) && b) none ∙ and_none (is_from (state_at h.store n)) in
-    rw same (none_uncopied h c (n + 1) k e)
+    rw same (none_uncopied h (n + 1) k e)
   where
     and_none : (b : Bool) → b && false ≡ false
     and_none true = refl
     and_none false = refl
+
+-- pages that were looked at had none
+pub passed_over : (h : HeapState) (n k : ℕ) → has_uncopied h n ≡ false
+    → uncopied_from h n (suc k) ≡ uncopied_from h (n + 1) k
+passed_over h n k e = rw e refl
 
 -- rows of marks are put in the place of others, as many and as long
 pub marks_keep : (h : HeapState) (live mark todo : List (List Bool)) → IsHeap h → AreRowsFor h.config live

@@ -1,10 +1,9 @@
 -- A heap as contracts see it.
 use Rattle.model.specs.States.{HeapState}
-use Rattle.model.specs.First.{no_sides}
 use Rattle.model.specs.Holding.{IsHeap}
 use Rattle.heap.specs.declared.heap.Heap.TheInside.{Inside}
 
--- its records as plain data; no page has a side array yet
+-- its records as plain data
 abbrev pub heap_of : Inside → HeapState
 heap_of h = record {
   config = h.config;
@@ -13,7 +12,7 @@ heap_of h = record {
   live = h.live;
   mark = h.mark;
   todo = h.todo;
-  sides = no_sides h.config;
+  sides = h.sides;
   threads = h.threads;
   workers = h.workers.items;
   globals = h.globals.items;

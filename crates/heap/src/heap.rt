@@ -9,11 +9,13 @@ mod making;
 mod marks;
 pub mod references;
 mod registers;
+pub mod relocating;
 
 ghost use Rattle.std.specs.Prelude.{◌≡◌};
 ghost use Rattle.model.specs.Owning.{IsStore};
 ghost use Rattle.model.specs.Holding.{IsHeap};
 
+use forward::Sides;
 use markbits::{IndexedRows, Rows};
 use model::{Config, Global, Phase, Scan};
 use page::Store;
@@ -32,9 +34,9 @@ use threads::{Thread, Threads};
 /// `store_global`, `datum`, `set_datum`, `same`, `is_null`, `copy_register` and `clear_register`.
 /// A row asks that its step has passed the tests before it (the thread is there, numbers are in
 /// range, it isn't parked and has no open barrier), which are made by `cycle`. The rows of loads
-/// stand in `barrier`, those of checkpoints in `checkpoint`, those of marks in `marker`; they are
-/// made of the readers here, of `Edits` and of `CollectorEdits`. Threads, workers, globals and
-/// registers count from 0.
+/// stand in `barrier`, those of checkpoints in `checkpoint`, those of marks in `marker`, those of
+/// moving in `relocate`; they are made of the readers here, of `Edits`, `CollectorEdits` and
+/// `RelocationEdits`. Threads, workers, globals and registers count from 0.
 #[derive(Drop)]
 pub struct Heap {
     config: Config,
@@ -43,6 +45,7 @@ pub struct Heap {
     live: Rows,
     mark: Rows,
     todo: IndexedRows,
+    sides: Sides,
     threads: Threads,
     workers: Vec<Option<Scan>>,
     globals: Vec<Global>,
@@ -117,6 +120,14 @@ impl Heap {
         &self.todo
     }
 
+    /// Where the live objects of protected pages go, by the index of the page's record (the paper's
+    /// Relocate phase: forwarding stands apart from the page).
+    pub fn sides(&self) -> &Sides
+        ensures { result.now ≡ self.now.sides }
+    {
+        &self.sides
+    }
+
     /// The mutator threads, by number from 0.
     pub fn threads(&self) -> &[Thread]
         ensures { result.now ≡ self.now.threads }
@@ -138,8 +149,7 @@ impl Heap {
         &self.globals
     }
 
-    /// Where the collector is in its cycle. It is in none of the phases in which pages are
-    /// protected today.
+    /// Where the collector is in its cycle.
     pub fn phase(&self) -> Phase
         ensures { result ≡ self.now.phase }
     {

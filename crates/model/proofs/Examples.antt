@@ -24,15 +24,16 @@ use Rattle.model.specs.Buffers.{with_buffer, lend_buffer, take_outcome, give_bac
 use Rattle.model.specs.Births.{place_object, new_outcome}
 use Rattle.model.specs.Marks.{entry_at, resolve, with_mark, marked_word}
 use Rattle.model.specs.Loads.{with_barrier, with_loaded, load_outcome, load_global_outcome, trap_due}
-use Rattle.model.specs.Loads.{trap_outcome, heal_place, heal_outcome, end_load, finish_outcome}
+use Rattle.model.specs.Loads.{heal_place, heal_outcome, end_load, finish_outcome}
 use Rattle.model.specs.Checkpoints.{with_parked, first_behind, all_crossed, with_crossed}
 use Rattle.model.specs.Checkpoints.{with_marked_register, cross_thread, may_cross, cross_outcome}
-use Rattle.model.specs.Checkpoints.{cross_for_outcome, scrub_outcome, park_outcome, unpark_outcome}
+use Rattle.model.specs.Checkpoints.{cross_for_outcome, park_outcome, unpark_outcome}
 use Rattle.model.specs.Scans.{with_scan, is_taken, may_scan, pick_outcome, with_marked_place, with_scan_end}
 use Rattle.model.specs.Scans.{scan_field_outcome, with_marked_global, scan_global_outcome, is_free_todo}
 use Rattle.model.specs.Scans.{next_todo, next_drain}
 use Rattle.model.specs.Cycles.{has_uncopied, start_mark, start_mark_outcome, has_todo, first_pending}
 use Rattle.model.specs.Cycles.{is_lent, end_mark, retired_count, end_mark_outcome}
+use Rattle.model.specs.Traps.{trap_outcome, scrub_outcome}
 use Rattle.model.specs.First.{first_heap}
 use Rattle.model.specs.Outcome.{no_register, no_global, no_page, thread_gate, worker_gate, outcome}
 
@@ -57,7 +58,7 @@ reply_of (Ok y) = Ok y.1
 reply_of (Err e) = Err e
 
 -- the replies to the steps of these lines, one after another
-replies : HeapState → List Line → List (Result Answer Refusal)
+unfoldable pub replies : HeapState → List Line → List (Result Answer Refusal)
 replies h [] = []
 replies h (l ∷ ls) =
     reply_of (outcome h l.actor l.step) ∷ replies (heap_after h (outcome h l.actor l.step)) ls

@@ -1,16 +1,9 @@
 -- Worked examples of pages that are protected and emptied, computed by the definitions of these steps.
-use Rattle.std.proofs.Common.{◌≡◌, ℕ, List, [], ◌∷◌, ◌++◌, map, refl}
-use Rattle.std.specs.Prelude.{true, Result, Ok, Err, if◌then◌else◌}
-use Rattle.model.specs.declared.steps.Actor.{Actor}
-use Rattle.model.specs.declared.steps.Actor.TheVariants.{Thread, Worker}
-use Rattle.model.specs.declared.steps.Step.{Step}
+use Rattle.std.proofs.Common.{◌≡◌, List, [], ◌∷◌, ◌++◌, map, refl}
+use Rattle.std.specs.Prelude.{true, Ok, Err}
 use Rattle.model.specs.declared.steps.Step.TheVariants as steps
-use Rattle.model.specs.declared.steps.Answer.{Answer}
 use Rattle.model.specs.declared.steps.Answer.TheVariants as answers
-use Rattle.model.specs.declared.steps.Refusal.{Refusal}
 use Rattle.model.specs.declared.steps.Refusal.TheVariants as refusals
-use Rattle.model.specs.States.{HeapState}
-use Rattle.model.specs.Refusing.{◌>>=◌, or_refuse, Outcome}
 use Rattle.model.specs.Stores.{page_at, state_at, spot_of, word_at, with_words, with_word, words_at}
 use Rattle.model.specs.Stores.{page_with_room, free_frame, unused_page, open_fresh, give_words, take_buffer}
 use Rattle.model.specs.Stores.{store_after_mark, first_store}
@@ -23,54 +16,24 @@ use Rattle.model.specs.Buffers.{with_buffer, lend_buffer, take_outcome, give_bac
 use Rattle.model.specs.Births.{place_object, new_outcome}
 use Rattle.model.specs.Marks.{entry_at, resolve, with_mark, marked_word}
 use Rattle.model.specs.Loads.{with_barrier, with_loaded, load_outcome, load_global_outcome, trap_due}
-use Rattle.model.specs.Loads.{trap_outcome, heal_place, heal_outcome, end_load, finish_outcome, barrier_of_thread}
-use Rattle.model.specs.Loads.{gc_trap_due, nmt_trap}
+use Rattle.model.specs.Loads.{heal_place, heal_outcome, end_load, finish_outcome}
 use Rattle.model.specs.Checkpoints.{with_parked, first_behind, all_crossed, with_crossed}
 use Rattle.model.specs.Checkpoints.{with_marked_register, cross_thread, may_cross, cross_outcome}
-use Rattle.model.specs.Checkpoints.{cross_for_outcome, scrub_outcome, park_outcome, unpark_outcome}
+use Rattle.model.specs.Checkpoints.{cross_for_outcome, park_outcome, unpark_outcome}
 use Rattle.model.specs.Scans.{with_scan, is_taken, may_scan, pick_outcome, with_marked_place, with_scan_end}
 use Rattle.model.specs.Scans.{scan_field_outcome, with_marked_global, scan_global_outcome, is_free_todo}
 use Rattle.model.specs.Scans.{next_todo, next_drain}
 use Rattle.model.specs.Cycles.{has_uncopied, start_mark, start_mark_outcome, has_todo, first_pending}
 use Rattle.model.specs.Cycles.{is_lent, end_mark, retired_count, end_mark_outcome}
+use Rattle.model.specs.Traps.{trap_outcome, scrub_outcome}
 use Rattle.model.specs.First.{first_heap}
 use Rattle.model.specs.Outcome.{no_register, no_global, no_page, thread_gate, worker_gate, outcome}
 use Rattle.model.specs.Plans.{live_offsets, live_objects, object_words, plan_of, moves_of, side_of}
 use Rattle.model.specs.Protections.{take_target, with_target, with_protected, protect, ripe, free_count, unused_count}
-use Rattle.model.specs.Protections.{room_for, protect_outcome, are_bad_pages}
+use Rattle.model.specs.Protections.{room_for, protect_outcome}
 use Rattle.model.specs.Moves.{with_copied_words, with_copy, copied_first, moved_word, entry_on, copy_outcome}
-use Rattle.model.specs.Moves.{gc_trap, scrub_word, with_released, crossed_if_protecting, release_outcome}
-use Rattle.model.proofs.Examples.{Line, thread, worker, heap_after, reply_of, config}
-
--- what a worker's step does, those that move objects too
-for_worker : HeapState → ℕ → Step → Outcome
-for_worker h w (steps.Protect pages) =
-    if are_bad_pages h pages then Err refusals.BadIndex else protect_outcome h pages
-for_worker h w (steps.Copy page entry) = copy_outcome h page entry
-for_worker h w (steps.Release page) = release_outcome h page
-for_worker h w s = outcome h (Worker w) s
-
--- what a thread's step does
-for_thread : HeapState → ℕ → Step → Outcome
-for_thread h t steps.Trap = do
-  _ ← thread_gate h t steps.Trap
-  b ← or_refuse (barrier_of_thread h t) refusals.NotBusy
-  if gc_trap_due h t b.now then gc_trap h t b b.now else nmt_trap h t b
-for_thread h t (steps.Scrub r) = do
-  _ ← thread_gate h t (steps.Scrub r)
-  w ← or_refuse (register_of h t r) refusals.Null
-  scrub_word h t r w
-for_thread h t s = outcome h (Thread t) s
-
-moving_outcome : HeapState → Actor → Step → Outcome
-moving_outcome h (Worker w) s = for_worker h w s
-moving_outcome h (Thread t) s = for_thread h t s
-
--- the replies to the steps of these lines, one after another
-replies : HeapState → List Line → List (Result Answer Refusal)
-replies h [] = []
-replies h (l ∷ ls) = reply_of (moving_outcome h l.actor l.step)
-    ∷ replies (heap_after h (moving_outcome h l.actor l.step)) ls
+use Rattle.model.specs.Moves.{with_released, crossed_if_protecting, release_outcome}
+use Rattle.model.proofs.Examples.{Line, thread, worker, heap_after, reply_of, replies, config}
 
 -- Page 1 is closed, and has one live object with a datum of 5, which a global and a register of each thread name.
 closed_page : List Line
@@ -224,6 +187,6 @@ unfolding page_at state_at spot_of word_at with_words with_word words_at page_wi
     live_offsets live_objects object_words plan_of moves_of side_of take_target with_target with_protected protect
     ripe free_count unused_count room_for protect_outcome with_copied_words with_copy copied_first
     moved_word entry_on copy_outcome with_released crossed_if_protecting release_outcome
-    for_worker for_thread moving_outcome replies reply_of heap_after config thread worker closed_page scrubbed
+    replies reply_of heap_after config thread worker closed_page scrubbed
     released copied_by_a_thread unripe emptied_at_once
 moves_compute = (refl, refl, refl, refl, refl)

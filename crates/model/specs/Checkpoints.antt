@@ -10,7 +10,7 @@ use Rattle.model.specs.Phases.{is_crossing, is_mark_crossing}
 use Rattle.model.specs.Refusing.{◌>>=◌, Outcome}
 use Rattle.model.specs.States.{ThreadState, HeapState, change_at}
 use Rattle.model.specs.Threads.{set_parked_of, set_crossed_of, is_parked_in, has_crossed}
-use Rattle.model.specs.Registers.{usable, register_of, with_register}
+use Rattle.model.specs.Registers.{register_of, with_register}
 use Rattle.model.specs.Marks.{with_mark, marked_word}
 
 -- the heap with a thread parked or running
@@ -79,12 +79,6 @@ cross_outcome h t = do
 unfoldable pub cross_for_outcome : HeapState → ℕ → Outcome
 cross_for_outcome h t =
     if not (is_parked_in (slice_get h.threads t)) then Err refusals.NotParked else cross_outcome h t
-
--- The row of Scrub. What it does to a register that names a page that is emptied comes with moves; no page is before.
-unfoldable pub scrub_outcome : HeapState → ℕ → ℕ → Outcome
-scrub_outcome h t r = do
-  _ ← usable h t r
-  Ok (h, answers.Clean)
 
 -- the row of Park
 unfoldable pub park_outcome : HeapState → ℕ → Outcome

@@ -21,6 +21,7 @@ pub mod Cycles
 pub mod Plans
 pub mod Protections
 pub mod Moves
+pub mod Traps
 pub mod Outcome
 pub mod Plain
 pub mod Texts

@@ -78,12 +78,6 @@ nmt_trap h t b =
     then Ok (with_barrier (with_mark h b.now) t (set_now_of (marked_word h b.now) b), answers.Marked)
     else Ok (h, answers.Clear)
 
--- The row of Trap. What a GC trap does comes with moves; no page is protected before.
-unfoldable pub trap_outcome : HeapState → ℕ → Outcome
-trap_outcome h t = do
-  b ← or_refuse (barrier_of_thread h t) refusals.NotBusy
-  if gc_trap_due h t b.now then Err refusals.NoActor else nmt_trap h t b
-
 -- the bits at the place of a load
 abbrev pub bits_at : HeapState → Place → Option ℕ
 bits_at h (places.Field address i) = word_at h.store (field_address address i)

@@ -1,8 +1,7 @@
 -- Objects are copied to where they are planned, and pages give their memory up (the paper's Relocate phase).
 use Rattle.std.specs.List.{list_any}
 use Rattle.std.specs.Prelude.{ℕ, ◌-◌, ◌*◌, ◌+◌, ◌/◌, ◌%◌, ◌==◌, ◌||◌, not, Bool, true, List, [], map, take, drop}
-use Rattle.std.specs.Prelude.{Option, Some, None, slice_get, slice_set, if◌then◌else◌, Result, Ok, Err}
-use Rattle.model.specs.declared.records.Barrier.{Barrier}
+use Rattle.std.specs.Prelude.{Option, Some, None, slice_get, slice_set, if◌then◌else◌, Result, Ok}
 use Rattle.model.specs.declared.records.Forwarding.{Forwarding}
 use Rattle.model.specs.declared.records.Page.{Page}
 use Rattle.model.specs.declared.records.PageState.TheVariants.{Gone}
@@ -12,11 +11,9 @@ use Rattle.model.specs.declared.steps.Refusal.TheVariants as refusals
 use Rattle.model.specs.Phases.{is_idle, is_moving, is_protect_crossing}
 use Rattle.model.specs.Stores.{StoreState, page_at, state_at, frame_in, is_from, words_at, with_words, overlay}
 use Rattle.model.specs.Refusing.{◌>>=◌, or_refuse, refuse_if, Outcome}
-use Rattle.model.specs.States.{Reference, HeapState, change_at}
-use Rattle.model.specs.Registers.{with_register, let_through}
+use Rattle.model.specs.States.{HeapState, change_at}
 use Rattle.model.specs.Bits.{of_page, with_bit}
 use Rattle.model.specs.Marks.{entry_at}
-use Rattle.model.specs.Loads.{with_barrier, set_now_of, is_refused}
 use Rattle.model.specs.Checkpoints.{all_crossed}
 use Rattle.model.specs.Cycles.{is_uncopied}
 use Rattle.model.specs.Plans.{object_words}
@@ -77,23 +74,6 @@ copy_outcome h page e = do
   f ← or_refuse (entry_on h page e) refusals.BadIndex
   _ ← refuse_if f.copied refusals.Copied
   Ok (with_copy h (page * h.store.words + f.offset) f.to, answers.MovedTo (f.to / h.store.words) (f.to % h.store.words))
-
--- words that name protected pages
-
--- a GC trap: the word names the copy, which is made first where it wasn't (the paper's read barrier; that a thread
--- copies itself is ours)
-abbrev pub gc_trap : HeapState → ℕ → Barrier → Reference → Outcome
-gc_trap h t b None = Ok (h, answers.Clear)
-gc_trap h t b (Some w) =
-    if is_protect_crossing h.phase then Err refusals.Stall
-    else Ok (with_barrier (copied_first h w.0) t (set_now_of (Some (moved_word h w)) b), answers.Moved)
-
--- a register's word is corrected, where the thread may not use it for good (ours)
-abbrev pub scrub_word : HeapState → ℕ → ℕ → ℕ × Bool → Outcome
-scrub_word h t r w =
-    if not (is_refused (let_through h t w.0)) then Ok (h, answers.Clean) else
-    (if is_protect_crossing h.phase then Err refusals.Stall
-    else Ok (with_register (copied_first h w.0) t r (Some (moved_word h w)), answers.Moved))
 
 -- memory is given up
 

@@ -49,6 +49,12 @@ pub on_truth : {B : Type 0} (c : Bool) (n : Refusal) (r : Result B Refusal) (P :
 on_truth true n r P h = h refl
 on_truth false n r P h = tt
 
+-- if c then r else q
+pub on_either : {B : Type 0} (c : Bool) (r q : Result B Refusal) (P : B → Type 0)
+    → (c ≡ true → OnAccepted P r) → (c ≡ false → OnAccepted P q) → OnAccepted P (cond c r q)
+on_either true r q P h k = h refl
+on_either false r q P h k = k refl
+
 -- what has P has Q
 pub on_accepted : {A : Type 0} (r : Result A Refusal) (P Q : A → Type 0) → OnAccepted P r → ((x : A) → P x → Q x)
     → OnAccepted Q r

@@ -1,4 +1,4 @@
--- Threads that cross checkpoints, that are parked and run again, and registers that need no correction.
+-- Threads that cross checkpoints, that are parked and run again.
 use Rattle.std.proofs.Common.{◌≡◌, ℕ, true, false, not, ◌<◌, length, refl}
 use Rattle.std.specs.List.{slice_get}
 use Rattle.std.proofs.lemmas.Bool.{not-false}
@@ -8,10 +8,8 @@ use Rattle.model.specs.Owning.{IsStore}
 use Rattle.model.specs.Holding.{IsHeap}
 use Rattle.model.specs.States.{HeapState}
 use Rattle.model.specs.Threads.{is_parked_in, has_crossed}
-use Rattle.model.specs.Registers.{usable}
 use Rattle.model.specs.Phases.{is_crossing}
 use Rattle.model.specs.Checkpoints.{may_cross, cross_outcome, cross_for_outcome, park_outcome, unpark_outcome}
-use Rattle.model.specs.Checkpoints.{scrub_outcome}
 use Rattle.model.specs.Plain.{PlainHeap, plain_step, plain_answer}
 use Rattle.model.proofs.Lists.{get_within}
 use Rattle.laws.specs.Transitions.{Park}
@@ -19,8 +17,8 @@ use Rattle.laws.proofs.Basics.{parked_none}
 use Rattle.refinement.specs.Worlds.{world_of}
 use Rattle.refinement.specs.PlainHeaps.{births_of}
 use Rattle.refinement.specs.Standing.{Holds}
-use Rattle.refinement.proofs.Accepted.{OnAccepted, on_bind, on_has, on_test, on_truth}
-use Rattle.refinement.proofs.Carrying.{RowHolds, row_by, read_by, stays}
+use Rattle.refinement.proofs.Accepted.{OnAccepted, on_has, on_test, on_truth}
+use Rattle.refinement.proofs.Carrying.{RowHolds, row_by, stays}
 use Rattle.refinement.proofs.Crossings.{thread_crosses}
 use Rattle.refinement.proofs.Threads.{parked_carries}
 use Rattle.refinement.proofs.Verdicts.{Passed, closed_barrier}
@@ -51,11 +49,6 @@ module _ {h : HeapState} {p p0 : PlainHeap} (s : IsStore h.store) (d : IsHeap h)
   unpark_holds g = on_truth (is_parked_in (slice_get h.threads t)) _ _ _ (λ e.
       row_by k (parked_carries h t g.thread g.there false) (stays h p)
       (Park t false (closed_barrier g refl)) tt)
-
-  -- a register is clean
-  pub scrub_holds : (r : ℕ) → RowHolds h p p0 (Thread t) (steps.Scrub r) (scrub_outcome h t r)
-  unfolding scrub_outcome plain_step plain_answer
-  scrub_holds r = on_bind (usable h t r) _ _ (λ a first. read_by k tt)
 
 -- a worker crosses for a parked thread
 pub cross_for_holds : {h : HeapState} {p p0 : PlainHeap} → IsStore h.store → Holds h p p0 → (w t : ℕ)

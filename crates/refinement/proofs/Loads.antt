@@ -15,7 +15,7 @@ use Rattle.model.specs.Holding.{IsHeap}
 use Rattle.model.specs.States.{HeapState, ThreadState, Reference, flat}
 use Rattle.model.specs.References.{read_reference, global_of, word_of_global, with_global, with_place, field_address}
 use Rattle.model.specs.Loads.{with_barrier, load_outcome, load_global_outcome, new_barrier, barrier_of_thread}
-use Rattle.model.specs.Loads.{with_loaded, trap_outcome, heal_outcome, heal_place, end_load, finish_outcome, trap_due}
+use Rattle.model.specs.Loads.{with_loaded, heal_outcome, heal_place, end_load, finish_outcome, trap_due}
 use Rattle.model.specs.Loads.{gc_trap_due, nmt_trap_due, may_finish, bits_at, are_bits_of, set_healed, set_now_of}
 use Rattle.model.specs.Loads.{nmt_trap}
 use Rattle.model.specs.Threads.{is_parked_in, barrier_of, has_crossed}
@@ -209,7 +209,7 @@ module _ {h : HeapState} {p p0 : PlainHeap} (s : IsStore h.store) (d : IsHeap h)
         (stays h p) (TrapMarked t (as_barrier b) in_world (marks_run h t b.now due)) tt
 
     -- an NMT trap, where it is due
-    nmt_holds : RowHolds h p p0 (Thread t) steps.Trap (nmt_trap h t b)
+    pub nmt_holds : RowHolds h p p0 (Thread t) steps.Trap (nmt_trap h t b)
     unfolding plain_step plain_answer
     nmt_holds = by_due (nmt_trap_due h t b.now) refl
       where
@@ -293,12 +293,6 @@ module _ {h : HeapState} {p p0 : PlainHeap} (s : IsStore h.store) (d : IsHeap h)
             (agrees (finishing_follows k t x at _ l e (omega (arith, target, load.target)))
             (ap (λ o. finish_at t o (births_of p)) (sym (ap (option_map as_pair) e))))
             (Finish t (as_barrier b) in_world (unmarked clear)) tt
-
-  -- a place is healed, or has another word by now
-  pub trap_holds : RowHolds h p p0 (Thread t) steps.Trap (trap_outcome h t)
-  unfolding trap_outcome plain_step plain_answer
-  trap_holds = on_some (barrier_of_thread h t) _ _ _ (λ b first.
-      on_test (gc_trap_due h t b.now) _ _ _ (λ clear. nmt_holds b first))
 
   -- a place is healed
   pub heal_holds : RowHolds h p p0 (Thread t) steps.Heal (heal_outcome h t)

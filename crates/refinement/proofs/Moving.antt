@@ -34,7 +34,8 @@ use Rattle.model.specs.Loads.{barrier_of_thread, with_barrier, set_now_of, is_re
 use Rattle.model.specs.Checkpoints.{first_behind, none_behind, all_crossed}
 use Rattle.model.specs.Plain.{PlainHeap, plain_step, plain_answer}
 use Rattle.model.specs.Moves.{with_copied_words, with_copy, copied_by, copied_first, place_by, moved_word, entry_on}
-use Rattle.model.specs.Moves.{copy_outcome, gc_trap, scrub_word}
+use Rattle.model.specs.Moves.{copy_outcome}
+use Rattle.model.specs.Traps.{gc_trap, scrub_word}
 use Rattle.model.proofs.Memory.{page_there, frames_stay}
 use Rattle.page.proofs.Lying.{records_few}
 use Rattle.laws.specs.AddressHeap.{HeapObject, To, Planned, Copied, names}

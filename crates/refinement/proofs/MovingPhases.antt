@@ -20,12 +20,24 @@ use Rattle.model.specs.Cycles.{is_uncopied}
 use Rattle.model.specs.Plans.{plan_of, target_count}
 use Rattle.model.specs.Protections.{with_protected, protect}
 use Rattle.model.specs.Protections.{all_ripe, room_for, protect_outcome}
-use Rattle.model.specs.Moves.{with_copy, copied_by, copied_first, entry_on, copy_outcome, gc_trap, scrub_word}
+use Rattle.model.specs.Moves.{with_copy, copied_by, copied_first, entry_on, copy_outcome}
 use Rattle.model.specs.Moves.{moved_word}
 use Rattle.model.specs.Moves.{crossed_if_protecting, release_outcome}
-use Rattle.refinement.proofs.Accepted.{on_bind, on_has, on_some, on_test, on_unless}
-use Rattle.refinement.proofs.Phases.{Stays, Moves}
+use Rattle.model.specs.Traps.{gc_trap, scrub_word}
+use Rattle.model.specs.Refusing.{Outcome}
+use Rattle.refinement.specs.Standing.{MovesPhase}
+use Rattle.model.specs.declared.steps.Step.{Step}
+use Rattle.model.specs.declared.steps.Answer.{Answer}
+use Rattle.refinement.proofs.Accepted.{OnAccepted, on_bind, on_has, on_some, on_test, on_unless}
 use Rattle.refinement.proofs.Protections.{idle_is}
+
+-- an accepted step leaves the phase
+abbrev pub Stays : HeapState → Outcome → Type 0
+Stays h o = OnAccepted (λ (z : HeapState × Answer). z.0.phase ≡ h.phase) o
+
+-- an accepted step moves the phase so
+abbrev pub Moves : HeapState → Step → Outcome → Type 0
+Moves h step o = OnAccepted (λ (z : HeapState × Answer). MovesPhase h step z.0) o
 
 -- pages are protected
 pub protect_moves : (h : HeapState) (pages : List ℕ) → Moves h (steps.Protect pages) (protect_outcome h pages)

@@ -25,10 +25,9 @@ use Rattle.model.specs.Phases.{is_crossing, may_start_mark}
 use Rattle.model.specs.Stores.{StoreState, take_buffer, word_at}
 use Rattle.model.specs.Owning.{IsStore}
 use Rattle.model.specs.Holding.{IsHeap}
-use Rattle.model.specs.Refusing.{Outcome}
 use Rattle.model.specs.States.{HeapState, change_at}
 use Rattle.model.specs.Threads.{set_crossed_of, is_parked_in}
-use Rattle.model.specs.Registers.{usable, usable_or_null, with_register, same_outcome, is_null_outcome}
+use Rattle.model.specs.Registers.{register_of, usable, usable_or_null, with_register, same_outcome, is_null_outcome}
 use Rattle.model.specs.Registers.{copy_register_outcome, clear_register_outcome}
 use Rattle.model.specs.Data.{datum_at, datum_outcome, set_datum_outcome}
 use Rattle.model.specs.References.{field_at, with_global, with_place, store_outcome, store_global_outcome}
@@ -37,15 +36,16 @@ use Rattle.model.specs.Buffers.{give_back_outcome}
 use Rattle.model.specs.Births.{place_object, new_outcome}
 use Rattle.model.specs.Marks.{with_mark, marked_word}
 use Rattle.model.specs.Loads.{with_barrier, with_loaded, barrier_of_thread, load_outcome, load_global_outcome}
-use Rattle.model.specs.Loads.{gc_trap_due, nmt_trap_due, trap_due, trap_outcome, bits_at, are_bits_of}
+use Rattle.model.specs.Loads.{gc_trap_due, nmt_trap_due, trap_due, bits_at, are_bits_of}
 use Rattle.model.specs.Loads.{set_healed}
 use Rattle.model.specs.Loads.{heal_place, heal_outcome, may_finish, end_load, finish_outcome}
 use Rattle.model.specs.Checkpoints.{with_parked, first_behind, phase_behind, with_crossed, with_marked_register}
 use Rattle.model.specs.Checkpoints.{with_marked_registers, marked_at_crossing, cross_thread, may_cross, cross_outcome}
-use Rattle.model.specs.Checkpoints.{cross_for_outcome, scrub_outcome, park_outcome, unpark_outcome}
+use Rattle.model.specs.Checkpoints.{cross_for_outcome, park_outcome, unpark_outcome}
 use Rattle.model.specs.Scans.{scan_of, with_scan, is_taken, may_scan, with_marked_place, with_scan_end, scan_next}
 use Rattle.model.specs.Scans.{is_todo_in, with_marked_global, pick_outcome, scan_field_outcome, scan_global_outcome}
 use Rattle.model.specs.Cycles.{none_uncopied, uncopied_from, start_mark, start_mark_outcome, end_mark, end_mark_outcome}
+use Rattle.model.specs.Traps.{trap_outcome, scrub_outcome}
 use Rattle.model.specs.Outcome.{outcome, thread_gate, thread_row, worker_gate, worker_row}
 use Rattle.model.specs.Bits.{bit_on}
 use Rattle.model.specs.Plain.{PlainHeap}
@@ -54,15 +54,13 @@ use Rattle.refinement.specs.Worlds.{world_of}
 use Rattle.refinement.specs.PlainHeaps.{births_of}
 use Rattle.refinement.specs.Standing.{Holds, CrossesInto, MovesPhase}
 use Rattle.refinement.proofs.Accepted.{OnAccepted, accepted, of_accepted, on_accepted, on_bind, on_has, on_some}
-use Rattle.refinement.proofs.Accepted.{on_test}
+use Rattle.refinement.proofs.Accepted.{on_test, on_either}
 use Rattle.refinement.proofs.Accepted.{on_truth}
 use Rattle.refinement.proofs.Checkpoints.{is_open}
 use Rattle.refinement.proofs.EndMarks.{may_end}
 use Rattle.refinement.proofs.StartMarks.{in_phase}
-
--- an accepted step leaves the phase
-abbrev pub Stays : HeapState → Outcome → Type 0
-Stays h o = OnAccepted (λ (z : HeapState × Answer). z.0.phase ≡ h.phase) o
+use Rattle.refinement.proofs.MovingPhases.{Stays, Moves, protect_moves, copy_stays, gc_stays, scrub_word_stays}
+use Rattle.refinement.proofs.MovingPhases.{release_stays}
 
 module _ (h : HeapState) (t : ℕ) where
   take_stays : (n : ℕ) → Stays h (take_outcome h t n)
@@ -96,8 +94,8 @@ module _ (h : HeapState) (t : ℕ) where
 
   trap_stays : Stays h (trap_outcome h t)
   unfolding trap_outcome with_barrier with_mark
-  trap_stays = on_some (barrier_of_thread h t) _ _ _ (λ b e. on_test (gc_trap_due h t b.now) _ _ _ (λ f.
-      by_due b (nmt_trap_due h t b.now)))
+  trap_stays = on_some (barrier_of_thread h t) _ _ _ (λ b e. on_either (gc_trap_due h t b.now) _ _ _
+      (λ f. gc_stays h t b b.now) (λ f. by_due b (nmt_trap_due h t b.now)))
     where
       by_due : (b : Barrier) (c : Bool) → Stays h (cond c
           (Ok (with_barrier (with_mark h b.now) t (record b { now = marked_word h b.now }), answers.Marked))
@@ -149,7 +147,7 @@ module _ (h : HeapState) (t : ℕ) where
 
   scrub_stays : (r : ℕ) → Stays h (scrub_outcome h t r)
   unfolding scrub_outcome
-  scrub_stays r = on_bind (usable h t r) _ _ (λ a e. refl)
+  scrub_stays r = on_some (register_of h t r) _ _ _ (λ w e. scrub_word_stays h t r w)
 
   unpark_stays : Stays h (unpark_outcome h t)
   unfolding unpark_outcome with_parked
@@ -186,10 +184,6 @@ module _ (h : HeapState) (t : ℕ) where
       (cross_outcome h t)
   unfolding cross_outcome
   cross_moves = on_has (may_cross h t) _ _ _ (is_open h t) (λ u e. crossed_into e)
-
--- an accepted step moves the phase so
-abbrev pub Moves : HeapState → Step → Outcome → Type 0
-Moves h step o = OnAccepted (λ (z : HeapState × Answer). MovesPhase h step z.0) o
 
 thread_moves : (h : HeapState) (t : ℕ) (step : Step) → Moves h step (thread_row h t step)
 unfolding park_outcome with_parked is_null_outcome copy_register_outcome clear_register_outcome with_register
@@ -258,6 +252,9 @@ module _ {h : HeapState} {p p0 : PlainHeap} (k : Holds h p p0) where
   worker_moves w steps.ScanField = scan_moves w
   worker_moves w (steps.ScanGlobal g) = global_moves g
   worker_moves w steps.EndMark = end_moves
+  worker_moves w (steps.Protect pages) = protect_moves h pages
+  worker_moves w (steps.Copy page e) = copy_stays h page e
+  worker_moves w (steps.Release page) = release_stays h page
   worker_moves w (steps.CrossFor t) = cross_for_moves t
   worker_moves w _ = tt
 

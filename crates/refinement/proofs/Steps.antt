@@ -25,9 +25,13 @@ use Rattle.refinement.proofs.References.{store_holds, store_global_holds}
 use Rattle.refinement.proofs.Scans.{pick_holds, scan_field_holds, scan_global_holds}
 use Rattle.refinement.proofs.StartMarks.{start_mark_holds}
 use Rattle.refinement.proofs.EndMarks.{end_mark_holds, ended_finds}
-use Rattle.refinement.proofs.Checkpoints.{cross_holds, cross_for_holds, park_holds, unpark_holds, scrub_holds}
+use Rattle.refinement.proofs.Checkpoints.{cross_holds, cross_for_holds, park_holds, unpark_holds}
 use Rattle.refinement.proofs.Loads.{load_holds, load_global_holds}
-use Rattle.refinement.proofs.Loads.{trap_holds, heal_holds, finish_holds}
+use Rattle.refinement.proofs.Loads.{heal_holds, finish_holds}
+use Rattle.refinement.proofs.Traps.{trap_holds, scrub_holds}
+use Rattle.refinement.proofs.Protections.{protect_holds}
+use Rattle.refinement.proofs.Moving as moving
+use Rattle.refinement.proofs.Releases.{release_holds}
 
 -- the row of a thread's step
 row_holds : (h : HeapState) (p p0 : PlainHeap) (t : ℕ) (step : Step) → IsStore h.store → IsHeap h → Holds h p p0
@@ -49,7 +53,7 @@ row_holds h p p0 t (steps.IsNull r) s d k g = is_null_holds s d k t r g
 row_holds h p p0 t (steps.CopyReg r q) s d k g = copy_holds s d k t r q g
 row_holds h p p0 t (steps.ClearReg r) s d k g = clear_holds s d k t r g
 row_holds h p p0 t steps.Cross s d k g = cross_holds s d k t g
-row_holds h p p0 t (steps.Scrub r) s d k g = scrub_holds s d k t r
+row_holds h p p0 t (steps.Scrub r) s d k g = scrub_holds s d k t r g
 row_holds h p p0 t steps.Park s d k g = park_holds s d k t g
 row_holds h p p0 t steps.Unpark s d k g = unpark_holds s d k t g
 row_holds h p p0 t _ s d k g = tt
@@ -62,6 +66,9 @@ worker_holds h p p0 w (steps.Pick page offset) s d k g = pick_holds s d k w g.wo
 worker_holds h p p0 w steps.ScanField s d k g = scan_field_holds s d k w g.worker
 worker_holds h p p0 w (steps.ScanGlobal n) s d k g = scan_global_holds s d k w g.worker n (is_global h n g.indices)
 worker_holds h p p0 w steps.EndMark s d k g = end_mark_holds s k w
+worker_holds h p p0 w (steps.Protect pages) s d k g = protect_holds s d k w pages
+worker_holds h p p0 w (steps.Copy page e) s d k g = moving.copy_holds s k w page e
+worker_holds h p p0 w (steps.Release page) s d k g = release_holds s k w page
 worker_holds h p p0 w (steps.CrossFor t) s d k g = cross_for_holds s k w t (is_thread h t g.indices)
 worker_holds h p p0 w _ s d k g = tt
 

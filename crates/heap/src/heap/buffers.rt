@@ -39,7 +39,7 @@ impl Heap {
     }
 
     /// Clears the rows of a page of which a buffer is the first.
-    fn open_rows(&mut self, buffer: Buffer)
+    pub(crate) fn open_rows(&mut self, buffer: Buffer)
         ensures { self.new ≡ with_opened_rows self.old buffer }
     {
         open_row(&mut self.starts, buffer);

@@ -49,7 +49,7 @@ pub trait CollectorEdits {
     fn start_mark(&mut self);
 
     /// A mark ends (ours): what it marked is live, open pages without a lent buffer close, protected
-    /// pages are unused again, and the phase is idle.
+    /// pages are unused again, what was forwarded is forgotten, and the phase is idle.
     fn end_mark(&mut self);
 }
 
@@ -210,6 +210,7 @@ impl CollectorEdits for Heap {
         end_pages(&mut self.store, &self.threads);
         self.live.swap(&mut self.mark);
         self.mark.clear_all();
+        self.sides.clear_all();
         self.phase = Phase::Idle;
     }
 }

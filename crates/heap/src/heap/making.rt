@@ -7,6 +7,7 @@ ghost use Rattle.heap.specs.Making.{Makes};
 
 use crate::fault::NewFault;
 use crate::heap::Heap;
+use forward::Sides;
 use markbits::{IndexedRows, Rows};
 use model::{Config, Global, Phase, Scan};
 use page::{Store, many, record_count};
@@ -98,6 +99,7 @@ impl Heap {
     {
         let store = Store::new(alloc, config.words, config.frames, config.pages)?;
         let rows = blank_rows(alloc, &config)?;
+        let sides = Sides::new(alloc, record_count(config.frames, config.pages))?;
         let actors = blank_actors(alloc, &config)?;
         Ok(Heap {
             store,
@@ -105,6 +107,7 @@ impl Heap {
             live: rows.live,
             mark: rows.mark,
             todo: rows.todo,
+            sides,
             threads: actors.threads,
             workers: actors.workers,
             globals: actors.globals,

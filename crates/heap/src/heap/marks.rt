@@ -1,12 +1,13 @@
 //! Words are resolved, and what the running mark has marked (the paper's Mark phase).
 
-ghost use Rattle.std.specs.Prelude.{◌≡◌, length};
+ghost use Rattle.std.specs.Prelude.{◌≡◌, ◌<◌, length};
 ghost use Rattle.model.specs.Bits.{bit_at, with_bit};
-ghost use Rattle.model.specs.Cycles.{uncopied_from};
-ghost use Rattle.model.specs.Marks.{resolve, marked_word};
+ghost use Rattle.model.specs.Cycles.{has_uncopied, uncopied_from};
+ghost use Rattle.model.specs.Marks.{entry_at, resolve, marked_word};
 
 use crate::heap::Heap;
 use markbits::{IndexedRows, Rows};
+use model::{Forwarding, PageState};
 use page::Store;
 use refword::{Addr, Word};
 
@@ -34,23 +35,67 @@ pub(crate) fn put_indexed_bit(rows: &mut IndexedRows, store: &Store, address: Ad
 }
 
 impl Heap {
-    /// Where the object of an address is now (the paper's Relocate phase). No page has a side array
-    /// yet, so no object has moved.
-    #[tactic(auto, unfolding(model::specs::Marks::resolve, model::specs::Marks::entry_at), using(crate::proofs::Marking::resolved_here))]
+    /// The entry of the side array for the object of an address, if it has one (the paper's Relocate
+    /// phase): found in as many steps as the number of its page's entries has binary digits.
+    #[tactic(auto, unfolding(model::specs::Marks::entry_at))]
+    pub fn entry_at(&self, address: Addr) -> Option<Forwarding>
+        ensures { result ≡ entry_at self.now address }
+    {
+        let (page, offset) = (self.store.page_of(address), self.store.offset_of(address));
+        self.sides.entry_at(page, offset)
+    }
+
+    /// Where the object of an address is now (the paper's Relocate phase).
+    #[tactic(auto, unfolding(model::specs::Marks::resolve))]
     pub fn resolve(&self, address: Addr) -> Addr
         ensures { result ≡ resolve self.now address }
     {
-        let _ = &self.config;
-        address
+        match self.entry_at(address) {
+            None => address,
+            Some(entry) => {
+                if entry.copied {
+                    entry.to
+                } else {
+                    address
+                }
+            }
+        }
+    }
+
+    /// Whether a page, by its number from 1, is being emptied and has an object that isn't copied.
+    #[tactic(auto, unfolding(model::specs::Cycles::has_uncopied))]
+    fn has_uncopied(&self, page: u32) -> bool
+        requires { 0 < page }
+        ensures { result ≡ has_uncopied self.now page }
+    {
+        matches!(self.store.state(page), PageState::From) && !self.sides.is_copied((page - 1) as usize)
+    }
+
+    /// The least page that has one, of all that have records.
+    fn search_uncopied(&self) -> Option<u32>
+        ensures { result ≡ uncopied_from self.now 1 (length self.now.store.pages) }
+    {
+        let count = self.store.pages().len();
+        for index in 0..count {
+            self.law();
+            let page = index as u32 + 1;
+            if self.has_uncopied(page) {
+                return Some(page);
+            }
+        }
+        None
     }
 
     /// The least page, by its number from 1, that is being emptied and has an object that isn't
-    /// copied (the paper's Relocate phase). No page has a side array yet, so there is none.
+    /// copied (the paper's Relocate phase). Where there is none, that is a count.
     pub fn first_uncopied(&self) -> Option<u32>
         ensures { result ≡ uncopied_from self.now 1 (length self.now.store.pages) }
     {
-        let _ = &self.config;
-        None
+        if self.sides.uncopied() == 0 {
+            None
+        } else {
+            self.search_uncopied()
+        }
     }
 
     /// The word that marking leaves: it names the object where it is now, and is marked through

@@ -5,7 +5,7 @@ use Rattle.model.specs.Owning.{NoneProtected}
 use Rattle.model.proofs.Lists.{each_replicate}
 use Rattle.model.specs.declared.config.Config.{Config}
 use Rattle.model.specs.First.{blank_rows}
-use Rattle.model.specs.Holding.{AreRowsFor}
+use Rattle.model.specs.Holding.{AreRowsFor, AreSidesFor}
 use Rattle.model.proofs.Tables.{first_rows, first_sides}
 use Rattle.heap.proofs.Keeping.{first_fills}
 use Rattle.heap.proofs.heap.Heap.first.Goals as goal
@@ -29,7 +29,7 @@ invariant_of-result c = record {
   live = rows_for c.args.config _ c.in_ok-rows.ensures.live;
   mark = rows_for c.args.config _ c.in_ok-rows.ensures.mark;
   todo = rows_for c.args.config _ c.in_ok-rows.ensures.todo;
-  sides = first_sides c.args.config;
+  sides = subst (AreSidesFor c.args.config) (sym c.in_ok-sides.ensures) (first_sides c.args.config);
   births = omega arith;
   buffers = first_fills _ c.args.config.threads c.args.config.registers
       _ c.in_ok-actors.ensures.threads;

@@ -5,6 +5,6 @@ use Rattle.heap.proofs.Cycling.{ended_keeps}
 use Rattle.heap.proofs.heap.collecting.HeapCollectorEdits.end_mark.Goals as goal
 
 pub invariant_of-self : goal.invariant_of-self
-invariant_of-self c = ended_keeps (heap_of c.self.inside) _ _ _ c.self.invariant
+invariant_of-self c = ended_keeps (heap_of c.self.inside) _ _ _ _ c.self.invariant
     c.end_pages.ensures
-    c.swap.ensures.here (c.clear_all.ensures ∙ ap (map blank_row) c.swap.ensures.there)
+    c.swap.ensures.here (c.clear_all.ensures ∙ ap (map blank_row) c.swap.ensures.there) c.clear_all-2.ensures
