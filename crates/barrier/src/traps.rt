@@ -4,12 +4,14 @@ ghost use Rattle.std.specs.Prelude.{◌≡◌, Ok};
 ghost use Rattle.model.specs.Refusing.{Does};
 ghost use Rattle.model.specs.Outcome.{Passes};
 ghost use Rattle.model.specs.declared.steps.Step.TheVariants as steps;
-ghost use Rattle.model.specs.Loads.{gc_trap_due, nmt_trap_due, trap_due, set_now_of, nmt_trap, trap_outcome};
+ghost use Rattle.model.specs.Loads.{gc_trap_due, nmt_trap_due, trap_due, set_now_of, nmt_trap};
+ghost use Rattle.model.specs.Traps.{gc_trap, trap_outcome};
 
 use heap::{Edits, Heap};
 use marker::mark;
-use model::{Answer, Barrier, Refusal, Reply};
+use model::{Answer, Barrier, Phase, Refusal, Reply};
 use refword::Word;
+use relocate::follow;
 
 /// Whether a GC trap is due: the word names a page that the thread may not use.
 fn gc_trap_due(heap: &Heap, thread: u32, word: Word) -> bool
@@ -64,12 +66,29 @@ fn nmt_trap(heap: &mut Heap, thread: u32, barrier: Barrier) -> Answer
     Answer::Marked
 }
 
-/// A thread, by its number from 0, asks for the trap that is due for its word. Where it is an NMT
-/// trap, the word is marked (`Marked`); where none is due, the answer is `Clear`.
+/// The GC trap: the word of a barrier names the copy, which is made first where it wasn't. Refused
+/// as `Stall` while pages are being protected.
+fn gc_trap(heap: &mut Heap, thread: u32, barrier: Barrier) -> Reply
+    ensures { Does heap.old result heap.new (gc_trap heap.old thread barrier barrier.now) }
+{
+    let Some(address) = barrier.now.addr() else {
+        return Ok(Answer::Clear);
+    };
+    if matches!(heap.phase(), Phase::ProtectCrossing) {
+        return Err(Refusal::Stall);
+    }
+    let moved = follow(heap, address, barrier.now.nmt());
+    heap.set_barrier(thread, set_now(barrier, moved));
+    Ok(Answer::Moved)
+}
+
+/// A thread, by its number from 0, asks for the trap that is due for its word. Where it is a GC
+/// trap, the word names the copy of its object, which is made first where it wasn't (`Moved`); where
+/// it is an NMT trap, the word is marked (`Marked`); where none is due, the answer is `Clear`.
 ///
-/// Refused where no barrier is open (`NotBusy`); `NoActor` where a GC trap is due, which no heap
-/// comes to before pages are protected.
-#[tactic(auto, unfolding(model::specs::Loads::trap_outcome))]
+/// Refused where no barrier is open (`NotBusy`), and where a GC trap is due while some thread hasn't
+/// crossed the checkpoint of protected pages (`Stall`).
+#[tactic(auto, unfolding(model::specs::Traps::trap_outcome))]
 pub fn trap(heap: &mut Heap, thread: u32) -> Reply
     requires { Passes heap.old thread steps.Trap }
     ensures { Does heap.old result heap.new (trap_outcome heap.old thread) }
@@ -78,7 +97,7 @@ pub fn trap(heap: &mut Heap, thread: u32) -> Reply
         return Err(Refusal::NotBusy);
     };
     if gc_trap_due(heap, thread, barrier.now) {
-        return Err(Refusal::NoActor);
+        return gc_trap(heap, thread, barrier);
     }
     Ok(nmt_trap(heap, thread, barrier))
 }

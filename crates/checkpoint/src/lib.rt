@@ -9,11 +9,14 @@ ghost use Rattle.model.specs.Refusing.{Does};
 ghost use Rattle.model.specs.Outcome.{Passes, WorkerPasses};
 ghost use Rattle.model.specs.declared.steps.Step.TheVariants as steps;
 ghost use Rattle.model.specs.Checkpoints.{with_marked_register, with_marked_registers, marked_at_crossing, cross_thread, may_cross, cross_for_outcome};
-ghost use Rattle.model.specs.Checkpoints.{cross_outcome, scrub_outcome, park_outcome, unpark_outcome};
+ghost use Rattle.model.specs.Checkpoints.{cross_outcome, park_outcome, unpark_outcome};
+ghost use Rattle.model.specs.Traps.{scrub_word, scrub_outcome};
 
 use heap::{CollectorEdits, Edits, Heap};
 use marker::mark;
-use model::{Answer, Refusal, Reply};
+use model::{Answer, Phase, Refusal, Reply};
+use refword::Addr;
+use relocate::follow;
 
 /// Marks the word in a register. Threads and registers count from 0.
 #[tactic(auto, unfolding(model::specs::Checkpoints::with_marked_register))]
@@ -109,17 +112,37 @@ pub fn cross_for(heap: &mut Heap, worker: u32, thread: u32) -> Reply
     }
 }
 
-/// A register that names a protected page is corrected (ours). While no page is protected, as today
-/// always, the answer is `Clean`. Threads and registers count from 0.
+/// Corrects the word in a register, where the thread may not use its address for good.
+fn scrub_word(heap: &mut Heap, thread: u32, register: u32, address: Addr, nmt: bool) -> Reply
+    ensures { Does heap.old result heap.new (scrub_word heap.old thread register (address, nmt)) }
+{
+    if heap.let_through(thread, address).is_ok() {
+        return Ok(Answer::Clean);
+    }
+    if matches!(heap.phase(), Phase::ProtectCrossing) {
+        return Err(Refusal::Stall);
+    }
+    let moved = follow(heap, address, nmt);
+    heap.set_register(thread, register, moved);
+    Ok(Answer::Moved)
+}
+
+/// A register that names a protected page is corrected: it names the copy, which is made first where
+/// it wasn't (`Moved`); where it may be used as it is, the answer is `Clean` (ours). Threads and
+/// registers count from 0.
 ///
-/// Refused as `Heap::usable` is.
-#[tactic(auto, unfolding(model::specs::Checkpoints::scrub_outcome, model::specs::Registers::usable))]
+/// Refused where it is null (`Null`), and where it names a protected page while some thread hasn't
+/// crossed the checkpoint of protected pages, and this one has (`Stall`).
+#[tactic(auto, unfolding(model::specs::Traps::scrub_outcome))]
 pub fn scrub(heap: &mut Heap, thread: u32, register: u32) -> Reply
     requires { Passes heap.old thread (steps.Scrub register) }
     ensures { Does heap.old result heap.new (scrub_outcome heap.old thread register) }
 {
-    heap.usable(thread, register)?;
-    Ok(Answer::Clean)
+    let word = heap.register(thread, register);
+    match word.addr() {
+        None => Err(Refusal::Null),
+        Some(address) => scrub_word(heap, thread, register, address, word.nmt()),
+    }
 }
 
 /// A thread is parked: it does nothing but `Unpark` (ours; the paper's checkpoints speak of blocked

@@ -24,7 +24,7 @@ use Rattle.page.proofs.Ended.{ended_sized, ended_lies, ended_unprotected}
 use Rattle.threads.proofs.Looping.{length_mapped}
 
 -- each element of a list comes of one before it
-each_mapped : {X Y : Type 0} (P : X → Type 0) (Q : Y → Type 0) (f : X → Y) (xs : List X) → ((x : X) → P x → Q (f x))
+pub each_mapped : {X Y : Type 0} (P : X → Type 0) (Q : Y → Type 0) (f : X → Y) (xs : List X) → ((x : X) → P x → Q (f x))
     → Each xs P → Each (map f xs) Q
 each_mapped P Q f [] h k i y e = absurd (cc)
 each_mapped P Q f (x ∷ xs) h k zero y e = let here : f x ≡ y = cc in subst Q here (h x (k zero x refl))

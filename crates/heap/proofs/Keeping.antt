@@ -59,7 +59,7 @@ thread_keeps h t change threads i e fills = record {
   idle = i.idle;
 }
 
-fills_in : (s t : StoreState) (b : Option Buffer) → ((c : Buffer) → LiesIn s c → LiesIn t c) → IfSome b (LiesIn s)
+pub fills_in : (s t : StoreState) (b : Option Buffer) → ((c : Buffer) → LiesIn s c → LiesIn t c) → IfSome b (LiesIn s)
     → IfSome b (LiesIn t)
 fills_in s t None h f = f
 fills_in s t (Some b) h f = h b f

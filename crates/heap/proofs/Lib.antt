@@ -2,3 +2,4 @@ pub mod Cycling
 pub mod Keeping
 pub mod Marking
 pub mod Writing
+pub mod Moving

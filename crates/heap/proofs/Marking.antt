@@ -1,5 +1,5 @@
 -- Marks keep what holds of a heap.
-use Rattle.std.proofs.Common.{None, ◌≡◌, ℕ, zero, suc, ◌+◌, ◌&&◌, ◌-◌, ◌/◌, ◌%◌, Bool, true, false, List, [], get_or}
+use Rattle.std.proofs.Common.{None, Some, ◌<◌, arith, ◌≡◌, ℕ, zero, suc, ◌+◌, ◌&&◌, ◌-◌, ◌/◌, ◌%◌, Bool, true, false, List, [], get_or}
 use Rattle.std.proofs.Common.{replicate, refl}
 use Rattle.std.proofs.Common.{◌∙◌, sym, ap, subst}
 use Rattle.std.specs.Prelude.{if◌then◌else◌}
@@ -33,10 +33,17 @@ none_uncopied h n (suc k) e =
     and_none true = refl
     and_none false = refl
 
--- pages that were looked at had none
-pub passed_over : (h : HeapState) (n k : ℕ) → has_uncopied h n ≡ false
-    → uncopied_from h n (suc k) ≡ uncopied_from h (n + 1) k
-passed_over h n k e = rw e refl
+-- the first of some pages has one
+pub found_uncopied : (h : HeapState) (n k : ℕ) → 0 < k → has_uncopied h n ≡ true → uncopied_from h n k ≡ Some n
+found_uncopied h n zero l e = absurd (omega (arith, l))
+found_uncopied h n (suc k) l e = rw e refl
+
+-- it has none, so one of the others is the first
+pub passed_over : (h : HeapState) (n k m : ℕ) → k ≡ m + 1 → has_uncopied h n ≡ false
+    → uncopied_from h n k ≡ uncopied_from h (n + 1) m
+passed_over h n zero m l e = absurd (omega (arith, l))
+passed_over h n (suc k) m l e =
+    let same : k ≡ m = omega (arith, l) in rw (e, same) refl
 
 -- rows of marks are put in the place of others, as many and as long
 pub marks_keep : (h : HeapState) (live mark todo : List (List Bool)) → IsHeap h → AreRowsFor h.config live

@@ -1,9 +1,9 @@
 -- Edits that move objects.
-use Rattle.std.specs.Prelude.{◌≡◌, false, map, Result, Ok, Err}
+use Rattle.std.specs.Prelude.{◌≡◌, ℕ, false, List, map, Result, Ok, Err}
 use Rattle.model.specs.declared.records.Buffer.{Buffer}
 use Rattle.model.specs.declared.records.Phase.TheVariants.{ProtectCrossing}
 use Rattle.model.specs.declared.records.Room.{Room}
-use Rattle.model.specs.Protections.{take_target, with_target}
+use Rattle.model.specs.Protections.{take_target, with_target, with_from_pages}
 use Rattle.model.specs.States.{HeapState}
 use Rattle.model.specs.Threads.{set_crossed_of}
 
@@ -12,6 +12,10 @@ abbrev pub OpensTarget : HeapState → Result Buffer Room → HeapState → Type
 OpensTarget old (Ok b) new = (take_target old.store ≡ Ok (new.store, b)) × (new ≡ with_target old (new.store, b))
 OpensTarget old (Err e) new = (take_target old.store ≡ Err e) × (new ≡ old)
 
--- the heap in which all threads have still to cross the checkpoint of protected pages
-abbrev pub starts_protection : HeapState → HeapState
-starts_protection h = record h { threads = map (set_crossed_of false) h.threads; phase = ProtectCrossing }
+-- the heap after pages are protected: all threads have still to cross
+unfoldable pub start_protection : HeapState → List ℕ → HeapState
+start_protection h pages = record h {
+  store = record h.store { pages = with_from_pages pages h.store.pages };
+  threads = map (set_crossed_of false) h.threads;
+  phase = ProtectCrossing;
+}

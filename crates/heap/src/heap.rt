@@ -9,9 +9,9 @@ mod making;
 mod marks;
 pub mod references;
 mod registers;
-pub mod relocating;
+mod relocating;
 
-ghost use Rattle.std.specs.Prelude.{◌≡◌};
+ghost use Rattle.std.specs.Prelude.{◌≡◌, ◌<◌, ◌≤◌, ◌*◌, ◌+◌};
 ghost use Rattle.model.specs.Owning.{IsStore};
 ghost use Rattle.model.specs.Holding.{IsHeap};
 
@@ -19,6 +19,7 @@ use forward::Sides;
 use markbits::{IndexedRows, Rows};
 use model::{Config, Global, Phase, Scan};
 use page::Store;
+use refword::Addr;
 use std::marker::Model;
 use threads::{Thread, Threads};
 
@@ -35,8 +36,8 @@ use threads::{Thread, Threads};
 /// A row asks that its step has passed the tests before it (the thread is there, numbers are in
 /// range, it isn't parked and has no open barrier), which are made by `cycle`. The rows of loads
 /// stand in `barrier`, those of checkpoints in `checkpoint`, those of marks in `marker`, those of
-/// moving in `relocate`; they are made of the readers here, of `Edits`, `CollectorEdits` and
-/// `RelocationEdits`. Threads, workers, globals and registers count from 0.
+/// moving in `relocate`; they are made of the readers here, of `Edits` and `CollectorEdits`, and of
+/// what is called a raw edit. Threads, workers, globals and registers count from 0.
 #[derive(Drop)]
 pub struct Heap {
     config: Config,
@@ -90,6 +91,18 @@ impl Heap {
         ensures { result.now ≡ self.now.store }
     {
         &self.store
+    }
+
+    /// The address of an offset of a page, by the page's number from 1.
+    pub fn address_on(&self, page: u32, offset: u32) -> Addr
+        requires low { 0 < page }
+        requires high { page ≤ self.now.store.count }
+        requires within { offset < self.now.store.words }
+        ensures { result ≡ page * self.now.store.words + offset }
+    {
+        self.law();
+        let words = u64::from(self.store.page_words());
+        Addr::new(u64::from(page) * words + u64::from(offset)).unwrap()
     }
 
     /// Where objects start, by record and offset (ours).

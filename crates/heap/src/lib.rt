@@ -12,7 +12,6 @@ pub use heap::Heap;
 pub use heap::collecting::CollectorEdits;
 pub use heap::edits::Edits;
 pub use heap::references::read_reference;
-pub use heap::relocating::RelocationEdits;
 pub use markbits::{IndexedRows, Row, Rows};
 pub use model::{Config, ConfigFault, Refusal};
 pub use threads::Thread;

@@ -1,7 +1,6 @@
 //! Words are marked (the paper's Mark phase).
 
 ghost use Rattle.std.specs.Prelude.{◌≡◌};
-ghost use Rattle.model.specs.Checkpoints.{all_crossed};
 ghost use Rattle.model.specs.Marks.{with_mark, marked_word};
 ghost use Rattle.model.specs.Scans.{may_scan};
 
@@ -21,17 +20,6 @@ pub fn mark(heap: &mut Heap, word: Word) -> Word
     marked
 }
 
-/// Whether all threads have crossed. Refused as `NotCrossed`, with the least that hasn't.
-#[tactic(auto, unfolding(model::specs::Checkpoints::all_crossed))]
-fn all_crossed(heap: &Heap) -> Result<(), Refusal>
-    ensures { result ≡ all_crossed heap.now }
-{
-    match heap.first_behind() {
-        None => Ok(()),
-        Some(thread) => Err(Refusal::NotCrossed { thread }),
-    }
-}
-
 /// Whether a mark runs that all threads have crossed. Refused as `Phase` where none runs, and as
 /// `NotCrossed`.
 #[tactic(auto, unfolding(model::specs::Scans::may_scan))]
@@ -41,5 +29,5 @@ pub(crate) fn may_scan(heap: &Heap) -> Result<(), Refusal>
     if !heap.phase().is_marking() {
         return Err(Refusal::Phase);
     }
-    all_crossed(heap)
+    heap.all_crossed()
 }

@@ -5,7 +5,7 @@ ghost use Rattle.model.specs.Bits.{of_page};
 ghost use Rattle.model.specs.Scans.{next_todo};
 ghost use Rattle.marker.specs.Free.{IsNextFree};
 
-use crate::scans::{address_on, is_taken};
+use crate::scans::is_taken;
 use heap::{Heap, Row};
 use refword::Addr;
 
@@ -50,7 +50,7 @@ pub fn next_todo(heap: &Heap) -> Option<Addr>
     while let Some(index) = heap.todo().next_busy(from) {
         let page = index + 1;
         if let Some(place) = next_on(heap, page) {
-            return Some(address_on(heap, page, place));
+            return Some(heap.address_on(page, place));
         }
         from = index as usize + 1;
     }

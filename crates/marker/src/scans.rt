@@ -14,7 +14,7 @@ ghost use Rattle.model.specs.declared.steps.Step.TheVariants as steps;
 use crate::marks::{mark, may_scan};
 use heap::{CollectorEdits, Heap, read_reference};
 use model::{Answer, Refusal, Reply, Scan};
-use refword::{Addr, Word};
+use refword::Word;
 
 /// What a worker scans, by its number from 0, if it scans anything.
 fn scan_of(heap: &Heap, worker: u32) -> Option<Scan>
@@ -151,22 +151,10 @@ pub fn pick(heap: &mut Heap, worker: u32, page: u32, offset: u32) -> Reply
     if offset >= heap.store().page_words() || !heap.todo().bit_on(page, offset) {
         return Err(Refusal::NotTodo);
     }
-    let object = address_on(heap, page, offset);
+    let object = heap.address_on(page, offset);
     if scan_of(heap, worker).is_some() || is_taken(heap, object.number()) {
         return Err(Refusal::Taken);
     }
     heap.set_scan(worker, Some(Scan { object, next: 0 }));
     Ok(Answer::Done)
-}
-
-/// The address of an offset of a page.
-pub(crate) fn address_on(heap: &Heap, page: u32, offset: u32) -> Addr
-    requires low { 0 < page }
-    requires high { page ≤ heap.now.store.count }
-    requires within { offset < heap.now.store.words }
-    ensures { result ≡ page * heap.now.store.words + offset }
-{
-    heap.law();
-    let words = u64::from(heap.store().page_words());
-    Addr::new(u64::from(page) * words + u64::from(offset)).unwrap()
 }

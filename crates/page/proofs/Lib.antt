@@ -8,3 +8,4 @@ pub mod Trees
 pub mod Masks
 pub mod Relocated
 pub mod Copied
+pub mod Protecting

@@ -3,12 +3,12 @@
 
 ghost use Rattle.std.specs.Prelude.{◌≡◌, slice_get};
 ghost use Rattle.model.specs.Loads.{barrier_of_thread};
-ghost use Rattle.model.specs.Checkpoints.{first_behind};
+ghost use Rattle.model.specs.Checkpoints.{all_crossed, first_behind};
 ghost use Rattle.model.specs.Cycles.{first_pending};
 ghost use Rattle.model.specs.Threads.{has_crossed, is_parked_in};
 
 use crate::heap::Heap;
-use model::Barrier;
+use model::{Barrier, Refusal};
 
 impl Heap {
     /// Whether a thread has crossed the open checkpoint, by its number from 0; true where there is
@@ -40,6 +40,17 @@ impl Heap {
         let _ = &self.config;
         let thread = self.threads.first_behind()?;
         Some(thread as u32)
+    }
+
+    /// Whether all threads have crossed. Refused as `NotCrossed`, with the least that hasn't.
+    #[tactic(auto, unfolding(model::specs::Checkpoints::all_crossed))]
+    pub fn all_crossed(&self) -> Result<(), Refusal>
+        ensures { result ≡ all_crossed self.now }
+    {
+        match self.first_behind() {
+            None => Ok(()),
+            Some(thread) => Err(Refusal::NotCrossed { thread }),
+        }
     }
 
     /// The least thread that has an open barrier, by its number from 0.

@@ -1,61 +1,44 @@
 //! Raw edits of a heap that move objects (the paper's Relocate phase): targets, side arrays, pages
 //! that are protected, copies, and pages that give their memory up.
+//!
+//! They are for the crate that does rows of moving: each does what it says and tests nothing, so
+//! who uses the heap asks for steps instead. Pages count from 1.
 
-ghost use Rattle.std.specs.Prelude.{◌≡◌, ◌≢◌, ◌-◌, slice_set};
+ghost use Rattle.std.specs.Prelude.{◌≡◌, ◌-◌, ◌≤◌, false, slice_set};
 ghost use Rattle.model.specs.Holding.{AreRising};
-ghost use Rattle.model.specs.Moves.{with_released};
+ghost use Rattle.model.specs.Moves.{with_copy, with_released};
+ghost use Rattle.model.specs.Owning.{Each};
 ghost use Rattle.model.specs.Plans.{object_words};
-ghost use Rattle.model.specs.Protections.{set_from_of};
-ghost use Rattle.model.specs.States.{change_at};
+ghost use Rattle.model.specs.Protections.{has_twice};
 ghost use Rattle.model.specs.Stores.{state_at};
 ghost use Rattle.model.specs.declared.records.PageState.TheVariants.{Closed, From};
 ghost use Rattle.model.specs.declared.records.Phase.TheVariants.{Idle};
-ghost use Rattle.heap.specs.Relocating.{OpensTarget, starts_protection};
-ghost use Rattle.page.specs.Relocating.{NoneGone};
+ghost use Rattle.heap.specs.Relocating.{OpensTarget, start_protection};
 
 use crate::heap::Heap;
+use crate::heap::marks::put_bit;
 use forward::Side;
 use model::{Buffer, Phase, Room};
 use refword::Addr;
 
-/// Edits for the crates that do rows of moving. As those of `Edits`, each does what it says and
-/// tests nothing. Pages count from 1.
-pub trait RelocationEdits {
-    /// Opens a page for objects that move: all its words are given out, to nobody (ours). It says
-    /// why there is no room for one, where there is none.
-    fn open_target(&mut self) -> Result<Buffer, Room>;
-
-    /// Gives a page another side array, if it has a record.
-    fn set_side(&mut self, page: u32, side: Side);
-
-    /// All threads have still to cross the checkpoint of protected pages, which opens (the paper's
-    /// Relocate phase).
-    fn start_protection(&mut self);
-
-    /// Protects a closed page.
-    fn protect_page(&mut self, page: u32);
-
-    /// A page that is being emptied gives its memory up.
-    fn release_page(&mut self, page: u32);
-}
-
 impl Heap {
-    /// How many words the object at an address has: 1 to 511. One that can't be read counts as
-    /// its header alone (ours).
+    /// How many words the object at an address has: 1 to 511. One that can't be read counts as its
+    /// header alone (ours).
     #[tactic(auto, unfolding(model::specs::Plans::object_words))]
     pub fn object_words(&self, address: Addr) -> u32
-        ensures { result ≡ object_words self.now address }
+        ensures value { result ≡ object_words self.now address }
+        ensures range { result ≤ 511 }
     {
         match self.layout_at(address) {
             None => 1,
             Some(layout) => layout.size(),
         }
     }
-}
 
-impl RelocationEdits for Heap {
+    /// A raw edit: opens a page for objects that move, of which all words are given out, to nobody
+    /// (ours). It says why there is no room for one, where there is none.
     #[tactic(auto, unfolding(model::specs::Protections::with_target))]
-    fn open_target(&mut self) -> Result<Buffer, Room>
+    pub fn open_target(&mut self) -> Result<Buffer, Room>
         ensures { OpensTarget self.old result self.new }
     {
         let buffer = self.store.take_target()?;
@@ -63,30 +46,44 @@ impl RelocationEdits for Heap {
         Ok(buffer)
     }
 
-    fn set_side(&mut self, page: u32, side: Side)
+    /// A raw edit: gives a page another side array, if it has a record.
+    #[tactic(auto, using(crate::proofs::Moving::side_keeps))]
+    pub fn set_side(&mut self, page: u32, side: Side)
         requires { AreRising self.old.config.words 0 side }
         ensures { self.new ≡ record self.old { sides = slice_set self.old.sides (page - 1) side } }
     {
         self.sides.put(page.saturating_sub(1) as usize, side);
     }
 
-    fn start_protection(&mut self)
-        ensures { self.new ≡ starts_protection self.old }
+    /// A raw edit: protects closed pages, each named once; all threads have still to cross (the
+    /// paper's Relocate phase).
+    #[tactic(auto, unfolding(crate::specs::Relocating::start_protection))]
+    pub fn start_protection(&mut self, pages: &[u32])
+        requires idle { self.old.phase ≡ Idle }
+        requires closed { Each pages.now (λ n. state_at self.old.store n ≡ Closed) }
+        requires once { has_twice pages.now ≡ false }
+        ensures { self.new ≡ start_protection self.old pages.now }
     {
+        self.store.protect(pages);
         self.threads.uncross_all();
         self.phase = Phase::ProtectCrossing;
     }
 
-    fn protect_page(&mut self, page: u32)
-        requires closed { state_at self.old.store page ≡ Closed }
-        requires kept { NoneGone self.old.store }
-        requires busy { self.old.phase ≢ Idle }
-        ensures { self.new ≡ record self.old { store = record self.old.store { pages = change_at self.old.store.pages (page - 1) set_from_of } } }
+    /// A raw edit: copies an object to an address on another page, if both pages have memory, and
+    /// notes in its page's side array that it is copied (the paper's Relocate phase).
+    #[tactic(auto, unfolding(model::specs::Moves::with_copy))]
+    pub fn copy_object(&mut self, address: Addr, to: Addr)
+        ensures { self.new ≡ with_copy self.old address to }
     {
-        self.store.protect(page);
+        let words = self.object_words(address);
+        let index = self.store.page_of(address).saturating_sub(1) as usize;
+        self.sides.set_copied(index, self.store.offset_of(address));
+        put_bit(&mut self.starts, &self.store, to, true);
+        self.store.copy_words(address.number(), to.number(), words);
     }
 
-    fn release_page(&mut self, page: u32)
+    /// A raw edit: a page that is being emptied gives its memory up.
+    pub fn release_page(&mut self, page: u32)
         requires { state_at self.old.store page ≡ From }
         ensures { self.new ≡ record self.old { store = with_released self.old.store page } }
     {

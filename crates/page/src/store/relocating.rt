@@ -1,12 +1,13 @@
 //! Targets are opened, and pages protected and released (the paper's Relocate phase; targets are
 //! ours).
 
-ghost use Rattle.std.specs.Prelude.{◌≡◌, ◌-◌, ◌<◌, length, slice_get, count_by, IfOk};
+ghost use Rattle.std.specs.Prelude.{◌≡◌, ◌-◌, ◌<◌, false, length, slice_get, count_by, IfOk};
 ghost use Rattle.model.specs.Moves.{set_gone_of, with_free, with_released};
-ghost use Rattle.model.specs.Owning.{TakesWell};
-ghost use Rattle.model.specs.Protections.{set_from_of, take_target, unused_count};
+ghost use Rattle.model.specs.Owning.{Each, LiesIn, TakesWell};
+ghost use Rattle.model.specs.Protections.{has_twice, set_from_of, take_target, unused_count, with_from_pages};
 ghost use Rattle.model.specs.States.{change_at};
 ghost use Rattle.model.specs.Stores.{state_at, state_in, frame_in, is_unused, Takes};
+ghost use Rattle.model.specs.declared.records.Buffer.{Buffer};
 ghost use Rattle.model.specs.declared.records.PageState.TheVariants.{Closed, From};
 ghost use Rattle.page.specs.Relocating.{NoneGone};
 
@@ -52,9 +53,22 @@ impl Store {
         unused_in(&self.pages) as u32 + (self.count - recorded as u32)
     }
 
-    /// Protects a closed page, by its number from 1: its live objects are to be copied out (the
-    /// paper's Relocate phase).
-    pub fn protect(&mut self, page: u32)
+    /// Protects closed pages, by their numbers from 1, each named once: their live objects are to be
+    /// copied out (the paper's Relocate phase). No page was released before.
+    pub fn protect(&mut self, pages: &[u32])
+        requires closed { Each pages.now (λ n. state_at self.old n ≡ Closed) }
+        requires once { has_twice pages.now ≡ false }
+        requires kept { NoneGone self.old }
+        ensures pages { self.new ≡ record self.old { pages = with_from_pages pages.now self.old.pages } }
+        ensures stays { (b : Buffer) → LiesIn self.old b → LiesIn self.new b }
+    {
+        for index in 0..pages.len() {
+            self.protect_page(pages[index]);
+        }
+    }
+
+    /// Protects a closed page.
+    fn protect_page(&mut self, page: u32)
         requires closed { state_at self.old page ≡ Closed }
         requires kept { NoneGone self.old }
         ensures { self.new ≡ record self.old { pages = change_at self.old.pages (page - 1) set_from_of } }

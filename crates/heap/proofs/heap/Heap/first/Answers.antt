@@ -1,4 +1,4 @@
-use Rattle.std.proofs.Common.{◌≡◌, ◌∙◌, Bool, false, List, ap, refl, sym, subst, arith, length}
+use Rattle.std.proofs.Common.{◌≡◌, ◌∙◌, Bool, false, List, [], replicate, ap, refl, sym, subst, arith, length}
 use Rattle.std.proofs.Math.ListN.{length-replicate}
 use Rattle.model.specs.Stores.{StoreState, first_store, record_count, blank_page, is_protected}
 use Rattle.model.specs.Owning.{NoneProtected}
@@ -29,7 +29,8 @@ invariant_of-result c = record {
   live = rows_for c.args.config _ c.in_ok-rows.ensures.live;
   mark = rows_for c.args.config _ c.in_ok-rows.ensures.mark;
   todo = rows_for c.args.config _ c.in_ok-rows.ensures.todo;
-  sides = subst (AreSidesFor c.args.config) (sym c.in_ok-sides.ensures) (first_sides c.args.config);
+  sides = subst (AreSidesFor c.args.config) (sym (c.in_ok-sides.ensures
+      ∙ ap (λ n. replicate n []) c.record_count.ensures)) (first_sides c.args.config);
   births = omega arith;
   buffers = first_fills _ c.args.config.threads c.args.config.registers
       _ c.in_ok-actors.ensures.threads;

@@ -1,0 +1,11 @@
+//! Objects are copied to where they are planned, and emptied pages give their memory up.
+//!
+//! The paper is Click, Tene and Wolf, "The Pauseless GC Algorithm" (VEE 2005). A comment that names
+//! one of its sections tells a rule of that section; all else is ours.
+#![tactic(auto)]
+
+mod copying;
+mod releasing;
+
+pub use copying::{copy, follow};
+pub use releasing::release;

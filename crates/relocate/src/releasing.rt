@@ -1,0 +1,51 @@
+//! Pages give their memory up (the paper's Relocate phase).
+
+ghost use Rattle.std.specs.Prelude.{◌≡◌};
+ghost use Rattle.model.specs.Moves.{crossed_if_protecting, release_outcome};
+ghost use Rattle.model.specs.Outcome.{WorkerPasses};
+ghost use Rattle.model.specs.Refusing.{Does};
+ghost use Rattle.model.specs.declared.steps.Step.TheVariants as steps;
+
+use heap::Heap;
+use model::{Answer, PageState, Phase, Refusal, Reply};
+
+/// Where pages are being protected, whether all threads have crossed. Refused as `NotCrossed`.
+#[tactic(auto, unfolding(model::specs::Moves::crossed_if_protecting))]
+fn crossed_if_protecting(heap: &Heap) -> Result<(), Refusal>
+    ensures { result ≡ crossed_if_protecting heap.now }
+{
+    if matches!(heap.phase(), Phase::ProtectCrossing) {
+        heap.all_crossed()
+    } else {
+        Ok(())
+    }
+}
+
+/// A page that is being emptied, and whose objects are all copied, gives its memory up: its frame is
+/// free at once, before the references to its objects are corrected, and its side array stays (the
+/// paper's Relocate phase). It answers how many frames are free then. Pages count from 1, workers
+/// from 0.
+///
+/// Refused while the collector is idle (`Phase`), while pages are being protected and a thread
+/// hasn't crossed (`NotCrossed`), where the page isn't being emptied (`BadIndex`), and where an
+/// object of it isn't copied (`Uncopied`).
+#[tactic(auto, unfolding(model::specs::Moves::release_outcome, model::specs::Protections::free_count))]
+pub fn release(heap: &mut Heap, worker: u32, page: u32) -> Reply
+    requires { WorkerPasses heap.old worker (steps.Release page) }
+    ensures { Does heap.old result heap.new (release_outcome heap.old page) }
+{
+    if matches!(heap.phase(), Phase::Idle) {
+        return Err(Refusal::Phase);
+    }
+    crossed_if_protecting(heap)?;
+    if !matches!(heap.store().state(page), PageState::From) {
+        return Err(Refusal::BadIndex);
+    }
+    if !heap.sides().is_copied(page.saturating_sub(1) as usize) {
+        return Err(Refusal::Uncopied { page });
+    }
+    heap.release_page(page);
+    Ok(Answer::Released {
+        free: u64::from(heap.store().free_frames()),
+    })
+}
