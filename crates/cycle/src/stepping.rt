@@ -103,6 +103,8 @@ fn worker_row(heap: &mut Heap, worker: u32, step: &Step) -> Reply
         Step::ScanField => marker::scan_field(heap, worker),
         Step::ScanGlobal(global) => marker::scan_global(heap, worker, *global),
         Step::EndMark => marker::end_mark(heap, worker),
+        Step::Copy { page, entry } => relocate::copy(heap, worker, *page, *entry),
+        Step::Release(page) => relocate::release(heap, worker, *page),
         Step::CrossFor(thread) => checkpoint::cross_for(heap, worker, *thread),
         _ => Err(Refusal::NoActor),
     }

@@ -1,6 +1,6 @@
 //! The side arrays of all pages.
 
-ghost use Rattle.std.specs.Prelude.{◌≡◌, length, replicate, map, slice_get, slice_set, slice_index_or, [], IfOk, not};
+ghost use Rattle.std.specs.Prelude.{◌≡◌, length, replicate, map, slice_get, slice_set, [], IfOk, not};
 ghost use Rattle.std.specs.List.{list_any};
 ghost use Rattle.std.specs.Option.{option_copied};
 ghost use Rattle.model.specs.States.{change_at};
@@ -69,12 +69,31 @@ impl Sides {
         }
     }
 
-    /// Whether all entries of the side array of an index are copied. Where there is no such side
-    /// array, they are.
-    pub fn is_copied(&self, index: usize) -> bool
-        ensures { result ≡ not (list_any is_uncopied (slice_index_or self.now index [])) }
+    /// The entry of a number, from 0, of a page, by the page's number from 1.
+    pub fn entry_on(&self, page: u32, number: u32) -> Option<Forwarding>
+        ensures { result ≡ slice_get (of_page self.now page) number }
     {
-        index >= self.sides.len() || self.sides[index].is_copied()
+        if page == 0 {
+            return None;
+        }
+        match self.sides.get((page - 1) as usize) {
+            None => None,
+            Some(side) => side.entry(number as usize),
+        }
+    }
+
+    /// Whether all entries of a page are copied, by the page's number from 1. Where it has no side
+    /// array, they are.
+    pub fn is_copied(&self, page: u32) -> bool
+        ensures { result ≡ not (list_any is_uncopied (of_page self.now page)) }
+    {
+        if page == 0 {
+            return true;
+        }
+        match self.sides.get((page - 1) as usize) {
+            None => true,
+            Some(side) => side.is_copied(),
+        }
     }
 
     /// How many entries of all side arrays have still to be copied.

@@ -166,7 +166,7 @@ same_word : (v w : Reference) → IsWord v → IsWord w → bits_of v ≡ bits_o
 same_word v w j k e = sym (stored_again v j) ∙ ap read_reference e ∙ stored_again w k
 
 -- while an NMT trap is due, a mark runs
-marks_run : (h : HeapState) (t : ℕ) (w : Reference) → nmt_trap_due h t w ≡ true → is_marking h.phase ≡ true
+pub marks_run : (h : HeapState) (t : ℕ) (w : Reference) → nmt_trap_due h t w ≡ true → is_marking h.phase ≡ true
 marks_run h t None e = absurd (cc)
 marks_run h t (Some w) e = by_phase h.phase (has_crossed (slice_get h.threads t)) (not (same_bit w.1 h.nmt)) e
   where

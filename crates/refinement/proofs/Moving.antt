@@ -114,7 +114,7 @@ planned_entry (Some f) m e = by_copied f.copied refl e
     by_copied false k z = (f, refl, k, cc)
     by_copied true k z = absurd (cc)
 
-copied_entry : (o : Option Forwarding) (m : ℕ) → as_entry o ≡ Copied m
+pub copied_entry : (o : Option Forwarding) (m : ℕ) → as_entry o ≡ Copied m
     → (f : Forwarding) × (o ≡ Some f) × (f.copied ≡ true) × (f.to ≡ m)
 copied_entry None m e = absurd (cc)
 copied_entry (Some f) m e = by_copied f.copied refl e
@@ -137,7 +137,7 @@ not_protecting : (f : Phase) → is_protect_crossing f ≡ false → f ≢ Prote
 not_protecting f e k = true≢false (sym (ap is_protect_crossing k) ∙ e)
 
 -- who may not use an address is held back from a protected page
-held_protected : (h : HeapState) (t a : ℕ) → is_refused (let_through h t a) ≡ true
+pub held_protected : (h : HeapState) (t a : ℕ) → is_refused (let_through h t a) ≡ true
     → is_protected (state_at h.store (a / h.store.words)) ≡ true
 unfolding let_through
 held_protected h t a e = by_test (is_protected (state_at h.store (a / h.store.words))) e
@@ -213,13 +213,14 @@ module _ {h : HeapState} {p p0 : PlainHeap} (s : IsStore h.store) (k : Holds h p
   pub record Leads (a : ℕ) : Type 0 where
     pub place : ℕ
     pub is_address : IsAddress place
+    pub on_open : state_at h.store (place / h.store.words) ≡ Open
     pub word : place_by (entry_at h a) a ≡ place
     -- it was copied before, or it is copied now
     pub how : (((world_of h).side_entry a ≡ Copied place) × (copied_first h a ≡ h))
         ⊎ ((q : HeapObject) × ((world_of h).side_entry a ≡ Planned place) × (object_at h a ≡ Some q)
         × (copied_first h a ≡ with_copy h a place))
 
-  same_entry : (a : ℕ) → (world_of h).side_entry a ≡ as_entry (entry_at h a)
+  pub same_entry : (a : ℕ) → (world_of h).side_entry a ≡ as_entry (entry_at h a)
   unfolding entry_at
   same_entry a = entry_same (of_page h.sides (a / h.store.words)) (a % h.store.words)
 
@@ -236,6 +237,7 @@ module _ {h : HeapState} {p p0 : PlainHeap} (s : IsStore h.store) (k : Holds h p
             record {
               place = m;
               is_address = open_address h.store m s (k.invariant.objects.planned_open a m e);
+              on_open = k.invariant.objects.planned_open a m e;
               word = ap (λ o. place_by o a) is ∙ to;
               how = inr (
                 q,
@@ -251,6 +253,7 @@ module _ {h : HeapState} {p p0 : PlainHeap} (s : IsStore h.store) (k : Holds h p
             record {
               place = m;
               is_address = open_address h.store m s (k.invariant.objects.copied_open a m e);
+              on_open = k.invariant.objects.copied_open a m e;
               word = ap (λ o. place_by o a) is ∙ to;
               how = inl (e, ap (copied_by h a) is ∙ ap (λ b. cond b h (with_copy h a f.to)) done);
             }

@@ -2,57 +2,66 @@
 //! thread copies itself is ours).
 
 ghost use Rattle.std.specs.Prelude.{◌≡◌, ◌<◌, ◌≤◌, Some, IfSome};
-ghost use Rattle.model.specs.Moves.{copied_first, copy_outcome, entry_on, moved_word};
+ghost use Rattle.model.specs.Marks.{entry_at};
+ghost use Rattle.model.specs.Moves.{copied_first, copy_outcome, entry_on, moved_word, place_by};
 ghost use Rattle.model.specs.Phases.{is_moving};
 ghost use Rattle.model.specs.Outcome.{WorkerPasses};
 ghost use Rattle.model.specs.Refusing.{Does};
 ghost use Rattle.model.specs.declared.steps.Step.TheVariants as steps;
 
+use crate::emptied::is_emptied;
 use heap::Heap;
-use model::{Answer, Forwarding, PageState, Phase, Refusal, Reply};
+use model::{Answer, Forwarding, Phase, Refusal, Reply};
 use refword::{Addr, Word};
 
-/// Copies the object at an address, where it has a place to go and wasn't copied, and gives the
-/// place; the address itself where there is none.
+/// Copies the object at an address, where it has a place to go and wasn't copied.
 #[tactic(auto, unfolding(model::specs::Moves::copied_first))]
-fn copy_first(heap: &mut Heap, address: Addr) -> Addr
-    ensures heap { heap.new ≡ copied_first heap.old address }
-    ensures place { Some (result, true) ≡ Some (moved_word heap.old (address, true)) }
+fn copy_first(heap: &mut Heap, address: Addr)
+    ensures { heap.new ≡ copied_first heap.old address }
 {
-    let Some(entry) = heap.entry_at(address) else {
-        return address;
-    };
-    if !entry.copied {
-        heap.copy_object(address, entry.to);
+    if let Some(entry) = heap.entry_at(address) {
+        if !entry.copied {
+            heap.copy_object(address, entry.to);
+        }
     }
-    entry.to
 }
 
-/// Makes a word name its object's copy, which is made first where it wasn't (the paper's read
-/// barrier; that a thread copies itself is ours). Its NMT bit stays, and null stays null.
+/// Where the object at an address is, once it is copied.
+fn place_of(heap: &Heap, address: Addr) -> Addr
+    ensures { result ≡ place_by (entry_at heap.now address) address }
+{
+    match heap.entry_at(address) {
+        None => address,
+        Some(entry) => entry.to,
+    }
+}
+
+/// The word that names an object's copy, by the object's address and the word's NMT bit. The copy is
+/// made first where it wasn't (the paper's read barrier; that a thread copies itself is ours).
+#[tactic(auto, unfolding(model::specs::Moves::moved_word))]
 pub fn follow(heap: &mut Heap, address: Addr, nmt: bool) -> Word
     ensures heap { heap.new ≡ copied_first heap.old address }
     ensures word { result ≡ Some (moved_word heap.old (address, nmt)) }
 {
-    let place = copy_first(heap, address);
+    let place = place_of(heap, address);
+    copy_first(heap, address);
     Word::of(place, nmt)
 }
 
 /// The entry of a page that is being emptied, by the page's number and the entry's number from 0,
 /// if there is one.
-#[tactic(auto, unfolding(model::specs::Moves::entry_on))]
+#[tactic(auto, unfolding(model::specs::Moves::entry_on), using(crate::proofs::Entries::entry_within, crate::proofs::Entries::page_low, crate::proofs::Entries::page_high))]
 fn entry_on(heap: &Heap, page: u32, entry: u32) -> Option<Forwarding>
-    ensures { result ≡ entry_on heap.now page entry }
+    ensures value { result ≡ entry_on heap.now page entry }
+    ensures low { IfSome result (λ f. 0 < page) }
+    ensures high { IfSome result (λ f. page ≤ heap.now.store.count) }
+    ensures within { IfSome result (λ f. f.offset < heap.now.store.words) }
 {
-    if page == 0 {
-        return None;
-    }
-    if !matches!(heap.store().state(page), PageState::From) {
-        return None;
-    }
-    match heap.sides().get((page - 1) as usize) {
-        None => None,
-        Some(side) => side.entry(entry as usize),
+    heap.law();
+    if is_emptied(heap, page) {
+        heap.sides().entry_on(page, entry)
+    } else {
+        None
     }
 }
 
@@ -85,10 +94,11 @@ pub fn copy(heap: &mut Heap, worker: u32, page: u32, entry: u32) -> Reply
     if found.copied {
         return Err(Refusal::Copied);
     }
-    let address = heap.address_on(page, found.offset);
-    heap.copy_object(address, found.to);
-    Ok(Answer::MovedTo {
+    let answer = Answer::MovedTo {
         page: heap.store().page_of(found.to),
         offset: heap.store().offset_of(found.to),
-    })
+    };
+    let address = heap.address_on(page, found.offset);
+    heap.copy_object(address, found.to);
+    Ok(answer)
 }

@@ -5,6 +5,7 @@
 #![tactic(auto)]
 
 mod copying;
+mod emptied;
 mod releasing;
 
 pub use copying::{copy, follow};

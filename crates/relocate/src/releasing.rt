@@ -6,8 +6,9 @@ ghost use Rattle.model.specs.Outcome.{WorkerPasses};
 ghost use Rattle.model.specs.Refusing.{Does};
 ghost use Rattle.model.specs.declared.steps.Step.TheVariants as steps;
 
+use crate::emptied::is_emptied;
 use heap::Heap;
-use model::{Answer, PageState, Phase, Refusal, Reply};
+use model::{Answer, Phase, Refusal, Reply};
 
 /// Where pages are being protected, whether all threads have crossed. Refused as `NotCrossed`.
 #[tactic(auto, unfolding(model::specs::Moves::crossed_if_protecting))]
@@ -38,10 +39,10 @@ pub fn release(heap: &mut Heap, worker: u32, page: u32) -> Reply
         return Err(Refusal::Phase);
     }
     crossed_if_protecting(heap)?;
-    if !matches!(heap.store().state(page), PageState::From) {
+    if !is_emptied(heap, page) {
         return Err(Refusal::BadIndex);
     }
-    if !heap.sides().is_copied(page.saturating_sub(1) as usize) {
+    if !heap.sides().is_copied(page) {
         return Err(Refusal::Uncopied { page });
     }
     heap.release_page(page);

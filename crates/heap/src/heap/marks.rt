@@ -1,6 +1,6 @@
 //! Words are resolved, and what the running mark has marked (the paper's Mark phase).
 
-ghost use Rattle.std.specs.Prelude.{◌≡◌, ◌<◌, length};
+ghost use Rattle.std.specs.Prelude.{◌≡◌, length};
 ghost use Rattle.model.specs.Bits.{bit_at, with_bit};
 ghost use Rattle.model.specs.Cycles.{has_uncopied, uncopied_from};
 ghost use Rattle.model.specs.Marks.{entry_at, resolve, marked_word};
@@ -65,10 +65,9 @@ impl Heap {
     /// Whether a page, by its number from 1, is being emptied and has an object that isn't copied.
     #[tactic(auto, unfolding(model::specs::Cycles::has_uncopied))]
     fn has_uncopied(&self, page: u32) -> bool
-        requires { 0 < page }
         ensures { result ≡ has_uncopied self.now page }
     {
-        matches!(self.store.state(page), PageState::From) && !self.sides.is_copied((page - 1) as usize)
+        matches!(self.store.state(page), PageState::From) && !self.sides.is_copied(page)
     }
 
     /// The least page that has one, of all that have records.
