@@ -168,22 +168,32 @@ fn a_side_array_of_nothing(rt: HostRuntime) {
     assert!(rt; side.is_copied());
 }
 
-/// Where the object at offset 9 of each page goes, if it is to go.
+const PAGES: [u32; 6] = [0, 1, 2, 3, 4, u32::MAX];
+
+/// Where the object at offset 9 of each of these pages goes, if it is to go.
 fn ninths(sides: &Sides) -> [Option<u64>; 6] {
-    [0, 1, 2, 3, 4, u32::MAX].map(|page| Some(sides.entry_at(page, 9)?.to.number()))
+    PAGES.map(|page| Some(sides.entry_at(page, 9)?.to.number()))
+}
+
+/// The offset of the fourth entry of each of these pages, if it has so many.
+fn fourths(sides: &Sides) -> [Option<u32>; 6] {
+    PAGES.map(|page| Some(sides.entry_on(page, 3)?.offset))
+}
+
+/// Which of these pages have no entry that is still to be copied.
+fn copied(sides: &Sides) -> [bool; 6] {
+    PAGES.map(|page| sides.is_copied(page))
 }
 
 /// Pages 1 and 3 of three are protected; there is no page 10.
 fn protects(rt: &impl Abort, sides: &mut Sides, first: Side, third: Side, other: Side) {
-    assert_eq!(rt; (sides.uncopied(), sides.is_copied(2)), (0, true));
+    assert_eq!(rt; (sides.uncopied(), copied(sides)), (0, [true; 6]));
     sides.put(0, first);
     sides.put(2, third);
     sides.put(9, other);
     assert_eq!(rt; ninths(sides), [None, Some(32), None, Some(48), None, None]);
-    assert_eq!(rt;
-        [0, 1, 2, 3].map(|index| sides.is_copied(index)),
-        [false, true, false, true]
-    );
+    assert_eq!(rt; fourths(sides), [None, Some(9), None, Some(9), None, None]);
+    assert_eq!(rt; copied(sides), [true, false, true, false, true, true]);
     assert_eq!(rt; sides.uncopied(), 8);
 }
 
@@ -202,10 +212,7 @@ fn copies_of_pages(rt: &impl Abort, sides: &mut Sides) {
         sides.set_copied(index, offset);
         assert_eq!(rt; sides.uncopied(), left, "behind {offset} of {index}");
     }
-    assert_eq!(rt;
-        [0, 1, 2].map(|index| sides.is_copied(index)),
-        [false, true, true]
-    );
+    assert_eq!(rt; copied(sides), [true, false, true, true, true, true]);
 }
 
 /// Another side array takes the place of that of page 1, and all are let go.
