@@ -42,10 +42,11 @@ last_added (d ∷ c ∷ es) e = last_added (c ∷ es) e
 
 -- an entry is added
 pub entry_added : (b : BookState) (actor : Actor) (step : Step) (g : HeapState) (answer : Answer) → IsBook b
-    → is_full b ≡ false → StepKeeps b.heap (replayed b).now (replayed b).at_mark actor step g answer
+    → IsStore g.store → IsHeap g → is_full b ≡ false
+    → StepKeeps b.heap (replayed b).now (replayed b).at_mark actor step g answer
     → IsBook (record { heap = g; history = b.history ++ record { actor = actor; step = step; answer = answer } ∷ [] })
 unfolding replayed is_full
-entry_added b actor step g answer k more kept =
+entry_added b actor step g answer k store heap more kept =
     let s = kept.stands in
     let e : Entry = record { actor = actor; step = step; answer = answer } in
     let first : Replayed = before_entries b.heap.config in
@@ -56,6 +57,8 @@ entry_added b actor step g answer k more kept =
     (after_entries ls first (b.history ++ e ∷ [])).at_mark =
     subst (λ (r : Replayed). Holds g r.now r.at_mark) (sym after) s.holds in
     record {
+      store = store;
+      heap = heap;
       holds = subst (λ (c : Config). Holds g (after_entries c.layouts (before_entries c) (b.history ++ e ∷ [])).now
           (after_entries c.layouts (before_entries c) (b.history ++ e ∷ [])).at_mark) (sym s.config) holds;
       answers = subst (λ (c : Config). AnswersAre c.layouts (before_entries c) (b.history ++ e ∷ []))
@@ -72,9 +75,9 @@ entry_added b actor step g answer k more kept =
 
 -- a new book
 pub new_book : (c : Config) → Holds (first_heap c) (before_entries c).now (before_entries c).at_mark
-    → IsBook (first_book c)
+    → IsStore (first_heap c).store → IsHeap (first_heap c) → IsBook (first_book c)
 unfolding replayed first_book first_heap
-new_book c k = record { holds = k; answers = tt; limit = omega arith; marks = tt }
+new_book c k store heap = record { store = store; heap = heap; holds = k; answers = tt; limit = omega arith; marks = tt }
 
 -- what the law promises
 pub promises : (b : BookState) → IsBook b → KeepsPromises b
@@ -97,18 +100,19 @@ keeps_standing old new actor step (Ok a) does s d holds find move p p0 k = recor
 keeps_standing old new actor step (Err e) does s d holds find move p p0 k = tt
 
 -- the parts of a new book
-pub made : (c : Config) (h : HeapState) (es : List Entry) → h ≡ first_heap c → es ≡ [] → FirstHolds
-    → IsBook (record { heap = h; history = es })
+pub made : (c : Config) (h : HeapState) (es : List Entry) → h ≡ first_heap c → es ≡ [] → IsStore h.store → IsHeap h
+    → FirstHolds → IsBook (record { heap = h; history = es })
 unfolding first_book
-made c h es e f law = subst (λ (g : HeapState). IsBook (record { heap = g; history = es })) (sym e)
-    (subst (λ (xs : List Entry). IsBook (record { heap = first_heap c; history = xs })) (sym f) (new_book c (law c)))
+made c h es e f store heap law = subst (λ (g : HeapState). IsBook (record { heap = g; history = es })) (sym e)
+    (subst (λ (xs : List Entry). IsBook (record { heap = first_heap c; history = xs })) (sym f)
+    (new_book c (law c) (subst (λ (g : HeapState). IsStore g.store) e store) (subst IsHeap e heap)))
 
 -- the parts of a book with one more entry
 pub entered_book : (b : BookState) (actor : Actor) (step : Step) (g : HeapState) (answer : Answer) (es : List Entry)
-    → IsBook b → is_full b ≡ false → (let p = (replayed b).now in let p0 = (replayed b).at_mark in Holds b.heap p p0
+    → IsBook b → IsStore g.store → IsHeap g → is_full b ≡ false → (let p = (replayed b).now in let p0 = (replayed b).at_mark in Holds b.heap p p0
     → StepKeeps b.heap p p0 actor step g answer)
     → es ≡ b.history ++ record { actor = actor; step = step; answer = answer } ∷ []
     → IsBook (record { heap = g; history = es })
-entered_book b actor step g answer es k more s e =
+entered_book b actor step g answer es k store heap more s e =
     subst (λ (xs : List Entry). IsBook (record { heap = g; history = xs })) (sym e)
-    (entry_added b actor step g answer k more (s k.holds))
+    (entry_added b actor step g answer k store heap more (s k.holds))

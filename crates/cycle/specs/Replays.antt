@@ -4,6 +4,8 @@ use Rattle.layout.specs.declared.shape.Layout.{Layout}
 use Rattle.model.specs.declared.config.Config.{Config}
 use Rattle.model.specs.declared.steps.Actor.{Actor}
 use Rattle.model.specs.declared.steps.Step.{Step}
+use Rattle.model.specs.Owning.{IsStore}
+use Rattle.model.specs.Holding.{IsHeap}
 use Rattle.model.specs.Plain.{PlainHeap, plain_start, plain_step, plain_answer}
 use Rattle.laws.specs.Promises.{StandsForPlain, UsableHasMemory}
 use Rattle.refinement.specs.Worlds.{world_of}
@@ -50,8 +52,10 @@ last_entry (e ∷ d ∷ es) = last_entry (d ∷ es)
 abbrev pub LastFinds : BookState → Type 0
 LastFinds b = IfSome (last_entry b.history) (λ e. Finds b.heap (replayed b).now (replayed b).at_mark e.step)
 
--- the law of a book
+-- the law of a book: its heap is one, and stands for what its history makes, whose answers it gave
 pub record IsBook (b : BookState) : Type 0 where
+  pub store : IsStore b.heap.store
+  pub heap : IsHeap b.heap
   pub holds : Holds b.heap (replayed b).now (replayed b).at_mark
   pub answers : AnswersAre b.heap.config.layouts (before_entries b.heap.config) b.history
   pub limit : length b.history ≤ b.heap.config.history

@@ -46,8 +46,8 @@ impl Model for Book {
 }
 
 impl Book {
-    /// What holds of every book (ours): the law of books, that its history is within the
-    /// configuration's limit, and what it promises to threads: registers, loads and globals name
+    /// What holds of every book (ours): the law of books and of its heap, that its history is within
+    /// the configuration's limit, and what it promises to threads: registers, loads and globals name
     /// what the plain heap has in their place, what can be reached has exactly one current copy,
     /// on a page with memory, and no register that may be used names a page without memory. Where
     /// its last step has ended a mark (the paper's Mark phase), all that can be reached is live,
@@ -67,10 +67,13 @@ impl Book {
     {
         refinement::law();
         match Heap::new(alloc, config) {
-            Ok(heap) => Ok(Book {
-                heap,
-                history: Vec::new(alloc),
-            }),
+            Ok(heap) => {
+                heap.law();
+                Ok(Book {
+                    heap,
+                    history: Vec::new(alloc),
+                })
+            }
             Err(fault) => Err(fault),
         }
     }
@@ -128,6 +131,7 @@ impl Book {
             return Err(Refusal::Memory);
         }
         let answer = self.heap.step(actor, &step)?;
+        self.heap.law();
         enter(
             &mut self.history,
             Entry {

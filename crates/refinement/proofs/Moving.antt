@@ -147,6 +147,11 @@ held_protected h t a e = by_test (is_protected (state_at h.store (a / h.store.wo
     by_test true k = refl
     by_test false k = absurd (cc)
 
+-- an entry of the model is that of the heap by addresses
+pub same_entry : (h : HeapState) (a : ℕ) → (world_of h).side_entry a ≡ as_entry (entry_at h a)
+unfolding entry_at
+same_entry h a = entry_same (of_page h.sides (a / h.store.words)) (a % h.store.words)
+
 module _ {h : HeapState} {p p0 : PlainHeap} (s : IsStore h.store) (k : Holds h p p0) where
   -- an object is copied
   copy_carries : (a n : ℕ) (q : HeapObject) → (world_of h).side_entry a ≡ Planned n → object_at h a ≡ Some q
@@ -220,10 +225,6 @@ module _ {h : HeapState} {p p0 : PlainHeap} (s : IsStore h.store) (k : Holds h p
         ⊎ ((q : HeapObject) × ((world_of h).side_entry a ≡ Planned place) × (object_at h a ≡ Some q)
         × (copied_first h a ≡ with_copy h a place))
 
-  pub same_entry : (a : ℕ) → (world_of h).side_entry a ≡ as_entry (entry_at h a)
-  unfolding entry_at
-  same_entry a = entry_same (of_page h.sides (a / h.store.words)) (a % h.store.words)
-
   -- a word that stands for a kept birth, on a protected page
   pub leads : (a : ℕ) (bit : Bool) (x : Option ℕ) → names (world_of h) (To a bit) ≡ Some x
       → ((b : ℕ) → x ≡ Some b → IsKept (world_of h) (births_of p) b)
@@ -232,7 +233,7 @@ module _ {h : HeapState} {p p0 : PlainHeap} (s : IsStore h.store) (k : Holds h p
   leads a bit x named kept guarded =
       elim (barriers.entry_of (world_of h) (births_of p) (births_of p0) k.invariant a bit x named kept guarded) [
         | inl (m, e) ↦ (
-            let (f, is, fresh, to) = planned_entry (entry_at h a) m (sym (same_entry a) ∙ e) in
+            let (f, is, fresh, to) = planned_entry (entry_at h a) m (sym (same_entry h a) ∙ e) in
             let (q, here) = k.invariant.objects.planned_object a m e in
             record {
               place = m;
@@ -249,7 +250,7 @@ module _ {h : HeapState} {p p0 : PlainHeap} (s : IsStore h.store) (k : Holds h p
             }
             )
         | inr (m, e) ↦ (
-            let (f, is, done, to) = copied_entry (entry_at h a) m (sym (same_entry a) ∙ e) in
+            let (f, is, done, to) = copied_entry (entry_at h a) m (sym (same_entry h a) ∙ e) in
             record {
               place = m;
               is_address = open_address h.store m s (k.invariant.objects.copied_open a m e);

@@ -35,44 +35,13 @@ use Rattle.refinement.proofs.Marks.{as_entry}
 use Rattle.refinement.proofs.Moving.{Leads, leads, same_entry, held_protected, gc_holds, scrub_word_holds}
 use Rattle.refinement.proofs.Verdicts.{Passed, is_register}
 
-module _ {h : HeapState} {p p0 : PlainHeap} (s : IsStore h.store) (d : IsHeap h) (k : Holds h p p0) (t : ℕ) where
-  -- a load's word is forwarded, or marked, or neither is due
-  pub trap_holds : (x : ThreadState) → slice_get h.threads t ≡ Some x
-      → RowHolds h p p0 (Thread t) steps.Trap (trap_outcome h t)
-  unfolding trap_outcome
-  trap_holds x at = on_some (barrier_of_thread h t) _ _ _ (λ b first.
-      on_either (gc_trap_due h t b.now) _ _ _ (gc_holds s k d t x at b first) (λ clear. nmt_holds s d k t x at b first))
+-- what isn't on a protected page may be used
+free_there : (t : ℕ) (g : HeapState) (a : ℕ) → is_protected (state_at g.store (a / g.store.words)) ≡ false
+    → is_refused (let_through g t a) ≡ false
+unfolding let_through
+free_there t g a e = rw e refl
 
-  -- what isn't on a protected page may be used
-  free_there : (g : HeapState) (a : ℕ) → is_protected (state_at g.store (a / g.store.words)) ≡ false
-      → is_refused (let_through g t a) ≡ false
-  unfolding let_through
-  free_there g a e = rw e refl
-
-  -- behind a GC trap none is due: its word names an open page
-  pub moved_free : (x : ThreadState) → slice_get h.threads t ≡ Some x → (b c : Barrier) (w : ℕ × Bool)
-      → barrier_of_thread h t ≡ Some b → b.now ≡ Some w → gc_trap_due h t b.now ≡ true
-      → gc_trap_due (with_barrier (copied_first h w.0) t c) t (Some (moved_word h w)) ≡ false
-  unfolding with_barrier moved_word with_copy with_copied_words with_words state_at page_at
-  moved_free x at b c (a, bit) first e due =
-      let word : as_word b.now ≡ To a bit = ap as_word e in
-      let open_load = opened s d k t x at b first in
-      let z = leads s k a bit open_load.pending.1 (ap (names (world_of h)) (sym word) ∙ open_load.barrier.now.names)
-      (pending_kept (world_of h) (births_of p) t (as_barrier b) open_load)
-      (held_protected h t a (subst (λ v. gc_trap_due h t v ≡ true) e due)) in
-      free_there (with_barrier (copied_first h a) t c) (place_by (entry_at h a) a)
-      (subst (λ n. is_protected (state_at (copied_first h a).store (n / (copied_first h a).store.words)) ≡ false)
-      (sym z.word) (same_state z))
-    where
-      Free : HeapState → ℕ → Type 0
-      Free g n = is_protected (state_at g.store (n / g.store.words)) ≡ false
-
-      same_state : (z : Leads s k a) → Free (copied_first h a) z.place
-      same_state z = elim z.how [
-        | inl (copied, same) ↦ subst (λ (g : HeapState). Free g z.place) (sym same) (ap is_protected z.on_open)
-        | inr (q, plan, here, same) ↦ subst (λ (g : HeapState). Free g z.place) (sym same) (ap is_protected z.on_open)
-      ]
-
+module _ {h : HeapState} {p p0 : PlainHeap} (k : Holds h p p0) (t : ℕ) where
   -- while a mark runs, who may use an address isn't held back from a protected page
   not_held : (a : ℕ) → is_refused (let_through h t a) ≡ false → is_marking h.phase ≡ true
       → is_protected (state_at h.store (a / h.store.words)) ≡ false
@@ -103,7 +72,7 @@ module _ {h : HeapState} {p p0 : PlainHeap} (s : IsStore h.store) (d : IsHeap h)
           by_copied : (b : Bool) → f.copied ≡ b → cond b f.to a ≡ a
           by_copied false c = refl
           by_copied true c = absurd (true≢false (sym (k.invariant.objects.copied_from a f.to
-              (same_entry s k a ∙ ap as_entry e ∙ ap (λ b. worlds.entry_of b f.to) c)) ∙ free))
+              (same_entry h a ∙ ap as_entry e ∙ ap (λ b. worlds.entry_of b f.to) c)) ∙ free))
 
   -- behind an NMT trap none is due
   pub marked_free : (b c : Barrier) → gc_trap_due h t b.now ≡ false → nmt_trap_due h t b.now ≡ true
@@ -116,9 +85,41 @@ module _ {h : HeapState} {p p0 : PlainHeap} (s : IsStore h.store) (d : IsHeap h)
       by_word None f m = refl
       by_word (Some (a, bit)) f m =
           let unprotected = not_held a f m in
-          free_there (with_barrier (with_mark h b.now) t c) (resolve h a)
+          free_there t (with_barrier (with_mark h b.now) t c) (resolve h a)
           (subst (λ n. is_protected (state_at h.store (n / h.store.words)) ≡ false) (sym (stays_there a unprotected))
           unprotected)
+
+module _ {h : HeapState} {p p0 : PlainHeap} (s : IsStore h.store) (d : IsHeap h) (k : Holds h p p0) (t : ℕ) where
+  -- a load's word is forwarded, or marked, or neither is due
+  pub trap_holds : (x : ThreadState) → slice_get h.threads t ≡ Some x
+      → RowHolds h p p0 (Thread t) steps.Trap (trap_outcome h t)
+  unfolding trap_outcome
+  trap_holds x at = on_some (barrier_of_thread h t) _ _ _ (λ b first.
+      on_either (gc_trap_due h t b.now) _ _ _ (gc_holds s k d t x at b first) (λ clear. nmt_holds s d k t x at b first))
+
+  -- behind a GC trap none is due: its word names an open page
+  pub moved_free : (x : ThreadState) → slice_get h.threads t ≡ Some x → (b c : Barrier) (w : ℕ × Bool)
+      → barrier_of_thread h t ≡ Some b → b.now ≡ Some w → gc_trap_due h t b.now ≡ true
+      → gc_trap_due (with_barrier (copied_first h w.0) t c) t (Some (moved_word h w)) ≡ false
+  unfolding with_barrier moved_word with_copy with_copied_words with_words state_at page_at
+  moved_free x at b c (a, bit) first e due =
+      let word : as_word b.now ≡ To a bit = ap as_word e in
+      let open_load = opened s d k t x at b first in
+      let z = leads s k a bit open_load.pending.1 (ap (names (world_of h)) (sym word) ∙ open_load.barrier.now.names)
+      (pending_kept (world_of h) (births_of p) t (as_barrier b) open_load)
+      (held_protected h t a (subst (λ v. gc_trap_due h t v ≡ true) e due)) in
+      free_there t (with_barrier (copied_first h a) t c) (place_by (entry_at h a) a)
+      (subst (λ n. is_protected (state_at (copied_first h a).store (n / (copied_first h a).store.words)) ≡ false)
+      (sym z.word) (same_state z))
+    where
+      Free : HeapState → ℕ → Type 0
+      Free g n = is_protected (state_at g.store (n / g.store.words)) ≡ false
+
+      same_state : (z : Leads s k a) → Free (copied_first h a) z.place
+      same_state z = elim z.how [
+        | inl (copied, same) ↦ subst (λ (g : HeapState). Free g z.place) (sym same) (ap is_protected z.on_open)
+        | inr (q, plan, here, same) ↦ subst (λ (g : HeapState). Free g z.place) (sym same) (ap is_protected z.on_open)
+      ]
 
   -- a register is corrected, or needs no correction
   pub scrub_holds : (r : ℕ) → Passed h t (steps.Scrub r) → RowHolds h p p0 (Thread t) (steps.Scrub r) (scrub_outcome h t r)

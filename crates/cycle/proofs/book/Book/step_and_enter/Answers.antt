@@ -10,7 +10,7 @@ pub invariant_of-self-2 : goal.invariant_of-self-2
 invariant_of-self-2 c =
     let b = book_of c.self.inside in
     entered_book b c.args.actor c.args.step c.step.new.self c.in_ok-answer.answer c.enter.new.history.items
-    c.self.invariant
+    c.self.invariant c.law.ensures.store c.law.ensures.heap
     (ap is_full c.self.view_is ∙ sym c.is_full.ensures ∙ c.if-is_full.false)
     (c.in_ok-answer.ensures.stands (replayed b).now (replayed b).at_mark)
     (c.enter.ensures ∙ ap (λ es. es ++ record {
