@@ -1,9 +1,10 @@
 -- The lines of a report, each without its newline.
-use Rattle.std.specs.Prelude.{ℕ, ◌+◌, Bool, List, [], ◌∷◌, ◌++◌, Option, codes}
+use Rattle.std.specs.Prelude.{ℕ, ◌+◌, Bool, List, [], ◌∷◌, ◌++◌, Option, Some, None, codes}
 use Rattle.std.specs.Fmt.{decimal}
 use Rattle.model.specs.declared.records.Buffer.{Buffer}
 use Rattle.model.specs.declared.records.Page.{Page}
 use Rattle.model.specs.declared.records.Phase.{Phase}
+use Rattle.text.specs.declared.records.Copies.{Copies}
 use Rattle.text.specs.declared.report.Activity.{Activity}
 use Rattle.text.specs.declared.report.Activity.TheVariants as activities
 use Rattle.text.specs.Texts.{phase_text, bit_text, page_state_text, frame_text, buffer_text, word_text}
@@ -19,11 +20,21 @@ head_line phase nmt births used frames =
     codes "phase " ++ phase_text phase ++ codes " nmt " ++ bit_text nmt ++ codes " births " ++ decimal births
     ++ codes " frames " ++ decimal used ++ codes "/" ++ decimal frames
 
--- the line of a page, of its objects and those that live
-abbrev pub page_line : ℕ → Page → ℕ → ℕ → List ℕ
-page_line number p objects live =
+-- how many entries of a protected page's side array are copied, of how many; nothing for another page
+abbrev pub copies_text : Option Copies → List ℕ
+copies_text None = []
+copies_text (Some c) = codes " copied " ++ decimal c.copied ++ codes "/" ++ decimal c.entries
+
+-- how many objects start in a page, how many of them live, and the page's copies
+abbrev pub counts_text : ℕ → ℕ → Option Copies → List ℕ
+counts_text objects live copies =
+    codes " objects " ++ decimal objects ++ codes " live " ++ decimal live ++ copies_text copies
+
+-- the line of a page
+abbrev pub page_line : ℕ → Page → ℕ → ℕ → Option Copies → List ℕ
+page_line number p objects live copies =
     codes "page " ++ decimal number ++ codes " " ++ page_state_text p.state ++ codes " frame " ++ frame_text p.frame
-    ++ codes " top " ++ decimal p.top ++ codes " objects " ++ decimal objects ++ codes " live " ++ decimal live
+    ++ codes " top " ++ decimal p.top ++ counts_text objects live copies
 
 -- the number of register r and what it holds
 abbrev pub register_text : ℕ → ℕ → Option (ℕ × Bool) → List ℕ

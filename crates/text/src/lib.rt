@@ -7,7 +7,7 @@ mod report;
 mod steps;
 
 pub use line::{put_drained, put_line, write_line};
-pub use records::{BufferText, FrameText, PageStateText, PhaseText, WordText};
+pub use records::{BufferText, Copies, CopiesText, FrameText, PageStateText, PhaseText, WordText};
 pub use report::{
     Activity, BitText, CycleLine, GlobalLine, HeadLine, PageLine, RegistersText, ThreadLine,
 };

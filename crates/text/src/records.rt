@@ -125,3 +125,30 @@ impl fmt::Display for BufferText {
         }
     }
 }
+
+/// How many entries of a side array are copied, of how many.
+#[derive(Clone, Copy, Debug, PartialEq, Eq)]
+pub struct Copies {
+    /// How many are copied.
+    pub copied: usize,
+    /// How many there are.
+    pub entries: usize,
+}
+
+/// The end of a protected page's line, as ` copied 1/2`; nothing for another page.
+#[derive(Clone, Copy, Debug, PartialEq, Eq)]
+pub struct CopiesText(pub Option<Copies>);
+
+impl fmt::Display for CopiesText {
+    ghost use Rattle.std.specs.Prelude.{Some};
+    ghost use Rattle.text.specs.Reports.{copies_text};
+
+    ghost output = { λ t. Some (copies_text t.0) };
+
+    fn fmt<W: fmt::Write>(&self, f: &mut fmt::Formatter<W>) -> fmt::Result {
+        match self.0 {
+            None => Ok(()),
+            Some(Copies { copied, entries }) => write!(f, " copied {copied}/{entries}"),
+        }
+    }
+}

@@ -2,9 +2,11 @@
 
 ghost use Rattle.std.specs.Prelude.{◌≡◌, ◌++◌, ◌<◌};
 ghost use Rattle.std.specs.Fmt.{WritesOnOk};
-ghost use Rattle.text.specs.Reports.{register_text};
+ghost use Rattle.text.specs.Reports.{counts_text, register_text};
 
-use crate::records::{BufferText, FrameText, PageStateText, PhaseText, WordText};
+use crate::records::{
+    BufferText, Copies, CopiesText, FrameText, PageStateText, PhaseText, WordText,
+};
 use model::{Buffer, Page, Phase};
 use refword::Word;
 use std::fmt;
@@ -60,7 +62,8 @@ impl fmt::Display for HeadLine {
     }
 }
 
-/// The line of a page, as `page 1 open frame 0 top 16 objects 1 live 0`.
+/// The line of a page, as `page 1 open frame 0 top 16 objects 1 live 0`; that of a protected page
+/// ends with its copies, as `page 1 gone frame - top 16 objects 1 live 1 copied 1/1`.
 #[derive(Clone, Copy, Debug, PartialEq, Eq)]
 pub struct PageLine {
     /// Its number, from 1.
@@ -71,20 +74,33 @@ pub struct PageLine {
     pub objects: usize,
     /// How many of them the last mark found to live.
     pub live: usize,
+    /// How many of those that live are copied, where the page is protected.
+    pub copies: Option<Copies>,
+}
+
+/// Writes how many objects start in a page and live, and its copies.
+fn write_counts<W: fmt::Write>(
+    f: &mut fmt::Formatter<W>,
+    objects: usize,
+    live: usize,
+    copies: CopiesText,
+) -> fmt::Result
+    ensures { WritesOnOk W.write_str_gives f.old result (counts_text objects live copies.0) f.new }
+{
+    write!(f, " objects {objects} live {live}{copies}")
 }
 
 impl fmt::Display for PageLine {
     ghost use Rattle.std.specs.Prelude.{Some};
     ghost use Rattle.text.specs.Reports.{page_line};
 
-    ghost output = { λ l. Some (page_line l.number l.page l.objects l.live) };
+    ghost output = { λ l. Some (page_line l.number l.page l.objects l.live l.copies) };
 
     fn fmt<W: fmt::Write>(&self, f: &mut fmt::Formatter<W>) -> fmt::Result {
         let (state, frame) = (PageStateText(self.page.state), FrameText(self.page.frame));
         let (number, top) = (self.number, self.page.top);
         write!(f, "page {number} {state} frame {frame} top {top}")?;
-        let (objects, live) = (self.objects, self.live);
-        write!(f, " objects {objects} live {live}")
+        write_counts(f, self.objects, self.live, CopiesText(self.copies))
     }
 }
 

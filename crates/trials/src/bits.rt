@@ -20,7 +20,7 @@ fn next_flag(flags: &[bool], place: usize) -> Option<u32> {
 }
 
 /// The next number of a sequence without order.
-fn scatter(number: u64) -> u64 {
+pub fn scatter(number: u64) -> u64 {
     number
         .wrapping_mul(6_364_136_223_846_793_005)
         .wrapping_add(1_442_695_040_888_963_407)

@@ -33,6 +33,8 @@ mod scripts;
 #[cfg(test)]
 mod serving;
 #[cfg(test)]
+mod sides;
+#[cfg(test)]
 mod texts;
 #[cfg(test)]
 mod words;

@@ -176,3 +176,34 @@ fn writes_where_a_buffer_is(rt: HostRuntime) -> Result<(), Fail> {
     has_words(&rt, &store);
     Ok(())
 }
+
+/// Pages 1 and 2 are taken whole, and the words 1 to 16 are written to page 1.
+fn counts(rt: &impl Abort, store: &mut Store) -> Result<(), Room> {
+    takes(rt, store, &[(16, 1, 0), (16, 2, 0)])?;
+    for offset in 0..16 {
+        store.set_word(16 + offset, offset + 1);
+    }
+    Ok(())
+}
+
+/// Words are copied between pages, as far as both go, and nowhere else.
+fn copies(rt: &impl Abort, store: &mut Store) {
+    store.copy_words(16 + 2, 2 * 16 + 1, 3);
+    store.copy_words(16 + 14, 2 * 16 + 8, 5);
+    store.copy_words(16, 2 * 16 + 13, 9);
+    store.copy_words(16, 16 + 4, 2);
+    store.copy_words(3 * 16, 2 * 16, 4);
+    store.copy_words(16, 3 * 16, 4);
+    let source = [1, 2, 3, 4, 5, 6, 7, 8, 9, 10, 11, 12, 13, 14, 15, 16];
+    assert_eq!(rt; store.words(1), Some(source.as_slice()));
+    let target = [0, 3, 4, 5, 0, 0, 0, 0, 15, 16, 0, 0, 0, 1, 2, 3];
+    assert_eq!(rt; store.words(2), Some(target.as_slice()));
+}
+
+#[test]
+fn words_are_copied_between_pages(rt: HostRuntime) -> Result<(), Fail> {
+    let mut store = Store::new(rt.alloc(), 16, 2, 8)?;
+    counts(&rt, &mut store)?;
+    copies(&rt, &mut store);
+    Ok(())
+}

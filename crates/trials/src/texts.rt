@@ -1,11 +1,14 @@
 //! The texts as a user reads them.
 
-use model::{Actor, Answer, Buffer, PageState, Phase, Refusal};
+use model::{Actor, Answer, Buffer, Page, PageState, Phase, Refusal};
 use refword::{Addr, Word};
 use std::alloc::Global;
 use std::process::Abort;
 use std::test::Fail;
-use text::{BufferText, FrameText, PageStateText, PhaseText, WordText, put_line, write_line};
+use text::{
+    BufferText, Copies, FrameText, PageLine, PageStateText, PhaseText, WordText, put_line,
+    write_line,
+};
 
 /// The line of an answer, as the seventh.
 fn has_line(
@@ -205,6 +208,61 @@ fn states_of_pages(rt: HostRuntime) -> Result<(), Fail> {
         (PageState::Gone, "gone"),
     ] {
         state_is_shown(&rt, rt.alloc(), state, name)?;
+    }
+    Ok(())
+}
+
+/// The line of page 7, in which 3 objects start and 2 live.
+fn page_is_shown(
+    rt: &impl Abort,
+    alloc: Global,
+    page: Page,
+    copies: Option<Copies>,
+    text: &str,
+) -> Result<(), Fail> {
+    let line = PageLine {
+        number: 7,
+        page,
+        objects: 3,
+        live: 2,
+        copies,
+    };
+    assert_eq!(rt; format!(in alloc; "{line}")?.as_str(), text);
+    Ok(())
+}
+
+#[test]
+fn lines_of_pages(rt: HostRuntime) -> Result<(), Fail> {
+    let (copied, entries) = (1, 2);
+    for (state, frame, copies, text) in [
+        (
+            PageState::Closed,
+            Some(0),
+            None,
+            "page 7 closed frame 0 top 16 objects 3 live 2",
+        ),
+        (
+            PageState::From,
+            Some(4),
+            Some(Copies { copied, entries }),
+            "page 7 from frame 4 top 16 objects 3 live 2 copied 1/2",
+        ),
+        (
+            PageState::Gone,
+            None,
+            Some(Copies {
+                copied: entries,
+                entries,
+            }),
+            "page 7 gone frame - top 16 objects 3 live 2 copied 2/2",
+        ),
+    ] {
+        let page = Page {
+            state,
+            frame,
+            top: 16,
+        };
+        page_is_shown(&rt, rt.alloc(), page, copies, text)?;
     }
     Ok(())
 }
