@@ -19,6 +19,8 @@ mod loads;
 #[cfg(test)]
 mod marks;
 #[cfg(test)]
+mod moves;
+#[cfg(test)]
 mod objects;
 #[cfg(test)]
 mod pages;
