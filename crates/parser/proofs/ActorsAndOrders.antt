@@ -116,7 +116,7 @@ unfolding order_at
 order_again sizes line actor at o few own is h =
     let operands = operand_words (row_of o.verb).kinds o in
     let w = word_again line at kinds.UnknownWord (row_of o.verb).text operands h in
-    let v = operands_again sizes line w.0 o [] few is (w.2 ∙ sym (append-nil operands)) in
+    let v = operands_again sizes line w.0 o few is w.2 in
     let e = end_again line v.0 v.2 in
     rw (w.1, in_verb actor o own, v.1, e) refl
 

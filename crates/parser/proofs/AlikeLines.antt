@@ -16,13 +16,14 @@ use Rattle.model.specs.declared.steps.Actor.{Actor}
 use Rattle.parser.specs.Words.{◌>>=◌, flaw, or_flaw, word_or, is_number, capped_from, named_in, named_at, end_at}
 use Rattle.parser.specs.Words.{number_at, point_parts, address_number, address_in, address_at}
 use Rattle.parser.proofs.Addresses.{parts_are}
-use Rattle.parser.specs.Orders.{verb_in, register_at, operand_at, operands_at, order_at, first_byte, actor_at}
+use Rattle.parser.specs.Orders.{verb_in, register_at, operand_at, more_at, operands_at, order_at, first_byte, actor_at}
 use Rattle.parser.specs.Faults.{IsWrongWord}
 use Rattle.parser.proofs.Alike.{AreAlike, IsJudged, IsWordAlike, IsReadAlike, word_alike, then_alike, done_alike}
 use Rattle.parser.proofs.Alike.{one_word, one_word_then, IsPlaced, IsLate, then_placed, bind_assoc, no_bytes}
 use Rattle.parser.proofs.Alike.{fault_at_word}
 use Rattle.parser.proofs.AlikeReads.{Alike, AlikeToEnd, next_alike, last_alike, found_alike, number_alike}
-use Rattle.parser.proofs.AlikeReads.{small_alike, end_alike, heap_alike, layout_alike, test_first}
+use Rattle.parser.proofs.AlikeReads.{small_alike, numbers_alike, end_alike, heap_alike, layout_alike, test_first}
+use Rattle.parser.specs.Verbs.{row_of}
 use Rattle.std.specs.Str.{bytes_eq}
 use Rattle.std.specs.List.{repeat}
 use Rattle.std.proofs.lemmas.Slice.Eq.{bytes_eq-Decides}
@@ -181,6 +182,10 @@ module _ (n : ℕ) (line other : List ℕ) (k : AreAlike n line other) (sizes : 
   operand_alike at Long = number_alike n line other k at 0 18446744073709551615
   operand_alike at Address = address_alike at sizes.words
 
+  more_alike : (at : ℕ) (some : Bool) → Alike n line other k at (more_at some line at) (more_at some other at)
+  more_alike at false = found_alike n line other k [] at
+  more_alike at true = numbers_alike n line other k at
+
   operands_alike : (at : ℕ) (verb : Verb)
       → Alike n line other k at (operands_at sizes line at verb) (operands_at sizes other at verb)
   unfolding operands_at
@@ -189,7 +194,8 @@ module _ (n : ℕ) (line other : List ℕ) (k : AreAlike n line other) (sizes : 
       next_alike n line other k at (operand_at sizes line at kind) (operand_at sizes other at kind) f g
       (operand_alike at kind) in
       next at _ _ _ (λ a. next a.1 _ _ _ (λ b. next b.1 _ _ _ (λ c. next c.1 _ _ _
-      (λ d. found_alike n line other k _ d.1))))
+      (λ d. next_alike n line other k d.1 _ _ _ _ (more_alike d.1 (row_of verb).kinds.more)
+      (λ e. found_alike n line other k _ e.1)))))
 
   pub order_alike : (actor : Actor) (at : ℕ)
       → AlikeToEnd n line other k at (order_at sizes line actor at) (order_at sizes other actor at)

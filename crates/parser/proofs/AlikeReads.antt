@@ -1,5 +1,5 @@
 -- Numbers, names, headings and orders are read alike in lines that are alike.
-use Rattle.std.proofs.Common.{◌≡◌, ◌≢◌, ℕ, ◌+◌, ◌<◌, ◌≤◌, Bool, true, false, cond, nat_lt, List, []}
+use Rattle.std.proofs.Common.{◌≡◌, ◌≢◌, ℕ, zero, suc, ◌+◌, ◌<◌, ◌≤◌, Bool, true, false, cond, nat_lt, List, [], ◌∷◌}
 use Rattle.std.proofs.Common.{length, Some, refl, sym, ap, subst, ◌∙◌, arith, inl, inr}
 use Rattle.std.specs.Prelude.{Result, Ok, Err, ◌||◌, not, nat_le, codes}
 use Rattle.std.specs.Str.{bytes_eq}
@@ -20,6 +20,8 @@ use Rattle.parser.proofs.WordPlaces.{IsBehindWord}
 use Rattle.parser.proofs.Alike.{word_alike, then_alike, done_alike, one_word, one_word_then}
 use Rattle.parser.proofs.WordPlaces.{finds_word, none_past}
 use Rattle.parser.proofs.Alike.{fault_at_word}
+use Rattle.parser.specs.Orders.{numbers_by, numbers_at}
+use Rattle.parser.proofs.ManyNumbers.{by_past, by_first, numbers_enough}
 
 -- ---- how words are judged
 
@@ -206,23 +208,6 @@ module _ (n : ℕ) (line other : List ℕ) (k : AreAlike n line other) where
         placed = end_placed line at;
       }) (λ u. done_alike line (λ (x : A). length line + 1) n (length line + 1) x refl)
 
-  -- ---- the heap line
-
-  field_alike : (name : List ℕ) (low high at : ℕ)
-      → Alike at (field_at line at name low high) (field_at other at name low high)
-  unfolding field_at
-  field_alike name low high at =
-      then_alike line (λ (x : ℕ). x) (λ (x : ℕ × ℕ). x.1) n at _ _ _ _ (fixed_alike at name)
-      (λ after. number_alike after low high)
-
-  page_size_alike : (at : ℕ) → Alike at (page_size_at line at) (page_size_at other at)
-  unfolding page_size_at
-  page_size_alike at =
-      then_alike line (λ (x : ℕ). x) (λ (x : ℕ × ℕ). x.1) n at _ _ _ _ (fixed_alike at (codes "words"))
-      (λ after. number_then after 16 4096
-      (λ (x : ℕ × ℕ). cond (not (is_page_size x.0)) (Err (flaw after kinds.NumberOutOfRange)) (Ok x))
-      (λ w x e number. judge_size after w x e number (not (is_page_size x.0))))
-
   -- what is read as something that is read alike, of the other line where the place is early
   alike_by : {A : Type 0} (at : ℕ) (r s p q : Result (A × ℕ) Flaw) → r ≡ p → (at < n → s ≡ q) → Alike at p q
       → Alike at r s
@@ -240,6 +225,44 @@ module _ (n : ℕ) (line other : List ℕ) (k : AreAlike n line other) where
         late = late;
         placed = λ spot. subst (IsPlaced line place) (sym e) (h.placed spot);
       }
+
+  -- numbers, so many at most in both lines
+  by_alike : (most at : ℕ) → Alike at (numbers_by most line at) (numbers_by most other at)
+  unfolding numbers_by
+  by_alike zero at = found_alike [] at
+  by_alike (suc most) at = elim (cases_lt (length line) at) [
+    | inl past ↦
+        let long = k.long in
+        alike_by at _ _ _ _ (by_past (suc most) line at past) (λ before. absurd (omega arith)) (found_alike [] at)
+    | inr within ↦
+        alike_by at _ _ _ _ (by_first most line at within)
+        (λ before. by_first most other at (k.within_other at before))
+        (next_alike at _ _ _ _ (small_alike at) (λ v. next_alike v.1 _ _ _ _ (by_alike most v.1)
+        (λ others. found_alike (v.0 ∷ others.0) others.1)))
+  ]
+
+  pub numbers_alike : (at : ℕ) → Alike at (numbers_at line at) (numbers_at other at)
+  numbers_alike at =
+      let most = length line + length other + 1 in
+      alike_by at _ _ _ _ (numbers_enough most line at (omega arith))
+      (λ before. numbers_enough most other at (omega arith)) (by_alike most at)
+
+  -- ---- the heap line
+
+  field_alike : (name : List ℕ) (low high at : ℕ)
+      → Alike at (field_at line at name low high) (field_at other at name low high)
+  unfolding field_at
+  field_alike name low high at =
+      then_alike line (λ (x : ℕ). x) (λ (x : ℕ × ℕ). x.1) n at _ _ _ _ (fixed_alike at name)
+      (λ after. number_alike after low high)
+
+  page_size_alike : (at : ℕ) → Alike at (page_size_at line at) (page_size_at other at)
+  unfolding page_size_at
+  page_size_alike at =
+      then_alike line (λ (x : ℕ). x) (λ (x : ℕ × ℕ). x.1) n at _ _ _ _ (fixed_alike at (codes "words"))
+      (λ after. number_then after 16 4096
+      (λ (x : ℕ × ℕ). cond (not (is_page_size x.0)) (Err (flaw after kinds.NumberOutOfRange)) (Ok x))
+      (λ w x e number. judge_size after w x e number (not (is_page_size x.0))))
 
   limit_by : (name : List ℕ) (most at : ℕ) (w : List ℕ × ℕ) → word_at line at ≡ Some w → (b : Bool)
       → bytes_eq w.0 name ≡ b → Alike at (limit_at line at name most) (limit_at other at name most)

@@ -1,8 +1,10 @@
 -- Where operands and orders break off, the words before are the first ones of some operands and orders.
-use Rattle.std.proofs.Common.{◌≡◌, ℕ, ◌+◌, ◌≤◌, Bool, true, false, cond, nat_lt, List, [], ◌∷◌, ◌++◌}
+use Rattle.std.proofs.Common.{◌≡◌, ℕ, zero, suc, ◌+◌, ◌^◌, ◌<◌, ◌≤◌, Bool, true, false, cond, nat_lt, List, [], ◌∷◌}
+use Rattle.std.proofs.Common.{◌++◌}
 use Rattle.std.proofs.Common.{length, refl, sym, ap, subst, ◌∙◌, arith, inl, inr, append_assoc, Option, Some, None}
 use Rattle.std.proofs.Common.{append-nil}
-use Rattle.std.specs.Prelude.{Result, Ok, Err, ◌⊎◌, ◌||◌, not, nat_le}
+use Rattle.std.specs.Prelude.{Result, Ok, Err, ◌⊎◌, ◌||◌, not, nat_le, map}
+use Rattle.std.specs.Fmt.{decimal}
 use Rattle.std.proofs.lemmas.Bool.{cases_lt}
 use Rattle.std.proofs.lemmas.Bool.Decides.{nat_tests}
 use Rattle.parser.specs.declared.fault.FaultKind.{FaultKind}
@@ -13,10 +15,13 @@ use Rattle.parser.specs.Words.{◌>>=◌, flaw, word_or, is_number, capped_from,
 use Rattle.parser.specs.Words.{named_at, address_at, end_at, or_flaw}
 use Rattle.parser.specs.declared.verbs.Kind.{Kind}
 use Rattle.parser.specs.declared.verbs.Kind.TheVariants.{Nothing, Register, Number, ThreadName, Long, Address}
-use Rattle.parser.specs.Orders.{does, verb_in, register_at, operand_at, operands_at, order_at}
-use Rattle.parser.specs.Spelling.{operand_word, operand_words, order_words, IsOperand, IsOrder, IsFor}
+use Rattle.parser.specs.Orders.{does, verb_in, register_at, operand_at, numbers_by, numbers_at, more_at, order_of}
+use Rattle.parser.specs.Orders.{operands_at, order_at}
+use Rattle.parser.specs.Spelling.{operand_word, operand_words, order_words, IsOperand, AreMore, IsOrder, IsFor}
 use Rattle.parser.proofs.Places.{words_from, end_past}
-use Rattle.parser.proofs.Places.{bind_ok, or_flaw_ok, word_ok}
+use Rattle.parser.proofs.Places.{bind_ok, or_flaw_ok, word_ok, small_ok}
+use Rattle.parser.proofs.Lists.{all_from}
+use Rattle.parser.proofs.ManyNumbers.{by_past, by_first, AreSmall}
 use Rattle.parser.proofs.Alike.{IsJudged, word_or_some, word_or_none, bind_assoc}
 use Rattle.parser.proofs.WordPlaces.{finds_word}
 use Rattle.parser.proofs.AlikeReads.{judge_number}
@@ -204,6 +209,54 @@ operand_break sizes line at ThreadName f h =
 operand_break sizes line at Long f h = number_break line at 0 18446744073709551615 f h
 operand_break sizes line at Address f h = address_break line at sizes.words f h
 
+-- ---- numbers behind operands
+
+-- numbers of which the fault stands behind the first ones
+record NumbersBreak (line : List ℕ) (at : ℕ) (f : Flaw) : Type 0 where
+  numbers : List ℕ
+  small : AreSmall numbers
+  breaks : Breaks line at f (map decimal numbers)
+
+by_break : (n : ℕ) (line : List ℕ) (at : ℕ) (f : Flaw) → numbers_by n line at ≡ Err f → NumbersBreak line at f
+unfolding numbers_by
+by_break zero line at f h = absurd (no_err ([], at) f h)
+by_break (suc n) line at f h = elim (cases_lt (length line) at) [
+  | inl past ↦ absurd (no_err ([], at) f (sym (by_past (suc n) line at past) ∙ h))
+  | inr within ↦ elim (bind_err (small_at line at) _ f (sym (by_first n line at within) ∙ h)) [
+    | inl e ↦ record { numbers = []; small = tt; breaks = here line at f [] (small_break line at f e) }
+    | inr a ↦ elim (bind_err (numbers_by n line a.0.1) _ f a.1.1) [
+      | inl e ↦
+          let first = small_ok line at a.0 a.1.0 in
+          let others = by_break n line a.0.1 f e in
+          record {
+            numbers = a.0.0 ∷ others.numbers;
+            small = (omega (arith, first.below), others.small);
+            breaks = later line at a.0.1 f (decimal a.0.0 ∷ []) _ first.spelled others.breaks;
+          }
+      | inr b ↦ absurd (no_err _ f b.1.1)
+    ]
+  ]
+]
+
+-- the same of numbers that may be there
+record MoreBreaks (line : List ℕ) (at : ℕ) (f : Flaw) (some : Bool) : Type 0 where
+  numbers : List ℕ
+  fits : AreMore some numbers
+  breaks : Breaks line at f (map decimal numbers)
+
+more_break : (line : List ℕ) (at : ℕ) (f : Flaw) (some : Bool) → more_at some line at ≡ Err f
+    → MoreBreaks line at f some
+unfolding numbers_at
+more_break line at f false h = absurd (no_err ([], at) f h)
+more_break line at f true h =
+    let b = by_break (length line + 1) line at f h in
+    record { numbers = b.numbers; fits = all_from (λ n. n < 2 ^ 32) b.numbers b.small; breaks = b.breaks }
+
+-- no numbers may be there always
+no_more : (some : Bool) → AreMore some []
+no_more false = refl
+no_more true = all_from (λ n. n < 2 ^ 32) [] tt
+
 -- ---- operands
 
 -- 0 is an operand of each kind
@@ -215,19 +268,15 @@ zero_fits sizes ThreadName few = few.threads.0
 zero_fits sizes Long few = omega arith
 zero_fits sizes Address few = (omega arith, few.words.0)
 
--- the order of a verb with these operands
-abbrev with_operands : Verb → ℕ → ℕ → ℕ → ℕ → Order
-with_operands verb first second third wide =
-    record { verb = verb; first = first; second = second; third = third; wide = wide }
-
 -- operands of a verb, of which the fault stands behind the first ones
 record OperandsBreak (sizes : Sizes) (line : List ℕ) (at : ℕ) (f : Flaw) (verb : Verb) : Type 0 where
   first : ℕ
   second : ℕ
   third : ℕ
   wide : ℕ
-  fits : IsOrder (bounds_in sizes) (with_operands verb first second third wide)
-  breaks : Breaks line at f (operand_words (row_of verb).kinds (with_operands verb first second third wide))
+  more : List ℕ
+  fits : IsOrder (bounds_in sizes) (order_of verb first second third wide more)
+  breaks : Breaks line at f (operand_words (row_of verb).kinds (order_of verb first second third wide more))
 
 operands_break : (sizes : Sizes) (line : List ℕ) (at : ℕ) (f : Flaw) (verb : Verb) → AreFew sizes
     → operands_at sizes line at verb ≡ Err f → OperandsBreak sizes line at f verb
@@ -257,7 +306,17 @@ operands_break sizes line at f verb few h =
                             all a.0.0 b.0.0 c.0.0 one.fits two.fits three.fits (past_one _ one.spelled
                             (past_two _ two.spelled (past_three _ three.spelled
                             (here line c.0.1 f _ (wrong c.0.1 k.wide e)))))
-                        | inr d ↦ absurd (no_err _ f d.1.1)
+                        | inr d ↦
+                            let four = operand_ok sizes line c.0.1 k.wide d.0 few d.1.0 in
+                            let past_four = later line c.0.1 d.0.1 f (operand_word k.wide d.0.0) in
+                            elim (bind_err (more_at k.more line d.0.1) _ f d.1.1) [
+                              | inl e ↦
+                                  let more = more_break line d.0.1 f k.more e in
+                                  with_more a.0.0 b.0.0 c.0.0 d.0.0 more.numbers one.fits two.fits three.fits four.fits
+                                  more.fits (past_one _ one.spelled (past_two _ two.spelled
+                                  (past_three _ three.spelled (past_four _ four.spelled more.breaks))))
+                              | inr m ↦ absurd (no_err _ f m.1.1)
+                            ]
                       ]
                 ]
           ]
@@ -272,18 +331,25 @@ operands_break sizes line at f verb few h =
     wrong : (at : ℕ) (kind : Kind) → operand_at sizes line at kind ≡ Err f → BreaksBehind line at f []
     wrong at kind e = operand_break sizes line at kind f e
 
-    all : (a b c : ℕ) → IsOperand (bounds_in sizes) k.first a → IsOperand (bounds_in sizes) k.second b
-        → IsOperand (bounds_in sizes) k.third c
-        → Breaks line at f (operand_words k (with_operands verb a b c 0))
-        → OperandsBreak sizes line at f verb
-    all a b c one two three breaks = record {
+    with_more : (a b c d : ℕ) (ns : List ℕ) → IsOperand (bounds_in sizes) k.first a
+        → IsOperand (bounds_in sizes) k.second b → IsOperand (bounds_in sizes) k.third c
+        → IsOperand (bounds_in sizes) k.wide d → AreMore k.more ns
+        → Breaks line at f (operand_words k (order_of verb a b c d ns)) → OperandsBreak sizes line at f verb
+    with_more a b c d ns one two three four more breaks = record {
       first = a;
       second = b;
       third = c;
-      wide = 0;
-      fits = record { first = one; second = two; third = three; wide = zero k.wide };
+      wide = d;
+      more = ns;
+      fits = record { first = one; second = two; third = three; wide = four; more = more };
       breaks = breaks;
     }
+
+    all : (a b c : ℕ) → IsOperand (bounds_in sizes) k.first a → IsOperand (bounds_in sizes) k.second b
+        → IsOperand (bounds_in sizes) k.third c
+        → Breaks line at f (operand_words k (order_of verb a b c 0 []))
+        → OperandsBreak sizes line at f verb
+    all a b c one two three breaks = with_more a b c 0 [] one two three (zero k.wide) (no_more k.more) breaks
 
 -- ---- orders
 
@@ -298,19 +364,19 @@ pub record OrderBreaks (sizes : Sizes) (actor : Actor) (line : List ℕ) (at : �
 unknown_order : (sizes : Sizes) (actor : Actor) (line : List ℕ) (at : ℕ) (f : Flaw) → BreaksBehind line at f []
     → OrderBreaks sizes actor line at f
 unknown_order sizes (Thread t) line at f h =
-    let order = with_operands verbs.Give 0 0 0 0 in
+    let order = order_of verbs.Give 0 0 0 0 [] in
     record {
       order = order;
       own = refl;
-      fits = record { first = refl; second = refl; third = refl; wide = refl };
+      fits = record { first = refl; second = refl; third = refl; wide = refl; more = refl };
       breaks = here line at f (order_words order) h;
     }
 unknown_order sizes (Worker w) line at f h =
-    let order = with_operands verbs.Mark 0 0 0 0 in
+    let order = order_of verbs.Mark 0 0 0 0 [] in
     record {
       order = order;
       own = refl;
-      fits = record { first = refl; second = refl; third = refl; wide = refl };
+      fits = record { first = refl; second = refl; third = refl; wide = refl; more = refl };
       breaks = here line at f (order_words order) h;
     }
 
@@ -319,7 +385,7 @@ module _ (sizes : Sizes) (actor : Actor) (line : List ℕ) (at after : ℕ) (f :
   -- where an operand isn't read
   operands_told : OperandsBreak sizes line after f verb → OrderBreaks sizes actor line at f
   operands_told h = record {
-    order = with_operands verb h.first h.second h.third h.wide;
+    order = order_of verb h.first h.second h.third h.wide h.more;
     own = own;
     fits = h.fits;
     breaks = later line at after f ((row_of verb).text ∷ []) _ first h.breaks;

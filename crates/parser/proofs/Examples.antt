@@ -1,15 +1,18 @@
 -- Small texts with a fault, parts of lines, and the words of orders, worked out.
-use Rattle.std.proofs.Common.{◌≡◌, ℕ, [], ◌∷◌, ◌++◌, None, refl}
-use Rattle.std.specs.Prelude.{Ok, Err, codes}
+use Rattle.std.proofs.Common.{◌≡◌, ℕ, List, [], ◌∷◌, ◌++◌, None, refl}
+use Rattle.std.specs.Prelude.{Result, Ok, Err, codes}
 use Rattle.std.specs.Fmt.{decimal}
 use Rattle.parser.specs.declared.fault.FaultKind.TheVariants as kinds
+use Rattle.parser.specs.declared.fault.Flaw.{Flaw}
+use Rattle.parser.specs.declared.heading.Sizes.{Sizes}
 use Rattle.parser.specs.declared.order.Order.{Order}
 use Rattle.parser.specs.declared.verbs.Verb.{Verb}
 use Rattle.parser.specs.declared.verbs.Verb.TheVariants as verbs
 use Rattle.model.specs.declared.steps.Actor.TheVariants.{Thread, Worker}
-use Rattle.parser.specs.Words.{flaw, word_at, word_or, fixed_at, is_number, capped_from, number_at}
+use Rattle.model.specs.declared.steps.Step.TheVariants as steps
+use Rattle.parser.specs.Words.{flaw, word_at, word_or, fixed_at, is_number, capped_from, number_at, small_at, end_at}
 use Rattle.parser.specs.Words.{point_parts, address_at}
-use Rattle.parser.specs.Orders.{verb_in}
+use Rattle.parser.specs.Orders.{verb_in, order_of, numbers_by, numbers_at, operand_at, operands_at, order_at, step_of}
 use Rattle.parser.specs.Headings.{page_size_at, memory_at, sizes_at, heap_in}
 use Rattle.parser.specs.Verbs.{verb_of}
 use Rattle.parser.specs.Spelling.{register_word, order_words}
@@ -52,7 +55,7 @@ no_newline = refl
 
 abbrev order : Verb → ℕ → ℕ → ℕ → ℕ → Order
 order verb first second third wide =
-    record { verb = verb; first = first; second = second; third = third; wide = wide }
+    order_of verb first second third wide []
 
 give : order_words (order verbs.Give 0 0 0 0) ≡ codes "give" ∷ []
 give = refl
@@ -94,6 +97,74 @@ cross_for t = refl
 
 drain : order_words (order verbs.Drain 0 0 0 0) ≡ codes "drain" ∷ []
 drain = refl
+
+copy : (p e : ℕ) → order_words (order verbs.Copy p e 0 0) ≡ codes "copy" ∷ decimal p ∷ decimal e ∷ []
+copy p e = refl
+
+release : (p : ℕ) → order_words (order verbs.Release p 0 0 0) ≡ codes "release" ∷ decimal p ∷ []
+release p = refl
+
+-- ---- lists of pages
+
+-- pages in the order of the line
+protect : order_words (order_of verbs.Protect 3 0 0 0 (1 ∷ 2 ∷ []))
+    ≡ codes "protect" ∷ decimal 3 ∷ decimal 1 ∷ decimal 2 ∷ []
+protect = refl
+
+protected : step_of (order_of verbs.Protect 3 0 0 0 (1 ∷ 2 ∷ [])) ≡ steps.Protect (3 ∷ 1 ∷ 2 ∷ [])
+protected = refl
+
+some_sizes : Sizes
+some_sizes = record {
+  words = 16;
+  frames = 1;
+  pages = 1;
+  threads = 1;
+  workers = 1;
+  registers = 1;
+  globals = 0;
+  births = 1;
+  history = 1;
+}
+
+-- what a worker's words are read as
+abbrev read : List ℕ → Result Order Flaw
+read line = order_at some_sizes line (Worker 0) 0
+
+one_page : read (codes "protect 1") ≡ Ok (order_of verbs.Protect 1 0 0 0 [])
+unfolding order_at operands_at operand_at numbers_at numbers_by small_at number_at word_or word_at verb_of is_number
+    capped_from end_at
+one_page = refl
+
+three_pages : read (codes "protect 3 1 2") ≡ Ok (order_of verbs.Protect 3 0 0 0 (1 ∷ 2 ∷ []))
+unfolding order_at operands_at operand_at numbers_at numbers_by small_at number_at word_or word_at verb_of is_number
+    capped_from end_at
+three_pages = refl
+
+-- without a page, with an empty word behind the pages, and with pages that are no numbers of 32 bits
+no_page : read (codes "protect") ≡ Err (flaw 7 kinds.NumberExpected)
+unfolding order_at operands_at operand_at small_at number_at word_or word_at verb_of
+no_page = refl
+
+empty_page : read (codes "protect 1 ") ≡ Err (flaw 10 kinds.NumberExpected)
+unfolding order_at operands_at operand_at numbers_at numbers_by small_at number_at word_or word_at verb_of is_number
+    capped_from
+empty_page = refl
+
+malformed_page : read (codes "protect 1 02") ≡ Err (flaw 10 kinds.NumberExpected)
+unfolding order_at operands_at operand_at numbers_at numbers_by small_at number_at word_or word_at verb_of is_number
+    capped_from
+malformed_page = refl
+
+large_page : read (codes "protect 1 2 4294967296") ≡ Err (flaw 12 kinds.NumberOutOfRange)
+unfolding order_at operands_at operand_at numbers_at numbers_by small_at number_at word_or word_at verb_of is_number
+    capped_from
+large_page = refl
+
+-- other orders end behind their operands
+one_word_more : read (codes "release 1 2") ≡ Err (flaw 10 kinds.EndOfLineExpected)
+unfolding order_at operands_at operand_at small_at number_at word_or word_at verb_of is_number capped_from end_at
+one_word_more = refl
 
 -- an address, and some that are none
 address : address_at (codes "pick 3.5") 5 16 ≡ Ok (12884901893, 9)

@@ -1,7 +1,9 @@
 -- An order's operands: what is read is written so, and what is written so is read.
-use Rattle.std.proofs.Common.{◌≡◌, ℕ, ◌^◌, ◌<◌, ◌≤◌, List, [], ◌++◌, refl, sym, ap, subst, ◌∙◌, arith, lit<}
+use Rattle.std.proofs.Common.{◌≡◌, ℕ, ◌^◌, ◌<◌, ◌≤◌, Bool, true, false, List, [], ◌++◌, refl, sym, ap, subst, ◌∙◌}
+use Rattle.std.proofs.Common.{arith, lit<}
 use Rattle.std.proofs.Common.{append_assoc}
-use Rattle.std.specs.Prelude.{Ok}
+use Rattle.std.specs.Prelude.{Ok, map}
+use Rattle.std.specs.Fmt.{decimal}
 use Rattle.model.proofs.Results.{same_result}
 use Rattle.parser.specs.declared.fault.FaultKind.TheVariants as kinds
 use Rattle.parser.specs.declared.heading.Sizes.{Sizes}
@@ -10,11 +12,13 @@ use Rattle.parser.specs.declared.verbs.Kind.{Kind}
 use Rattle.parser.specs.declared.verbs.Kind.TheVariants.{Nothing, Register, Number, ThreadName, Long, Address}
 use Rattle.parser.specs.declared.verbs.Verb.{Verb}
 use Rattle.parser.specs.Verbs.{row_of}
-use Rattle.parser.specs.Orders.{register_at, operand_at, operands_at}
+use Rattle.parser.specs.Orders.{register_at, operand_at, more_at, order_of, operands_at}
 use Rattle.parser.specs.Headings.{config_of}
-use Rattle.parser.specs.Spelling.{operand_word, operand_words, Bounds, bounds_of, IsOperand, IsOrder}
+use Rattle.parser.specs.Spelling.{operand_word, operand_words, Bounds, bounds_of, IsOperand, AreMore, IsOrder}
 use Rattle.parser.proofs.Places.{words_from, Reads}
 use Rattle.parser.proofs.Addresses.{address_ok, address_again}
+use Rattle.parser.proofs.Lists.{all_from, all_to}
+use Rattle.parser.proofs.ManyNumbers.{numbers_ok, numbers_again}
 use Rattle.parser.proofs.Places.{bind_ok, number_ok, number_again, small_ok, small_again, named_ok, named_again}
 
 -- ---- bounds
@@ -76,6 +80,28 @@ operand_again sizes line at ThreadName n ws few is h =
     named_again line at 116 sizes.threads kinds.NoSuchActor n ws (omega (arith, few.threads.1, is)) is h
 operand_again sizes line at Address n ws few is h = address_again line at sizes.words n ws is.0 is.1 h
 
+-- ---- numbers behind operands
+
+-- more numbers are spelled at a place, where there may be some
+record AreMoreAt (line : List ℕ) (at : ℕ) (some : Bool) (v : List ℕ × ℕ) : Type 0 where
+  spelled : words_from line at ≡ map decimal v.0 ++ words_from line v.1
+  fits : AreMore some v.0
+
+more_ok : (line : List ℕ) (at : ℕ) (some : Bool) (v : List ℕ × ℕ) → more_at some line at ≡ Ok v
+    → AreMoreAt line at some v
+more_ok line at false v h =
+    subst (λ (x : List ℕ × ℕ). AreMoreAt line at false x) (same_result ([], at) v h)
+    (record { spelled = refl; fits = refl })
+more_ok line at true v h =
+    let n = numbers_ok line at v h in
+    record { spelled = n.spelled; fits = all_from (λ n. n < 2 ^ 32) v.0 n.small }
+
+more_again : (line : List ℕ) (at : ℕ) (some : Bool) (ns : List ℕ) → AreMore some ns
+    → words_from line at ≡ map decimal ns → Reads line (more_at some line at) ns []
+more_again line at false ns is h =
+    (at, ap (λ (x : List ℕ). Ok (x, at)) (sym is), h ∙ ap (map decimal) is)
+more_again line at true ns is h = numbers_again line at ns (all_to (λ n. n < 2 ^ 32) ns is) h
+
 -- ---- the operands of an order
 
 -- words behind words
@@ -97,33 +123,39 @@ operands_ok sizes line at verb v fits h =
     let b = bind_ok (operand_at sizes line a.0.1 k.second) _ v a.2 in
     let c = bind_ok (operand_at sizes line b.0.1 k.third) _ v b.2 in
     let d = bind_ok (operand_at sizes line c.0.1 k.wide) _ v c.2 in
+    let e = bind_ok (more_at k.more line d.0.1) _ v d.2 in
     let first = operand_ok sizes line at k.first a.0 fits a.1 in
     let second = operand_ok sizes line a.0.1 k.second b.0 fits b.1 in
     let third = operand_ok sizes line b.0.1 k.third c.0 fits c.1 in
     let wide = operand_ok sizes line c.0.1 k.wide d.0 fits d.1 in
-    let order : Order = record { verb = verb; first = a.0.0; second = b.0.0; third = c.0.0; wide = d.0.0 } in
-    subst (λ (x : Order × ℕ). IsOrderAt sizes line at verb x) (same_result (order, d.0.1) v d.2)
+    let more = more_ok line d.0.1 k.more e.0 e.1 in
+    let order = order_of verb a.0.0 b.0.0 c.0.0 d.0.0 e.0.0 in
+    subst (λ (x : Order × ℕ). IsOrderAt sizes line at verb x) (same_result (order, e.0.1) v e.2)
     (record {
       verb_is = refl;
       spelled = behind _ _ _ _ _ first.spelled (behind _ _ _ _ _ second.spelled
-          (behind _ _ _ _ _ third.spelled wide.spelled));
-      fits = record { first = first.fits; second = second.fits; third = third.fits; wide = wide.fits };
+          (behind _ _ _ _ _ third.spelled (behind _ _ _ _ _ wide.spelled more.spelled)));
+      fits = record {
+        first = first.fits;
+        second = second.fits;
+        third = third.fits;
+        wide = wide.fits;
+        more = more.fits;
+      };
     })
 
-pub operands_again : (sizes : Sizes) (line : List ℕ) (at : ℕ) (o : Order) (ws : List (List ℕ))
-    → AreFew sizes → IsOrder (bounds_in sizes) o
-    → words_from line at ≡ operand_words (row_of o.verb).kinds o ++ ws
-    → Reads line (operands_at sizes line at o.verb) o ws
+pub operands_again : (sizes : Sizes) (line : List ℕ) (at : ℕ) (o : Order) → AreFew sizes → IsOrder (bounds_in sizes) o
+    → words_from line at ≡ operand_words (row_of o.verb).kinds o → Reads line (operands_at sizes line at o.verb) o []
 unfolding operands_at
-operands_again sizes line at o ws fits is h =
+operands_again sizes line at o fits is h =
     let k = (row_of o.verb).kinds in
+    let m = map decimal o.more in
     let w = operand_word k.wide o.wide in
     let z = operand_word k.third o.third in
     let y = operand_word k.second o.second in
-    let a = operand_again sizes line at k.first o.first ((y ++ (z ++ w)) ++ ws) fits is.first
-    (h ∙ append_assoc (operand_word k.first o.first) (y ++ (z ++ w)) ws) in
-    let b = operand_again sizes line a.0 k.second o.second ((z ++ w) ++ ws) fits is.second
-    (a.2 ∙ append_assoc y (z ++ w) ws) in
-    let c = operand_again sizes line b.0 k.third o.third (w ++ ws) fits is.third (b.2 ∙ append_assoc z w ws) in
-    let d = operand_again sizes line c.0 k.wide o.wide ws fits is.wide c.2 in
-    (d.0, rw (a.1, b.1, c.1, d.1) refl, d.2)
+    let a = operand_again sizes line at k.first o.first (y ++ (z ++ (w ++ m))) fits is.first h in
+    let b = operand_again sizes line a.0 k.second o.second (z ++ (w ++ m)) fits is.second a.2 in
+    let c = operand_again sizes line b.0 k.third o.third (w ++ m) fits is.third b.2 in
+    let d = operand_again sizes line c.0 k.wide o.wide m fits is.wide c.2 in
+    let e = more_again line d.0 k.more o.more is.more d.2 in
+    (e.0, rw (a.1, b.1, c.1, d.1, e.1) refl, e.2)

@@ -1,7 +1,7 @@
 -- Words of bytes behind the space, and lines made of them.
-use Rattle.std.proofs.Common.{◌≡◌, ℕ, ◌^◌, ◌<◌, true, false, List, []}
+use Rattle.std.proofs.Common.{◌≡◌, ℕ, ◌^◌, ◌<◌, Bool, true, false, List, [], sym, subst}
 use Rattle.std.proofs.Common.{nat_lt, ◌≢◌, ◌∷◌, ◌++◌, refl, ap, ◌∙◌, arith, inl, inr, append_assoc}
-use Rattle.std.specs.Prelude.{codes}
+use Rattle.std.specs.Prelude.{codes, map}
 use Rattle.std.specs.Fmt.{decimal}
 use Rattle.std.specs.List.{All, AllByRecursion, list_all, slice_split, join_with_byte, flat_map}
 use Rattle.std.proofs.lemmas.Bool.Decides.{nat_tests}
@@ -21,8 +21,9 @@ use Rattle.parser.specs.Headings.{config_of}
 use Rattle.parser.specs.Reading.{newline}
 use Rattle.parser.specs.Spelling.{line_of, actor_word, address_word, operand_word, order_words, SpellsLimit, with_newline}
 use Rattle.std.proofs.lemmas.List.Folds.{list_all-append}
-use Rattle.parser.specs.Spelling.{IsActor, IsOperand, IsOrder}
-use Rattle.parser.proofs.Lists.{HasNoNewlines, all_both, all_from}
+use Rattle.parser.specs.Spelling.{IsActor, IsOperand, AreMore, IsOrder}
+use Rattle.parser.proofs.Lists.{HasNoNewlines, all_both, all_from, all_to}
+use Rattle.parser.proofs.ManyNumbers.{AreSmall}
 use Rattle.parser.proofs.Numbers.{decimal_digits}
 use Rattle.parser.proofs.Places.{space}
 use Rattle.parser.proofs.Operands.{AreFew, bounds_in}
@@ -115,6 +116,14 @@ operand_plain sizes ThreadName n few is = (number_plain n (omega (arith, few.thr
 operand_plain sizes Long n few is = (number_plain n is, tt)
 operand_plain sizes Address n few is = (address_plain n is.0, tt)
 
+numbers_plain : (ns : List ℕ) → AreSmall ns → AllByRecursion IsPlain (map decimal ns)
+numbers_plain [] h = tt
+numbers_plain (n ∷ ns) h = (number_plain n (omega (arith, h.0)), numbers_plain ns h.1)
+
+more_plain : (some : Bool) (ns : List ℕ) → AreMore some ns → AllByRecursion IsPlain (map decimal ns)
+more_plain false ns is = subst (λ (x : List ℕ). AllByRecursion IsPlain (map decimal x)) (sym is) tt
+more_plain true ns is = numbers_plain ns (all_to (λ n. n < 2 ^ 32) ns is)
+
 text_plain : (verb : Verb) → IsPlain (row_of verb).text
 text_plain verb = grind arith
 
@@ -123,8 +132,9 @@ pub order_plain : (sizes : Sizes) (o : Order) → AreFew sizes → IsOrder (boun
 order_plain sizes o few is =
     let k = (row_of o.verb).kinds in
     let each = λ (kind : Kind) (n : ℕ) (own : IsOperand (bounds_in sizes) kind n). operand_plain sizes kind n few own in
-    let last = all_both IsPlain (operand_word k.third o.third) (operand_word k.wide o.wide)
-    (each k.third o.third is.third) (each k.wide o.wide is.wide) in
+    let more = all_both IsPlain (operand_word k.wide o.wide) (map decimal o.more) (each k.wide o.wide is.wide)
+    (more_plain k.more o.more is.more) in
+    let last = all_both IsPlain (operand_word k.third o.third) _ (each k.third o.third is.third) more in
     let operands = all_both IsPlain (operand_word k.first o.first) _ (each k.first o.first is.first)
     (all_both IsPlain (operand_word k.second o.second) _ (each k.second o.second is.second) last) in
     (text_plain o.verb, operands)

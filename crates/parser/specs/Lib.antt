@@ -5,5 +5,6 @@ pub mod Orders
 pub mod Reading
 pub mod Scripts
 pub mod Views
+pub mod NumberLists
 pub mod Spelling
 pub mod Faults

@@ -1,11 +1,14 @@
 -- Commands.
-use Rattle.std.specs.Prelude.{ℕ, ◌==◌, not, Bool, List, [], ◌∷◌, Option, Some, None, Result, Ok, if◌then◌else◌}
+use Rattle.std.specs.Prelude.{◌≡◌, ℕ, zero, suc, ◌+◌, ◌==◌, nat_lt, not, Bool, true, false, List, [], ◌∷◌, length}
+use Rattle.std.specs.Prelude.{Option, Some, None, Result, Ok, Err, if◌then◌else◌}
 use Rattle.model.specs.declared.steps.Actor.{Actor}
 use Rattle.model.specs.declared.steps.Actor.TheVariants.{Thread, Worker}
 use Rattle.model.specs.declared.steps.Step.{Step}
 use Rattle.model.specs.declared.steps.Step.TheVariants as steps
 use Rattle.parser.specs.declared.fault.FaultKind.TheVariants as kinds
 use Rattle.parser.specs.declared.fault.Flaw.{Flaw}
+use Rattle.parser.specs.declared.fault.Stop.{Stop}
+use Rattle.parser.specs.declared.fault.Stop.TheVariants as stops
 use Rattle.parser.specs.declared.heading.Sizes.{Sizes}
 use Rattle.parser.specs.declared.order.Order.{Order}
 use Rattle.parser.specs.declared.order.Then.{Then}
@@ -18,41 +21,44 @@ use Rattle.parser.specs.Verbs.{row_of, verb_of, is_for_worker}
 use Rattle.parser.specs.Words.{◌>>=◌, or_flaw, flaw, word_or, number_at, small_at, named_at, address_at, end_at}
 use Rattle.parser.specs.Words.{page_in, offset_in}
 
--- the step of a verb with operands; of `get`, `getg` and `drain` the first one
-abbrev pub step_with : Verb → ℕ → ℕ → ℕ → ℕ → Step
-step_with verbs.Take n b c d = steps.Take n
-step_with verbs.Give a b c d = steps.GiveBack
-step_with verbs.New target layout c d = steps.New target layout
-step_with verbs.Load target object index d = steps.Load target object index
-step_with verbs.LoadGlobal target global c d = steps.LoadGlobal target global
-step_with verbs.Trap a b c d = steps.Trap
-step_with verbs.Heal a b c d = steps.Heal
-step_with verbs.Finish a b c d = steps.Finish
-step_with verbs.Store object index source d = steps.Store object index source
-step_with verbs.StoreGlobal global source c d = steps.StoreGlobal global source
-step_with verbs.Datum object index c d = steps.Datum object index
-step_with verbs.Set object index c value = steps.SetDatum object index value
-step_with verbs.Same left right c d = steps.Same left right
-step_with verbs.Null r b c d = steps.IsNull r
-step_with verbs.Move target source c d = steps.CopyReg target source
-step_with verbs.Clear r b c d = steps.ClearReg r
-step_with verbs.Cross a b c d = steps.Cross
-step_with verbs.Scrub r b c d = steps.Scrub r
-step_with verbs.Park a b c d = steps.Park
-step_with verbs.Unpark a b c d = steps.Unpark
-step_with verbs.Get target object index d = steps.Load target object index
-step_with verbs.GetGlobal target global c d = steps.LoadGlobal target global
-step_with verbs.Mark a b c d = steps.StartMark
-step_with verbs.EndMark a b c d = steps.EndMark
-step_with verbs.Pick a b c address = steps.Pick (page_in address) (offset_in address)
-step_with verbs.Scan a b c d = steps.ScanField
-step_with verbs.ScanGlobal global b c d = steps.ScanGlobal global
-step_with verbs.CrossFor thread b c d = steps.CrossFor thread
-step_with verbs.Drain a b c d = steps.ScanField
+-- the step of a verb with operands and more numbers; of `get`, `getg` and `drain` the first one
+abbrev pub step_with : Verb → ℕ → ℕ → ℕ → ℕ → List ℕ → Step
+step_with verbs.Take n b c d e = steps.Take n
+step_with verbs.Give a b c d e = steps.GiveBack
+step_with verbs.New target layout c d e = steps.New target layout
+step_with verbs.Load target object index d e = steps.Load target object index
+step_with verbs.LoadGlobal target global c d e = steps.LoadGlobal target global
+step_with verbs.Trap a b c d e = steps.Trap
+step_with verbs.Heal a b c d e = steps.Heal
+step_with verbs.Finish a b c d e = steps.Finish
+step_with verbs.Store object index source d e = steps.Store object index source
+step_with verbs.StoreGlobal global source c d e = steps.StoreGlobal global source
+step_with verbs.Datum object index c d e = steps.Datum object index
+step_with verbs.Set object index c value e = steps.SetDatum object index value
+step_with verbs.Same left right c d e = steps.Same left right
+step_with verbs.Null r b c d e = steps.IsNull r
+step_with verbs.Move target source c d e = steps.CopyReg target source
+step_with verbs.Clear r b c d e = steps.ClearReg r
+step_with verbs.Cross a b c d e = steps.Cross
+step_with verbs.Scrub r b c d e = steps.Scrub r
+step_with verbs.Park a b c d e = steps.Park
+step_with verbs.Unpark a b c d e = steps.Unpark
+step_with verbs.Get target object index d e = steps.Load target object index
+step_with verbs.GetGlobal target global c d e = steps.LoadGlobal target global
+step_with verbs.Mark a b c d e = steps.StartMark
+step_with verbs.EndMark a b c d e = steps.EndMark
+step_with verbs.Pick a b c address e = steps.Pick (page_in address) (offset_in address)
+step_with verbs.Scan a b c d e = steps.ScanField
+step_with verbs.ScanGlobal global b c d e = steps.ScanGlobal global
+step_with verbs.CrossFor thread b c d e = steps.CrossFor thread
+step_with verbs.Drain a b c d e = steps.ScanField
+step_with verbs.Protect page b c d others = steps.Protect (page ∷ others)
+step_with verbs.Copy page entry c d e = steps.Copy page entry
+step_with verbs.Release page b c d e = steps.Release page
 
 -- the step of an order
 abbrev pub step_of : Order → Step
-step_of o = step_with o.verb o.first o.second o.third o.wide
+step_of o = step_with o.verb o.first o.second o.third o.wide o.more
 
 -- what follows the step of a verb
 abbrev pub then_with : Verb → Then
@@ -96,6 +102,23 @@ operand_at sizes line at ThreadName = thread_at sizes line at
 operand_at sizes line at Long = number_at line at 0 18446744073709551615
 operand_at sizes line at Address = address_at line at sizes.words
 
+-- numbers of 32 bits from a place to the end of the line, n of them at most
+unfoldable pub numbers_by : ℕ → List ℕ → ℕ → Result (List ℕ × ℕ) Flaw
+numbers_by zero line at = Ok ([], at)
+numbers_by (suc n) line at = if nat_lt (length line) at then Ok ([], at) else (do
+  number ← small_at line at
+  others ← numbers_by n line number.1
+  Ok (number.0 ∷ others.0, others.1))
+
+-- numbers of 32 bits from a place to the end of the line, which has no more words than one for each byte, and one
+unfoldable pub numbers_at : List ℕ → ℕ → Result (List ℕ × ℕ) Flaw
+numbers_at line at = numbers_by (length line + 1) line at
+
+-- more numbers from a place on, where there may be some
+abbrev pub more_at : Bool → List ℕ → ℕ → Result (List ℕ × ℕ) Flaw
+more_at false line at = Ok ([], at)
+more_at true line at = numbers_at line at
+
 -- the first byte, or 0 where there is none
 abbrev pub first_byte : List ℕ → ℕ
 first_byte [] = 0
@@ -110,14 +133,20 @@ actor_at sizes line =
         t ← thread_at sizes line 0
         Ok (Thread t.0, t.1))
 
--- an order with the operands of its verb
+-- the order of a verb with operands and more numbers
+abbrev pub order_of : Verb → ℕ → ℕ → ℕ → ℕ → List ℕ → Order
+order_of verb first second third wide more =
+    record { verb = verb; first = first; second = second; third = third; wide = wide; more = more }
+
+-- an order with the operands of its verb, and with the numbers behind them
 unfoldable pub operands_at : Sizes → List ℕ → ℕ → Verb → Result (Order × ℕ) Flaw
 operands_at sizes line at verb = do
   first ← operand_at sizes line at (row_of verb).kinds.first
   second ← operand_at sizes line first.1 (row_of verb).kinds.second
   third ← operand_at sizes line second.1 (row_of verb).kinds.third
   wide ← operand_at sizes line third.1 (row_of verb).kinds.wide
-  Ok (record { verb = verb; first = first.0; second = second.0; third = third.0; wide = wide.0 }, wide.1)
+  more ← more_at (row_of verb).kinds.more line wide.1
+  Ok (order_of verb first.0 second.0 third.0 wide.0 more.0, more.1)
 
 -- an order, from the place behind the actor to the end of the line
 unfoldable pub order_at : Sizes → List ℕ → Actor → ℕ → Result Order Flaw
@@ -127,3 +156,9 @@ order_at sizes line actor at = do
   order ← operands_at sizes line word.1 verb
   _ ← end_at line order.1
   Ok order.0
+
+-- a call found what reading gives, unless memory was refused
+abbrev pub Finds : {A : Type 0} → Result A Stop → Result A Flaw → Type 0
+Finds (Ok x) read = read ≡ Ok x
+Finds (Err stops.Memory) read = Unit {0}
+Finds (Err (stops.Flaw f)) read = read ≡ Err f

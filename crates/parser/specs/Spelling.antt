@@ -1,5 +1,5 @@
 -- The grammar: which bytes spell a configuration and commands.
-use Rattle.std.specs.Prelude.{◌≡◌, ℕ, ◌^◌, ◌<◌, ◌≤◌, ◌≢◌, Bool, true, not, List, [], ◌∷◌, ◌++◌, length, map, filter, codes, ◌⊎◌}
+use Rattle.std.specs.Prelude.{◌≡◌, ℕ, ◌^◌, ◌<◌, ◌≤◌, ◌≢◌, Bool, true, false, not, List, [], ◌∷◌, ◌++◌, length, map, filter, codes, ◌⊎◌}
 use Rattle.std.specs.Fmt.{decimal}
 use Rattle.std.specs.List.{join_with_byte, flat_map, repeat, All}
 use Rattle.layout.specs.declared.shape.Layout.{Layout}
@@ -45,11 +45,12 @@ operand_word ThreadName n = actor_word (Thread n) ∷ []
 operand_word Long n = decimal n ∷ []
 operand_word Address n = address_word (page_in n) (offset_in n) ∷ []
 
--- the words of operands
+-- the words of operands, and those of more numbers behind them
 abbrev pub operand_words : Kinds → Order → List (List ℕ)
 operand_words kinds o =
     operand_word kinds.first o.first
-    ++ (operand_word kinds.second o.second ++ (operand_word kinds.third o.third ++ operand_word kinds.wide o.wide))
+    ++ (operand_word kinds.second o.second ++ (operand_word kinds.third o.third ++ (operand_word kinds.wide o.wide
+    ++ map decimal o.more)))
 
 -- the words of an order: the verb's, then those of its operands
 abbrev pub order_words : Order → List (List ℕ)
@@ -166,12 +167,18 @@ IsOperand bounds ThreadName n = n < bounds.threads
 IsOperand bounds Long n = n < 2 ^ 64
 IsOperand bounds Address n = (n < 2 ^ 64) × (offset_in n < bounds.words)
 
--- each operand of an order is one of its kind
+-- more numbers stand only where there may be some, and each fits 32 bits
+abbrev pub AreMore : Bool → List ℕ → Type 0
+AreMore false more = more ≡ []
+AreMore true more = All (λ n. n < 2 ^ 32) more
+
+-- each operand of an order is one of its kind, and so are the numbers behind them
 pub record IsOrder (bounds : Bounds) (o : Order) : Type 0 where
   pub first : IsOperand bounds (row_of o.verb).kinds.first o.first
   pub second : IsOperand bounds (row_of o.verb).kinds.second o.second
   pub third : IsOperand bounds (row_of o.verb).kinds.third o.third
   pub wide : IsOperand bounds (row_of o.verb).kinds.wide o.wide
+  pub more : AreMore (row_of o.verb).kinds.more o.more
 
 -- a command is one of the configuration
 pub record IsCommand (config : Config) (c : Command) : Type 0 where

@@ -15,9 +15,17 @@ pub record Row : Type 0 where
 
 abbrev pub row : List ℕ → Kind → Kind → Kind → Kind → Row
 row text first second third wide =
-    record { text = text; kinds = record { first = first; second = second; third = third; wide = wide } }
+    record { text = text; kinds = record { first = first; second = second; third = third; wide = wide; more = false } }
 
--- a command's word, and what stands behind it: up to three operands of 32 bits, then up to one of 64
+-- a verb with one operand, and more numbers behind it
+abbrev pub listing : List ℕ → Kind → Row
+listing text first = record {
+  text = text;
+  kinds = record { first = first; second = Nothing; third = Nothing; wide = Nothing; more = true };
+}
+
+-- a command's word, and what stands behind it: up to three operands of 32 bits, then up to one of 64, then, for
+-- `listing`, any number of numbers of 32 bits
 abbrev pub row_of : Verb → Row
 row_of verbs.Take = row (codes "take") Number Nothing Nothing Nothing
 row_of verbs.Give = row (codes "give") Nothing Nothing Nothing Nothing
@@ -48,6 +56,9 @@ row_of verbs.Scan = row (codes "scan") Nothing Nothing Nothing Nothing
 row_of verbs.ScanGlobal = row (codes "scang") Number Nothing Nothing Nothing
 row_of verbs.CrossFor = row (codes "crossfor") ThreadName Nothing Nothing Nothing
 row_of verbs.Drain = row (codes "drain") Nothing Nothing Nothing Nothing
+row_of verbs.Protect = listing (codes "protect") Number
+row_of verbs.Copy = row (codes "copy") Number Number Nothing Nothing
+row_of verbs.Release = row (codes "release") Number Nothing Nothing Nothing
 
 -- workers do these verbs, and threads all others
 abbrev pub is_for_worker : Verb → Bool
@@ -58,6 +69,9 @@ is_for_worker verbs.Scan = true
 is_for_worker verbs.ScanGlobal = true
 is_for_worker verbs.CrossFor = true
 is_for_worker verbs.Drain = true
+is_for_worker verbs.Protect = true
+is_for_worker verbs.Copy = true
+is_for_worker verbs.Release = true
 is_for_worker other = false
 
 -- the verb that a word is

@@ -3,14 +3,16 @@
 ghost use Rattle.std.specs.Prelude.{◌≡◌, ◌==◌};
 ghost use Rattle.parser.specs.Verbs.{IsSmall, IsWide};
 ghost use Rattle.parser.specs.Orders.{register_at, thread_at, operand_at, actor_at, first_byte};
-ghost use Rattle.parser.specs.Orders.{does, verb_in, operands_at, order_at};
+ghost use Rattle.parser.specs.Orders.{does, verb_in, numbers_at, more_at, operands_at, order_at, Finds};
 
-use crate::fault::{FaultKind, Flaw};
+use crate::fault::{FaultKind, Flaw, Stop};
 use crate::heading::Sizes;
+use crate::number_list::NumberList;
 use crate::order::Order;
 use crate::verbs::{Kind, Verb, verb_of};
 use crate::words::{address_at, end_at, named_at, number_at, small_at, word_or};
 use model::Actor;
+use std::alloc::Global;
 
 /// The actor at the front of a line, and the place after it.
 #[tactic(auto, unfolding(crate::specs::Orders::actor_at))]
@@ -97,39 +99,79 @@ fn wide_operand_at(sizes: &Sizes, line: &[u8], at: usize, kind: Kind) -> Result<
     }
 }
 
+/// The numbers of 32 bits from a place to the end of the line, and the place after them.
+#[tactic(auto, using(crate::proofs::ManyNumbers::begun, crate::proofs::ManyNumbers::one_more, crate::proofs::ManyNumbers::broken, crate::proofs::ManyNumbers::ended, crate::proofs::ManyNumbers::small_moves))]
+fn numbers_at(alloc: Global, line: &[u8], at: usize) -> Result<(NumberList, usize), Stop>
+    ensures { Finds result (numbers_at line.now at) }
+{
+    let mut numbers = Vec::new(alloc);
+    let mut place = at;
+    while place <= line.len() {
+        let (number, after) = small_at(line, place)?;
+        numbers.push(number)?;
+        place = after;
+    }
+    Ok((NumberList::new(alloc, numbers)?, place))
+}
+
+/// More numbers from a place on, where there may be some, and the place after them.
+fn more_at(alloc: Global, line: &[u8], at: usize, more: bool) -> Result<(NumberList, usize), Stop>
+    ensures { Finds result (more_at more line.now at) }
+{
+    if more {
+        numbers_at(alloc, line, at)
+    } else {
+        Ok((NumberList::none(), at))
+    }
+}
+
 /// The order of a verb, with its operands from a place on, and the place after them.
 #[tactic(auto, unfolding(crate::specs::Orders::operands_at))]
-fn operands_at(sizes: &Sizes, line: &[u8], at: usize, verb: Verb) -> Result<(Order, usize), Flaw>
-    ensures { result ≡ operands_at sizes.now line.now at verb }
+fn operands_at(
+    alloc: Global,
+    sizes: &Sizes,
+    line: &[u8],
+    at: usize,
+    verb: Verb,
+) -> Result<(Order, usize), Stop>
+    ensures { Finds result (operands_at sizes.now line.now at verb) }
 {
     let kinds = verb.kinds();
     let (first, at) = small_operand_at(sizes, line, at, kinds.first)?;
     let (second, at) = small_operand_at(sizes, line, at, kinds.second)?;
     let (third, at) = small_operand_at(sizes, line, at, kinds.third)?;
     let (wide, at) = wide_operand_at(sizes, line, at, kinds.wide)?;
+    let (more, at) = more_at(alloc, line, at, kinds.more)?;
     let order = Order {
         verb,
         first,
         second,
         third,
         wide,
+        more,
     };
     Ok((order, at))
 }
 
 /// The order of an actor from a place to the end of the line.
 #[tactic(auto, unfolding(crate::specs::Orders::order_at))]
-pub fn order_at(sizes: &Sizes, line: &[u8], actor: Actor, at: usize) -> Result<Order, Flaw>
-    ensures { result ≡ order_at sizes.now line.now actor at }
+pub fn order_at(
+    alloc: Global,
+    sizes: &Sizes,
+    line: &[u8],
+    actor: Actor,
+    at: usize,
+) -> Result<Order, Stop>
+    ensures { Finds result (order_at sizes.now line.now actor at) }
 {
     let (word, after) = word_or(line, at, FaultKind::UnknownWord)?;
     let Some(verb) = verb_in(actor, word) else {
-        return Err(Flaw {
+        return Err(Stop::Flaw(Flaw {
             column: at + 1,
             kind: FaultKind::UnknownWord,
-        });
+        }));
     };
-    let (order, end) = operands_at(sizes, line, after, verb)?;
+    let (order, end) = operands_at(alloc, sizes, line, after, verb)?;
     end_at(line, end)?;
     Ok(order)
 }

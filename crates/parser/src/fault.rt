@@ -100,3 +100,43 @@ impl<T: Drop> From<AllocFailed<T>> for ParseFault {
         ParseFault::Memory
     }
 }
+
+/// Why a line isn't taken.
+#[derive(Drop)]
+pub enum Stop {
+    Memory,
+    Flaw(Flaw),
+}
+
+impl From<Flaw> for Stop {
+    ghost use Rattle.std.specs.Prelude.{◌≡◌};
+    ghost use Rattle.parser.specs.declared.fault.Stop.TheVariants as stops;
+
+    ghost from_gives = { λ f e. e ≡ stops.Flaw f };
+
+    fn from(flaw: Flaw) -> Stop {
+        Stop::Flaw(flaw)
+    }
+}
+
+impl From<AllocError> for Stop {
+    ghost use Rattle.std.specs.Prelude.{◌≡◌};
+    ghost use Rattle.parser.specs.declared.fault.Stop.TheVariants as stops;
+
+    ghost from_gives = { λ _ e. e ≡ stops.Memory };
+
+    fn from(_e: AllocError) -> Stop {
+        Stop::Memory
+    }
+}
+
+impl<T: Drop> From<AllocFailed<T>> for Stop {
+    ghost use Rattle.std.specs.Prelude.{◌≡◌};
+    ghost use Rattle.parser.specs.declared.fault.Stop.TheVariants as stops;
+
+    ghost from_gives = { λ _ e. e ≡ stops.Memory };
+
+    fn from(_e: AllocFailed<T>) -> Stop {
+        Stop::Memory
+    }
+}

@@ -4,6 +4,7 @@
 mod commands;
 mod fault;
 mod heading;
+mod number_list;
 mod order;
 mod reading;
 mod script;
@@ -11,6 +12,7 @@ mod verbs;
 mod words;
 
 pub use fault::{FaultKind, LineFault, ParseFault};
+pub use number_list::NumberList;
 pub use order::{Command, Order, Then};
 pub use script::{MOST_BYTES, Script, one_first_line, one_reading, parse};
 pub use verbs::Verb;

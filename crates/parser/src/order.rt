@@ -1,16 +1,18 @@
 //! Commands of a script.
 
-ghost use Rattle.std.specs.Prelude.{◌≡◌};
+ghost use Rattle.std.specs.Prelude.{◌≡◌, ◌∷◌, IfOk, OnErr};
 ghost use Rattle.parser.specs.Orders.{step_of, then_of};
 ghost use Rattle.parser.specs.Words.{page_in, offset_in};
 
+use crate::number_list::NumberList;
 use crate::verbs::Verb;
-use model::{Actor, Step};
+use model::{Actor, PageList, Step};
+use std::alloc::{AllocError, Global};
 
 /// What a command asks for: its verb, and the verb's operands in the order of their words. One that
 /// the verb hasn't is 0. Registers count from 0 and are there; other numbers that a step can refuse
 /// are as the script has them. Scripts and their orders are ours.
-#[derive(Clone, Copy, Debug, PartialEq, Eq)]
+#[derive(Drop)]
 pub struct Order {
     /// What is done.
     pub verb: Verb,
@@ -23,10 +25,12 @@ pub struct Order {
     /// The operand of 64 bits, which stands behind the others. An address is its page times 2^32,
     /// and its offset.
     pub wide: u64,
+    /// The numbers behind the operands, of a verb that takes more.
+    pub more: NumberList,
 }
 
 /// One command of a script.
-#[derive(Clone, Copy, Debug, PartialEq, Eq)]
+#[derive(Drop)]
 pub struct Command {
     /// Who does it.
     pub actor: Actor,
@@ -48,12 +52,14 @@ pub enum Then {
 
 impl Order {
     /// The step that it asks for; of `get` and `getg` the first step, which opens the load; of
-    /// `drain` the step that it begins with where the worker has an object.
-    pub fn step(self) -> Step
-        ensures { result ≡ step_of self }
+    /// `drain` the step that it begins with where the worker has an object. The error is want of
+    /// memory, and comes of `protect` alone.
+    pub fn step(&self, alloc: Global) -> Result<Step, AllocError>
+        ensures value { IfOk result (λ step. step ≡ step_of self.now) }
+        ensures fault { OnErr result (self.now.verb ≡ Verb.Protect) }
     {
         let (first, second, third) = (self.first, self.second, self.third);
-        match self.verb {
+        let step = match self.verb {
             Verb::Take => Step::Take(first),
             Verb::Give => Step::GiveBack,
             Verb::New => Step::New {
@@ -95,18 +101,52 @@ impl Order {
             Verb::Scan | Verb::Drain => Step::ScanField,
             Verb::ScanGlobal => Step::ScanGlobal(first),
             Verb::CrossFor => Step::CrossFor(first),
-        }
+            Verb::Protect => protect(alloc, first, self.more.as_slice())?,
+            Verb::Copy => copy(first, second),
+            Verb::Release => Step::Release(first),
+        };
+        Ok(step)
+    }
+
+    /// The same order once more, which takes no memory. The error is that its numbers are shared
+    /// too often.
+    fn share(&self) -> Result<Order, AllocError>
+        ensures { IfOk result (λ order. order ≡ self.now) }
+    {
+        let more = self.more.share()?;
+        Ok(Order {
+            verb: self.verb,
+            first: self.first,
+            second: self.second,
+            third: self.third,
+            wide: self.wide,
+            more,
+        })
     }
 
     /// What follows the step, once it is done.
-    pub fn then(self) -> Then
-        ensures { result ≡ then_of self }
+    pub fn then(&self) -> Then
+        ensures { result ≡ then_of self.now }
     {
         match self.verb {
             Verb::Get | Verb::GetGlobal => Then::LoadsEnd,
             Verb::Drain => Then::Drains,
             _ => Then::Nothing,
         }
+    }
+}
+
+impl Command {
+    /// The same command once more, which takes no memory. The error is that its order's numbers are
+    /// shared too often.
+    pub fn share(&self) -> Result<Command, AllocError>
+        ensures { IfOk result (λ command. command ≡ self.now) }
+    {
+        let order = self.order.share()?;
+        Ok(Command {
+            actor: self.actor,
+            order,
+        })
     }
 }
 
@@ -144,6 +184,22 @@ fn set_datum(object: u32, index: u32, value: u64) -> Step
         index,
         value,
     }
+}
+
+/// The step that protects a page and others. The error is want of memory.
+fn protect(alloc: Global, page: u32, others: &[u32]) -> Result<Step, AllocError>
+    ensures { IfOk result (λ step. step ≡ Step.Protect (page ∷ others.now)) }
+{
+    let mut pages = Vec::new(alloc);
+    pages.push(page)?;
+    pages.extend_from_slice(others)?;
+    Ok(Step::Protect(PageList::new(pages)))
+}
+
+fn copy(page: u32, entry: u32) -> Step
+    ensures { result ≡ Step.Copy page entry }
+{
+    Step::Copy { page, entry }
 }
 
 /// The step that picks an address of 64 bits.

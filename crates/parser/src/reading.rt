@@ -5,16 +5,16 @@ ghost use Rattle.std.specs.List.{repeat};
 ghost use Rattle.parser.specs.Reading.{nothing, is_idle, is_full, with_command, first_word, heap_line, layout_line, command_line, times_line, end_line, part_line, later_line, line_in, in_line, finished, last_line, script_in, script_of, Gives, Follows, IsFlawAtStart, CutsLine, HasNoNewline};
 
 use crate::commands::{actor_at, order_at};
-use crate::fault::{FaultKind, Flaw, LineFault, ParseFault};
+use crate::fault::{FaultKind, Flaw, LineFault, ParseFault, Stop};
 use crate::heading::{Sizes, heap_in, layout_in};
 use crate::order::Command;
 use crate::words::{end_at, number_at, word_at};
 use layout::Layout;
 use model::{Config, MOST_LAYOUTS};
-use std::alloc::{AllocError, AllocFailed, Global};
+use std::alloc::{AllocError, Global};
 use std::marker::Model;
 
-/// The most commands of a script, with those of a block as often as it says. Each takes 32 bytes.
+/// The most commands of a script, with those of a block as often as it says. Each takes 48 bytes.
 pub const MOST_COMMANDS: usize = 200_000;
 
 /// The most turns of a block.
@@ -23,6 +23,7 @@ pub const MOST_TURNS: u64 = 100_000;
 /// What was read so far.
 #[derive(Drop)]
 pub struct Reading {
+    alloc: Global,
     sizes: Option<Sizes>,
     layouts: Vec<Layout>,
     /// Whether a command or a block has begun.
@@ -42,46 +43,6 @@ impl Model for Reading {
     ghost Value = { ReadSoFar };
 
     ghost view = { read_so_far };
-}
-
-/// Why a line isn't taken.
-#[derive(Drop)]
-pub enum Stop {
-    Memory,
-    Flaw(Flaw),
-}
-
-impl From<Flaw> for Stop {
-    ghost use Rattle.std.specs.Prelude.{◌≡◌};
-    ghost use Rattle.parser.specs.declared.reading.Stop.TheVariants as stops;
-
-    ghost from_gives = { λ f e. e ≡ stops.Flaw f };
-
-    fn from(flaw: Flaw) -> Stop {
-        Stop::Flaw(flaw)
-    }
-}
-
-impl From<AllocError> for Stop {
-    ghost use Rattle.std.specs.Prelude.{◌≡◌};
-    ghost use Rattle.parser.specs.declared.reading.Stop.TheVariants as stops;
-
-    ghost from_gives = { λ _ e. e ≡ stops.Memory };
-
-    fn from(_e: AllocError) -> Stop {
-        Stop::Memory
-    }
-}
-
-impl<T: Drop> From<AllocFailed<T>> for Stop {
-    ghost use Rattle.std.specs.Prelude.{◌≡◌};
-    ghost use Rattle.parser.specs.declared.reading.Stop.TheVariants as stops;
-
-    ghost from_gives = { λ _ e. e ≡ stops.Memory };
-
-    fn from(_e: AllocFailed<T>) -> Stop {
-        Stop::Memory
-    }
 }
 
 fn is_idle(line: &[u8]) -> bool
@@ -115,6 +76,7 @@ impl Reading {
         ensures { result ≡ nothing }
     {
         Reading {
+            alloc,
             sizes: None,
             layouts: Vec::new(alloc),
             begun: false,
@@ -174,7 +136,7 @@ impl Reading {
         if self.is_full() {
             return Err(flaw(FaultKind::TooManyCommands));
         }
-        let order = order_at(sizes, line, actor, at)?;
+        let order = order_at(self.alloc, sizes, line, actor, at)?;
         self.add(Command { actor, order })
     }
 
@@ -326,7 +288,17 @@ fn add_turns(commands: &mut Vec<Command>, turns: u64, body: &[Command]) -> Resul
         return Ok(());
     }
     for _ in 0..turns {
-        commands.extend_from_slice(body)?;
+        add_body(commands, body)?;
+    }
+    Ok(())
+}
+
+/// The commands of a block behind others.
+fn add_body(commands: &mut Vec<Command>, body: &[Command]) -> Result<(), AllocError>
+    ensures { OnOk result (commands.new.items ≡ commands.old.items ++ body.now) }
+{
+    for command in body {
+        commands.push(command.share()?)?;
     }
     Ok(())
 }

@@ -1,6 +1,8 @@
 //! The commands' words, and the kinds of their operands.
 
 ghost use Rattle.std.specs.Prelude.{◌≡◌};
+ghost use Rattle.std.specs.Prelude.{true, false};
+ghost use Rattle.parser.specs.declared.verbs.Kind.TheVariants.{Nothing};
 ghost use Rattle.parser.specs.Verbs.{row_of, verb_of, is_for_worker, IsSmall, IsWide};
 
 /// What an operand is.
@@ -82,10 +84,16 @@ pub enum Verb {
     CrossFor,
     /// `drain`: a worker scans until nothing is left that it could scan.
     Drain,
+    /// `protect P P ..`
+    Protect,
+    /// `copy P e`
+    Copy,
+    /// `release P`
+    Release,
 }
 
 /// All verbs. A word is compared with theirs in this order, so frequent ones stand first.
-const VERBS: [Verb; 29] = [
+const VERBS: [Verb; 32] = [
     Verb::Get,
     Verb::Set,
     Verb::Datum,
@@ -113,6 +121,9 @@ const VERBS: [Verb; 29] = [
     Verb::ScanGlobal,
     Verb::Drain,
     Verb::CrossFor,
+    Verb::Copy,
+    Verb::Release,
+    Verb::Protect,
     Verb::Mark,
     Verb::EndMark,
 ];
@@ -128,16 +139,32 @@ pub struct Kinds {
     pub third: Kind,
     /// Of one of 64 bits, which stands behind the others.
     pub wide: Kind,
+    /// Whether any number of numbers of 32 bits may stand behind all, to the end of the line.
+    pub more: bool,
 }
 
 fn make_kinds(first: Kind, second: Kind, third: Kind, wide: Kind) -> Kinds
-    ensures { result ≡ record { first = first; second = second; third = third; wide = wide } }
+    ensures { result ≡ record { first = first; second = second; third = third; wide = wide; more = false } }
 {
     Kinds {
         first,
         second,
         third,
         wide,
+        more: false,
+    }
+}
+
+/// One operand, and more numbers behind it.
+fn with_more(first: Kind) -> Kinds
+    ensures { result ≡ record { first = first; second = Nothing; third = Nothing; wide = Nothing; more = true } }
+{
+    Kinds {
+        first,
+        second: Kind::Nothing,
+        third: Kind::Nothing,
+        wide: Kind::Nothing,
+        more: true,
     }
 }
 
@@ -176,6 +203,9 @@ impl Verb {
             Verb::ScanGlobal => b"scang",
             Verb::CrossFor => b"crossfor",
             Verb::Drain => b"drain",
+            Verb::Protect => b"protect",
+            Verb::Copy => b"copy",
+            Verb::Release => b"release",
         }
     }
 
@@ -187,7 +217,9 @@ impl Verb {
     {
         use Kind::{Address, Long, Nothing, Number, Register, ThreadName};
         match self {
-            Verb::Take | Verb::ScanGlobal => make_kinds(Number, Nothing, Nothing, Nothing),
+            Verb::Take | Verb::ScanGlobal | Verb::Release => make_kinds(
+                Number, Nothing, Nothing, Nothing,
+            ),
             Verb::New | Verb::LoadGlobal | Verb::Datum | Verb::GetGlobal => make_kinds(
                 Register, Number, Nothing, Nothing,
             ),
@@ -199,6 +231,8 @@ impl Verb {
             Verb::Null | Verb::Clear | Verb::Scrub => make_kinds(
                 Register, Nothing, Nothing, Nothing,
             ),
+            Verb::Protect => with_more(Number),
+            Verb::Copy => make_kinds(Number, Number, Nothing, Nothing),
             Verb::Pick => make_kinds(Nothing, Nothing, Nothing, Address),
             Verb::CrossFor => make_kinds(ThreadName, Nothing, Nothing, Nothing),
             _ => make_kinds(Nothing, Nothing, Nothing, Nothing),
@@ -218,6 +252,9 @@ impl Verb {
                 | Verb::ScanGlobal
                 | Verb::CrossFor
                 | Verb::Drain
+                | Verb::Protect
+                | Verb::Copy
+                | Verb::Release
         )
     }
 }

@@ -69,7 +69,7 @@ lines_next : (n i : ℕ) (b : BookState) (cs : List Command) (d : Command)
 unfolding lines_text
 lines_next n i b cs d h = rw (split cs i d h) refl
 
-pub line_told : (n i : ℕ) (b e : BookState) (cs : List Command)
+line_told : (n i : ℕ) (b e : BookState) (cs : List Command)
     (d : Command) (replies : List Reply) (old c new : Option (List ℕ)) (all : List ℕ)
     → Leads old c (lines_text n b (drop i cs)) all → i < length cs → replies ≡ (done b (get_or cs i d)).replies
     → e ≡ (done b (get_or cs i d)).book → Appends c new (command_line n (get_or cs i d) replies)
@@ -78,6 +78,16 @@ line_told n i b e cs d replies old c new all h le r k a =
     let there : Leads old c (command_line n (get_or cs i d) replies ++ lines_text (n + 1) e (drop (i + 1) cs)) all =
     rw (r, k, ← lines_next n i b cs d le) h in
     leads_step old c new _ _ all there a
+
+-- the same of the command that a loop lends
+pub line_item : (n i : ℕ) (b e : BookState) (cs : List Command) (d : Command) (replies : List Reply)
+    (old c new : Option (List ℕ)) (all : List ℕ) → Leads old c (lines_text n b (drop i cs)) all → i < length cs
+    → d ≡ get_or cs i d → replies ≡ (done b d).replies → e ≡ (done b d).book → Appends c new (command_line n d replies)
+    → Leads old new (lines_text (n + 1) e (drop (i + 1) cs)) all
+line_item n i b e cs d replies old c new all h le q r k a =
+    line_told n i b e cs d replies old c new all h le (r ∙ ap (λ (x : Command). (done b x).replies) q)
+    (k ∙ ap (λ (x : Command). (done b x).book) q)
+    (subst (λ (x : Command). Appends c new (command_line n x replies)) q a)
 
 lines_end : (n i : ℕ) (b : BookState) (cs : List Command) → length cs ≤ i → lines_text n b (drop i cs) ≡ []
 unfolding lines_text
@@ -88,11 +98,15 @@ pub lines_told : (n i : ℕ) (b : BookState) (cs : List Command) (old c : Option
 lines_told n i b cs old c all h le =
     let there : Leads old c [] all = rw (← lines_end n i b cs le) h in leads_end old c all there
 
-pub book_next : (i : ℕ) (b e f : BookState) (cs : List Command) (d : Command) → book_after b (drop i cs) ≡ f
+book_next : (i : ℕ) (b e f : BookState) (cs : List Command) (d : Command) → book_after b (drop i cs) ≡ f
     → i < length cs → e ≡ (done b (get_or cs i d)).book → book_after e (drop (i + 1) cs) ≡ f
 unfolding book_after
 book_next i b e f cs d h le k = let there : book_after b (drop i cs) ≡ book_after e (drop (i + 1) cs) =
     rw (split cs i d le, k) refl in sym there ∙ h
+
+pub book_item : (i : ℕ) (b e f : BookState) (cs : List Command) (d : Command) → book_after b (drop i cs) ≡ f
+    → i < length cs → d ≡ get_or cs i d → e ≡ (done b d).book → book_after e (drop (i + 1) cs) ≡ f
+book_item i b e f cs d h le q k = book_next i b e f cs d h le (k ∙ ap (λ (x : Command). (done b x).book) q)
 
 pub book_end : (i : ℕ) (b f : BookState) (cs : List Command) → book_after b (drop i cs) ≡ f → length cs ≤ i → b ≡ f
 unfolding book_after

@@ -10,9 +10,11 @@ use crate::fault::RunFault;
 use cycle::Book;
 use model::{Actor, Answer, Refusal};
 use parser::{Command, Then};
+use std::alloc::Global;
 
 /// A command that is one step.
 fn do_step(
+    alloc: Global,
     book: &mut Book,
     command: &Command,
     replies: &mut Vec<Result<Answer, Refusal>>,
@@ -21,12 +23,14 @@ fn do_step(
         (Leaves (one_step book.old command.now.actor (step_of command.now.order)) replies.old.items
         book.new replies.new.items) }
 {
-    let _reply = book.act_into(command.actor, command.order.step(), replies)?;
+    let step = command.order.step(alloc)?;
+    let _reply = book.act_into(command.actor, step, replies)?;
     Ok(())
 }
 
 /// A command that is a whole load.
 fn do_load(
+    alloc: Global,
     book: &mut Book,
     command: &Command,
     replies: &mut Vec<Result<Answer, Refusal>>,
@@ -35,7 +39,8 @@ fn do_load(
         (Leaves (whole_load book.old command.now.actor (step_of command.now.order)) replies.old.items
         book.new replies.new.items) }
 {
-    match book.whole_load(command.actor, command.order.step(), replies) {
+    let step = command.order.step(alloc)?;
+    match book.whole_load(command.actor, step, replies) {
         Err(Refusal::Memory) => Err(RunFault::Memory),
         _ => Ok(()),
     }
@@ -60,6 +65,7 @@ fn do_drain(
 /// said, in order. The fault is want of memory, also in a step.
 #[tactic(auto, unfolding(crate::specs::Output::done), using(crate::proofs::Commands::same_book, crate::proofs::Commands::same_replies))]
 pub fn do_command(
+    alloc: Global,
     book: &mut Book,
     command: &Command,
     replies: &mut Vec<Result<Answer, Refusal>>,
@@ -69,11 +75,11 @@ pub fn do_command(
 {
     replies.clear();
     match command.order.then() {
-        Then::Nothing => do_step(book, command, replies),
-        Then::LoadsEnd => do_load(book, command, replies),
+        Then::Nothing => do_step(alloc, book, command, replies),
+        Then::LoadsEnd => do_load(alloc, book, command, replies),
         Then::Drains => match command.actor {
             Actor::Worker(worker) => do_drain(book, worker, replies),
-            Actor::Thread(_) => do_step(book, command, replies),
+            Actor::Thread(_) => do_step(alloc, book, command, replies),
         },
     }
 }

@@ -78,7 +78,7 @@ fn tell_commands<W: io::Write>(
     let mut replies = Vec::new(alloc);
     let mut number = 1u64;
     for command in commands {
-        do_command(book, command, &mut replies)?;
+        do_command(alloc, book, command, &mut replies)?;
         tell_command(number, command, &replies, &mut text, w)?;
         number += 1;
     }

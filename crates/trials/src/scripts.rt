@@ -5,8 +5,8 @@
 
 use crate::configs::sizes;
 use layout::Layout;
-use model::{Actor, Config};
-use parser::{Command, Order, ParseFault, Script, Verb, parse};
+use model::Config;
+use parser::{Command, Order, ParseFault, Script, parse};
 use std::alloc::{AllocError, Global};
 use std::process::Abort;
 use std::test::Fail;
@@ -55,48 +55,9 @@ fn faults(rt: HostRuntime) -> Result<(), Fail> {
     Ok(())
 }
 
-/// An order of three operands or fewer, each of 32 bits.
-fn order(verb: Verb, first: u32, second: u32, third: u32) -> Order {
-    Order {
-        verb,
-        first,
-        second,
-        third,
-        wide: 0,
-    }
-}
-
-/// The script's commands are these orders of thread 0.
-fn has_orders(rt: &impl Abort, script: &Script, orders: &[Order]) {
-    let commands = script.commands();
-    assert_eq!(rt; commands.len(), orders.len());
-    for (command, order) in commands.iter().zip(orders.iter()) {
-        assert_eq!(rt; command.actor, Actor::Thread(0));
-        assert_eq!(rt; command.order, *order);
-    }
-}
-
-#[test]
-fn blocks_written_out(rt: HostRuntime) -> Result<(), Fail> {
-    let rest = "t0 give\ntimes 2\nt0 trap\n\n# a comment\nt0 heal\nend\ntimes 9\nend\n\
-        times 1\nt0 finish\nend\nt0 cross\n";
-    let orders = [
-        order(Verb::Give, 0, 0, 0),
-        order(Verb::Trap, 0, 0, 0),
-        order(Verb::Heal, 0, 0, 0),
-        order(Verb::Trap, 0, 0, 0),
-        order(Verb::Heal, 0, 0, 0),
-        order(Verb::Finish, 0, 0, 0),
-        order(Verb::Cross, 0, 0, 0),
-    ];
-    let script = parse_parts(rt.alloc(), HEAD, rest)?;
-    has_orders(&rt, &script, &orders);
-    Ok(())
-}
-
 /// The first step of an order, and what follows it.
-fn step_text(alloc: Global, order: Order) -> Result<String, AllocError> {
-    let step = order.step();
+fn step_text(alloc: Global, order: &Order) -> Result<String, AllocError> {
+    let step = order.step(alloc)?;
     let then = order.then();
     format!(in alloc; "{step:?} {then:?}")
 }
@@ -105,9 +66,27 @@ fn step_text(alloc: Global, order: Order) -> Result<String, AllocError> {
 fn has_steps(alloc: Global, script: &Script, texts: &[&str]) -> Result<bool, AllocError> {
     let mut is_so = script.commands().len() == texts.len();
     for (command, text) in script.commands().iter().zip(texts.iter()) {
-        is_so = is_so && step_text(alloc, command.order)?.as_str() == *text;
+        is_so = is_so && step_text(alloc, &command.order)?.as_str() == *text;
     }
     Ok(is_so)
+}
+
+#[test]
+fn blocks_written_out(rt: HostRuntime) -> Result<(), Fail> {
+    let rest = "t0 give\ntimes 2\nt0 trap\n\n# a comment\nt0 heal\nend\ntimes 9\nend\n\
+        times 1\nt0 finish\nend\nt0 cross\n";
+    let texts = [
+        "GiveBack Nothing",
+        "Trap Nothing",
+        "Heal Nothing",
+        "Trap Nothing",
+        "Heal Nothing",
+        "Finish Nothing",
+        "Cross Nothing",
+    ];
+    let script = parse_parts(rt.alloc(), HEAD, rest)?;
+    assert!(rt; has_steps(rt.alloc(), &script, &texts)?);
+    Ok(())
 }
 
 #[test]
@@ -150,8 +129,25 @@ fn steps_of_workers(rt: HostRuntime) -> Result<(), Fail> {
 }
 
 #[test]
+fn steps_that_relocate(rt: HostRuntime) -> Result<(), Fail> {
+    let rest =
+        "w0 protect 7\ntimes 2\nw0 protect 3 1 4294967295\nend\nw0 protect 0 2 2\nw0 copy 3 1\nw0 release 3\n";
+    let texts = [
+        "Protect(PageList { pages: [7] }) Nothing",
+        "Protect(PageList { pages: [3, 1, 4294967295] }) Nothing",
+        "Protect(PageList { pages: [3, 1, 4294967295] }) Nothing",
+        "Protect(PageList { pages: [0, 2, 2] }) Nothing",
+        "Copy { page: 3, entry: 1 } Nothing",
+        "Release(3) Nothing",
+    ];
+    let script = parse_parts(rt.alloc(), HEAD, rest)?;
+    assert!(rt; has_steps(rt.alloc(), &script, &texts)?);
+    Ok(())
+}
+
+#[test]
 fn the_size_of_a_command(rt: HostRuntime) {
-    assert_eq!(rt; std::mem::size_of::<Command>(), 32);
+    assert_eq!(rt; std::mem::size_of::<Command>(), 48);
 }
 
 /// The numbers of the head.
@@ -179,26 +175,19 @@ fn a_configuration(rt: HostRuntime) -> Result<(), Fail> {
 fn orders_of_data(rt: HostRuntime) -> Result<(), Fail> {
     let rest = "\n# all commands\nt0 take 16\nt0 new r1 0\n\nt0 datum r1 3\n\
         t0 set r1 0 18446744073709551615\nt0 same r0 r1\nt0 null r0\nt0 mov r0 r1\n#\nt0 clear r1\nt0 give\n";
-    let set = Order {
-        verb: Verb::Set,
-        first: 1,
-        second: 0,
-        third: 0,
-        wide: u64::MAX,
-    };
-    let orders = [
-        order(Verb::Take, 16, 0, 0),
-        order(Verb::New, 1, 0, 0),
-        order(Verb::Datum, 1, 3, 0),
-        set,
-        order(Verb::Same, 0, 1, 0),
-        order(Verb::Null, 0, 0, 0),
-        order(Verb::Move, 0, 1, 0),
-        order(Verb::Clear, 1, 0, 0),
-        order(Verb::Give, 0, 0, 0),
+    let texts = [
+        "Take(16) Nothing",
+        "New { target: 1, layout: 0 } Nothing",
+        "Datum { object: 1, index: 3 } Nothing",
+        "SetDatum { object: 1, index: 0, value: 18446744073709551615 } Nothing",
+        "Same { left: 0, right: 1 } Nothing",
+        "IsNull(0) Nothing",
+        "CopyReg { target: 0, source: 1 } Nothing",
+        "ClearReg(1) Nothing",
+        "GiveBack Nothing",
     ];
     let script = parse_parts(rt.alloc(), HEAD, rest)?;
-    has_orders(&rt, &script, &orders);
+    assert!(rt; has_steps(rt.alloc(), &script, &texts)?);
     Ok(())
 }
 

@@ -12,7 +12,7 @@ loop-init c = sym (append-nil c.args.commands.now.items)
 
 pub loop-preserved : goal.loop-preserved
 loop-preserved c = add_turn c.loop.counter c.args.commands.now.items c.args.body.now c.loop.commands.items
-    c.extend_from_slice.new.self.items c.loop.invariant c.in_ok-extend_from_slice.ensures.items
+    c.add_body.new.commands.items c.loop.invariant c.in_ok-add_body.ensures
 
 pub returns : goal.returns
 returns c =

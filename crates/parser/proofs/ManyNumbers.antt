@@ -1,0 +1,191 @@
+-- Numbers to the end of a line: what is read is written so, and what is written so is read.
+use Rattle.std.proofs.Common.{◌≡◌, ℕ, zero, suc, ◌+◌, ◌<◌, ◌≤◌, ◌^◌, cond, nat_lt, List, [], ◌∷◌, ◌++◌, length}
+use Rattle.std.proofs.Common.{refl, sym, ap, subst, ◌∙◌, arith, inl, inr, append_assoc, append-nil}
+use Rattle.std.specs.Prelude.{Result, Ok, Err, map, not, ◌||◌}
+use Rattle.std.specs.List.{AllByRecursion}
+use Rattle.std.specs.Fmt.{decimal}
+use Rattle.std.proofs.lemmas.Bool.{cases_lt, lt-ltb, le-ltb}
+use Rattle.std.proofs.lemmas.Option.{same_Some}
+use Rattle.model.proofs.Results.{same_result, not_refused}
+use Rattle.parser.specs.declared.fault.FaultKind.{FaultKind}
+use Rattle.parser.specs.declared.fault.FaultKind.TheVariants as kinds
+use Rattle.parser.specs.declared.fault.Flaw.{Flaw}
+use Rattle.parser.specs.Words.{◌>>=◌, flaw, word_at, word_or, is_number, capped_from, in_range, number_at, small_at}
+use Rattle.parser.specs.Orders.{numbers_by, numbers_at}
+use Rattle.parser.proofs.Places.{words_from, Reads, bind_ok, or_flaw_ok, past_end, end_past, small_ok, small_again}
+use Rattle.parser.proofs.WordPlaces.{finds_word, none_past}
+
+-- ---- places
+
+word_moves : (line : List ℕ) (at : ℕ) (kind : FaultKind) (w : List ℕ × ℕ) → word_or line at kind ≡ Ok w → at < w.1
+unfolding word_or
+word_moves line at kind w h =
+    let some = or_flaw_ok (word_at line at) (flaw (length line) kind) w h in
+    elim (cases_lt (length line) at) [
+      | inl past ↦ let none = none_past line at past in absurd cc
+      | inr within ↦
+          let found = finds_word line at within in
+          let same : found.w ≡ w = same_Some found.w w (sym found.found ∙ some) in
+          let after = found.is.after_is in
+          subst (λ (x : List ℕ × ℕ). at < x.1) same (omega arith)
+    ]
+
+-- the place behind a number lies behind that of the number
+pub small_moves : (line : List ℕ) (at : ℕ) (v : ℕ × ℕ) → small_at line at ≡ Ok v → at < v.1
+unfolding small_at number_at
+small_moves line at v h =
+    let b = bind_ok (word_or line at kinds.NumberExpected) (λ w. cond (not (is_number w.0))
+    (Err (flaw at kinds.NumberExpected)) (in_range (capped_from 0 w.0) w.1 at 0 4294967295)) v h in
+    let w = b.0 in
+    let n = capped_from 0 w.0 in
+    let form = not_refused (not (is_number w.0)) (flaw at kinds.NumberExpected)
+    (in_range n w.1 at 0 4294967295) v b.2 in
+    let range = not_refused (nat_lt n 0 || nat_lt 4294967295 n) (flaw at kinds.NumberOutOfRange)
+    (Ok (n, w.1)) v form.1 in
+    subst (λ (x : ℕ × ℕ). at < x.1) (same_result (n, w.1) v range.1)
+    (word_moves line at kinds.NumberExpected w b.1)
+
+-- ---- the first of the numbers
+
+-- a number and those behind it
+abbrev pub with_first : ℕ × ℕ → Result (List ℕ × ℕ) Flaw → Result (List ℕ × ℕ) Flaw
+with_first v r = r >>= (λ others. Ok (v.0 ∷ others.0, others.1))
+
+pub by_past : (n : ℕ) (line : List ℕ) (at : ℕ) → length line < at → numbers_by n line at ≡ Ok ([], at)
+unfolding numbers_by
+by_past zero line at h = refl
+by_past (suc n) line at h = rw (lt-ltb (length line) at h) refl
+
+pub by_first : (n : ℕ) (line : List ℕ) (at : ℕ) → at ≤ length line
+    → numbers_by (suc n) line at ≡ (small_at line at >>= (λ v. with_first v (numbers_by n line v.1)))
+unfolding numbers_by
+by_first n line at h = rw (le-ltb (length line) at h) refl
+
+-- steps that go on alike where there is no fault
+same_behind : {A B : Type 0} (r : Result A Flaw) (f g : A → Result B Flaw)
+    → ((x : A) → r ≡ Ok x → f x ≡ g x) → (r >>= f) ≡ (r >>= g)
+same_behind (Ok x) f g h = h x refl
+same_behind (Err e) f g h = refl
+
+-- it doesn't matter how many numbers there may be, where they are enough for the line
+enough : (n m : ℕ) (line : List ℕ) (at : ℕ) → length line < at + n → length line < at + m
+    → numbers_by n line at ≡ numbers_by m line at
+enough zero m line at h k = by_past zero line at (omega arith) ∙ sym (by_past m line at (omega arith))
+enough (suc n) zero line at h k = by_past (suc n) line at (omega arith) ∙ sym (by_past zero line at (omega arith))
+enough (suc n) (suc m) line at h k = elim (cases_lt (length line) at) [
+  | inl past ↦ by_past (suc n) line at past ∙ sym (by_past (suc m) line at past)
+  | inr within ↦
+      by_first n line at within
+      ∙ same_behind (small_at line at) _ _ (λ v e.
+      let moved = small_moves line at v e in
+      ap (with_first v) (enough n m line v.1 (omega arith) (omega arith)))
+      ∙ sym (by_first m line at within)
+]
+
+-- the numbers of a line are those that are read so many at most, where that is enough
+pub numbers_enough : (n : ℕ) (line : List ℕ) (at : ℕ) → length line < at + n → numbers_at line at ≡ numbers_by n line at
+unfolding numbers_at
+numbers_enough n line at h = enough (length line + 1) n line at (omega arith) h
+
+-- past the end there are no numbers
+pub numbers_past : (line : List ℕ) (at : ℕ) → length line < at → numbers_at line at ≡ Ok ([], at)
+unfolding numbers_at
+numbers_past line at h = by_past (length line + 1) line at h
+
+-- up to the end there is one, and then others
+pub numbers_first : (line : List ℕ) (at : ℕ) → at ≤ length line
+    → numbers_at line at ≡ (small_at line at >>= (λ v. with_first v (numbers_at line v.1)))
+numbers_first line at h =
+    numbers_enough (suc (length line)) line at (omega arith)
+    ∙ by_first (length line) line at h
+    ∙ same_behind (small_at line at) _ _ (λ v e.
+    let moved = small_moves line at v e in
+    ap (with_first v) (sym (numbers_enough (length line) line v.1 (omega arith))))
+
+-- ---- a loop over numbers
+
+-- numbers, and those that are read behind them
+abbrev pub with_firsts : List ℕ → Result (List ℕ × ℕ) Flaw → Result (List ℕ × ℕ) Flaw
+with_firsts ns r = r >>= (λ others. Ok (ns ++ others.0, others.1))
+
+pub begun : (line : List ℕ) (at : ℕ) → numbers_at line at ≡ with_firsts [] (numbers_at line at)
+begun line at = by_result (numbers_at line at)
+  where
+    by_result : (r : Result (List ℕ × ℕ) Flaw) → r ≡ with_firsts [] r
+    by_result (Ok x) = refl
+    by_result (Err e) = refl
+
+joined : (ns : List ℕ) (v : ℕ × ℕ) (r : Result (List ℕ × ℕ) Flaw)
+    → with_firsts ns (with_first v r) ≡ with_firsts (ns ++ v.0 ∷ []) r
+joined ns v (Ok x) = ap (λ (xs : List ℕ). Ok (xs, x.1)) (sym (append_assoc ns (v.0 ∷ []) x.0))
+joined ns v (Err e) = refl
+
+pub one_more : (line : List ℕ) (at place n after : ℕ) (ns all : List ℕ)
+    → numbers_at line at ≡ with_firsts ns (numbers_at line place) → place ≤ length line
+    → small_at line place ≡ Ok (n, after) → all ≡ ns ++ n ∷ []
+    → numbers_at line at ≡ with_firsts all (numbers_at line after)
+one_more line at place n after ns all h within read is =
+    h ∙ ap (with_firsts ns) (numbers_first line place within
+    ∙ ap (λ (r : Result (ℕ × ℕ) Flaw). r >>= (λ v. with_first v (numbers_at line v.1))) read)
+    ∙ joined ns (n, after) (numbers_at line after)
+    ∙ ap (λ (xs : List ℕ). with_firsts xs (numbers_at line after)) (sym is)
+
+pub broken : (line : List ℕ) (at place : ℕ) (ns : List ℕ) (f : Flaw)
+    → numbers_at line at ≡ with_firsts ns (numbers_at line place) → place ≤ length line → small_at line place ≡ Err f
+    → numbers_at line at ≡ Err f
+broken line at place ns f h within read =
+    h ∙ ap (with_firsts ns) (numbers_first line place within
+    ∙ ap (λ (r : Result (ℕ × ℕ) Flaw). r >>= (λ v. with_first v (numbers_at line v.1))) read)
+
+pub ended : (line : List ℕ) (at place : ℕ) (ns : List ℕ)
+    → numbers_at line at ≡ with_firsts ns (numbers_at line place) → length line < place
+    → numbers_at line at ≡ Ok (ns, place)
+ended line at place ns h past =
+    h ∙ ap (with_firsts ns) (numbers_past line place past) ∙ ap (λ (xs : List ℕ). Ok (xs, place)) (append-nil ns)
+
+-- ---- the words of numbers
+
+-- each number fits 32 bits
+abbrev pub AreSmall : List ℕ → Type 0
+AreSmall ns = AllByRecursion (λ n. n < 2 ^ 32) ns
+
+-- numbers are spelled from a place on
+pub record AreNumbersAt (line : List ℕ) (at : ℕ) (v : List ℕ × ℕ) : Type 0 where
+  pub spelled : words_from line at ≡ map decimal v.0 ++ words_from line v.1
+  pub small : AreSmall v.0
+
+by_ok : (n : ℕ) (line : List ℕ) (at : ℕ) (v : List ℕ × ℕ) → numbers_by n line at ≡ Ok v → AreNumbersAt line at v
+unfolding numbers_by
+by_ok zero line at v h =
+    subst (AreNumbersAt line at) (same_result ([], at) v h) (record { spelled = refl; small = tt })
+by_ok (suc n) line at v h = elim (cases_lt (length line) at) [
+  | inl past ↦
+      subst (AreNumbersAt line at) (same_result ([], at) v (sym (by_past (suc n) line at past) ∙ h))
+      (record { spelled = refl; small = tt })
+  | inr within ↦
+      let a = bind_ok (small_at line at) _ v (sym (by_first n line at within) ∙ h) in
+      let b = bind_ok (numbers_by n line a.0.1) _ v a.2 in
+      let first = small_ok line at a.0 a.1 in
+      let others = by_ok n line a.0.1 b.0 b.1 in
+      subst (AreNumbersAt line at) (same_result (a.0.0 ∷ b.0.0, b.0.1) v b.2) (record {
+        spelled = first.spelled ∙ ap (λ (ws : List (List ℕ)). decimal a.0.0 ∷ ws) others.spelled;
+        small = (omega (arith, first.below), others.small);
+      })
+]
+
+pub numbers_ok : (line : List ℕ) (at : ℕ) (v : List ℕ × ℕ) → numbers_at line at ≡ Ok v → AreNumbersAt line at v
+unfolding numbers_at
+numbers_ok line at v h = by_ok (length line + 1) line at v h
+
+pub numbers_again : (line : List ℕ) (at : ℕ) (ns : List ℕ) → AreSmall ns → words_from line at ≡ map decimal ns
+    → Reads line (numbers_at line at) ns []
+numbers_again line at [] small h =
+    (at, numbers_past line at (past_end line at h), h)
+numbers_again line at (n ∷ ns) small h =
+    let a = small_again line at n (map decimal ns) small.0 h in
+    let b = numbers_again line a.0 ns small.1 a.2 in
+    let within : at ≤ length line = elim (cases_lt (length line) at) [
+      | inl past ↦ let none = end_past line at past in absurd cc
+      | inr inside ↦ inside
+    ] in
+    (b.0, numbers_first line at within ∙ (rw (a.1, b.1) refl), b.2)
