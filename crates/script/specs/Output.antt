@@ -7,10 +7,11 @@ use Rattle.model.specs.declared.steps.Step.{Step}
 use Rattle.model.specs.declared.steps.Refusal.{Refusal}
 use Rattle.model.specs.declared.steps.Answer.{Answer}
 use Rattle.model.specs.declared.steps.Answer.TheVariants as answers
+use Rattle.model.specs.declared.records.Forwarding.{Forwarding}
 use Rattle.model.specs.declared.records.Global.{Global}
 use Rattle.model.specs.declared.records.Page.{Page}
 use Rattle.model.specs.States.{HeapState, ThreadState}
-use Rattle.model.specs.Stores.{is_unused}
+use Rattle.model.specs.Stores.{is_protected, is_unused}
 use Rattle.cycle.specs.declared.book.Entry.{Entry}
 use Rattle.cycle.specs.Books.{BookState, Reply, first_book}
 use Rattle.cycle.specs.Drains.{drain, verdict}
@@ -21,6 +22,7 @@ use Rattle.parser.specs.declared.order.Then.TheVariants as thens
 use Rattle.parser.specs.Orders.{step_of, then_of}
 use Rattle.parser.specs.Reading.{ScriptValue}
 use Rattle.parser.specs.Spelling.{with_newline}
+use Rattle.text.specs.declared.records.Copies.{Copies}
 use Rattle.text.specs.declared.report.Activity.{Activity}
 use Rattle.text.specs.declared.report.Activity.TheVariants as activities
 use Rattle.text.specs.Texts.{line_text, drained_line}
@@ -46,10 +48,28 @@ bits_of_row (Some row) = count_by (λ b. b) row
 abbrev pub bits_in : List (List Bool) → ℕ → ℕ
 bits_in rows i = bits_of_row (slice_get rows i)
 
+-- how many entries of a side array are copied
+abbrev pub copied_in : List Forwarding → ℕ
+copied_in side = count_by (λ f. f.copied) side
+
+-- how many entries of a side array that may be missing are copied, of how many
+abbrev pub copies_of_side : Option (List Forwarding) → Copies
+copies_of_side None = record { copied = 0; entries = 0 }
+copies_of_side (Some side) = record { copied = copied_in side; entries = length side }
+
+-- the same, of the side array that stands at i
+abbrev pub copies_in : List (List Forwarding) → ℕ → Copies
+copies_in sides i = copies_of_side (slice_get sides i)
+
+-- the copies of the page whose record stands at i, if it is protected
+abbrev pub copies_of : List (List Forwarding) → ℕ → Page → Option Copies
+copies_of sides i p = if is_protected p.state then Some (copies_in sides i) else None
+
 -- the line of the page whose record stands at i; an unused one has none
 unfoldable pub page_line : HeapState → ℕ → Page → List ℕ
 page_line h i p =
-    if is_unused p.state then [] else with_newline (lines.page_line (i + 1) p (bits_in h.starts i) (bits_in h.live i))
+    if is_unused p.state then []
+    else with_newline (lines.page_line (i + 1) p (bits_in h.starts i) (bits_in h.live i) (copies_of h.sides i p))
 
 -- what a thread does
 abbrev pub activity_of : ThreadState → Activity

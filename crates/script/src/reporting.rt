@@ -2,19 +2,21 @@
 
 ghost use Rattle.std.specs.Prelude.{◌≡◌, ◌++◌, ◌∷◌, [], IfSome, ◌+◌, ◌<◌, ◌≤◌, ◌^◌, OnOk, string_bytes};
 ghost use Rattle.std.specs.Io.KnownBytes.{Appends};
-ghost use Rattle.model.specs.Stores.{is_unused};
+ghost use Rattle.model.specs.Stores.{is_protected, is_unused};
 ghost use Rattle.text.specs.Reports.{texts_from};
-ghost use Rattle.script.specs.Output.{head_line, page_line, thread_line, global_line, cycle_line, cycles_from, next_cycle, report_text, bits_in, activity_of};
+ghost use Rattle.script.specs.Output.{head_line, page_line, thread_line, global_line, cycle_line, cycles_from, next_cycle, report_text, bits_in, copied_in, copies_in, copies_of, activity_of};
 
 use crate::fault::RunFault;
 use cycle::{Answer, Entry};
+use forward::{Side, Sides};
 use heap::{Heap, Rows, Thread};
 use model::{Global, Page, PageState};
 use std::alloc::{AllocError, Global as Memory};
 use std::fmt::{Display, Write as _};
 use std::io;
 use text::{
-    Activity, CycleLine, GlobalLine, HeadLine, PageLine, RegistersText, ThreadLine, WordText,
+    Activity, Copies, CycleLine, GlobalLine, HeadLine, PageLine, RegistersText, ThreadLine,
+    WordText,
 };
 
 /// Writes a text.
@@ -56,6 +58,46 @@ fn bits_in(rows: &Rows, index: usize) -> usize
     }
 }
 
+/// How many entries of a side array are copied.
+fn copied_in(side: &Side) -> usize
+    ensures { result ≡ copied_in side.now }
+{
+    side.len() - side.uncopied() as usize
+}
+
+/// The copies of the side array of an index; none where there is no such side array.
+fn copies_in(sides: &Sides, index: usize) -> Copies
+    ensures { result ≡ copies_in sides.now index }
+{
+    match sides.get(index) {
+        None => Copies {
+            copied: 0,
+            entries: 0,
+        },
+        Some(side) => Copies {
+            copied: copied_in(side),
+            entries: side.len(),
+        },
+    }
+}
+
+/// The copies of the page whose record has an index, if it is protected.
+fn copies_of(sides: &Sides, index: usize, page: Page) -> Option<Copies>
+    ensures { result ≡ copies_of sides.now index page }
+{
+    if is_protected(page) {
+        Some(copies_in(sides, index))
+    } else {
+        None
+    }
+}
+
+fn is_protected(page: Page) -> bool
+    ensures { result ≡ is_protected page.state }
+{
+    matches!(page.state, PageState::From | PageState::Gone)
+}
+
 fn is_unused(page: Page) -> bool
     ensures { result ≡ is_unused page.state }
 {
@@ -95,6 +137,7 @@ fn tell_page<W: io::Write>(
         page,
         objects: bits_in(heap.starts(), index),
         live: bits_in(heap.live(), index),
+        copies: copies_of(heap.sides(), index, page),
     };
     tell_line(&line, text, w)
 }
