@@ -109,7 +109,8 @@ made c h es e f store heap law = subst (λ (g : HeapState). IsBook (record { hea
 
 -- the parts of a book with one more entry
 pub entered_book : (b : BookState) (actor : Actor) (step : Step) (g : HeapState) (answer : Answer) (es : List Entry)
-    → IsBook b → IsStore g.store → IsHeap g → is_full b ≡ false → (let p = (replayed b).now in let p0 = (replayed b).at_mark in Holds b.heap p p0
+    → IsBook b → IsStore g.store → IsHeap g → is_full b ≡ false
+    → (let p = (replayed b).now in let p0 = (replayed b).at_mark in Holds b.heap p p0
     → StepKeeps b.heap p p0 actor step g answer)
     → es ≡ b.history ++ record { actor = actor; step = step; answer = answer } ∷ []
     → IsBook (record { heap = g; history = es })

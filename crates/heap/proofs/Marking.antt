@@ -1,10 +1,10 @@
 -- Marks keep what holds of a heap.
-use Rattle.std.proofs.Common.{None, Some, ◌<◌, arith, ◌≡◌, ℕ, zero, suc, ◌+◌, ◌&&◌, ◌-◌, ◌/◌, ◌%◌, Bool, true, false, List, [], get_or}
-use Rattle.std.proofs.Common.{replicate, refl}
+use Rattle.std.proofs.Common.{None, Some, ◌<◌, arith}
+use Rattle.std.proofs.Common.{◌≡◌, ℕ, zero, suc, ◌+◌, ◌&&◌, ◌-◌, ◌/◌, ◌%◌, Bool, true, false, List}
+use Rattle.std.proofs.Common.{refl}
 use Rattle.std.proofs.Common.{◌∙◌, sym, ap, subst}
 use Rattle.std.specs.Prelude.{if◌then◌else◌}
 use Rattle.model.specs.declared.config.Config.{Config}
-use Rattle.model.specs.declared.records.Forwarding.{Forwarding}
 use Rattle.forward.specs.Counts.{uncopied_count}
 use Rattle.forward.proofs.Totals.{all_copied}
 use Rattle.model.specs.declared.records.Phase.{Phase}
@@ -14,7 +14,6 @@ use Rattle.model.specs.States.{HeapState}
 use Rattle.model.specs.Holding.{IsHeap, AreRowsFor}
 use Rattle.model.proofs.Tables.{rows_put}
 use Rattle.model.specs.Bits.{of_page, with_bit}
-use Rattle.model.specs.Marks.{entry_of, entry_at, forward_by, resolve}
 use Rattle.std.specs.List.{list_any}
 use Rattle.model.specs.Stores.{state_at, is_from}
 use Rattle.model.specs.Cycles.{is_uncopied, has_uncopied, uncopied_from}

@@ -5,7 +5,6 @@ use Rattle.std.proofs.Math.ListN.{length-set}
 use Rattle.model.specs.declared.config.Config.{Config}
 use Rattle.model.specs.declared.records.Buffer.{Buffer}
 use Rattle.model.specs.declared.records.Forwarding.{Forwarding}
-use Rattle.model.specs.declared.records.Phase.{Phase}
 use Rattle.model.specs.declared.records.Phase.TheVariants.{Idle, ProtectCrossing}
 use Rattle.model.specs.declared.records.PageState.TheVariants.{From}
 use Rattle.model.specs.Stores.{StoreState, is_protected, state_at}

@@ -1,6 +1,7 @@
 -- Pages are protected one after another.
 use Rattle.std.proofs.Common.{◌≡◌, ◌≢◌, ℕ, zero, suc, ◌+◌, ◌-◌, ◌<◌, true, false}
-use Rattle.std.proofs.Common.{List, [], ◌∷◌, ◌++◌, length, take, ◌==◌, eq-eqb, Option, Some, None, refl, sym, ◌∙◌, ap, arith}
+use Rattle.std.proofs.Common.{List, [], ◌∷◌, ◌++◌, length, take, ◌==◌, eq-eqb, Option, Some, None}
+use Rattle.std.proofs.Common.{refl, sym, ◌∙◌, ap, arith}
 use Rattle.std.specs.List.{slice_get, list_any}
 use Rattle.std.proofs.lemmas.Option.{same_Some}
 use Rattle.std.proofs.lemmas.Bool.{or_parts, true≢false}
@@ -33,7 +34,8 @@ others_stay : (ns : List ℕ) (ps : List Page) (j : ℕ) → Each ns (λ n. j �
     → slice_get (with_from_pages ns ps) j ≡ slice_get ps j
 others_stay [] ps j h = refl
 others_stay (n ∷ ns) ps j h =
-    others_stay ns (change_at ps (n - 1) set_from_of) j (λ i. h (suc i)) ∙ other_there ps (n - 1) j set_from_of (h 0 n refl)
+    others_stay ns (change_at ps (n - 1) set_from_of) j (λ i. h (suc i))
+    ∙ other_there ps (n - 1) j set_from_of (h 0 n refl)
 
 -- pages are protected behind others
 more : (ns : List ℕ) (n : ℕ) (ps : List Page)
@@ -42,7 +44,8 @@ more [] n ps = refl
 more (m ∷ ns) n ps = more ns n (change_at ps (m - 1) set_from_of)
 
 -- and none is gone by that
-none_gone : (ns : List ℕ) (ps : List Page) → Each ps (λ p. p.state ≢ Gone) → Each (with_from_pages ns ps) (λ p. p.state ≢ Gone)
+none_gone : (ns : List ℕ) (ps : List Page) → Each ps (λ p. p.state ≢ Gone)
+    → Each (with_from_pages ns ps) (λ p. p.state ≢ Gone)
 none_gone [] ps h = h
 none_gone (n ∷ ns) ps h = none_gone ns (change_at ps (n - 1) set_from_of)
     (each_changed (λ p. p.state ≢ Gone) ps (n - 1) set_from_of h (λ p k. from_gone))
@@ -82,8 +85,8 @@ unfolding state_at
 numbered s n e z = absurd (let k : Unused ≡ Closed = sym (ap state_in (page_at_zero s n z)) ∙ e in cc)
 
 -- the i-th page is as it was, where those before it are protected
-pub still_closed : (s : StoreState) (ns : List ℕ) (i n : ℕ) → Each ns (λ m. state_at s m ≡ Closed) → has_twice ns ≡ false
-    → slice_get ns i ≡ Some n → state_at (record s { pages = with_from_pages (take i ns) s.pages }) n ≡ Closed
+pub still_closed : (s : StoreState) (ns : List ℕ) (i n : ℕ) → Each ns (λ m. state_at s m ≡ Closed)
+    → has_twice ns ≡ false → slice_get ns i ≡ Some n → state_at (record s { pages = with_from_pages (take i ns) s.pages }) n ≡ Closed
 unfolding state_at
 still_closed s ns i n closed once at =
     let one = numbered s n (closed i n at) in
@@ -112,7 +115,8 @@ pub protected_more : (s : StoreState) (ns : List ℕ) (i n : ℕ) → slice_get 
     → record s { pages = change_at (with_from_pages (take i ns) s.pages) (n - 1) set_from_of }
     ≡ record s { pages = with_from_pages (take (i + 1) ns) s.pages }
 protected_more s ns i n at = ap (λ ps. record s { pages = ps })
-    (sym (more (take i ns) n s.pages) ∙ ap (λ ms. with_from_pages ms s.pages) (sym (take_more ns i n at) ∙ ap (λ k. take k ns) (suc_is i)))
+    (sym (more (take i ns) n s.pages) ∙ ap (λ ms. with_from_pages ms s.pages)
+    (sym (take_more ns i n at) ∙ ap (λ k. take k ns) (suc_is i)))
   where
     suc_is : (i : ℕ) → suc i ≡ i + 1
     suc_is i = omega arith

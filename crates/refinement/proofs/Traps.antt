@@ -122,7 +122,8 @@ module _ {h : HeapState} {p p0 : PlainHeap} (s : IsStore h.store) (d : IsHeap h)
       ]
 
   -- a register is corrected, or needs no correction
-  pub scrub_holds : (r : ℕ) → Passed h t (steps.Scrub r) → RowHolds h p p0 (Thread t) (steps.Scrub r) (scrub_outcome h t r)
+  pub scrub_holds : (r : ℕ) → Passed h t (steps.Scrub r)
+      → RowHolds h p p0 (Thread t) (steps.Scrub r) (scrub_outcome h t r)
   unfolding scrub_outcome
   scrub_holds r g = on_some (register_of h t r) _ _ _ (λ w is.
       scrub_word_holds s k d t g.thread g.there r w.0 w.1 (g.closed refl) (is_register h r g.indices) is)

@@ -1,13 +1,14 @@
 -- Entries of pages that are being emptied lie in their pages.
-use Rattle.std.proofs.Common.{◌≡◌, ℕ, zero, suc, ◌+◌, ◌-◌, ◌*◌, ◌<◌, ◌≤◌, Bool, true, false, cond, List, [], ◌∷◌, length}
-use Rattle.std.proofs.Common.{Option, Some, None, nat_le, get_or, refl, sym, ◌∙◌, ap, subst, arith}
+use Rattle.std.proofs.Common.{◌≡◌, ℕ, zero, suc, ◌+◌, ◌-◌, ◌*◌, ◌<◌, ◌≤◌, Bool, true, false, cond, List, [], ◌∷◌}
+use Rattle.std.proofs.Common.{length}
+use Rattle.std.proofs.Common.{Option, Some, None, nat_le, refl, sym, ◌∙◌, ap, subst, arith}
 use Rattle.std.specs.List.{slice_get}
 use Rattle.std.specs.Option.{IfSome}
 use Rattle.std.proofs.lemmas.Bool.{leb-false}
 use Rattle.std.proofs.lemmas.Option.{slice_get_within, same_Some}
 use Rattle.model.specs.declared.records.Forwarding.{Forwarding}
 use Rattle.model.specs.declared.records.Page.{Page}
-use Rattle.model.specs.Stores.{StoreState, page_at, state_at, state_in, is_from, record_count}
+use Rattle.model.specs.Stores.{StoreState, page_at, state_at, state_in, is_from}
 use Rattle.model.specs.Owning.{Each, IsStore}
 use Rattle.model.specs.Holding.{IsHeap, AreRising}
 use Rattle.model.specs.States.{HeapState}

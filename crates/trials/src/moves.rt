@@ -35,7 +35,13 @@ fn config(alloc: Global) -> Result<Config, AllocError> {
 }
 
 /// A step of this actor has this reply.
-fn says(rt: &impl Abort, heap: &mut Heap, actor: Actor, step: Step, reply: Result<Answer, Refusal>) {
+fn says(
+    rt: &impl Abort,
+    heap: &mut Heap,
+    actor: Actor,
+    step: Step,
+    reply: Result<Answer, Refusal>,
+) {
     assert_eq!(rt; heap.step(actor, &step), reply);
 }
 
@@ -53,7 +59,13 @@ fn cross(rt: &impl Abort, heap: &mut Heap) {
 /// A thread loads the global into a register; no trap is due.
 fn load(rt: &impl Abort, heap: &mut Heap, actor: Actor, target: u32) {
     let (global, clear) = (0, Ok(Answer::Clear));
-    says(rt, heap, actor, Step::LoadGlobal { target, global }, Ok(Answer::Loaded));
+    says(
+        rt,
+        heap,
+        actor,
+        Step::LoadGlobal { target, global },
+        Ok(Answer::Loaded),
+    );
     says(rt, heap, actor, Step::Trap, clear);
     does(rt, heap, actor, Step::Finish);
 }
@@ -63,8 +75,23 @@ fn fill(rt: &impl Abort, heap: &mut Heap) {
     let (target, layout, object, index, value) = (0, 0, 0, 0, 5);
     let lent = Answer::Lent { page: 1, offset: 0 };
     says(rt, heap, FIRST, Step::Take(16), Ok(lent));
-    says(rt, heap, FIRST, Step::New { target, layout }, Ok(Answer::Birth(0)));
-    does(rt, heap, FIRST, Step::SetDatum { object, index, value });
+    says(
+        rt,
+        heap,
+        FIRST,
+        Step::New { target, layout },
+        Ok(Answer::Birth(0)),
+    );
+    does(
+        rt,
+        heap,
+        FIRST,
+        Step::SetDatum {
+            object,
+            index,
+            value,
+        },
+    );
     let (global, source) = (0, 0);
     does(rt, heap, FIRST, Step::StoreGlobal { global, source });
     does(rt, heap, FIRST, Step::GiveBack);
@@ -78,7 +105,13 @@ fn mark(rt: &impl Abort, heap: &mut Heap, page: u32, retired: u64) {
     does(rt, heap, WORKER, Step::Pick { page, offset });
     says(rt, heap, WORKER, Step::ScanField, Ok(Answer::Scanned));
     says(rt, heap, WORKER, Step::ScanField, Ok(Answer::Finished));
-    says(rt, heap, WORKER, Step::EndMark, Ok(Answer::Ended { live, retired }));
+    says(
+        rt,
+        heap,
+        WORKER,
+        Step::EndMark,
+        Ok(Answer::Ended { live, retired }),
+    );
 }
 
 /// Page 1 is protected, and its object goes to the first word of page 2.
@@ -134,15 +167,36 @@ fn scrubbed(rt: HostRuntime) -> Result<(), Fail> {
     datum(&rt, &mut heap, FIRST, Err(Refusal::Stall));
     says(&rt, &mut heap, FIRST, Step::Scrub(0), Err(Refusal::Stall));
     let behind = Refusal::NotCrossed { thread: 1 };
-    says(&rt, &mut heap, WORKER, Step::Copy { page, entry }, Err(behind));
-    does(&rt, &mut heap, SECOND, Step::SetDatum { object, index, value });
+    says(
+        &rt,
+        &mut heap,
+        WORKER,
+        Step::Copy { page, entry },
+        Err(behind),
+    );
+    does(
+        &rt,
+        &mut heap,
+        SECOND,
+        Step::SetDatum {
+            object,
+            index,
+            value,
+        },
+    );
     does(&rt, &mut heap, SECOND, Step::Cross);
     datum(&rt, &mut heap, SECOND, Err(Refusal::Stale));
     says(&rt, &mut heap, SECOND, Step::Scrub(0), Ok(Answer::Moved));
     says(&rt, &mut heap, FIRST, Step::Scrub(0), Ok(Answer::Moved));
     datum(&rt, &mut heap, FIRST, Ok(Answer::Datum(9)));
     datum(&rt, &mut heap, SECOND, Ok(Answer::Datum(9)));
-    says(&rt, &mut heap, WORKER, Step::Copy { page, entry }, Err(Refusal::Copied));
+    says(
+        &rt,
+        &mut heap,
+        WORKER,
+        Step::Copy { page, entry },
+        Err(Refusal::Copied),
+    );
     says(&rt, &mut heap, FIRST, Step::Scrub(0), Ok(Answer::Clean));
     says(&rt, &mut heap, FIRST, Step::Scrub(1), Err(Refusal::Null));
     Ok(())
@@ -154,7 +208,13 @@ fn copied_by_a_thread(rt: HostRuntime) -> Result<(), Fail> {
     let mut heap = protected(&rt, rt.alloc())?;
     let (target, global) = (1, 0);
     does(&rt, &mut heap, FIRST, Step::Cross);
-    says(&rt, &mut heap, FIRST, Step::LoadGlobal { target, global }, Ok(Answer::Loaded));
+    says(
+        &rt,
+        &mut heap,
+        FIRST,
+        Step::LoadGlobal { target, global },
+        Ok(Answer::Loaded),
+    );
     says(&rt, &mut heap, FIRST, Step::Trap, Err(Refusal::Stall));
     says(&rt, &mut heap, FIRST, Step::Heal, Err(Refusal::Busy));
     does(&rt, &mut heap, SECOND, Step::Cross);
@@ -163,7 +223,13 @@ fn copied_by_a_thread(rt: HostRuntime) -> Result<(), Fail> {
     says(&rt, &mut heap, FIRST, Step::Heal, Ok(Answer::Healed));
     does(&rt, &mut heap, FIRST, Step::Finish);
     let (object, index) = (1, 0);
-    says(&rt, &mut heap, FIRST, Step::Datum { object, index }, Ok(Answer::Datum(5)));
+    says(
+        &rt,
+        &mut heap,
+        FIRST,
+        Step::Datum { object, index },
+        Ok(Answer::Datum(5)),
+    );
     assert_eq!(&rt; heap.sides().uncopied(), 0);
     Ok(())
 }
@@ -179,10 +245,28 @@ fn released(rt: HostRuntime) -> Result<(), Fail> {
     says(&rt, &mut heap, WORKER, Step::Release(page), Err(uncopied));
     says(&rt, &mut heap, WORKER, Step::StartMark, Err(uncopied));
     let to = Answer::MovedTo { page: 2, offset: 0 };
-    says(&rt, &mut heap, WORKER, Step::Copy { page, entry: 1 }, Err(Refusal::BadIndex));
+    says(
+        &rt,
+        &mut heap,
+        WORKER,
+        Step::Copy { page, entry: 1 },
+        Err(Refusal::BadIndex),
+    );
     says(&rt, &mut heap, WORKER, Step::Copy { page, entry }, Ok(to));
-    says(&rt, &mut heap, WORKER, Step::Release(page), Ok(Answer::Released { free: 2 }));
-    says(&rt, &mut heap, WORKER, Step::Release(page), Err(Refusal::BadIndex));
+    says(
+        &rt,
+        &mut heap,
+        WORKER,
+        Step::Release(page),
+        Ok(Answer::Released { free: 2 }),
+    );
+    says(
+        &rt,
+        &mut heap,
+        WORKER,
+        Step::Release(page),
+        Err(Refusal::BadIndex),
+    );
     does(&rt, &mut heap, WORKER, Step::StartMark);
     cross(&rt, &mut heap);
     mark(&rt, &mut heap, 2, 1);
@@ -198,8 +282,26 @@ fn released(rt: HostRuntime) -> Result<(), Fail> {
 fn nothing_moves_while_idle(rt: HostRuntime) -> Result<(), Fail> {
     let mut heap = Heap::new(rt.alloc(), config(rt.alloc())?)?;
     let (page, entry) = (1, 0);
-    says(&rt, &mut heap, WORKER, Step::Copy { page, entry }, Err(Refusal::Phase));
-    says(&rt, &mut heap, WORKER, Step::Release(page), Err(Refusal::Phase));
-    says(&rt, &mut heap, FIRST, Step::Release(page), Err(Refusal::NoActor));
+    says(
+        &rt,
+        &mut heap,
+        WORKER,
+        Step::Copy { page, entry },
+        Err(Refusal::Phase),
+    );
+    says(
+        &rt,
+        &mut heap,
+        WORKER,
+        Step::Release(page),
+        Err(Refusal::Phase),
+    );
+    says(
+        &rt,
+        &mut heap,
+        FIRST,
+        Step::Release(page),
+        Err(Refusal::NoActor),
+    );
     Ok(())
 }

@@ -52,13 +52,7 @@ impl Heap {
     {
         match self.entry_at(address) {
             None => address,
-            Some(entry) => {
-                if entry.copied {
-                    entry.to
-                } else {
-                    address
-                }
-            }
+            Some(entry) => { if entry.copied { entry.to } else { address } }
         }
     }
 

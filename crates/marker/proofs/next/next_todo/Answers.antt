@@ -2,7 +2,7 @@ use Rattle.std.proofs.Common.{◌∙◌, ◌+◌, ap, subst}
 use Rattle.std.specs.Prelude.{Some}
 use Rattle.model.specs.Bits.{of_page}
 use Rattle.marker.specs.Free.{IsNextFree}
-use Rattle.marker.proofs.Free.{busy_is, none_busy, busy_there, found_on, none_found_on, none_left}
+use Rattle.marker.proofs.Free.{busy_is, none_busy, found_on, none_found_on, none_left}
 use Rattle.marker.proofs.next.next_todo.Goals as goal
 
 pub address_on-requires-clause-within : goal.address_on-requires-clause-within
