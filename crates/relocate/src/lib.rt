@@ -5,6 +5,7 @@
 #![tactic(auto)]
 
 mod copying;
+mod drafting;
 mod emptied;
 mod releasing;
 

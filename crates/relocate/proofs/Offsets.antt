@@ -1,0 +1,121 @@
+-- The offsets of live objects are found one after another.
+use Rattle.std.proofs.Common.{◌≡◌, ℕ, zero, suc, ◌+◌, ◌-◌, ◌<◌, ◌≤◌, Bool, true, false, List, [], ◌∷◌, ◌++◌, length, map}
+use Rattle.std.proofs.Common.{drop, get_or, refl, sym, ◌∙◌, ap, ap₂, arith, append_assoc, append-nil}
+use Rattle.std.proofs.lemmas.Bool.{true≢false}
+use Rattle.std.specs.List.{slice_get}
+use Rattle.std.proofs.Common.{Some, None}
+use Rattle.std.proofs.lemmas.Option.{same_Some}
+use Rattle.model.specs.declared.limits.TheConstants.{MOST_WORDS}
+use Rattle.model.specs.Bits.{of_page}
+use Rattle.model.specs.Holding.{IsHeap, AreRising}
+use Rattle.model.specs.States.{HeapState}
+use Rattle.model.specs.Plans.{offsets_from, live_offsets}
+use Rattle.model.proofs.Plans.{side_rises}
+use Rattle.relocate.specs.Drafted.{address_of, drafted, drafted_entry, drafted_size, drafted_sizes}
+use Rattle.markbits.specs.Words.{IsNextPlace, IsFirstFrom}
+
+-- from a place on, the first that is set comes before those behind it
+offsets_next : (row : List Bool) (o a c d i k : ℕ) → a ≡ o + i → c ≡ o + k → d ≡ o + suc k → i ≤ k
+    → get_or row k false ≡ true → ((j : ℕ) → i ≤ j → j < k → get_or row j false ≡ false)
+    → offsets_from a (drop i row) ≡ c ∷ offsets_from d (drop (suc k) row)
+offsets_next [] o a c d i k p q r l here before = absurd (true≢false (sym here))
+offsets_next (true ∷ row) o a c d zero zero p q r l here before =
+    let first : a ≡ c = omega (arith, p, q) in
+    let next : a + 1 ≡ d = omega (arith, p, r) in
+    ap₂ (λ x y. x ∷ offsets_from y row) first next
+offsets_next (false ∷ row) o a c d zero zero p q r l here before = absurd (true≢false (sym here))
+offsets_next (true ∷ row) o a c d zero (suc k) p q r l here before =
+    absurd (true≢false (before zero (omega arith) (omega arith)))
+offsets_next (false ∷ row) o a c d zero (suc k) p q r l here before =
+    offsets_next row (o + 1) (a + 1) c d zero k (omega (arith, p)) (omega (arith, q)) (omega (arith, r)) (omega arith) here
+    (λ j x y. before (suc j) (omega (arith, x)) (omega (arith, y)))
+offsets_next (b ∷ row) o a c d (suc i) zero p q r l here before = absurd (omega (arith, l))
+offsets_next (b ∷ row) o a c d (suc i) (suc k) p q r l here before =
+    offsets_next row (o + 1) a c d i k (omega (arith, p)) (omega (arith, q)) (omega (arith, r)) (omega (arith, l)) here
+    (λ j x y. before (suc j) (omega (arith, x)) (omega (arith, y)))
+
+-- there are none where nothing is set from a place on
+offsets_none : (row : List Bool) (a i : ℕ) → ((j : ℕ) → i ≤ j → get_or row j false ≡ false)
+    → offsets_from a (drop i row) ≡ []
+offsets_none [] a zero none = refl
+offsets_none [] a (suc i) none = refl
+offsets_none (true ∷ row) a zero none = absurd (true≢false (none zero (omega arith)))
+offsets_none (false ∷ row) a zero none = offsets_none row (a + 1) zero (λ j x. none (suc j) (omega (arith, x)))
+offsets_none (b ∷ row) a (suc i) none = offsets_none row a i (λ j x. none (suc j) (omega (arith, x)))
+
+-- what is left behind a place that was found
+pub left_next : (row : List Bool) (i k : ℕ) → IsFirstFrom row i k
+    → offsets_from i (drop i row) ≡ k ∷ offsets_from (k + 1) (drop (k + 1) row)
+left_next row i k f =
+    let is : suc k ≡ k + 1 = omega arith in
+    offsets_next row 0 i k (suc k) i k (omega arith) (omega arith) (omega arith) f.low f.here f.before
+    ∙ ap (λ n. k ∷ offsets_from n (drop n row)) is
+
+pub left_none : (row : List Bool) (i : ℕ) → ((j : ℕ) → i ≤ j → get_or row j false ≡ false)
+    → offsets_from i (drop i row) ≡ []
+left_none row i none = offsets_none row i i none
+
+-- one more is taken off what is left, and put behind what was
+pub taken_over : {X : Type 0} (f : ℕ → X) (done now whole : List X) (left rest : List ℕ) (k : ℕ) → left ≡ k ∷ rest
+    → now ≡ done ++ f k ∷ [] → done ++ map f left ≡ whole → now ++ map f rest ≡ whole
+taken_over f done now whole left rest k is put h =
+    ap (λ xs. xs ++ map f rest) put ∙ append_assoc done (f k ∷ []) (map f rest) ∙ ap (λ xs. done ++ map f xs) (sym is) ∙ h
+
+pub all_taken : {X : Type 0} (f : ℕ → X) (done whole : List X) (left : List ℕ) → left ≡ [] → done ++ map f left ≡ whole
+    → done ≡ whole
+all_taken f done whole left none h = sym (append-nil done) ∙ ap (λ xs. done ++ map f xs) (sym none) ∙ h
+
+-- the row of a page that has none, or this one
+read_none : (rows : List (List Bool)) (i : ℕ) → slice_get rows i ≡ None → get_or rows i [] ≡ []
+read_none [] i e = refl
+read_none (row ∷ rows) zero e = absurd (cc)
+read_none (row ∷ rows) (suc i) e = read_none rows i e
+
+read_some : (rows : List (List Bool)) (i : ℕ) (r : List Bool) → slice_get rows i ≡ Some r → get_or rows i [] ≡ r
+read_some [] i r e = absurd (cc)
+read_some (row ∷ rows) zero r e = same_Some row r e
+read_some (row ∷ rows) (suc i) r e = read_some rows i r e
+
+pub no_row : (rows : List (List Bool)) (n : ℕ) → 0 < n → slice_get rows (n - 1) ≡ None → of_page rows n ≡ []
+no_row rows zero l e = absurd (omega (arith, l))
+no_row rows (suc i) l e = read_none rows i (ap (slice_get rows) (less i) ∙ e)
+  where
+    less : (i : ℕ) → i ≡ suc i - 1
+    less i = omega arith
+
+pub row_there : (rows : List (List Bool)) (n : ℕ) (r : List Bool) → 0 < n → slice_get rows (n - 1) ≡ Some r
+    → of_page rows n ≡ r
+row_there rows zero r l e = absurd (omega (arith, l))
+row_there rows (suc i) r l e = read_some rows i r (ap (slice_get rows) (less i) ∙ e)
+  where
+    less : (i : ℕ) → i ≡ suc i - 1
+    less i = omega arith
+
+module _ (h : HeapState) (n : ℕ) (low : 0 < n) where
+  pub none_drafted : slice_get h.live (n - 1) ≡ None → ([] ≡ drafted h n) × ([] ≡ drafted_sizes h n)
+  unfolding drafted drafted_sizes live_offsets
+  none_drafted e =
+      let none = no_row h.live n low e in
+      (
+        ap (λ row. map (drafted_entry h n) (offsets_from 0 row)) (sym none),
+        ap (λ row. map (drafted_size h n) (offsets_from 0 row)) (sym none),
+      )
+
+  pub row_drafted : (r : List Bool) → slice_get h.live (n - 1) ≡ Some r
+      → (map (drafted_entry h n) (offsets_from 0 r) ≡ drafted h n)
+      × (map (drafted_size h n) (offsets_from 0 r) ≡ drafted_sizes h n)
+  unfolding drafted drafted_sizes live_offsets
+  row_drafted r e =
+      let is = row_there h.live n r low e in
+      (
+        ap (λ row. map (drafted_entry h n) (offsets_from 0 row)) (sym is),
+        ap (λ row. map (drafted_size h n) (offsets_from 0 row)) (sym is),
+      )
+
+  -- the row of a page has its words, and the draft of it rises
+  pub row_sized : (r : List Bool) → IsHeap h → slice_get h.live (n - 1) ≡ Some r → length r ≡ h.store.words
+  row_sized r i e = i.live.words (n - 1) r e ∙ sym i.sizes.words
+
+pub draft_rises : (h : HeapState) (n : ℕ) (r : List Bool) → length r ≤ MOST_WORDS
+    → AreRising MOST_WORDS 0 (map (drafted_entry h n) (offsets_from 0 r))
+draft_rises h n r few = side_rises MOST_WORDS 0 r (address_of h n) (omega (arith, few))

@@ -1,0 +1,92 @@
+//! What is planned before pages are protected (the plan is ours): the live objects of pages, and
+//! their sizes.
+
+ghost use Rattle.std.specs.Prelude.{◌≡◌, ◌<◌, ◌≤◌, ◌++◌, length, map, OnOk, IfOk};
+ghost use Rattle.model.specs.Plans.{offsets_from};
+ghost use Rattle.model.specs.Owning.{Each};
+ghost use Rattle.std.specs.List.{flat_map};
+ghost use Rattle.relocate.specs.Drafted.{drafted, drafted_entry, drafted_size, drafted_sizes};
+
+use forward::Side;
+use heap::{Heap, Row};
+use model::Forwarding;
+use std::alloc::{AllocError, Global};
+
+/// An entry for each live object of a page, by the page's number from 1 and its row of live bits.
+/// Each goes to where it is, until places are known. Their sizes are put behind others.
+fn draft_side(
+    alloc: Global,
+    heap: &Heap,
+    page: u32,
+    row: &Row,
+    sizes: &mut Vec<u32>,
+) -> Result<Vec<Forwarding>, AllocError>
+    requires low { 0 < page }
+    requires high { page ≤ heap.now.store.count }
+    requires size { length row.now ≡ heap.now.store.words }
+    ensures entries { IfOk result (λ v. v.items ≡ map (drafted_entry heap.now page) (offsets_from 0 row.now)) }
+    ensures sizes { OnOk result (sizes.new.items ≡ sizes.old.items ++ map (drafted_size heap.now page) (offsets_from 0 row.now)) }
+{
+    let mut entries = Vec::with_capacity(alloc, row.count())?;
+    let mut from = 0;
+    while let Some(offset) = row.next_from(from) {
+        let to = heap.address_on(page, offset);
+        entries.push(Forwarding {
+            offset,
+            to,
+            copied: false,
+        })?;
+        sizes.push(heap.object_words(to))?;
+        from = offset as usize + 1;
+    }
+    Ok(entries)
+}
+
+/// The same of a page by its number from 1. One without a record has no live objects.
+#[tactic(auto, unfolding(crate::specs::Drafted::drafted, crate::specs::Drafted::drafted_sizes, model::specs::Plans::live_offsets))]
+fn draft_page(
+    alloc: Global,
+    heap: &Heap,
+    page: u32,
+    sizes: &mut Vec<u32>,
+) -> Result<Side, AllocError>
+    requires low { 0 < page }
+    requires high { page ≤ heap.now.store.count }
+    ensures side { IfOk result (λ side. side ≡ drafted heap.now page) }
+    ensures sizes { OnOk result (sizes.new.items ≡ sizes.old.items ++ drafted_sizes heap.now page) }
+{
+    heap.law();
+    match heap.live().get((page - 1) as usize) {
+        None => Ok(Side::empty(alloc)),
+        Some(row) => {
+            let entries = draft_side(alloc, heap, page, row, sizes)?;
+            Ok(Side::new(entries))
+        }
+    }
+}
+
+/// The live objects of pages, each an entry of its page's side array, and their sizes in the order
+/// of the pages and, in each, of their offsets.
+#[derive(Drop)]
+pub(crate) struct Draft {
+    /// A side array for each page, in the pages' order.
+    pub sides: Vec<Side>,
+    /// How many words each object has.
+    pub sizes: Vec<u32>,
+}
+
+/// The draft of pages, each of which has a number of the heap's.
+pub(crate) fn draft_pages(alloc: Global, heap: &Heap, pages: &[u32]) -> Result<Draft, AllocError>
+    requires low { Each pages.now (λ n. 0 < n) }
+    requires high { Each pages.now (λ n. n ≤ heap.now.store.count) }
+    ensures sides { IfOk result (λ d. d.sides.items ≡ map (drafted heap.now) pages.now) }
+    ensures sizes { IfOk result (λ d. d.sizes.items ≡ flat_map (drafted_sizes heap.now) pages.now) }
+{
+    let mut sides = Vec::with_capacity(alloc, pages.len())?;
+    let mut sizes = Vec::new(alloc);
+    for index in 0..pages.len() {
+        let side = draft_page(alloc, heap, pages[index], &mut sizes)?;
+        sides.push(side)?;
+    }
+    Ok(Draft { sides, sizes })
+}
