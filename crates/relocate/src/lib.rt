@@ -7,6 +7,7 @@
 mod copying;
 mod emptied;
 mod releasing;
+mod targets;
 
 pub use copying::{copy, follow};
 pub use releasing::release;
