@@ -9,3 +9,4 @@ pub mod Masks
 pub mod Relocated
 pub mod Copied
 pub mod Protecting
+pub mod NextTargets

@@ -80,7 +80,7 @@ apart (x ∷ ns) (suc i) (suc j) m n h l e f k =
     apart ns i j m n (or_parts (list_any (λ z. z == x) ns) (has_twice ns) h).1 (omega (arith, l)) e f k
 
 -- a closed page has a number
-numbered : (s : StoreState) (n : ℕ) → state_at s n ≡ Closed → n ≢ 0
+pub numbered : (s : StoreState) (n : ℕ) → state_at s n ≡ Closed → n ≢ 0
 unfolding state_at
 numbered s n e z = absurd (let k : Unused ≡ Closed = sym (ap state_in (page_at_zero s n z)) ∙ e in cc)
 

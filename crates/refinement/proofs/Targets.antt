@@ -1,32 +1,28 @@
 -- Targets: pages that are opened for what is planned, wholly given out and to nobody. What was in the heap stays.
-use Rattle.std.proofs.Common.{◌≡◌, ◌≢◌, ◌⊎◌, inl, inr, ℕ, zero, suc, ◌+◌, ◌*◌, ◌<◌, ◌≤◌, Bool, true, false}
-use Rattle.std.proofs.Common.{List, [], ◌∷◌, length, set, position, count_by, is_none, cond, replicate, Option, Some}
+use Rattle.std.proofs.Common.{◌≡◌, ◌≢◌, ◌⊎◌, inl, inr, ℕ, zero, suc, ◌+◌, ◌*◌, ◌<◌, ◌≤◌}
+use Rattle.std.proofs.Common.{List, [], ◌∷◌, length, set, cond, replicate, Option, Some}
 use Rattle.std.proofs.Common.{None}
 use Rattle.std.proofs.Common.{IfSome, nat_eq, eq-eqb, ne_eqb, refl, sym, ◌∙◌, ap, subst, arith}
 use Rattle.std.specs.List.{slice_get}
-use Rattle.std.specs.Prelude.{Ok}
 use Rattle.std.proofs.Math.ListN.{length-set}
 use Rattle.std.proofs.lemmas.Bool.{cases_eq}
-use Rattle.std.proofs.lemmas.List.Sums.{sum_by-cons}
 use Rattle.std.proofs.lemmas.Option.{same_Some}
 use Rattle.model.specs.declared.records.Page.{Page}
 use Rattle.model.specs.declared.records.PageState.TheVariants.{Unused, Open}
 use Rattle.model.specs.declared.records.Buffer.{Buffer}
-use Rattle.model.specs.Stores.{StoreState, state_at, is_unused, free_frame, unused_page, unused_in, open_fresh}
+use Rattle.model.specs.Stores.{StoreState, state_at, open_fresh}
 use Rattle.model.specs.Stores.{fresh_page}
-use Rattle.model.specs.Stores.{give_words, take_fresh, buffer_of}
+use Rattle.model.specs.Stores.{give_words, buffer_of}
 use Rattle.model.specs.Owning.{Each, IsStore, LiesIn}
 use Rattle.model.specs.Holding.{FillsIn}
 use Rattle.model.specs.States.{HeapState}
 use Rattle.model.specs.Bits.{bit_at}
 use Rattle.model.specs.Plain.{PlainHeap}
-use Rattle.model.specs.Protections.{take_target, with_target, with_targets, behind_target, free_count, unused_count}
-use Rattle.model.proofs.Lists.{get_within, count_set, position_none, none_far, as_number}
+use Rattle.model.specs.Protections.{with_target, with_targets, behind_target, free_count, unused_count}
 use Rattle.model.proofs.Plans.{IsIn, at_in}
-use Rattle.page.specs.Records.{is_unused_in}
-use Rattle.page.proofs.Found.{position_within, free_found, free_within, unused_found}
-use Rattle.page.proofs.Keeping.{open_keeps, raise_keeps, opened_at, given_at, unused_as}
+use Rattle.page.proofs.Keeping.{open_keeps, raise_keeps, opened_at, given_at}
 use Rattle.page.proofs.Lying.{well_opened}
+use Rattle.page.proofs.NextTargets.{NextTarget, next_target, free_less, unused_less}
 use Rattle.laws.specs.AddressHeap.{AddressHeap}
 use Rattle.laws.specs.Transitions.{TakeFresh}
 use Rattle.laws.specs.Edits.{open_page}
@@ -41,60 +37,6 @@ use Rattle.refinement.proofs.Opened as opened
 use Rattle.refinement.proofs.Raised.{raised, raised_carries}
 use Rattle.refinement.proofs.Raised as raising
 use Rattle.refinement.proofs.Buffers.{each_set_again, blank_rows}
-
--- a fresh page
-
-none_counts : {X : Type 0} (p : X → Bool) (xs : List X) → Each xs (λ x. p x ≡ false) → count_by p xs ≡ 0
-none_counts p [] h = refl
-none_counts p (x ∷ xs) h =
-    let here : as_number (p x) ≡ 0 = ap as_number (h zero x refl) in
-    omega (arith, sum_by-cons (λ y. cond (p y) 1 0) x xs, here, none_counts p xs (λ i. h (suc i)))
-
--- an unused page and a free frame, on which the next target opens
-pub record NextTarget (s : StoreState) : Type 0 where
-  pub index : ℕ
-  pub frame : ℕ
-  pub page : Page
-  pub at : slice_get s.pages index ≡ Some page
-  pub unused : is_unused page.state ≡ true
-  pub free : slice_get s.owners frame ≡ Some None
-  pub is : take_target s ≡ Ok (give_words (open_fresh s index frame) index s.words)
-
--- a target opens where a frame is free and a page unused
-pub next_target : (s : StoreState) → IsStore s → 0 < free_count s → 0 < unused_count s → NextTarget s
-unfolding take_target free_count unused_count free_frame unused_page
-next_target s h free unused = by_frame (free_frame s.owners) refl
-  where
-    by_page : (f : ℕ) → free_frame s.owners ≡ Some f → (o : Option ℕ)
-        → position (λ (p : Page). is_unused p.state) s.pages ≡ o → NextTarget s
-    by_page f a None b = absurd (
-        let few = none_counts (λ (p : Page). is_unused p.state) s.pages
-        (position_none (λ (p : Page). is_unused p.state) s.pages b) in
-        let all : s.count ≤ length s.pages = none_far (length s.pages) s.count
-        (ap (unused_in s.count s.pages) (sym b) ∙ sym (unused_as s h free None (sym b))) in
-        omega (arith, few, all, unused)
-        )
-    by_page f a (Some i) b =
-        let (p, at) = get_within s.pages i
-        (position_within (λ (p : Page). is_unused p.state) s.pages i b (fresh_page f)) in
-        record {
-          index = i;
-          frame = f;
-          page = p;
-          at = at;
-          unused = sym (ap is_unused_in at) ∙ unused_found s.pages i
-              (position_within (λ (p : Page). is_unused p.state) s.pages i b (fresh_page f)) b;
-          free = free_found s.owners f (free_within s.owners f a) a;
-          is = ap (λ o. take_fresh s s.words o (unused_page s.count s.pages)) a
-              ∙ ap (take_fresh s s.words (Some f)) (sym (unused_as s h free (Some i) (sym b)));
-        }
-
-    by_frame : (o : Option ℕ) → free_frame s.owners ≡ o → NextTarget s
-    by_frame None a = absurd (no (none_counts is_none s.owners (position_none is_none s.owners a)))
-      where
-        no : count_by is_none s.owners ≡ 0 → ⊥
-        no e = absurd (omega (arith, e, free))
-    by_frame (Some f) a = by_page f a (position (λ (p : Page). is_unused p.state) s.pages) refl
 
 -- one target
 
@@ -284,25 +226,6 @@ module _ (h : HeapState) (p p0 : PlainHeap) (s : IsStore h.store) (d : Each h.th
       once zero (suc j) n e f = absurd (cc)
       once (suc i) j n e f = absurd (cc)
 
-  -- and a frame and a page less are left
-  free_less : free_count after.store + 1 ≡ free_count h.store
-  unfolding open_fresh free_count
-  free_less = omega (arith, count_set is_none h.store.owners x.frame None (Some (x.index + 1)) x.free)
-
-  unused_less : unused_count after.store + 1 ≡ unused_count h.store
-  unfolding open_fresh unused_count
-  unused_less =
-      let q : Page = fresh_page x.frame in
-      let opens = count_set (λ (z : Page). is_unused z.state) h.store.pages x.index x.page q x.at in
-      let fills = count_set (λ (z : Page). is_unused z.state) (set h.store.pages x.index q) x.index q
-      (with_more q h.store.words) at in
-      let was : as_number (is_unused x.page.state) ≡ 1 = ap as_number x.unused in
-      let first : length (set h.store.pages x.index q) ≡ length h.store.pages = length-set h.store.pages x.index q in
-      let second : length (set (set h.store.pages x.index q) x.index (with_more q h.store.words))
-      ≡ length (set h.store.pages x.index q) =
-      length-set (set h.store.pages x.index q) x.index (with_more q h.store.words) in
-      omega (arith, opens, fills, was, first, second)
-
 -- targets behind a target
 more_targets : (h g m : HeapState) (t : ℕ) (ts : List ℕ) → HasTargets h g (t ∷ []) → HasTargets g m ts
     → HasTargets h m (t ∷ ts)
@@ -394,7 +317,7 @@ targets_hold (suc n) h p p0 s d k free unused =
     let x = next_target h.store s (omega (arith, free)) (omega (arith, unused)) in
     let rest = targets_hold n (target_heap h x.index x.frame) p p0 (target_store h p p0 s d k x)
     (target_fills h p p0 s d k x) (target_holds h p p0 s d k x)
-    (omega (arith, free, free_less h p p0 s d k x)) (omega (arith, unused, unused_less h p p0 s d k x)) in
+    (omega (arith, free, free_less h.store x)) (omega (arith, unused, unused_less h.store x)) in
     subst (λ z. TargetsHold h (suc n) z p p0) (sym (opened_first n h x)) (record {
       targets = more_targets h (target_heap h x.index x.frame) _ (x.index + 1) _ (one_target h p p0 s d k x)
           rest.targets;

@@ -1,10 +1,8 @@
 -- Entries of pages that are being emptied lie in their pages.
-use Rattle.std.proofs.Common.{◌≡◌, ℕ, zero, suc, ◌+◌, ◌-◌, ◌*◌, ◌<◌, ◌≤◌, Bool, true, false, cond, List, [], ◌∷◌}
-use Rattle.std.proofs.Common.{length}
-use Rattle.std.proofs.Common.{Option, Some, None, nat_le, refl, sym, ◌∙◌, ap, subst, arith}
+use Rattle.std.proofs.Common.{◌≡◌, ℕ, zero, suc, ◌+◌, ◌-◌, ◌<◌, ◌≤◌, true, List, [], ◌∷◌}
+use Rattle.std.proofs.Common.{Option, Some, None, refl, sym, subst, arith}
 use Rattle.std.specs.List.{slice_get}
 use Rattle.std.specs.Option.{IfSome}
-use Rattle.std.proofs.lemmas.Bool.{leb-false}
 use Rattle.std.proofs.lemmas.Option.{slice_get_within, same_Some}
 use Rattle.model.specs.declared.records.Forwarding.{Forwarding}
 use Rattle.model.specs.declared.records.Page.{Page}
@@ -14,6 +12,7 @@ use Rattle.model.specs.Holding.{IsHeap, AreRising}
 use Rattle.model.specs.States.{HeapState}
 use Rattle.model.specs.Bits.{of_page}
 use Rattle.model.proofs.Memory.{page_there}
+use Rattle.page.proofs.NextTargets.{records_within}
 
 -- entries that rise within a page are within it
 risen : (w low : ℕ) (fs : List Forwarding) (e : ℕ) (f : Forwarding) → AreRising w low fs → slice_get fs e ≡ Some f
@@ -36,19 +35,6 @@ entry_within h page e None i is = tt
 entry_within h page e (Some f) i is = subst (λ w. f.offset < w) (sym i.sizes.words)
     (risen h.config.words 0 (of_page h.sides page) e f (side_rises h.config.words h.sides page i.sides.rising) (sym is))
 
--- no more pages have records than there are numbers
-records_few : (s : StoreState) → IsStore s → length s.pages ≤ s.count
-records_few s h = by_test (nat_le s.count (2 * length s.frames)) refl
-  where
-    by_test : (b : Bool) → nat_le s.count (2 * length s.frames) ≡ b → length s.pages ≤ s.count
-    by_test true e =
-        let is : length s.pages ≡ s.count = h.sized.pages ∙ ap (λ b. cond b s.count (2 * length s.frames)) e in
-        omega (arith, is)
-    by_test false e =
-        let is : length s.pages ≡ 2 * length s.frames =
-        h.sized.pages ∙ ap (λ b. cond b s.count (2 * length s.frames)) e in
-        omega (arith, is, leb-false s.count (2 * length s.frames) e)
-
 -- a page that is being emptied has a number
 pub numbered : (s : StoreState) (page : ℕ) → IsStore s → is_from (state_at s page) ≡ true
     → (0 < page) × (page ≤ s.count)
@@ -60,7 +46,7 @@ numbered s page h e = by_page (page_at s page) refl e
     by_page (Some p) f k =
         let (one, at) = page_there s page p f in
         let low = slice_get_within s.pages (page - 1) p at in
-        (omega (arith, one), omega (arith, one, low, records_few s h))
+        (omega (arith, one), omega (arith, one, low, records_within s h))
 
 pub page_low : (s : StoreState) (page : ℕ) (o : Option Forwarding) → IsStore s → is_from (state_at s page) ≡ true
     → IfSome o (λ f. 0 < page)

@@ -1,4 +1,6 @@
 pub mod Entries
-pub mod Offsets
-pub mod Settled
 pub mod Lists
+pub mod Offsets
+pub mod Opening
+pub mod Settled
+pub mod Settlement

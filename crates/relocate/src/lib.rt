@@ -8,6 +8,8 @@ mod copying;
 mod drafting;
 mod emptied;
 mod releasing;
+mod settling;
+mod targets;
 
 pub use copying::{copy, follow};
 pub use releasing::release;

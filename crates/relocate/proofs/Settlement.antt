@@ -1,0 +1,71 @@
+-- Entries get their places one after another.
+use Rattle.std.proofs.Common.{◌≡◌, ℕ, zero, suc, ◌+◌, ◌<◌, ◌≤◌, List, [], ◌∷◌, ◌++◌, length, take, drop, Option, Some, None}
+use Rattle.std.proofs.Common.{refl, sym, ◌∙◌, ap, arith, append-nil}
+use Rattle.std.specs.List.{slice_get}
+use Rattle.std.proofs.lemmas.Option.{same_Some}
+use Rattle.model.specs.declared.records.Forwarding.{Forwarding}
+use Rattle.model.specs.Plans.{address_in}
+use Rattle.model.specs.States.{change_at, change_found}
+use Rattle.forward.specs.Settling.{set_place_of}
+use Rattle.relocate.specs.Drafts.{settled}
+
+-- the element behind others that are left out
+pub get_dropped : {X : Type 0} (xs : List X) (a i j : ℕ) → j ≡ a + i → slice_get (drop a xs) i ≡ slice_get xs j
+get_dropped [] zero i j e = refl
+get_dropped [] (suc a) i j e = refl
+get_dropped (x ∷ xs) zero i j e = let same : i ≡ j = omega (arith, e) in ap (slice_get (x ∷ xs)) same
+get_dropped (x ∷ xs) (suc a) i zero e = absurd (omega (arith, e))
+get_dropped (x ∷ xs) (suc a) i (suc j) e = get_dropped xs a i j (omega (arith, e))
+
+dropped_none : {X : Type 0} (i : ℕ) → drop {A = X} i [] ≡ []
+dropped_none zero = refl
+dropped_none (suc i) = refl
+
+changed_behind : (f : Forwarding) (fs : List Forwarding) (i : ℕ) (g : Forwarding → Forwarding)
+    → change_at (f ∷ fs) (suc i) g ≡ f ∷ change_at fs i g
+changed_behind f fs i g = by_found (slice_get fs i)
+  where
+    by_found : (o : Option Forwarding) → change_found (f ∷ fs) (suc i) o g ≡ f ∷ change_found fs i o g
+    by_found None = refl
+    by_found (Some x) = refl
+
+-- the entry of a number gets its place
+one_settled : (w : ℕ) (ts : List ℕ) (ps : List (ℕ × ℕ)) (fs : List Forwarding) (i : ℕ) (p : ℕ × ℕ)
+    → slice_get ps i ≡ Some p → i < length fs
+    → take i fs ++ settled w ts (drop i ps) (drop i fs)
+    ≡ take (suc i) (change_at fs i (set_place_of (address_in w ts p)))
+    ++ settled w ts (drop (suc i) ps) (drop (suc i) (change_at fs i (set_place_of (address_in w ts p))))
+one_settled w ts ps [] i p e l = absurd (omega (arith, l))
+one_settled w ts [] (f ∷ fs) i p e l = absurd (cc)
+one_settled w ts (q ∷ ps) (f ∷ fs) zero p e l =
+    ap (λ z. set_place_of (address_in w ts z) f ∷ settled w ts ps fs) (same_Some q p e)
+one_settled w ts (q ∷ ps) (f ∷ fs) (suc i) p e l =
+    ap (λ xs. f ∷ xs) (one_settled w ts ps fs i p e (omega (arith, l)))
+    ∙ ap (λ xs. take (suc (suc i)) xs ++ settled w ts (drop (suc (suc i)) (q ∷ ps)) (drop (suc (suc i)) xs))
+    (sym (changed_behind f fs i (set_place_of (address_in w ts p))))
+
+pub settled_next : (w : ℕ) (ts : List ℕ) (ps : List (ℕ × ℕ)) (fs gs whole : List Forwarding) (i : ℕ) (p : ℕ × ℕ)
+    → slice_get ps i ≡ Some p → i < length fs → gs ≡ change_at fs i (set_place_of (address_in w ts p))
+    → whole ≡ take i fs ++ settled w ts (drop i ps) (drop i fs)
+    → whole ≡ take (i + 1) gs ++ settled w ts (drop (i + 1) ps) (drop (i + 1) gs)
+settled_next w ts ps fs gs whole i p e l is h = h ∙ one_settled w ts ps fs i p e l
+    ∙ ap (λ xs. take (suc i) xs ++ settled w ts (drop (suc i) ps) (drop (suc i) xs)) (sym is)
+    ∙ ap (λ n. take n gs ++ settled w ts (drop n ps) (drop n gs)) (more i)
+  where
+    more : (i : ℕ) → suc i ≡ i + 1
+    more i = omega arith
+
+-- all have got theirs
+pub settled_all : (w : ℕ) (ts : List ℕ) (ps : List (ℕ × ℕ)) (fs whole : List Forwarding) (i : ℕ) → length fs ≤ i
+    → whole ≡ take i fs ++ settled w ts (drop i ps) (drop i fs) → fs ≡ whole
+settled_all w ts ps fs whole i l h = sym (h ∙ past ps fs i l)
+  where
+    past : (ps : List (ℕ × ℕ)) (fs : List Forwarding) (i : ℕ) → length fs ≤ i
+        → take i fs ++ settled w ts (drop i ps) (drop i fs) ≡ fs
+    past ps [] zero l = refl
+    past ps [] (suc i) l = refl
+    past ps (f ∷ fs) zero l = absurd (omega (arith, l))
+    past [] (f ∷ fs) (suc i) l = ap (λ xs. f ∷ xs)
+        (ap (λ (qs : List (ℕ × ℕ)). take i fs ++ settled w ts qs (drop i fs)) (sym (dropped_none i))
+        ∙ past [] fs i (omega (arith, l)))
+    past (p ∷ ps) (f ∷ fs) (suc i) l = ap (λ xs. f ∷ xs) (past ps fs i (omega (arith, l)))
