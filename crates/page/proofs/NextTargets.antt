@@ -1,4 +1,4 @@
--- The next target: a fresh page, wholly given out, opens where a frame is free and a page unused. What closed stays so.
+-- The next target: a fresh page, wholly given out, where a frame is free and a page unused. Closed pages stay closed.
 use Rattle.std.proofs.Common.{◌≡◌, ◌≢◌, ℕ, zero, suc, ◌+◌, ◌-◌, ◌*◌, ◌<◌, ◌≤◌, Bool, true, false, List, [], ◌∷◌}
 use Rattle.std.proofs.Common.{length, set, position, count_by, is_none, cond, Option, Some, None, nat_le}
 use Rattle.std.proofs.Common.{refl, sym, ◌∙◌, ap, subst, arith}
@@ -12,8 +12,8 @@ use Rattle.model.specs.declared.records.Buffer.{Buffer}
 use Rattle.model.specs.declared.records.Page.{Page}
 use Rattle.model.specs.declared.records.PageState.TheVariants.{Unused, Closed}
 use Rattle.model.specs.declared.records.Room.{Room}
-use Rattle.model.specs.Stores.{StoreState, state_at, state_in, is_unused, free_frame, unused_page, unused_in, open_fresh}
-use Rattle.model.specs.Stores.{fresh_page, give_words, take_fresh, buffer_of}
+use Rattle.model.specs.Stores.{StoreState, state_at, state_in, is_unused, free_frame, unused_page, unused_in}
+use Rattle.model.specs.Stores.{open_fresh, fresh_page, give_words, take_fresh, buffer_of}
 use Rattle.model.specs.Owning.{Each, IsStore}
 use Rattle.model.specs.Protections.{take_target, free_count, unused_count}
 use Rattle.model.proofs.Lists.{get_set_other, get_within, count_set, position_none, none_far, as_number}

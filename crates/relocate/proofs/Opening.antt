@@ -1,5 +1,5 @@
 -- Targets are opened one after another.
-use Rattle.std.proofs.Common.{◌≡◌, ℕ, zero, suc, ◌+◌, ◌-◌, ◌<◌, ◌≤◌, List, [], ◌∷◌, ◌++◌, length, refl, sym, ◌∙◌, ap}
+use Rattle.std.proofs.Common.{◌≡◌, ℕ, zero, suc, ◌+◌, ◌-◌, ◌<◌, ◌≤◌, List, [], ◌∷◌, ◌++◌, length, sym, ◌∙◌, ap}
 use Rattle.std.proofs.Common.{subst, arith}
 use Rattle.std.proofs.lemmas.List.{append_assoc, length-append}
 use Rattle.std.proofs.lemmas.Option.{same_Some}
@@ -32,22 +32,6 @@ pub record HasOpened (h g : HeapState) (k i : ℕ) (ns : List ℕ) : Type 0 wher
   pub low : Each ns (λ n. 0 < n)
   pub high : Each ns (λ n. n ≤ h.store.count)
   pub stays : KeepsClosed h g
-
-pub none_opened : (h : HeapState) (k : ℕ) (ns : List ℕ) → ns ≡ [] → k ≤ free_count h.store → k ≤ unused_count h.store
-    → HasOpened h h k 0 ns
-none_opened h k ns e free unused = subst (HasOpened h h k 0) (sym e) (record {
-  heap = ap (λ j. (with_targets j h).0) whole;
-  pages = ap (λ j. (with_targets j h).1) whole;
-  many = refl;
-  free = omega (arith, free);
-  unused = omega (arith, unused);
-  low = λ i n f. absurd (cc);
-  high = λ i n f. absurd (cc);
-  stays = record { phase = refl; config = refl; words = refl; count = refl; closed = λ n f. f };
-})
-  where
-    whole : k - 0 ≡ k
-    whole = omega arith
 
 -- each element, and one behind them
 each_behind : (P : ℕ → Type 0) (ns : List ℕ) (n : ℕ) → Each ns P → P n → Each (ns ++ n ∷ []) P
