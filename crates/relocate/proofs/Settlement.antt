@@ -4,6 +4,7 @@ use Rattle.std.proofs.Common.{refl, sym, ◌∙◌, ap, arith, append-nil}
 use Rattle.std.specs.List.{slice_get}
 use Rattle.std.proofs.lemmas.Option.{same_Some}
 use Rattle.model.specs.declared.records.Forwarding.{Forwarding}
+use Rattle.model.specs.Holding.{AreRising}
 use Rattle.model.specs.Plans.{address_in}
 use Rattle.model.specs.States.{change_at, change_found}
 use Rattle.forward.specs.Settling.{set_place_of}
@@ -69,3 +70,16 @@ settled_all w ts ps fs whole i l h = sym (h ∙ past ps fs i l)
         (ap (λ (qs : List (ℕ × ℕ)). take i fs ++ settled w ts qs (drop i fs)) (sym (dropped_none i))
         ∙ past [] fs i (omega (arith, l)))
     past (p ∷ ps) (f ∷ fs) (suc i) l = ap (λ xs. f ∷ xs) (past ps fs i (omega (arith, l)))
+
+-- entries that get places stay where they are
+pub settled_rises : (v low w : ℕ) (ts : List ℕ) (ps : List (ℕ × ℕ)) (fs : List Forwarding) → AreRising v low fs
+    → AreRising v low (settled w ts ps fs)
+settled_rises v low w ts ps [] r = tt
+settled_rises v low w ts [] (f ∷ fs) (a, b, r) = (a, b, settled_rises v (f.offset + 1) w ts [] fs r)
+settled_rises v low w ts (p ∷ ps) (f ∷ fs) (a, b, r) = (a, b, settled_rises v (f.offset + 1) w ts ps fs r)
+
+-- lists that are the same from a number on have the same there
+pub same_there : {X : Type 0} (xs ys : List X) (i : ℕ) (x : X) → drop i xs ≡ drop i ys → slice_get xs i ≡ Some x
+    → slice_get ys i ≡ Some x
+same_there xs ys i x e at = sym (get_dropped ys i 0 i (omega arith)) ∙ sym (ap (λ zs. slice_get zs 0) e)
+    ∙ get_dropped xs i 0 i (omega arith) ∙ at

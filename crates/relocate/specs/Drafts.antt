@@ -35,3 +35,11 @@ abbrev pub settled_sides : HeapState → List ℕ → List ℕ → List (ℕ × 
 settled_sides h targets [] ps sides = sides
 settled_sides h targets (n ∷ ns) ps sides = settled_sides h targets ns (drop (length (live_offsets h n)) ps)
     (slice_set sides (n - 1) (settled h.store.words targets ps (drafted h n)))
+
+-- side arrays of which those of these pages are these drafts, settled one behind the other
+abbrev pub put_settled : ℕ → List ℕ → List ℕ → List (List Forwarding) → List (ℕ × ℕ) → List (List Forwarding)
+    → List (List Forwarding)
+put_settled words targets [] drafts ps sides = sides
+put_settled words targets (n ∷ ns) [] ps sides = sides
+put_settled words targets (n ∷ ns) (d ∷ ds) ps sides =
+    put_settled words targets ns ds (drop (length d) ps) (slice_set sides (n - 1) (settled words targets ps d))

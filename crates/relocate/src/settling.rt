@@ -1,12 +1,14 @@
 //! Live objects get their places in targets (the plan is ours), and their pages the side arrays that
 //! say so (the paper's Relocate phase).
 
-ghost use Rattle.std.specs.Prelude.{◌≡◌, ◌+◌, ◌<◌, ◌≤◌, ℕ, Some, drop, length, slice_get};
+ghost use Rattle.std.specs.List.{sum_by};
+ghost use Rattle.std.specs.Prelude.{◌≡◌, ◌+◌, ◌-◌, slice_set, ◌<◌, ◌≤◌, ℕ, Some, drop, length, slice_get};
+ghost use Rattle.model.specs.Holding.{AreRising};
 ghost use Rattle.model.specs.Owning.{Each};
 ghost use Rattle.model.specs.Plans.{address_in};
 ghost use Rattle.model.specs.States.{change_at};
 ghost use Rattle.forward.specs.Settling.{set_place_of};
-ghost use Rattle.relocate.specs.Drafts.{settled};
+ghost use Rattle.relocate.specs.Drafts.{settled, put_settled};
 
 use forward::{Plan, Side};
 use heap::Heap;
@@ -45,5 +47,58 @@ pub(crate) fn settle(heap: &Heap, plan: &Plan, first: usize, targets: &[u32], si
     let _ = plan.len();
     for index in 0..side.len() {
         settle_one(heap, plan, first + index, targets, side, index);
+    }
+}
+
+/// Gives a page a side array whose objects have the places of a plan from a number on. It answers
+/// the number of the next place.
+fn settle_page(
+    heap: &mut Heap,
+    page: u32,
+    plan: &Plan,
+    first: usize,
+    targets: &[u32],
+    side: Side,
+) -> usize
+    requires rising { AreRising heap.old.config.words 0 side }
+    requires enough { first + length side ≤ length plan.now }
+    requires low { Each targets.now (λ n. 0 < n) }
+    requires high { Each targets.now (λ n. n ≤ heap.old.store.count) }
+    requires counted { Each plan.now (λ p. p.0 < length targets.now) }
+    requires within { Each plan.now (λ p. p.1 < heap.old.store.words) }
+    ensures heap { heap.new ≡ record heap.old { sides = slice_set heap.old.sides (page - 1) (settled heap.old.store.words targets.now (drop first plan.now) side) } }
+    ensures next { result ≡ first + length side }
+{
+    let mut side = side;
+    let count = side.len();
+    let _ = plan.len();
+    settle(heap, plan, first, targets, &mut side);
+    heap.set_side(page, side);
+    first + count
+}
+
+/// Gives pages side arrays, in the pages' order, whose objects have the places of a plan, one
+/// behind the other. What the list of them held is lost.
+pub(crate) fn settle_pages(
+    heap: &mut Heap,
+    pages: &[u32],
+    plan: &Plan,
+    targets: &[u32],
+    sides: &mut Vec<Side>,
+)
+    requires many { length sides.old.items ≡ length pages.now }
+    requires rising { Each sides.old.items (AreRising heap.old.config.words 0) }
+    requires enough { sum_by length sides.old.items ≤ length plan.now }
+    requires low { Each targets.now (λ n. 0 < n) }
+    requires high { Each targets.now (λ n. n ≤ heap.old.store.count) }
+    requires counted { Each plan.now (λ p. p.0 < length targets.now) }
+    requires within { Each plan.now (λ p. p.1 < heap.old.store.words) }
+    ensures { heap.new ≡ record heap.old { sides = put_settled heap.old.store.words targets.now pages.now sides.old.items plan.now heap.old.sides } }
+{
+    let alloc = *sides.allocator();
+    let mut first = 0;
+    for index in 0..pages.len() {
+        let side = std::mem::replace(&mut sides[index], Side::empty(alloc));
+        first = settle_page(heap, pages[index], plan, first, targets, side);
     }
 }
