@@ -4,3 +4,4 @@ pub mod Offsets
 pub mod Opening
 pub mod Settled
 pub mod Settlement
+pub mod Planning

@@ -7,6 +7,7 @@
 mod copying;
 mod drafting;
 mod emptied;
+mod protecting;
 mod releasing;
 mod settling;
 mod targets;

@@ -1,0 +1,69 @@
+//! Pages are protected (the paper's Relocate phase; targets, and the plan, are ours).
+
+ghost use Rattle.std.specs.Prelude.{◌≡◌, ◌<◌, ◌≤◌, [], false, map, length, vec_capacity, IfOk};
+ghost use Rattle.model.specs.Owning.{Each};
+ghost use Rattle.model.specs.Plans.{plan_of, target_count};
+ghost use Rattle.model.specs.Protections.{free_count, unused_count, has_twice, protect};
+ghost use Rattle.model.specs.Stores.{state_at};
+ghost use Rattle.model.specs.declared.records.PageState.TheVariants.{Closed};
+ghost use Rattle.model.specs.declared.records.Phase.TheVariants.{Idle};
+ghost use Rattle.relocate.specs.Drafts.{drafted};
+
+use crate::drafting::draft_pages;
+use crate::settling::settle_pages;
+use crate::targets::open_targets;
+use forward::{Plan, Side};
+use heap::Heap;
+use std::alloc::{AllocError, Global};
+
+/// All that a protection needs memory for.
+#[derive(Drop)]
+struct Preparation {
+    /// Where the live objects of the pages go.
+    plan: Plan,
+    /// A side array for each page, in the pages' order.
+    sides: Vec<Side>,
+    /// Room for the pages of the targets.
+    targets: Vec<u32>,
+}
+
+/// Makes the plan of pages, their side arrays, and room for targets. It changes nothing.
+fn prepare(alloc: Global, heap: &Heap, pages: &[u32]) -> Result<Preparation, AllocError>
+    requires low { Each pages.now (λ n. 0 < n) }
+    requires high { Each pages.now (λ n. n ≤ heap.now.store.count) }
+    ensures plan { IfOk result (λ p. p.plan ≡ plan_of heap.now pages.now) }
+    ensures sides { IfOk result (λ p. p.sides.items ≡ map (drafted heap.now) pages.now) }
+    ensures empty { IfOk result (λ p. p.targets.items ≡ []) }
+    ensures room { IfOk result (λ p. target_count (plan_of heap.now pages.now) ≤ vec_capacity p.targets) }
+{
+    let draft = draft_pages(alloc, heap, pages)?;
+    let plan = Plan::new(alloc, heap.store().page_words(), &draft.sizes)?;
+    let targets = Vec::with_capacity(alloc, plan.targets())?;
+    Ok(Preparation {
+        plan,
+        sides: draft.sides,
+        targets,
+    })
+}
+
+/// Opens the targets of a plan, gives the pages their side arrays, and protects them. It takes no
+/// memory.
+fn protect_prepared(heap: &mut Heap, pages: &[u32], prepared: Preparation)
+    requires idle { heap.old.phase ≡ Idle }
+    requires closed { Each pages.now (λ n. state_at heap.old.store n ≡ Closed) }
+    requires once { has_twice pages.now ≡ false }
+    requires plan { prepared.plan ≡ plan_of heap.old pages.now }
+    requires sides { prepared.sides.items ≡ map (drafted heap.old) pages.now }
+    requires empty { prepared.targets.items ≡ [] }
+    requires room { target_count (plan_of heap.old pages.now) ≤ vec_capacity prepared.targets }
+    requires frames { target_count (plan_of heap.old pages.now) ≤ free_count heap.old.store }
+    requires unused { target_count (plan_of heap.old pages.now) ≤ unused_count heap.old.store }
+    ensures { heap.new ≡ protect heap.old pages.now }
+{
+    heap.law();
+    let mut sides = prepared.sides;
+    let mut targets = prepared.targets;
+    open_targets(heap, prepared.plan.targets(), &mut targets);
+    settle_pages(heap, pages, &prepared.plan, &targets, &mut sides);
+    heap.start_protection(pages);
+}
