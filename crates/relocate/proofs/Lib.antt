@@ -2,5 +2,6 @@ pub mod Entries
 pub mod Lists
 pub mod Offsets
 pub mod Opening
+pub mod Ripeness
 pub mod Settled
 pub mod Settlement

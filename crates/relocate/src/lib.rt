@@ -8,6 +8,7 @@ mod copying;
 mod drafting;
 mod emptied;
 mod releasing;
+mod ripe;
 mod settling;
 mod targets;
 
