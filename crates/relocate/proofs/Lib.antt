@@ -2,6 +2,7 @@ pub mod Entries
 pub mod Lists
 pub mod Offsets
 pub mod Opening
+pub mod Ripeness
 pub mod Settled
 pub mod Settlement
 pub mod Planning

@@ -34,7 +34,7 @@ pub record HasOpened (h g : HeapState) (k i : ℕ) (ns : List ℕ) : Type 0 wher
   pub stays : KeepsClosed h g
 
 -- each element, and one behind them
-each_behind : (P : ℕ → Type 0) (ns : List ℕ) (n : ℕ) → Each ns P → P n → Each (ns ++ n ∷ []) P
+pub each_behind : (P : ℕ → Type 0) (ns : List ℕ) (n : ℕ) → Each ns P → P n → Each (ns ++ n ∷ []) P
 each_behind P [] n h p zero x e = subst P (same_Some _ _ e) p
 each_behind P [] n h p (suc i) x e = absurd (cc)
 each_behind P (m ∷ ns) n h p zero x e = h zero x e

@@ -9,6 +9,7 @@ mod drafting;
 mod emptied;
 mod protecting;
 mod releasing;
+mod ripe;
 mod settling;
 mod targets;
 

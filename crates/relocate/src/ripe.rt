@@ -1,0 +1,84 @@
+//! What is asked before pages are protected (ours): the pages are closed, and there is room for the
+//! targets.
+
+ghost use Rattle.std.specs.Prelude.{◌≡◌, ◌<◌, ◌≤◌, IfOk, OnOk};
+ghost use Rattle.model.specs.Cycles.{is_buffer_on, is_lent};
+ghost use Rattle.model.specs.Owning.{Each};
+ghost use Rattle.model.specs.Protections.{all_ripe, free_count, ripe, room_for, unused_count};
+ghost use Rattle.model.specs.Stores.{state_at};
+ghost use Rattle.model.specs.declared.records.PageState.TheVariants.{Closed};
+
+use heap::Heap;
+use model::{Buffer, PageState, Refusal};
+
+/// Whether a buffer, if there is one, lies on a page, by the page's number.
+fn is_buffer_on(page: u32, buffer: Option<Buffer>) -> bool
+    ensures { result ≡ is_buffer_on page buffer }
+{
+    match buffer {
+        None => false,
+        Some(buffer) => buffer.page == page,
+    }
+}
+
+/// Whether a thread has a buffer on a page, by the page's number.
+#[tactic(auto, unfolding(model::specs::Cycles::is_lent))]
+fn is_lent(heap: &Heap, page: u32) -> bool
+    ensures { result ≡ is_lent heap.now.threads page }
+{
+    heap.threads()
+        .iter()
+        .any(|thread| is_buffer_on(page, thread.buffer()))
+}
+
+/// Whether a page, by its number, may be protected: a closed one. Refused as `Lent` where it is open
+/// and a thread has a buffer on it, and as `Unripe` where it isn't closed.
+#[tactic(auto, unfolding(model::specs::Protections::ripe))]
+fn ripe(heap: &Heap, page: u32) -> Result<(), Refusal>
+    ensures value { result ≡ ripe heap.now page }
+    ensures closed { OnOk result (state_at heap.now.store page ≡ Closed) }
+{
+    let state = heap.store().state(page);
+    if matches!(state, PageState::Open) && is_lent(heap, page) {
+        return Err(Refusal::Lent { page });
+    }
+    if matches!(state, PageState::Closed) {
+        Ok(())
+    } else {
+        Err(Refusal::Unripe { page })
+    }
+}
+
+/// Whether all these pages, by their numbers, may be protected. The first that may not is refused as
+/// `Lent` or `Unripe`.
+pub(crate) fn all_ripe(heap: &Heap, pages: &[u32]) -> Result<(), Refusal>
+    ensures value { result ≡ all_ripe heap.now pages.now }
+    ensures closed { IfOk result (λ _. Each pages.now (λ n. state_at heap.now.store n ≡ Closed)) }
+    ensures low { IfOk result (λ _. Each pages.now (λ n. 0 < n)) }
+    ensures high { IfOk result (λ _. Each pages.now (λ n. n ≤ heap.now.store.count)) }
+{
+    heap.law();
+    for index in 0..pages.len() {
+        ripe(heap, pages[index])?;
+    }
+    Ok(())
+}
+
+/// Whether there are frames and pages for so many targets. Refused as `NoFrames`, with how many are
+/// needed and how many are free, and as `NoPages`.
+#[tactic(auto, unfolding(model::specs::Protections::room_for, model::specs::Protections::free_count))]
+pub(crate) fn room_for(heap: &Heap, need: usize) -> Result<(), Refusal>
+    ensures value { result ≡ room_for heap.now.store need }
+    ensures frames { OnOk result (need ≤ free_count heap.now.store) }
+    ensures pages { OnOk result (need ≤ unused_count heap.now.store) }
+{
+    let need = need as u64;
+    let free = u64::from(heap.store().free_frames());
+    if free < need {
+        return Err(Refusal::NoFrames { need, free });
+    }
+    if u64::from(heap.store().unused_pages()) < need {
+        return Err(Refusal::NoPages);
+    }
+    Ok(())
+}
