@@ -20,6 +20,7 @@ use markbits::{IndexedRows, Rows};
 use model::{Config, Global, Phase, Scan};
 use page::Store;
 use refword::Addr;
+use std::alloc::Global as Memory;
 use std::marker::Model;
 use threads::{Thread, Threads};
 
@@ -84,6 +85,11 @@ impl Heap {
         ensures { result.now ≡ self.now.config }
     {
         &self.config
+    }
+
+    /// Where its lists get their memory.
+    pub fn allocator(&self) -> Memory {
+        *self.workers.allocator()
     }
 
     /// Its pages and frames.

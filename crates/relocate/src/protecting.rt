@@ -3,17 +3,22 @@
 ghost use Rattle.std.specs.Prelude.{◌≡◌, ◌<◌, ◌≤◌, [], false, map, length, vec_capacity, IfOk};
 ghost use Rattle.model.specs.Owning.{Each};
 ghost use Rattle.model.specs.Plans.{plan_of, target_count};
-ghost use Rattle.model.specs.Protections.{free_count, unused_count, has_twice, protect};
+ghost use Rattle.model.specs.Outcome.{WorkerPasses};
+ghost use Rattle.model.specs.Protections.{free_count, unused_count, has_twice, protect, protect_outcome};
+ghost use Rattle.model.specs.Refusing.{DoesOrLacks};
+ghost use Rattle.model.specs.declared.steps.Step.TheVariants as steps;
 ghost use Rattle.model.specs.Stores.{state_at};
 ghost use Rattle.model.specs.declared.records.PageState.TheVariants.{Closed};
 ghost use Rattle.model.specs.declared.records.Phase.TheVariants.{Idle};
 ghost use Rattle.relocate.specs.Drafts.{drafted};
 
 use crate::drafting::draft_pages;
+use crate::ripe::{all_ripe, room_for};
 use crate::settling::settle_pages;
 use crate::targets::open_targets;
 use forward::{Plan, Side};
 use heap::Heap;
+use model::{Answer, Phase, Refusal, Reply};
 use std::alloc::{AllocError, Global};
 
 /// All that a protection needs memory for.
@@ -66,4 +71,33 @@ fn protect_prepared(heap: &mut Heap, pages: &[u32], prepared: Preparation)
     open_targets(heap, prepared.plan.targets(), &mut targets);
     settle_pages(heap, pages, &prepared.plan, &targets, &mut sides);
     heap.start_protection(pages);
+}
+
+/// Closed pages are protected, and targets opened for their live objects (the paper's Relocate
+/// phase; targets, and the plan, are ours): all threads have still to cross. It answers how many
+/// objects go to how many targets. Pages count from 1, workers from 0.
+///
+/// Refused where a mark runs or pages are protected (`Phase`); for the first page that is open with
+/// a buffer lent (`Lent`) or else not closed (`Unripe`); where fewer frames are free than there are
+/// targets (`NoFrames`, with both numbers), or fewer pages unused (`NoPages`). `Memory` where a
+/// growth was refused: the heap is then as it was.
+#[tactic(auto, unfolding(model::specs::Protections::protect_outcome))]
+pub fn protect(heap: &mut Heap, worker: u32, pages: &[u32]) -> Reply
+    requires { WorkerPasses heap.old worker (steps.Protect pages.now) }
+    ensures { DoesOrLacks heap.old result heap.new (protect_outcome heap.old pages.now) }
+{
+    if !matches!(heap.phase(), Phase::Idle) {
+        return Err(Refusal::Phase);
+    }
+    all_ripe(heap, pages)?;
+    let Ok(prepared) = prepare(heap.allocator(), heap, pages) else {
+        return Err(Refusal::Memory);
+    };
+    room_for(heap, prepared.plan.targets())?;
+    let answer = Answer::Protected {
+        objects: prepared.plan.len() as u64,
+        targets: prepared.plan.targets() as u64,
+    };
+    protect_prepared(heap, pages, prepared);
+    Ok(answer)
 }
