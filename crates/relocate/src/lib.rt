@@ -7,7 +7,9 @@
 mod copying;
 mod drafting;
 mod emptied;
+mod protecting;
 mod releasing;
 
 pub use copying::{copy, follow};
+pub use protecting::protect;
 pub use releasing::release;
