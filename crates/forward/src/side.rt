@@ -8,10 +8,13 @@ ghost use Rattle.model.specs.Holding.{AreRising};
 ghost use Rattle.model.specs.Marks.{entry_of};
 ghost use Rattle.model.specs.Cycles.{is_uncopied};
 ghost use Rattle.model.specs.Moves.{set_copied_of};
+ghost use Rattle.model.specs.States.{change_at};
 ghost use Rattle.forward.specs.Counts.{uncopied_in};
+ghost use Rattle.forward.specs.Settling.{set_place_of};
 ghost use Rattle.forward.specs.Searching.{found_at};
 
 use model::Forwarding;
+use refword::Addr;
 use std::alloc::Global;
 use std::marker::Model;
 
@@ -103,6 +106,17 @@ impl Side {
                 entry.copied = true;
                 self.left -= 1;
             }
+        }
+    }
+
+    /// Gives the entry of a number, from 0, another address to go to, if it is there.
+    #[tactic(auto, using(crate::proofs::Settling::still_side, crate::proofs::Settling::changed, crate::proofs::Settling::unchanged))]
+    pub fn set_place(&mut self, index: usize, to: Addr)
+        ensures { self.new ≡ change_at self.old index (set_place_of to) }
+    {
+        if index < self.len() {
+            let entry = &mut self.entries[index];
+            entry.to = to;
         }
     }
 

@@ -1,2 +1,4 @@
 pub mod Entries
 pub mod Offsets
+pub mod Settled
+pub mod Lists

@@ -11,7 +11,7 @@ use Rattle.model.specs.Holding.{IsHeap, AreRising}
 use Rattle.model.specs.States.{HeapState}
 use Rattle.model.specs.Plans.{offsets_from, live_offsets}
 use Rattle.model.proofs.Plans.{side_rises}
-use Rattle.relocate.specs.Drafted.{address_of, drafted, drafted_entry, drafted_size, drafted_sizes}
+use Rattle.relocate.specs.Drafts.{address_of, drafted, drafted_entry, drafted_size, drafted_sizes}
 use Rattle.markbits.specs.Words.{IsNextPlace, IsFirstFrom}
 
 -- from a place on, the first that is set comes before those behind it
@@ -93,7 +93,7 @@ row_there rows (suc i) r l e = read_some rows i r (ap (slice_get rows) (less i) 
 
 module _ (h : HeapState) (n : ℕ) (low : 0 < n) where
   pub none_drafted : slice_get h.live (n - 1) ≡ None → ([] ≡ drafted h n) × ([] ≡ drafted_sizes h n)
-  unfolding drafted drafted_sizes live_offsets
+  unfolding live_offsets
   none_drafted e =
       let none = no_row h.live n low e in
       (
@@ -104,7 +104,7 @@ module _ (h : HeapState) (n : ℕ) (low : 0 < n) where
   pub row_drafted : (r : List Bool) → slice_get h.live (n - 1) ≡ Some r
       → (map (drafted_entry h n) (offsets_from 0 r) ≡ drafted h n)
       × (map (drafted_size h n) (offsets_from 0 r) ≡ drafted_sizes h n)
-  unfolding drafted drafted_sizes live_offsets
+  unfolding live_offsets
   row_drafted r e =
       let is = row_there h.live n r low e in
       (

@@ -1,1 +1,1 @@
-pub mod Drafted
+pub mod Drafts

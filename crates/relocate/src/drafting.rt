@@ -5,7 +5,7 @@ ghost use Rattle.std.specs.Prelude.{◌≡◌, ◌<◌, ◌≤◌, ◌++◌, len
 ghost use Rattle.model.specs.Plans.{offsets_from};
 ghost use Rattle.model.specs.Owning.{Each};
 ghost use Rattle.std.specs.List.{flat_map};
-ghost use Rattle.relocate.specs.Drafted.{drafted, drafted_entry, drafted_size, drafted_sizes};
+ghost use Rattle.relocate.specs.Drafts.{drafted, drafted_entry, drafted_size, drafted_sizes};
 
 use forward::Side;
 use heap::{Heap, Row};
@@ -43,7 +43,7 @@ fn draft_side(
 }
 
 /// The same of a page by its number from 1. One without a record has no live objects.
-#[tactic(auto, unfolding(crate::specs::Drafted::drafted, crate::specs::Drafted::drafted_sizes, model::specs::Plans::live_offsets))]
+#[tactic(auto, unfolding(model::specs::Plans::live_offsets))]
 fn draft_page(
     alloc: Global,
     heap: &Heap,

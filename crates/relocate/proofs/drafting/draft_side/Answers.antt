@@ -1,7 +1,7 @@
 use Rattle.std.proofs.Common.{◌≡◌, ◌+◌, ◌∷◌, [], ◌++◌, ◌∙◌, ap, subst, drop, map, false}
 use Rattle.model.specs.Plans.{offsets_from, object_words}
 use Rattle.markbits.specs.Words.{IsNextPlace}
-use Rattle.relocate.specs.Drafted.{drafted_entry, drafted_size}
+use Rattle.relocate.specs.Drafts.{drafted_entry, drafted_size}
 use Rattle.relocate.proofs.Offsets.{left_next, left_none, taken_over, all_taken}
 use Rattle.relocate.proofs.drafting.draft_side.Goals as goal
 

@@ -1,6 +1,6 @@
 use Rattle.std.proofs.Common.{◌≡◌, ◌-◌, ◌++◌, map, drop, length}
 use Rattle.model.specs.Plans.{offsets_from}
-use Rattle.relocate.specs.Drafted.{drafted_entry, drafted_size}
+use Rattle.relocate.specs.Drafts.{drafted_entry, drafted_size}
 use Rattle.relocate.proofs.drafting.draft_side.Given as goal
 
 abbrev pub invariant-loop-offset : goal.invariant-loop-offset
