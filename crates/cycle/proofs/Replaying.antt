@@ -124,6 +124,7 @@ entered_book b actor step g answer es k store heap more s e =
 -- the parts of a book whose step was refused
 pub left_book : (b : BookState) (step : Step) (g : HeapState) (e : Refusal) (o : Outcome) (es : List Entry) → IsBook b
     → DoesStep b.heap step (Err e) g o → es ≡ b.history → IsBook (record { heap = g; history = es })
-left_book b step g e o es k does same = subst (λ (xs : List Entry). IsBook (record { heap = g; history = xs })) (sym same)
+left_book b step g e o es k does same =
+    subst (λ (xs : List Entry). IsBook (record { heap = g; history = xs })) (sym same)
     (subst (λ (h : HeapState). IsBook (record { heap = h; history = b.history }))
     (sym (step_refused b.heap g step e o does).1) k)
