@@ -10,7 +10,7 @@ use Rattle.model.specs.declared.steps.Answer.{Answer}
 use Rattle.model.specs.declared.steps.Refusal.{Refusal}
 use Rattle.model.specs.Owning.{IsStore}
 use Rattle.model.specs.Holding.{IsHeap}
-use Rattle.model.specs.Refusing.{Does}
+use Rattle.model.specs.Refusing.{Outcome, DoesStep}
 use Rattle.model.specs.Outcome.{outcome}
 use Rattle.model.specs.States.{HeapState}
 use Rattle.model.specs.First.{first_heap}
@@ -24,6 +24,7 @@ use Rattle.cycle.specs.declared.book.Entry.{Entry}
 use Rattle.cycle.specs.Books.{BookState, first_book, is_full}
 use Rattle.cycle.specs.Replays.{Replayed, after_entry, after_entries, before_entries}
 use Rattle.cycle.specs.Replays.{replayed, AnswersAre, IsBook, KeepsPromises, last_entry}
+use Rattle.cycle.proofs.Stepped.{step_accepted, step_refused}
 
 after_more : (ls : List Layout) (r : Replayed) (es : List Entry) (e : Entry)
     → after_entries ls r (es ++ e ∷ []) ≡ after_entry ls (after_entries ls r es) e
@@ -90,13 +91,15 @@ promises b k = record {
 
 -- a call that did what its outcome says
 pub keeps_standing : (old new : HeapState) (actor : Actor) (step : Step) (result : Result Answer Refusal)
-    → Does old result new (outcome old actor step) → IsStore old.store → IsHeap old → StepsHold → MarksFind → PhasesMove
-    → KeepsStanding old actor step result new
-keeps_standing old new actor step (Ok a) does s d holds find move p p0 k = record {
-  stands = holds old p p0 actor step new a s d k does;
-  finds = find old p p0 actor step new a s d k does;
-  phase = move old p p0 actor step new a s d k does;
-}
+    → DoesStep old step result new (outcome old actor step) → IsStore old.store → IsHeap old → StepsHold → MarksFind
+    → PhasesMove → KeepsStanding old actor step result new
+keeps_standing old new actor step (Ok a) does s d holds find move p p0 k =
+    let is = step_accepted old new step a (outcome old actor step) does in
+    record {
+      stands = holds old p p0 actor step new a s d k is;
+      finds = find old p p0 actor step new a s d k is;
+      phase = move old p p0 actor step new a s d k is;
+    }
 keeps_standing old new actor step (Err e) does s d holds find move p p0 k = tt
 
 -- the parts of a new book
@@ -117,3 +120,11 @@ pub entered_book : (b : BookState) (actor : Actor) (step : Step) (g : HeapState)
 entered_book b actor step g answer es k store heap more s e =
     subst (λ (xs : List Entry). IsBook (record { heap = g; history = xs })) (sym e)
     (entry_added b actor step g answer k store heap more (s k.holds))
+
+-- the parts of a book whose step was refused
+pub left_book : (b : BookState) (step : Step) (g : HeapState) (e : Refusal) (o : Outcome) (es : List Entry) → IsBook b
+    → DoesStep b.heap step (Err e) g o → es ≡ b.history → IsBook (record { heap = g; history = es })
+left_book b step g e o es k does same =
+    subst (λ (xs : List Entry). IsBook (record { heap = g; history = xs })) (sym same)
+    (subst (λ (h : HeapState). IsBook (record { heap = h; history = b.history }))
+    (sym (step_refused b.heap g step e o does).1) k)

@@ -3,3 +3,4 @@ pub mod Loads
 pub mod Drains
 pub mod Replays
 pub mod Views
+pub mod Rising

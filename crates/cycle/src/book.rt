@@ -102,8 +102,8 @@ impl Book {
     /// One step of an actor. An accepted step enters the history with its answer.
     ///
     /// `HistoryFull` is tested first; then room for the entry is made, and `Memory` answered
-    /// where it is refused. A step that is refused for any cause leaves heap and history as
-    /// they were.
+    /// where it is refused, as it is where `Protect` is refused memory. A step that is refused for
+    /// any cause leaves heap and history as they were.
     ///
     /// It promises what each book does (`law`). So where it has ended a mark, all that can be
     /// reached is live, and what is live could be reached as that mark began, or is born since. The

@@ -1,8 +1,9 @@
 //! The tests that come before those of a step's own row.
 
 ghost use Rattle.std.specs.Prelude.{◌≡◌, length, nat_le, slice_get};
-ghost use Rattle.model.specs.Outcome.{no_register, no_global, no_page, has_bad_index, is_for_workers, is_for_parked, is_for_loading, is_loading_in, thread_gate, worker_gate};
+ghost use Rattle.model.specs.Outcome.{no_register, no_global, has_bad_index, is_for_workers, is_for_parked, is_for_loading, is_loading_in, thread_gate, worker_gate};
 
+use crate::pages::{are_bad_pages, no_page};
 use heap::Heap;
 use model::{Refusal, Step};
 
@@ -24,13 +25,6 @@ fn no_global(heap: &Heap, global: u32) -> bool
     ensures { result ≡ no_global heap.now global }
 {
     global as usize >= heap.globals().len()
-}
-
-#[tactic(auto, unfolding(model::specs::Outcome::no_page))]
-fn no_page(heap: &Heap, page: u32) -> bool
-    ensures { result ≡ no_page heap.now page }
-{
-    page == 0 || page > heap.store().page_count()
 }
 
 fn no_thread(heap: &Heap, thread: u32) -> bool
@@ -69,6 +63,7 @@ fn has_bad_index(heap: &Heap, step: &Step) -> bool
         Step::Scrub(register) => no_register(heap, *register),
         Step::Pick { page, .. } => no_page(heap, *page),
         Step::ScanGlobal(global) => no_global(heap, *global),
+        Step::Protect(pages) => are_bad_pages(heap, pages.as_slice()),
         Step::CrossFor(thread) => no_thread(heap, *thread),
         _ => false,
     }

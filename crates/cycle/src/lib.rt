@@ -44,6 +44,7 @@ mod book;
 mod draining;
 mod gate;
 mod loading;
+mod pages;
 mod running;
 mod stepping;
 

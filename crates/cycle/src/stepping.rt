@@ -1,7 +1,7 @@
 //! Steps on a heap.
 
 ghost use Rattle.std.specs.Prelude.{◌≡◌, false};
-ghost use Rattle.model.specs.Refusing.{Does};
+ghost use Rattle.model.specs.Refusing.{Does, DoesStep};
 ghost use Rattle.model.specs.Outcome.{Passes, WorkerPasses, thread_row, worker_row, outcome};
 ghost use Rattle.refinement.specs.Standing.{KeepsStanding};
 
@@ -17,12 +17,13 @@ pub trait Stepping {
 
 impl Stepping for Heap {
     /// Does exactly what the step's row says: refuses it by the first test that holds, and else
-    /// gives its answer and has its effect. It never answers `Memory`.
+    /// gives its answer and has its effect. It answers `Memory` for `Protect` alone, where a growth
+    /// was refused, and changes nothing then.
     ///
     /// Where the heap stands for a plain heap, which never moves or frees an object, it does so
     /// after an accepted step, and the answer is the plain heap's.
     fn step(&mut self, actor: Actor, step: &Step) -> Reply
-        ensures does { Does self.old result self.new (outcome self.old actor step.now) }
+        ensures does { DoesStep self.old step.now result self.new (outcome self.old actor step.now) }
         ensures stands { KeepsStanding self.old actor step.now result self.new }
     {
         self.law();
@@ -34,7 +35,7 @@ impl Stepping for Heap {
 /// The step of an actor.
 #[tactic(auto, unfolding(model::specs::Outcome::outcome, model::specs::Outcome::thread_gate, model::specs::Outcome::worker_gate))]
 fn actor_row(heap: &mut Heap, actor: Actor, step: &Step) -> Reply
-    ensures { Does heap.old result heap.new (outcome heap.old actor step.now) }
+    ensures { DoesStep heap.old step.now result heap.new (outcome heap.old actor step.now) }
 {
     match actor {
         Actor::Thread(thread) => {
@@ -95,7 +96,7 @@ fn thread_row(heap: &mut Heap, thread: u32, step: &Step) -> Reply
 /// The step of a worker whose leading tests were passed.
 fn worker_row(heap: &mut Heap, worker: u32, step: &Step) -> Reply
     requires { WorkerPasses heap.old worker step.now }
-    ensures { Does heap.old result heap.new (worker_row heap.old worker step.now) }
+    ensures { DoesStep heap.old step.now result heap.new (worker_row heap.old worker step.now) }
 {
     match step {
         Step::StartMark => marker::start_mark(heap, worker),
@@ -103,6 +104,7 @@ fn worker_row(heap: &mut Heap, worker: u32, step: &Step) -> Reply
         Step::ScanField => marker::scan_field(heap, worker),
         Step::ScanGlobal(global) => marker::scan_global(heap, worker, *global),
         Step::EndMark => marker::end_mark(heap, worker),
+        Step::Protect(pages) => relocate::protect(heap, worker, pages.as_slice()),
         Step::Copy { page, entry } => relocate::copy(heap, worker, *page, *entry),
         Step::Release(page) => relocate::release(heap, worker, *page),
         Step::CrossFor(thread) => checkpoint::cross_for(heap, worker, *thread),

@@ -1,13 +1,6 @@
 -- Worked examples of pages that are protected and emptied, computed by the definitions of these steps.
 use Rattle.std.proofs.Common.{◌≡◌, List, [], ◌∷◌, ◌++◌, map, refl}
-use Rattle.std.specs.Prelude.{true, Result, Ok, Err, if◌then◌else◌}
-use Rattle.model.specs.declared.steps.Actor.{Actor}
-use Rattle.model.specs.declared.steps.Actor.TheVariants.{Worker}
-use Rattle.model.specs.declared.steps.Step.{Step}
-use Rattle.model.specs.declared.steps.Answer.{Answer}
-use Rattle.model.specs.declared.steps.Refusal.{Refusal}
-use Rattle.model.specs.States.{HeapState}
-use Rattle.model.specs.Refusing.{Outcome}
+use Rattle.std.specs.Prelude.{true, Ok, Err}
 use Rattle.model.specs.declared.steps.Step.TheVariants as steps
 use Rattle.model.specs.declared.steps.Answer.TheVariants as answers
 use Rattle.model.specs.declared.steps.Refusal.TheVariants as refusals
@@ -37,22 +30,10 @@ use Rattle.model.specs.First.{first_heap}
 use Rattle.model.specs.Outcome.{no_register, no_global, no_page, thread_gate, worker_gate, outcome}
 use Rattle.model.specs.Plans.{live_offsets, live_objects, object_words, plan_of, moves_of, side_of}
 use Rattle.model.specs.Protections.{take_target, with_target, with_protected, protect, ripe, free_count, unused_count}
-use Rattle.model.specs.Protections.{room_for, protect_outcome, are_bad_pages}
+use Rattle.model.specs.Protections.{room_for, protect_outcome}
 use Rattle.model.specs.Moves.{with_copied_words, with_copy, copied_first, moved_word, entry_on, copy_outcome}
 use Rattle.model.specs.Moves.{with_released, crossed_if_protecting, release_outcome}
-use Rattle.model.proofs.Examples.{Line, thread, worker, heap_after, reply_of, config}
-
--- what a step does, where pages are protected too
-protecting_outcome : HeapState → Actor → Step → Outcome
-protecting_outcome h (Worker w) (steps.Protect pages) =
-    if are_bad_pages h pages then Err refusals.BadIndex else protect_outcome h pages
-protecting_outcome h actor s = outcome h actor s
-
--- the replies to the steps of these lines, one after another
-replies : HeapState → List Line → List (Result Answer Refusal)
-replies h [] = []
-replies h (l ∷ ls) = reply_of (protecting_outcome h l.actor l.step)
-    ∷ replies (heap_after h (protecting_outcome h l.actor l.step)) ls
+use Rattle.model.proofs.Examples.{Line, thread, worker, heap_after, reply_of, replies, config}
 
 -- Page 1 is closed, and has one live object with a datum of 5, which a global and a register of each thread name.
 closed_page : List Line
@@ -206,6 +187,6 @@ unfolding page_at state_at spot_of word_at with_words with_word words_at page_wi
     live_offsets live_objects object_words plan_of moves_of side_of take_target with_target with_protected protect
     ripe free_count unused_count room_for protect_outcome with_copied_words with_copy copied_first
     moved_word entry_on copy_outcome with_released crossed_if_protecting release_outcome
-    protecting_outcome replies reply_of heap_after config thread worker closed_page scrubbed
+    replies reply_of heap_after config thread worker closed_page scrubbed
     released copied_by_a_thread unripe emptied_at_once
 moves_compute = (refl, refl, refl, refl, refl)

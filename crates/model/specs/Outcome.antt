@@ -19,7 +19,7 @@ use Rattle.model.specs.Loads.{load_outcome, load_global_outcome, heal_outcome, f
 use Rattle.model.specs.Checkpoints.{cross_outcome, cross_for_outcome, park_outcome, unpark_outcome}
 use Rattle.model.specs.Scans.{pick_outcome, scan_field_outcome, scan_global_outcome}
 use Rattle.model.specs.Cycles.{start_mark_outcome, end_mark_outcome}
-use Rattle.model.specs.Protections.{no_page_in}
+use Rattle.model.specs.Protections.{are_bad_pages, no_page_in, protect_outcome}
 use Rattle.model.specs.Moves.{copy_outcome, release_outcome}
 use Rattle.model.specs.Traps.{trap_outcome, scrub_outcome}
 
@@ -77,6 +77,7 @@ has_bad_index h (steps.ClearReg r) = no_register h r
 has_bad_index h (steps.Scrub r) = no_register h r
 has_bad_index h (steps.Pick page offset) = no_page h page
 has_bad_index h (steps.ScanGlobal global) = no_global h global
+has_bad_index h (steps.Protect pages) = are_bad_pages h pages
 has_bad_index h (steps.CrossFor thread) = nat_le (length h.threads) thread
 has_bad_index h _ = false
 
@@ -138,6 +139,7 @@ worker_row h w (steps.Pick page offset) = pick_outcome h w page offset
 worker_row h w steps.ScanField = scan_field_outcome h w
 worker_row h w (steps.ScanGlobal global) = scan_global_outcome h global
 worker_row h w steps.EndMark = end_mark_outcome h
+worker_row h w (steps.Protect pages) = protect_outcome h pages
 worker_row h w (steps.Copy page entry) = copy_outcome h page entry
 worker_row h w (steps.Release page) = release_outcome h page
 worker_row h w (steps.CrossFor thread) = cross_for_outcome h thread

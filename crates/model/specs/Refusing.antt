@@ -1,6 +1,9 @@
 -- Steps that may be refused.
 use Rattle.std.specs.Prelude.{◌≡◌, Bool, true, false, Result, Ok, Err, Option, Some, None}
 use Rattle.model.specs.declared.steps.Refusal.{Refusal}
+use Rattle.model.specs.declared.steps.Refusal.TheVariants as refusals
+use Rattle.model.specs.declared.steps.Step.{Step}
+use Rattle.model.specs.declared.steps.Step.TheVariants as steps
 use Rattle.model.specs.declared.steps.Answer.{Answer}
 use Rattle.model.specs.States.{HeapState}
 
@@ -28,3 +31,13 @@ Outcome = Result (HeapState × Answer) Refusal
 abbrev pub Does : HeapState → Result Answer Refusal → HeapState → Outcome → Type 0
 Does old (Ok a) new outcome = outcome ≡ Ok (new, a)
 Does old (Err e) new outcome = (outcome ≡ Err e) × (new ≡ old)
+
+-- a call did what the outcome says, or memory ran out; a refused one changed nothing
+abbrev pub DoesOrLacks : HeapState → Result Answer Refusal → HeapState → Outcome → Type 0
+DoesOrLacks old (Err refusals.Memory) new outcome = new ≡ old
+DoesOrLacks old result new outcome = Does old result new outcome
+
+-- a call for this step did what the outcome says; for Protect alone, whose plan takes memory, that may have run out
+abbrev pub DoesStep : HeapState → Step → Result Answer Refusal → HeapState → Outcome → Type 0
+DoesStep old (steps.Protect pages) result new outcome = DoesOrLacks old result new outcome
+DoesStep old step result new outcome = Does old result new outcome

@@ -29,6 +29,7 @@ use Rattle.refinement.proofs.Checkpoints.{cross_holds, cross_for_holds, park_hol
 use Rattle.refinement.proofs.Loads.{load_holds, load_global_holds}
 use Rattle.refinement.proofs.Loads.{heal_holds, finish_holds}
 use Rattle.refinement.proofs.Traps.{trap_holds, scrub_holds}
+use Rattle.refinement.proofs.Protections.{protect_holds}
 use Rattle.refinement.proofs.Moving as moving
 use Rattle.refinement.proofs.Releases.{release_holds}
 
@@ -65,6 +66,7 @@ worker_holds h p p0 w (steps.Pick page offset) s d k g = pick_holds s d k w g.wo
 worker_holds h p p0 w steps.ScanField s d k g = scan_field_holds s d k w g.worker
 worker_holds h p p0 w (steps.ScanGlobal n) s d k g = scan_global_holds s d k w g.worker n (is_global h n g.indices)
 worker_holds h p p0 w steps.EndMark s d k g = end_mark_holds s k w
+worker_holds h p p0 w (steps.Protect pages) s d k g = protect_holds s d k w pages
 worker_holds h p p0 w (steps.Copy page e) s d k g = moving.copy_holds s k w page e
 worker_holds h p p0 w (steps.Release page) s d k g = release_holds s k w page
 worker_holds h p p0 w (steps.CrossFor t) s d k g = cross_for_holds s k w t (is_thread h t g.indices)

@@ -14,4 +14,5 @@ mod settling;
 mod targets;
 
 pub use copying::{copy, follow};
+pub use protecting::protect;
 pub use releasing::release;

@@ -3,8 +3,13 @@ use Rattle.refinement.specs.Standing.{MovesPhase}
 use Rattle.cycle.specs.Books.{is_full, BookState}
 use Rattle.cycle.specs.Replays.{replayed}
 use Rattle.cycle.specs.Views.{book_of}
-use Rattle.cycle.proofs.Replaying.{entered_book}
+use Rattle.cycle.proofs.Replaying.{entered_book, left_book}
 use Rattle.cycle.proofs.book.Book.step_and_enter.Goals as goal
+
+pub invariant_of-self-in_err-answer : goal.invariant_of-self-in_err-answer
+invariant_of-self-in_err-answer c =
+    left_book (book_of c.self.inside) c.args.step c.step.new.self c.in_err-answer.field-0.0 _ _ c.self.invariant
+    c.in_err-answer.ensures.does c.reserve.ensures.items
 
 pub invariant_of-self-2 : goal.invariant_of-self-2
 invariant_of-self-2 c =

@@ -1,0 +1,78 @@
+//! Which pages can be named together.
+
+ghost use Rattle.std.specs.Prelude.{◌≡◌, ◌==◌};
+ghost use Rattle.std.specs.List.{list_any};
+ghost use Rattle.model.specs.Outcome.{no_page};
+ghost use Rattle.model.specs.Protections.{no_page_in, has_twice, are_bad_pages};
+ghost use Rattle.cycle.specs.Rising.{rises_above};
+
+use heap::Heap;
+
+/// Whether there is no page of a number. Pages count from 1.
+#[tactic(auto, unfolding(model::specs::Outcome::no_page))]
+pub(crate) fn no_page(heap: &Heap, page: u32) -> bool
+    ensures { result ≡ no_page heap.now page }
+{
+    page == 0 || page > heap.store().page_count()
+}
+
+/// Whether a list names a page that isn't there.
+#[tactic(auto, unfolding(model::specs::Outcome::no_page))]
+fn names_no_page(heap: &Heap, pages: &[u32]) -> bool
+    ensures { result ≡ list_any (no_page_in heap.now.store) pages.now }
+{
+    pages.iter().any(|page| no_page(heap, *page))
+}
+
+/// Whether the numbers rise strictly, and the first is 1 or above.
+fn rises(pages: &[u32]) -> bool
+    ensures { result ≡ rises_above 0 pages.now }
+{
+    let mut last = 0;
+    for page in pages {
+        if *page <= last {
+            return false;
+        }
+        last = *page;
+    }
+    true
+}
+
+/// Whether a page stands in a list.
+fn stands_in(page: u32, pages: &[u32]) -> bool
+    ensures { result ≡ list_any (λ m. m == page) pages.now }
+{
+    pages.iter().any(|other| *other == page)
+}
+
+/// Whether a page stands in a list twice. It compares each with all behind it, so its time grows
+/// with the square of the list's length.
+fn has_pair(pages: &[u32]) -> bool
+    ensures { result ≡ has_twice pages.now }
+{
+    for index in 0..pages.len() {
+        if stands_in(pages[index], &pages[index + 1..]) {
+            return true;
+        }
+    }
+    false
+}
+
+/// Whether a page stands in a list twice. A list that rises names none twice, which one pass tells;
+/// of all others each two are compared.
+#[tactic(auto, using(crate::proofs::NamedOnce::rising_once))]
+fn has_twice(pages: &[u32]) -> bool
+    ensures { result ≡ has_twice pages.now }
+{
+    !rises(pages) && has_pair(pages)
+}
+
+/// Whether pages can't be named together: none is named, or one that isn't there, or one twice. It
+/// takes no memory. Where the numbers don't rise strictly, its time grows with the square of how
+/// many there are.
+#[tactic(auto, using(crate::proofs::NamedOnce::bad_by_parts))]
+pub(crate) fn are_bad_pages(heap: &Heap, pages: &[u32]) -> bool
+    ensures { result ≡ are_bad_pages heap.now pages.now }
+{
+    pages.is_empty() || names_no_page(heap, pages) || has_twice(pages)
+}
