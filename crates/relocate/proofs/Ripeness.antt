@@ -1,9 +1,14 @@
 -- Pages that may be protected: they are closed, they have numbers, and each is named once.
+use Rattle.std.proofs.Common.{true}
 use Rattle.std.proofs.Common.{◌≡◌, ℕ, zero, suc, ◌+◌, ◌-◌, ◌<◌, ◌≤◌, false, List, [], ◌∷◌, length, take, drop}
 use Rattle.std.proofs.Common.{get_or, Option, Some, None, refl, sym, ◌∙◌, ap, subst, arith}
 use Rattle.std.specs.Prelude.{Result, Ok}
 use Rattle.std.proofs.lemmas.Bool.{or_parts}
 use Rattle.std.proofs.lemmas.Option.{slice_get_within}
+use Rattle.std.proofs.Common.{◌||◌, Bool, not, nat_le}
+use Rattle.std.specs.Prelude.{Err, if◌then◌else◌}
+use Rattle.model.specs.Outcome.{is_for_workers, worker_gate, WorkerPasses}
+use Rattle.model.specs.declared.steps.Step.TheVariants as steps
 use Rattle.model.specs.declared.records.Page.{Page}
 use Rattle.model.specs.declared.records.PageState.TheVariants.{Closed}
 use Rattle.model.specs.declared.steps.Refusal.{Refusal}
@@ -81,3 +86,15 @@ each_high s ns i is l h = λ j n at. (closed_numbered s n is (each_closed s ns i
 pub named_once : (h : HeapState) (ns : List ℕ) → are_bad_pages h ns ≡ false → has_twice ns ≡ false
 named_once h [] e = absurd (cc)
 named_once h (n ∷ ns) e = (or_parts _ _ e).1
+
+-- the pages of a step that has passed the tests before its row are named once each
+past : (b : Bool) (e : Refusal) (rest : Result Unit Refusal) → (if b then Err e else rest) ≡ Ok tt
+    → (b ≡ false) × (rest ≡ Ok tt)
+past false e rest h = (refl, h)
+past true e rest h = absurd (cc)
+
+pub passed_once : (h : HeapState) (w : ℕ) (pages : List ℕ) → WorkerPasses h w (steps.Protect pages)
+    → has_twice pages ≡ false
+unfolding worker_gate
+passed_once h w pages g = named_once h pages (past (are_bad_pages h pages) _ _
+    (past (nat_le (length h.workers) w || not (is_for_workers (steps.Protect pages))) _ _ g).1).0
