@@ -78,7 +78,8 @@ entry_added b actor step g answer k store heap more kept =
 pub new_book : (c : Config) → Holds (first_heap c) (before_entries c).now (before_entries c).at_mark
     → IsStore (first_heap c).store → IsHeap (first_heap c) → IsBook (first_book c)
 unfolding replayed first_book first_heap
-new_book c k store heap = record { store = store; heap = heap; holds = k; answers = tt; limit = omega arith; marks = tt }
+new_book c k store heap =
+    record { store = store; heap = heap; holds = k; answers = tt; limit = omega arith; marks = tt }
 
 -- what the law promises
 pub promises : (b : BookState) → IsBook b → KeepsPromises b

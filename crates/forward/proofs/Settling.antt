@@ -9,7 +9,7 @@ use Rattle.model.specs.Cycles.{is_uncopied}
 use Rattle.model.specs.Holding.{AreRising}
 use Rattle.model.specs.States.{change_at, change_found}
 use Rattle.model.proofs.Lists.{get_read, count_set}
-use Rattle.forward.specs.Counts.{IsSide, uncopied_in}
+use Rattle.forward.specs.Counts.{IsSide}
 use Rattle.forward.specs.Settling.{set_place_of}
 
 still_rising : (w low i to : ℕ) (fs : List Forwarding) (f : Forwarding) → AreRising w low fs → slice_get fs i ≡ Some f
@@ -20,7 +20,8 @@ still_rising w low zero to (x ∷ fs) f (a, b, r) e =
     (omega (arith, a, is), omega (arith, b, is), rw (← is) r)
 still_rising w low (suc i) to (x ∷ fs) f (a, b, r) e = (a, b, still_rising w (x.offset + 1) i to fs f r e)
 
-module _ (fs : List Forwarding) (left i to : ℕ) (f : Forwarding) (within : i < length fs) (read : f ≡ get_or fs i f) where
+module _ (fs : List Forwarding) (left i to : ℕ) (f : Forwarding) (within : i < length fs)
+    (read : f ≡ get_or fs i f) where
   pub still_side : IsSide fs left → IsSide (set fs i (set_place_of to f)) left
   still_side k = record {
     rising = still_rising MOST_WORDS 0 i to fs f k.rising (get_read fs i f within read);

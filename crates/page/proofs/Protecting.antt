@@ -86,7 +86,8 @@ numbered s n e z = absurd (let k : Unused ≡ Closed = sym (ap state_in (page_at
 
 -- the i-th page is as it was, where those before it are protected
 pub still_closed : (s : StoreState) (ns : List ℕ) (i n : ℕ) → Each ns (λ m. state_at s m ≡ Closed)
-    → has_twice ns ≡ false → slice_get ns i ≡ Some n → state_at (record s { pages = with_from_pages (take i ns) s.pages }) n ≡ Closed
+    → has_twice ns ≡ false → slice_get ns i ≡ Some n
+    → state_at (record s { pages = with_from_pages (take i ns) s.pages }) n ≡ Closed
 unfolding state_at
 still_closed s ns i n closed once at =
     let one = numbered s n (closed i n at) in

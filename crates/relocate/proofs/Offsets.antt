@@ -1,5 +1,6 @@
 -- The offsets of live objects are found one after another.
-use Rattle.std.proofs.Common.{◌≡◌, ℕ, zero, suc, ◌+◌, ◌-◌, ◌<◌, ◌≤◌, Bool, true, false, List, [], ◌∷◌, ◌++◌, length, map}
+use Rattle.std.proofs.Common.{◌≡◌, ℕ, zero, suc, ◌+◌, ◌-◌, ◌<◌, ◌≤◌, Bool, true, false, List, [], ◌∷◌, ◌++◌, length}
+use Rattle.std.proofs.Common.{map}
 use Rattle.std.proofs.Common.{drop, get_or, refl, sym, ◌∙◌, ap, ap₂, arith, append_assoc, append-nil}
 use Rattle.std.proofs.lemmas.Bool.{true≢false}
 use Rattle.std.specs.List.{slice_get}
@@ -12,7 +13,7 @@ use Rattle.model.specs.States.{HeapState}
 use Rattle.model.specs.Plans.{offsets_from, live_offsets}
 use Rattle.model.proofs.Plans.{side_rises}
 use Rattle.relocate.specs.Drafts.{address_of, drafted, drafted_entry, drafted_size, drafted_sizes}
-use Rattle.markbits.specs.Words.{IsNextPlace, IsFirstFrom}
+use Rattle.markbits.specs.Words.{IsFirstFrom}
 
 -- from a place on, the first that is set comes before those behind it
 offsets_next : (row : List Bool) (o a c d i k : ℕ) → a ≡ o + i → c ≡ o + k → d ≡ o + suc k → i ≤ k
@@ -27,7 +28,8 @@ offsets_next (false ∷ row) o a c d zero zero p q r l here before = absurd (tru
 offsets_next (true ∷ row) o a c d zero (suc k) p q r l here before =
     absurd (true≢false (before zero (omega arith) (omega arith)))
 offsets_next (false ∷ row) o a c d zero (suc k) p q r l here before =
-    offsets_next row (o + 1) (a + 1) c d zero k (omega (arith, p)) (omega (arith, q)) (omega (arith, r)) (omega arith) here
+    offsets_next row (o + 1) (a + 1) c d zero k (omega (arith, p)) (omega (arith, q)) (omega (arith, r)) (omega arith)
+    here
     (λ j x y. before (suc j) (omega (arith, x)) (omega (arith, y)))
 offsets_next (b ∷ row) o a c d (suc i) zero p q r l here before = absurd (omega (arith, l))
 offsets_next (b ∷ row) o a c d (suc i) (suc k) p q r l here before =
@@ -59,7 +61,8 @@ left_none row i none = offsets_none row i i none
 pub taken_over : {X : Type 0} (f : ℕ → X) (done now whole : List X) (left rest : List ℕ) (k : ℕ) → left ≡ k ∷ rest
     → now ≡ done ++ f k ∷ [] → done ++ map f left ≡ whole → now ++ map f rest ≡ whole
 taken_over f done now whole left rest k is put h =
-    ap (λ xs. xs ++ map f rest) put ∙ append_assoc done (f k ∷ []) (map f rest) ∙ ap (λ xs. done ++ map f xs) (sym is) ∙ h
+    ap (λ xs. xs ++ map f rest) put ∙ append_assoc done (f k ∷ []) (map f rest)
+    ∙ ap (λ xs. done ++ map f xs) (sym is) ∙ h
 
 pub all_taken : {X : Type 0} (f : ℕ → X) (done whole : List X) (left : List ℕ) → left ≡ [] → done ++ map f left ≡ whole
     → done ≡ whole
@@ -95,8 +98,7 @@ module _ (h : HeapState) (n : ℕ) (low : 0 < n) where
   pub none_drafted : slice_get h.live (n - 1) ≡ None → ([] ≡ drafted h n) × ([] ≡ drafted_sizes h n)
   unfolding live_offsets
   none_drafted e =
-      let none = no_row h.live n low e in
-      (
+      let none = no_row h.live n low e in (
         ap (λ row. map (drafted_entry h n) (offsets_from 0 row)) (sym none),
         ap (λ row. map (drafted_size h n) (offsets_from 0 row)) (sym none),
       )
@@ -106,8 +108,7 @@ module _ (h : HeapState) (n : ℕ) (low : 0 < n) where
       × (map (drafted_size h n) (offsets_from 0 r) ≡ drafted_sizes h n)
   unfolding live_offsets
   row_drafted r e =
-      let is = row_there h.live n r low e in
-      (
+      let is = row_there h.live n r low e in (
         ap (λ row. map (drafted_entry h n) (offsets_from 0 row)) (sym is),
         ap (λ row. map (drafted_size h n) (offsets_from 0 row)) (sym is),
       )

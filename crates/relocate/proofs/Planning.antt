@@ -1,6 +1,7 @@
 -- The plan of pages: as many places as there are live objects, each in one of the targets.
-use Rattle.std.proofs.Common.{◌≡◌, ℕ, zero, suc, ◌+◌, ◌*◌, ◌<◌, ◌≤◌, Bool, true, false, cond, nat_le, List, [], ◌∷◌, ◌++◌}
-use Rattle.std.proofs.Common.{◌-◌, set, drop, length, map, Option, Some, None, refl, sym, ◌∙◌, ap, ap₂, subst, arith, length-append}
+use Rattle.std.proofs.Common.{◌≡◌, ℕ, zero, suc, ◌+◌, ◌<◌, ◌≤◌, Bool, true, false, cond, nat_le, List, [], ◌∷◌, ◌++◌}
+use Rattle.std.proofs.Common.{◌-◌, set, drop, length, map, Option, Some, None, refl, sym}
+use Rattle.std.proofs.Common.{◌∙◌, ap, ap₂, subst, arith, length-append}
 use Rattle.std.specs.List.{slice_get, flat_map, sum_by}
 use Rattle.std.proofs.lemmas.Bool.{leb-true}
 use Rattle.std.proofs.lemmas.List.{length-map}
@@ -8,13 +9,13 @@ use Rattle.std.proofs.lemmas.List.Sums.{sum_by-cons}
 use Rattle.std.proofs.lemmas.Option.{same_Some}
 use Rattle.layout.specs.declared.shape.Layout.{Layout}
 use Rattle.model.specs.declared.records.Forwarding.{Forwarding}
-use Rattle.model.specs.Owning.{Each, IsStore}
+use Rattle.model.specs.Owning.{Each}
 use Rattle.model.specs.Holding.{IsHeap, AreRising}
 use Rattle.model.specs.States.{HeapState}
 use Rattle.model.specs.Bits.{of_page}
 use Rattle.model.specs.Data.{layout_at}
 use Rattle.model.specs.Plans.{places_from, target_count, plan_of, live_offsets, live_objects, live_on, object_words}
-use Rattle.model.specs.Plans.{words_of, offsets_from, with_sides, moves_of}
+use Rattle.model.specs.Plans.{words_of, with_sides, moves_of}
 use Rattle.model.specs.Protections.{has_twice, with_targets, with_protected, protect_with, protect}
 use Rattle.heap.specs.Relocating.{start_protection}
 use Rattle.model.proofs.Plans.{places_length, side_rises}
@@ -42,7 +43,8 @@ flat_mapped f g k (x ∷ xs) h =
 pub sizes_planned : (h : HeapState) (pages : List ℕ)
     → places_from h.store.words 0 0 (flat_map (drafted_sizes h) pages) ≡ plan_of h pages
 unfolding plan_of live_objects
-sizes_planned h pages = ap (places_from h.store.words 0 0) (flat_mapped (object_words h) (live_on h) (drafted_sizes h) pages
+sizes_planned h pages = ap (places_from h.store.words 0 0)
+    (flat_mapped (object_words h) (live_on h) (drafted_sizes h) pages
     (λ n. mapped_twice (object_words h) (address_of h n) (live_offsets h n)))
 
 -- as many places as there are entries
@@ -188,7 +190,8 @@ put_is h ts (n ∷ ns) ps sides =
     ∙ ap (λ k. settled_sides h ts ns (drop k ps) (set sides (n - 1) (settled h.store.words ts ps (drafted h n))))
     (length-map (live_offsets h n) (drafted_entry h n))
 
-pub put_moves : (h : HeapState) (ts pages : List ℕ) (sides : List (List Forwarding)) → IsHeap h → has_twice pages ≡ false
+pub put_moves : (h : HeapState) (ts pages : List ℕ) (sides : List (List Forwarding)) → IsHeap h
+    → has_twice pages ≡ false
     → put_settled h.store.words ts pages (map (drafted h) pages) (plan_of h pages) sides
     ≡ with_sides h (moves_of h pages ts) pages sides
 put_moves h ts pages sides d once = put_is h ts pages (plan_of h pages) sides ∙ sym (sides_settled h ts pages sides
@@ -205,7 +208,8 @@ pub protected_is : (h g mid final : HeapState) (ts pages : List ℕ) (drafts : L
     → final ≡ start_protection mid pages → final ≡ protect h pages
 unfolding protect with_protected start_protection
 protected_is h g mid final ts pages drafts ps n d once drafted_so planned count opened pages_are words put started =
-    let sides : put_settled g.store.words ts pages drafts ps g.sides ≡ with_sides h (moves_of h pages ts) pages g.sides =
+    let sides : put_settled g.store.words ts pages drafts ps g.sides
+    ≡ with_sides h (moves_of h pages ts) pages g.sides =
     ap (λ w. put_settled w ts pages drafts ps g.sides) words
     ∙ ap₂ (λ ds qs. put_settled h.store.words ts pages ds qs g.sides) drafted_so planned
     ∙ put_moves h ts pages g.sides d once in

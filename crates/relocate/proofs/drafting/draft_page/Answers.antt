@@ -1,4 +1,4 @@
-use Rattle.std.proofs.Common.{◌≡◌, ◌≤◌, ◌-◌, ◌++◌, ◌∙◌, [], Some, None, ap, sym, subst, length, arith, append-nil}
+use Rattle.std.proofs.Common.{◌-◌, ◌++◌, ◌∙◌, ap, sym, subst, arith, append-nil}
 use Rattle.std.specs.List.{slice_get}
 use Rattle.std.specs.Option.{option_copied}
 use Rattle.model.specs.declared.limits.TheConstants.{MOST_WORDS}

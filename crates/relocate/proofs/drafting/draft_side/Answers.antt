@@ -1,5 +1,5 @@
-use Rattle.std.proofs.Common.{◌≡◌, ◌+◌, ◌∷◌, [], ◌++◌, ◌∙◌, ap, subst, drop, map, false}
-use Rattle.model.specs.Plans.{offsets_from, object_words}
+use Rattle.std.proofs.Common.{◌∷◌, [], ◌++◌, ◌∙◌, ap, subst, false}
+use Rattle.model.specs.Plans.{object_words}
 use Rattle.markbits.specs.Words.{IsNextPlace}
 use Rattle.relocate.specs.Drafts.{drafted_entry, drafted_size}
 use Rattle.relocate.proofs.Offsets.{left_next, left_none, taken_over, all_taken}
@@ -12,8 +12,7 @@ loop-offset-preserved c =
     let row = c.args.row.now in
     let k = c.in-Some.offset in
     let left = left_next row c.loop-offset.from k (subst (IsNextPlace row c.loop-offset.from) c.in-Some.is
-    c.next_from.ensures) in
-    (
+    c.next_from.ensures) in (
       taken_over (drafted_entry h n) c.loop-offset.entries.items c.push.new.self.items _ _ _ k left
           (c.in_ok-push.ensures.items ∙ ap (λ a. c.loop-offset.entries.items ++ record {
             offset = k;

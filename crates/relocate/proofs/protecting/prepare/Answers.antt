@@ -1,4 +1,4 @@
-use Rattle.std.proofs.Common.{◌≡◌, ◌∙◌, ap, ap₂, arith}
+use Rattle.std.proofs.Common.{◌∙◌, ap, ap₂, arith}
 use Rattle.model.specs.Plans.{places_from, target_count}
 use Rattle.model.specs.Stores.{StoreState}
 use Rattle.relocate.proofs.Planning.{sizes_planned}

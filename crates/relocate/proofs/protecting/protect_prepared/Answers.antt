@@ -1,4 +1,4 @@
-use Rattle.std.proofs.Common.{◌≡◌, ◌<◌, ◌≤◌, ◌∙◌, sym, ap, subst, arith, length}
+use Rattle.std.proofs.Common.{◌<◌, ◌∙◌, sym, ap, subst, arith, length}
 use Rattle.std.specs.List.{sum_by}
 use Rattle.model.specs.declared.config.Config.{Config}
 use Rattle.model.specs.Holding.{AreRising}

@@ -1,4 +1,4 @@
-use Rattle.std.proofs.Common.{◌≡◌, ◌+◌, ◌∙◌, ap, arith, drop, length, refl}
+use Rattle.std.proofs.Common.{◌+◌, ◌∙◌, ap, arith, drop, length, refl}
 use Rattle.model.specs.Plans.{address_in}
 use Rattle.model.proofs.Lists.{get_within}
 use Rattle.model.proofs.Tables.{length_changed}
@@ -18,8 +18,7 @@ loop-index-preserved c =
       c.loop-index-test.true,
       c.len-index-end.ensures.value,
     )) in
-    let is = c.settle_one.ensures p at in
-    (
+    let is = c.settle_one.ensures p at in (
       settled_next w ts (drop c.args.first plan) c.loop-index.side c.settle_one.new.side _ i p
           (get_dropped plan c.args.first i (c.args.first + i) refl ∙ at)
           (omega (arith, c.loop-index-test.true, c.len-index-end.ensures.value, c.loop-index.invariant.1)) is

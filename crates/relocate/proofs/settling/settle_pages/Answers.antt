@@ -1,4 +1,4 @@
-use Rattle.std.proofs.Common.{◌≡◌, ◌∙◌, sym, ap, subst, arith}
+use Rattle.std.proofs.Common.{sym, ap, subst, arith}
 use Rattle.model.specs.Holding.{AreRising}
 use Rattle.model.specs.States.{HeapState}
 use Rattle.model.proofs.Lists.{get_read}
