@@ -4,8 +4,8 @@
 //!
 //! The collector is the paper's: Click, Tene and Wolf, "The Pauseless GC Algorithm" (VEE 2005).
 //! What it does is cut into steps here, each of one thread or one worker, and nothing happens
-//! between steps; the cut, and what is marked so below, is ours. Today marks stand, and nothing is
-//! moved yet; `docs/HEAP.md` has the rules in full.
+//! between steps; the cut, and what is marked so below, is ours. `docs/HEAP.md` has the rules in
+//! full.
 //!
 //! A cycle has two halves, and threads run on in both.
 //!
