@@ -25,6 +25,10 @@ mod objects;
 #[cfg(test)]
 mod pages;
 #[cfg(test)]
+mod plans;
+#[cfg(test)]
+mod protections;
+#[cfg(test)]
 mod reports;
 #[cfg(test)]
 mod rows;

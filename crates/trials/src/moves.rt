@@ -1,21 +1,18 @@
-//! Objects move: copies, traps, corrected registers, and memory that is given up. The page is
-//! protected by raw edits, since no step protects pages yet.
+//! Objects move: copies, traps, corrected registers, and memory that is given up.
 
 use cycle::Stepping;
-use forward::Side;
 use heap::{Heap, NewFault};
 use layout::{Layout, Layouts};
-use model::{Actor, Answer, Config, Forwarding, PageState, Phase, Refusal, Step};
-use refword::Addr;
+use model::{Actor, Answer, Config, PageList, PageState, Phase, Refusal, Step};
 use std::alloc::{AllocError, Global};
 use std::process::Abort;
 use std::test::Fail;
 
-const FIRST: Actor = Actor::Thread(0);
+pub const FIRST: Actor = Actor::Thread(0);
 
-const SECOND: Actor = Actor::Thread(1);
+pub const SECOND: Actor = Actor::Thread(1);
 
-const WORKER: Actor = Actor::Worker(0);
+pub const WORKER: Actor = Actor::Worker(0);
 
 /// Three frames of 16 words, two threads and a worker; an object has one reference and one datum.
 fn config(alloc: Global) -> Result<Config, AllocError> {
@@ -35,7 +32,7 @@ fn config(alloc: Global) -> Result<Config, AllocError> {
 }
 
 /// A step of this actor has this reply.
-fn says(
+pub fn says(
     rt: &impl Abort,
     heap: &mut Heap,
     actor: Actor,
@@ -46,12 +43,12 @@ fn says(
 }
 
 /// A step of this actor is done.
-fn does(rt: &impl Abort, heap: &mut Heap, actor: Actor, step: Step) {
+pub fn does(rt: &impl Abort, heap: &mut Heap, actor: Actor, step: Step) {
     says(rt, heap, actor, step, Ok(Answer::Done));
 }
 
 /// Both threads cross.
-fn cross(rt: &impl Abort, heap: &mut Heap) {
+pub fn cross(rt: &impl Abort, heap: &mut Heap) {
     does(rt, heap, FIRST, Step::Cross);
     does(rt, heap, SECOND, Step::Cross);
 }
@@ -114,37 +111,33 @@ fn mark(rt: &impl Abort, heap: &mut Heap, page: u32, retired: u64) {
     );
 }
 
-/// Page 1 is protected, and its object goes to the first word of page 2.
-#[tactic(auto, using(crate::proofs::Moves::one_closed))]
-fn protect(alloc: Global, heap: &mut Heap) -> Result<(), AllocError> {
-    let Some(to) = Addr::new(32) else {
-        return Ok(());
-    };
-    if heap.open_target().is_err() {
-        return Ok(());
-    }
-    let (offset, copied) = (0, false);
-    let entries = vec![in alloc; Forwarding { offset, to, copied }]?;
-    heap.law();
-    heap.set_side(1, Side::new(entries));
-    if !matches!(heap.phase(), Phase::Idle) {
-        return Ok(());
-    }
-    if !matches!(heap.store().state(1), PageState::Closed) {
-        return Ok(());
-    }
-    heap.start_protection(&[1]);
-    Ok(())
-}
-
-/// A heap whose page 1 is protected.
-fn protected(rt: &impl Abort, alloc: Global) -> Result<Heap, NewFault> {
+/// A heap whose page 1 is closed; its one object lives.
+pub fn closed(rt: &impl Abort, alloc: Global) -> Result<Heap, NewFault> {
     let mut heap = Heap::new(alloc, config(alloc)?)?;
     fill(rt, &mut heap);
     does(rt, &mut heap, WORKER, Step::StartMark);
     cross(rt, &mut heap);
     mark(rt, &mut heap, 1, 0);
-    protect(alloc, &mut heap)?;
+    Ok(heap)
+}
+
+/// The list of page 1.
+pub fn first_page(alloc: Global) -> Result<PageList, AllocError> {
+    Ok(PageList::new(vec![in alloc; 1]?))
+}
+
+/// A heap whose page 1 is protected: its object goes to the first word of page 2.
+fn protected(rt: &impl Abort, alloc: Global) -> Result<Heap, NewFault> {
+    let pages = first_page(alloc)?;
+    let (objects, targets) = (1, 1);
+    let mut heap = closed(rt, alloc)?;
+    says(
+        rt,
+        &mut heap,
+        WORKER,
+        Step::Protect(pages),
+        Ok(Answer::Protected { objects, targets }),
+    );
     assert_eq!(rt; heap.phase(), Phase::ProtectCrossing);
     assert_eq!(rt; heap.store().state(1), PageState::From);
     assert_eq!(rt; heap.sides().uncopied(), 1);
