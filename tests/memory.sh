@@ -21,7 +21,7 @@ told() {
     [ "$status" = 3 ] && cmp -s "$kept/line" "$kept/errors" && cmp -s "$kept/beginning" "$kept/output"
 }
 
-for example in first list; do
+for example in first list moving; do
     refuse_each "$example" "$program" run "examples/$example.script"
 done
 echo "$passed passed, $failed failed"
