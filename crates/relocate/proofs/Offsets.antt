@@ -46,16 +46,16 @@ offsets_none (false ∷ row) a zero none = offsets_none row (a + 1) zero (λ j x
 offsets_none (b ∷ row) a (suc i) none = offsets_none row a i (λ j x. none (suc j) (omega (arith, x)))
 
 -- what is left behind a place that was found
-pub left_next : (row : List Bool) (i k : ℕ) → IsFirstFrom row i k
-    → offsets_from i (drop i row) ≡ k ∷ offsets_from (k + 1) (drop (k + 1) row)
-left_next row i k f =
+pub left_next : (bits : List Bool) (i k : ℕ) → IsFirstFrom bits i k
+    → offsets_from i (drop i bits) ≡ k ∷ offsets_from (k + 1) (drop (k + 1) bits)
+left_next bits i k f =
     let is : suc k ≡ k + 1 = omega arith in
-    offsets_next row 0 i k (suc k) i k (omega arith) (omega arith) (omega arith) f.low f.here f.before
-    ∙ ap (λ n. k ∷ offsets_from n (drop n row)) is
+    offsets_next bits 0 i k (suc k) i k (omega arith) (omega arith) (omega arith) f.low f.here f.before
+    ∙ ap (λ n. k ∷ offsets_from n (drop n bits)) is
 
-pub left_none : (row : List Bool) (i : ℕ) → ((j : ℕ) → i ≤ j → get_or row j false ≡ false)
-    → offsets_from i (drop i row) ≡ []
-left_none row i none = offsets_none row i i none
+pub left_none : (bits : List Bool) (i : ℕ) → ((j : ℕ) → i ≤ j → get_or bits j false ≡ false)
+    → offsets_from i (drop i bits) ≡ []
+left_none bits i none = offsets_none bits i i none
 
 -- one more is taken off what is left, and put behind what was
 pub taken_over : {X : Type 0} (f : ℕ → X) (done now whole : List X) (left rest : List ℕ) (k : ℕ) → left ≡ k ∷ rest
