@@ -16,7 +16,8 @@ use Rattle.model.specs.Cycles.{is_uncopied}
 use Rattle.model.specs.Moves.{set_copied_of}
 use Rattle.model.proofs.Lists.{count_set, as_number, get_read}
 use Rattle.forward.specs.Counts.{uncopied_in, IsSide}
-use Rattle.forward.proofs.Entries.{at_least, no_more}
+use Rattle.model.proofs.Plans.{rising_within}
+use Rattle.forward.proofs.Entries.{no_more}
 
 abbrev copied_one : Forwarding → Forwarding
 copied_one f = record { offset = f.offset; to = f.to; copied = true }
@@ -83,10 +84,10 @@ one_noted w low o zero (x ∷ fs) f r e k =
     let is : x ≡ f = same_Some _ _ e in
     ap₂ (λ y ys. y ∷ ys) (sym (this_copied o f k) ∙ ap (set_copied_of o) (sym is)) (all_stay o fs
     (λ j g there same. omega
-    (arith, k, same, ap (λ (z : Forwarding). z.offset) is, (at_least w (x.offset + 1) fs j g r.2 there).0)))
+    (arith, k, same, ap (λ (z : Forwarding). z.offset) is, (rising_within w (x.offset + 1) fs j g r.2 there).0)))
 one_noted w low o (suc i) (x ∷ fs) f r e k =
     ap₂ (λ y ys. y ∷ ys)
-    (sym (other_stays o x (λ same. omega (arith, k, same, (at_least w (x.offset + 1) fs i f r.2 e).0))))
+    (sym (other_stays o x (λ same. omega (arith, k, same, (rising_within w (x.offset + 1) fs i f r.2 e).0))))
     (one_noted w (x.offset + 1) o i fs f r.2 e k)
 
 -- offsets stay

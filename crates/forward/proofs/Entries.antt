@@ -17,20 +17,10 @@ use Rattle.model.specs.declared.records.Forwarding.{Forwarding}
 use Rattle.model.specs.Holding.{AreRising}
 use Rattle.model.specs.Owning.{Each}
 use Rattle.model.specs.Marks.{entry_of}
+use Rattle.model.proofs.Plans.{rising_within}
 use Rattle.forward.specs.Searching.{found_at}
 
 -- order
-
--- an entry's offset isn't below the lowest one, and lies in the page
-pub at_least : (w low : ℕ) (fs : List Forwarding) (i : ℕ) (f : Forwarding) → AreRising w low fs
-    → slice_get fs i ≡ Some f → (low ≤ f.offset) × (f.offset < w)
-at_least w low [] i f r e = absurd (cc)
-at_least w low (x ∷ fs) zero f r e =
-    let is : x.offset ≡ f.offset = ap (λ (z : Forwarding). z.offset) (same_Some _ _ e) in
-    (omega (arith, r.0, is), omega (arith, r.1, is))
-at_least w low (x ∷ fs) (suc i) f r e =
-    let rest = at_least w (x.offset + 1) fs i f r.2 e in
-    (omega (arith, r.0, rest.0), rest.1)
 
 -- each entry lies behind those before it
 pub ascends : (w low : ℕ) (fs : List Forwarding) (i j : ℕ) (f g : Forwarding) → AreRising w low fs → i < j
@@ -39,7 +29,7 @@ ascends w low [] i j f g r l e k = absurd (cc)
 ascends w low (x ∷ fs) i zero f g r l e k = absurd (omega (arith, l))
 ascends w low (x ∷ fs) zero (suc j) f g r l e k =
     let is : x.offset ≡ f.offset = ap (λ (z : Forwarding). z.offset) (same_Some _ _ e) in
-    omega (arith, is, (at_least w (x.offset + 1) fs j g r.2 k).0)
+    omega (arith, is, (rising_within w (x.offset + 1) fs j g r.2 k).0)
 ascends w low (x ∷ fs) (suc i) (suc j) f g r l e k =
     ascends w (x.offset + 1) fs i j f g r.2 (omega (arith, l)) e k
 
@@ -70,9 +60,14 @@ entry_here w low (x ∷ fs) o zero f r e k =
     let is : (x.offset == o) ≡ true = eq-eqb x.offset o (ap (λ (z : Forwarding). z.offset) (same_Some _ _ e) ∙ k) in
     ap (λ b. cond b (Some x) (entry_of fs o)) is ∙ e
 entry_here w low (x ∷ fs) o (suc i) f r e k =
-    let behind = (at_least w (x.offset + 1) fs i f r.2 e).0 in
+    let behind = (rising_within w (x.offset + 1) fs i f r.2 e).0 in
     let is : (x.offset == o) ≡ false = ne_eqb x.offset o (λ z. omega (arith, z, k, behind)) in
     ap (λ b. cond b (Some x) (entry_of fs o)) is ∙ entry_here w (x.offset + 1) fs o i f r.2 e k
+
+-- the entry of a number, whose offset is the one that is sought
+pub found_here : (fs : List Forwarding) (o i : ℕ) (f : Forwarding) → AreRising MOST_WORDS 0 fs
+    → Some f ≡ slice_get fs i → f.offset ≡ o → entry_of fs o ≡ slice_get fs i
+found_here fs o i f r e k = entry_here MOST_WORDS 0 fs o i f r (sym e) k ∙ e
 
 -- what a binary search finds
 ranks : (a b o : ℕ) → a ≤ b → ordering_index (nat_cmp a o) ≤ ordering_index (nat_cmp b o)

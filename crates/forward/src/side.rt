@@ -25,6 +25,9 @@ pub struct Side {
     entries: Vec<Forwarding, Global>,
     /// How many entries have still to be copied.
     left: usize,
+    /// The number behind the entry that was copied last: it is looked at first, as who copies a page
+    /// mostly takes its entries in order.
+    next: usize,
 }
 
 impl Model for Side {
@@ -47,6 +50,7 @@ impl Side {
         Side {
             entries: Vec::new(alloc),
             left: 0,
+            next: 0,
         }
     }
 
@@ -57,7 +61,11 @@ impl Side {
         ensures { result ≡ entries.items }
     {
         let left = entries.iter().filter(|entry| !entry.copied).count();
-        Side { entries, left }
+        Side {
+            entries,
+            left,
+            next: 0,
+        }
     }
 
     /// How many entries there are: at most the words of a page.
@@ -67,6 +75,13 @@ impl Side {
         ensures range { result ≤ MOST_WORDS }
     {
         self.entries.len()
+    }
+
+    /// The entries, by rising offset.
+    pub fn entries(&self) -> &[Forwarding]
+        ensures { result.now ≡ self.now }
+    {
+        &self.entries
     }
 
     /// The entry of a number, from 0, if there is one.
@@ -86,6 +101,18 @@ impl Side {
             .ok()
     }
 
+    /// The same, found at once where it is the entry behind the one that was copied last.
+    #[tactic(auto, using(crate::proofs::Entries::found_here))]
+    fn search_next(&self, offset: u32) -> Option<usize>
+        ensures entry { entry_of self.now offset ≡ found_at self.now result }
+        ensures range { IfSome result (λ i. i < length self.now) }
+    {
+        match self.entry(self.next) {
+            Some(entry) if entry.offset == offset => Some(self.next),
+            _ => self.search(offset),
+        }
+    }
+
     /// The entry of an offset, if there is one: found in as many steps as the number of entries has
     /// binary digits.
     pub fn find(&self, offset: u32) -> Option<Forwarding>
@@ -100,7 +127,8 @@ impl Side {
     pub fn set_copied(&mut self, offset: u32)
         ensures { self.new ≡ map (set_copied_of offset) self.old }
     {
-        if let Some(index) = self.search(offset) {
+        if let Some(index) = self.search_next(offset) {
+            self.next = index + 1;
             let entry = &mut self.entries[index];
             if !entry.copied {
                 entry.copied = true;
@@ -109,7 +137,8 @@ impl Side {
         }
     }
 
-    /// Gives the entry of a number, from 0, another address to go to, if it is there.
+    /// Gives the entry of a number, from 0, another address to go to, if it is there (ours: entries
+    /// are made before their places are known).
     #[tactic(auto, using(crate::proofs::Settling::still_side, crate::proofs::Settling::changed, crate::proofs::Settling::unchanged))]
     pub fn set_place(&mut self, index: usize, to: Addr)
         ensures { self.new ≡ change_at self.old index (set_place_of to) }

@@ -69,7 +69,8 @@ impl Sides {
         }
     }
 
-    /// The entry of a number, from 0, of a page, by the page's number from 1.
+    /// The entry of a number, from 0, of a page, by the page's number from 1; `None` where there is
+    /// no such entry (ours).
     pub fn entry_on(&self, page: u32, number: u32) -> Option<Forwarding>
         ensures { result ≡ slice_get (of_page self.now page) number }
     {

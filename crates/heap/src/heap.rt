@@ -12,6 +12,7 @@ mod registers;
 mod relocating;
 
 ghost use Rattle.std.specs.Prelude.{◌≡◌, ◌<◌, ◌≤◌, ◌*◌, ◌+◌};
+ghost use Rattle.model.specs.Cycles.{is_lent};
 ghost use Rattle.model.specs.Owning.{IsStore};
 ghost use Rattle.model.specs.Holding.{IsHeap};
 
@@ -87,7 +88,7 @@ impl Heap {
         &self.config
     }
 
-    /// Where its lists get their memory.
+    /// Where its lists get their memory. Contracts see no value of it.
     pub fn allocator(&self) -> Memory {
         *self.workers.allocator()
     }
@@ -152,6 +153,13 @@ impl Heap {
         ensures { result.now ≡ self.now.threads }
     {
         self.threads.as_slice()
+    }
+
+    /// Whether a thread has a buffer on a page, by the page's number from 1 (ours).
+    pub fn is_lent(&self, page: u32) -> bool
+        ensures { result ≡ is_lent self.now.threads page }
+    {
+        self.threads.is_lent(page)
     }
 
     /// What each worker scans, by number from 0 (the paper's Mark phase).

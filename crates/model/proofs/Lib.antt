@@ -5,6 +5,7 @@ pub mod Results
 pub mod Usual
 pub mod Tables
 pub mod Passing
+pub mod OfPages
 pub mod Plans
 mod Examples
 mod MovingExamples

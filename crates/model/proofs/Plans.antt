@@ -109,52 +109,54 @@ places_apart w t o (x ∷ ns) h i (suc j) n m p q l e f g k =
         (places_behind w (t + 1) x ns (λ i. h (suc i)) j m q g k) (same_Some _ _ e) (same_Some _ _ f)
     by_test false b (suc i) z e f k u v = v i j n m p q (omega (arith, z)) e f g k
 
--- a place is in one of the targets
-counts_last : (ps : List (ℕ × ℕ)) (p : ℕ × ℕ) → target_count ps ≤ target_count (p ∷ ps)
-counts_last [] p = omega arith
-counts_last (q ∷ ps) p = omega arith
-
-pub places_counted : (w t o : ℕ) (ns : List ℕ) → Each ns (λ n. n ≤ w) → (i : ℕ) (p : ℕ × ℕ)
-    → slice_get (places_from w t o ns) i ≡ Some p → p.0 < target_count (places_from w t o ns)
-places_counted w t o [] h i p e = absurd (cc)
-places_counted w t o (n ∷ ns) h i p e =
-    by_test (nat_le (o + n) w) i e (places_counted w t (o + n) ns (λ j. h (suc j)))
-    (places_counted w (t + 1) n ns (λ j. h (suc j)))
+-- a place is in this target or in one behind it
+from_target : (w t o : ℕ) (ns : List ℕ) (i : ℕ) (p : ℕ × ℕ) → slice_get (places_from w t o ns) i ≡ Some p → t ≤ p.0
+from_target w t o [] i p e = absurd (cc)
+from_target w t o (n ∷ ns) i p e = by_test (nat_le (o + n) w) i e (from_target w t (o + n) ns)
+    (from_target w (t + 1) n ns)
   where
-    head : (t2 o2 e2 : ℕ) → (rest : List (ℕ × ℕ)) → rest ≡ places_from w t2 e2 ns
-        → ((i : ℕ) (p : ℕ × ℕ) → slice_get rest i ≡ Some p → p.0 < target_count rest)
-        → t2 < target_count ((t2, o2) ∷ rest)
-    head t2 o2 e2 [] is others = omega arith
-    head t2 o2 e2 (q ∷ qs) is others = below ns refl
-      where
-        below : (ms : List ℕ) → ms ≡ ns → t2 < target_count (q ∷ qs)
-        below [] same = absurd (let z : q ∷ qs ≡ [] = is ∙ ap (places_from w t2 e2) (sym same) in cc)
-        below (m ∷ ms) same =
-            let k = places_behind w t2 e2 ns (λ j. h (suc j)) 0 m q (ap (λ z. slice_get z 0) (sym same))
-            (ap (λ z. slice_get z 0) (sym is)) in
-            let under : q.0 < target_count (q ∷ qs) = others 0 q refl in
-            elim k.behind [ inl l ↦ omega (arith, l, under) | inr l ↦ omega (arith, l.0, under) ]
+    by_test : (b : Bool) (i : ℕ)
+        → slice_get (cond b ((t, o) ∷ places_from w t (o + n) ns) ((t + 1, 0) ∷ places_from w (t + 1) n ns)) i ≡ Some p
+        → ((i : ℕ) (p : ℕ × ℕ) → slice_get (places_from w t (o + n) ns) i ≡ Some p → t ≤ p.0)
+        → ((i : ℕ) (p : ℕ × ℕ) → slice_get (places_from w (t + 1) n ns) i ≡ Some p → t + 1 ≤ p.0)
+        → t ≤ p.0
+    by_test true zero e x y = let is : t ≡ p.0 = ap (λ (z : ℕ × ℕ). z.0) (same_Some _ _ e) in omega (arith, is)
+    by_test true (suc i) e x y = x i p e
+    by_test false zero e x y = let is : t + 1 ≡ p.0 = ap (λ (z : ℕ × ℕ). z.0) (same_Some _ _ e) in omega (arith, is)
+    by_test false (suc i) e x y = omega (arith, y i p e)
 
-    next : (first : ℕ × ℕ) (rest : List (ℕ × ℕ)) → p.0 < target_count rest → p.0 < target_count (first ∷ rest)
-    next first rest l = omega (arith, l, counts_last rest first)
+-- and in one of the targets
+last_counts : (p : ℕ × ℕ) (ps : List (ℕ × ℕ)) → target_count ps ≤ target_count (p ∷ ps)
+last_counts p [] = omega arith
+last_counts p (q ∷ ps) = omega arith
 
-    by_test : (b : Bool) → (i : ℕ)
+counted_head : (t o : ℕ) (ps : List (ℕ × ℕ)) → ((i : ℕ) (p : ℕ × ℕ) → slice_get ps i ≡ Some p → t ≤ p.0)
+    → ((i : ℕ) (p : ℕ × ℕ) → slice_get ps i ≡ Some p → p.0 < target_count ps) → t < target_count ((t, o) ∷ ps)
+counted_head t o [] from below = omega arith
+counted_head t o (q ∷ ps) from below = omega (arith, from zero q refl, below zero q refl)
+
+pub places_counted : (w t o : ℕ) (ns : List ℕ) (i : ℕ) (p : ℕ × ℕ) → slice_get (places_from w t o ns) i ≡ Some p
+    → p.0 < target_count (places_from w t o ns)
+places_counted w t o [] i p e = absurd (cc)
+places_counted w t o (n ∷ ns) i p e = by_test (nat_le (o + n) w) i e (places_counted w t (o + n) ns) (places_counted w (t + 1) n ns)
+  where
+    behind : (t2 o2 : ℕ) (ps : List (ℕ × ℕ)) → ((i : ℕ) (p : ℕ × ℕ) → slice_get ps i ≡ Some p → t2 ≤ p.0)
+        → ((i : ℕ) (p : ℕ × ℕ) → slice_get ps i ≡ Some p → p.0 < target_count ps) → (i : ℕ)
+        → slice_get ((t2, o2) ∷ ps) i ≡ Some p → p.0 < target_count ((t2, o2) ∷ ps)
+    behind t2 o2 ps from below zero e =
+        let is : t2 ≡ p.0 = ap (λ (z : ℕ × ℕ). z.0) (same_Some _ _ e) in
+        omega (arith, is, counted_head t2 o2 ps from below)
+    behind t2 o2 ps from below (suc i) e = omega (arith, below i p e, last_counts (t2, o2) ps)
+
+    by_test : (b : Bool) (i : ℕ)
         → slice_get (cond b ((t, o) ∷ places_from w t (o + n) ns) ((t + 1, 0) ∷ places_from w (t + 1) n ns)) i ≡ Some p
         → ((i : ℕ) (p : ℕ × ℕ) → slice_get (places_from w t (o + n) ns) i ≡ Some p
         → p.0 < target_count (places_from w t (o + n) ns))
         → ((i : ℕ) (p : ℕ × ℕ) → slice_get (places_from w (t + 1) n ns) i ≡ Some p
         → p.0 < target_count (places_from w (t + 1) n ns))
         → p.0 < target_count (cond b ((t, o) ∷ places_from w t (o + n) ns) ((t + 1, 0) ∷ places_from w (t + 1) n ns))
-    by_test true zero e u v =
-        let at : (t, o) ≡ p = same_Some _ _ e in
-        subst (λ z. z.0 < target_count ((t, o) ∷ places_from w t (o + n) ns)) at
-        (head t o (o + n) (places_from w t (o + n) ns) refl u)
-    by_test true (suc i) e u v = next (t, o) (places_from w t (o + n) ns) (u i p e)
-    by_test false zero e u v =
-        let at : (t + 1, 0) ≡ p = same_Some _ _ e in
-        subst (λ z. z.0 < target_count ((t + 1, 0) ∷ places_from w (t + 1) n ns)) at
-        (head (t + 1) 0 n (places_from w (t + 1) n ns) refl v)
-    by_test false (suc i) e u v = next (t + 1, 0) (places_from w (t + 1) n ns) (v i p e)
+    by_test true i e near far = behind t o (places_from w t (o + n) ns) (from_target w t (o + n) ns) near i e
+    by_test false i e near far = behind (t + 1) 0 (places_from w (t + 1) n ns) (from_target w (t + 1) n ns) far i e
 
 -- what stands in a list
 
@@ -269,3 +271,12 @@ side_rises w b (false ∷ bits) f e = from_lower w b (b + 1) (map (entry f) (off
     from_lower : (w a b : ℕ) (fs : List Forwarding) → a ≤ b → AreRising w b fs → AreRising w a fs
     from_lower w a b [] l r = tt
     from_lower w a b (x ∷ fs) l (low, under, rest) = (omega (arith, l, low), under, rest)
+
+-- entries that rise within a page are within it
+pub rising_within : (w low : ℕ) (fs : List Forwarding) (e : ℕ) (f : Forwarding) → AreRising w low fs
+    → slice_get fs e ≡ Some f → (low ≤ f.offset) × (f.offset < w)
+rising_within w low [] e f r g = absurd (cc)
+rising_within w low (x ∷ fs) zero f r g =
+    subst (λ (y : Forwarding). (low ≤ y.offset) × (y.offset < w)) (same_Some x f g) (r.0, r.1)
+rising_within w low (x ∷ fs) (suc e) f r g =
+    let k = rising_within w (x.offset + 1) fs e f r.2 g in (omega (arith, k.0, r.0), k.1)

@@ -118,7 +118,8 @@ copied_nothing s address to count e =
   where
     by_page : (b : Bool) → frame_in (page_at s (address / s.words)) ≡ None
         → s ≡ with_words s (to / s.words) (λ ws. overlay ws (to % s.words)
-        (if b then [] else words_from (address % s.words) count (words_in s.frames (frame_in (page_at s (address / s.words))))))
+        (if b then []
+        else words_from (address % s.words) count (words_in s.frames (frame_in (page_at s (address / s.words))))))
     by_page true none = sym (no_words_at s (to / s.words) (to % s.words))
     by_page false none = rw none (sym (no_words_at s (to / s.words) (to % s.words)))
 

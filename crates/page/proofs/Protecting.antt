@@ -13,7 +13,8 @@ use Rattle.model.specs.Owning.{Each, LiesIn, NoneProtected}
 use Rattle.model.specs.States.{change_at, change_found}
 use Rattle.model.specs.Protections.{has_twice, set_from_of, with_from_pages}
 use Rattle.std.proofs.Common.{get_or}
-use Rattle.std.proofs.lemmas.Option.{get_or_from_slice_get}
+use Rattle.std.proofs.lemmas.Option.{get_or_from_slice_get, slice_get_within}
+use Rattle.std.proofs.lemmas.List.{take_more}
 use Rattle.model.proofs.Lists.{get_set_other, get_within, each_changed, none_passes}
 use Rattle.model.specs.Moves.{set_gone_of, with_released}
 use Rattle.page.specs.Relocating.{NoneGone}
@@ -61,12 +62,6 @@ taken [] (suc i) k x e = absurd (cc)
 taken (y ∷ xs) zero k x e = absurd (cc)
 taken (y ∷ xs) (suc i) zero x e = (omega arith, e)
 taken (y ∷ xs) (suc i) (suc k) x e = let (low, at) = taken xs i k x e in (omega (arith, low), at)
-
-take_more : {X : Type 0} (xs : List X) (i : ℕ) (x : X) → slice_get xs i ≡ Some x
-    → take (suc i) xs ≡ take i xs ++ x ∷ []
-take_more [] i x e = absurd (cc)
-take_more (y ∷ xs) zero x e = ap (λ z. z ∷ []) (same_Some y x e)
-take_more (y ∷ xs) (suc i) x e = ap (λ zs. y ∷ zs) (take_more xs i x e)
 
 -- numbers of which none stands twice
 apart : (ns : List ℕ) (i j m n : ℕ) → has_twice ns ≡ false → i < j → slice_get ns i ≡ Some m → slice_get ns j ≡ Some n
@@ -117,10 +112,8 @@ pub protected_more : (s : StoreState) (ns : List ℕ) (i n : ℕ) → slice_get 
     ≡ record s { pages = with_from_pages (take (i + 1) ns) s.pages }
 protected_more s ns i n at = ap (λ ps. record s { pages = ps })
     (sym (more (take i ns) n s.pages) ∙ ap (λ ms. with_from_pages ms s.pages)
-    (sym (take_more ns i n at) ∙ ap (λ k. take k ns) (suc_is i)))
-  where
-    suc_is : (i : ℕ) → suc i ≡ i + 1
-    suc_is i = omega arith
+    (sym (take_more ns i 0 (slice_get_within ns i n at)
+    ∙ ap (λ m. take i ns ++ m ∷ []) (get_or_from_slice_get ns i n 0 at))))
 
 -- buffers lie where they did
 pub protected_lies : (s : StoreState) (ns : List ℕ) (b : Buffer) → Each ns (λ n. state_at s n ≡ Closed) → LiesIn s b

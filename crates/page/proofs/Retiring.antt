@@ -111,7 +111,8 @@ freed_keeps s i g p q h e frame none empty top leaving =
         pages = pages_same ∙ h.sized.pages;
         frames = h.sized.frames;
       };
-      pages = each_set (IsPage s.words) s.pages i q h.pages (record { memory = ap is_some none ∙ sym empty; top = top });
+      pages = each_set (IsPage s.words) s.pages i q h.pages
+          (record { memory = ap is_some none ∙ sym empty; top = top });
       owning = record {
         owned = λ j f x a b. owned j f x b (get_set s.pages i j q x a);
         owner = λ f n a. owner f n (get_set s.owners g f None (Some n) a);

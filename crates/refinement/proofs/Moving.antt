@@ -36,6 +36,7 @@ use Rattle.model.specs.Plain.{PlainHeap, plain_step, plain_answer}
 use Rattle.model.specs.Moves.{with_copied_words, with_copy, copied_by, copied_first, place_by, moved_word, entry_on}
 use Rattle.model.specs.Moves.{copy_outcome}
 use Rattle.model.specs.Traps.{gc_trap, scrub_word}
+use Rattle.model.proofs.Plans.{rising_within}
 use Rattle.model.proofs.Memory.{page_there, frames_stay}
 use Rattle.page.proofs.Lying.{records_few}
 use Rattle.laws.specs.AddressHeap.{HeapObject, To, Planned, Copied, names}
@@ -61,16 +62,6 @@ use Rattle.refinement.proofs.Copying.{copy_world, copy_laid}
 
 -- the entry of a number
 
--- entries that rise from an offset on have none below it
-none_below : (w low : ℕ) (fs : List Forwarding) (e : ℕ) (f : Forwarding) → AreRising w low fs → slice_get fs e ≡ Some f
-    → (low ≤ f.offset) × (f.offset < w)
-none_below w low [] e f r g = absurd (cc)
-none_below w low (x ∷ fs) zero f r g =
-    let is : x ≡ f = same_Some _ _ g in
-    subst (λ (y : Forwarding). (low ≤ y.offset) × (y.offset < w)) is (r.0, r.1)
-none_below w low (x ∷ fs) (suc e) f r g =
-    let k = none_below w (x.offset + 1) fs e f r.2 g in (omega (arith, k.0, r.0), k.1)
-
 -- the entry of a number is that of its offset
 entry_numbered : (w low : ℕ) (fs : List Forwarding) (e : ℕ) (f : Forwarding) → AreRising w low fs
     → slice_get fs e ≡ Some f → worlds.entry_at fs f.offset ≡ worlds.entry_of f.copied f.to
@@ -81,7 +72,7 @@ entry_numbered w low (x ∷ fs) zero f r g =
     (eq-eqb x.offset f.offset (ap (λ (y : Forwarding). y.offset) is))
     ∙ ap (λ (y : Forwarding). worlds.entry_of y.copied y.to) is
 entry_numbered w low (x ∷ fs) (suc e) f r g =
-    let k = none_below w (x.offset + 1) fs e f r.2 g in
+    let k = rising_within w (x.offset + 1) fs e f r.2 g in
     ap (λ b. cond b (worlds.entry_of x.copied x.to) (worlds.entry_at fs f.offset))
     (ne_eqb x.offset f.offset (λ z. absurd (omega (arith, z, k.0))))
     ∙ entry_numbered w (x.offset + 1) fs e f r.2 g
@@ -204,7 +195,7 @@ module _ {h : HeapState} {p p0 : PlainHeap} (s : IsStore h.store) (k : Holds h p
       on_some (entry_on h page e) _ _ _ (λ f found.
       on_unless f.copied _ _ _ (λ fresh.
       let at = entry_known page e f found in
-      let low = none_below h.store.words 0 (of_page h.sides page) e f (rising page) at in
+      let low = rising_within h.store.words 0 (of_page h.sides page) e f (rising page) at in
       let plan : (world_of h).side_entry (page * h.store.words + f.offset) ≡ Planned f.to =
       ap₂ (λ n o. worlds.entry_at (of_page h.sides n) o) (div-mul-add page h.store.words f.offset low.1)
       (mod-mul-add page h.store.words f.offset low.1)

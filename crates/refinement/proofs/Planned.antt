@@ -158,7 +158,7 @@ module _ (h : HeapState) (s : IsStore h.store) (l : IsLaid h) (pages : List ℕ)
             let z = live_of a (at_in a (live_objects h pages) i at) in
             let behind = places_behind h.store.words 0 0 sizes all_fit i (object_words h a) p (size_at i a at) f in
             let low : p.0 < length targets =
-            omega (arith, enough, places_counted h.store.words 0 0 sizes all_fit i p f) in
+            omega (arith, enough, places_counted h.store.words 0 0 sizes i p f) in
             let (t, there) = get_within targets p.0 low in
             let number : get_or targets p.0 0 ≡ t = get_or_from_slice_get targets p.0 t 0 there in
             let is : address_in h.store.words targets p ≡ place_of (moves_of h pages targets) a = same_Some _ _ k in

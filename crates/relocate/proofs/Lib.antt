@@ -1,5 +1,4 @@
 pub mod Entries
-pub mod Lists
 pub mod Offsets
 pub mod Opening
 pub mod Ripeness

@@ -5,14 +5,13 @@ use Rattle.std.proofs.Common.{drop, get_or, refl, sym, ◌∙◌, ap, ap₂, ari
 use Rattle.std.proofs.lemmas.Bool.{true≢false}
 use Rattle.std.specs.List.{slice_get}
 use Rattle.std.proofs.Common.{Some, None}
-use Rattle.std.proofs.lemmas.Option.{same_Some}
+use Rattle.model.proofs.OfPages.{of_page_none, of_page_some}
 use Rattle.model.specs.declared.limits.TheConstants.{MOST_WORDS}
-use Rattle.model.specs.Bits.{of_page}
 use Rattle.model.specs.Holding.{IsHeap, AreRising}
 use Rattle.model.specs.States.{HeapState}
 use Rattle.model.specs.Plans.{offsets_from, live_offsets}
 use Rattle.model.proofs.Plans.{side_rises}
-use Rattle.relocate.specs.Drafts.{address_of, drafted, drafted_entry, drafted_size, drafted_sizes}
+use Rattle.relocate.specs.Drafts.{address_of, draft_of, draft_entry, draft_size, draft_sizes}
 use Rattle.markbits.specs.Words.{IsFirstFrom}
 
 -- from a place on, the first that is set comes before those behind it
@@ -68,49 +67,23 @@ pub all_taken : {X : Type 0} (f : ℕ → X) (done whole : List X) (left : List 
     → done ≡ whole
 all_taken f done whole left none h = sym (append-nil done) ∙ ap (λ xs. done ++ map f xs) (sym none) ∙ h
 
--- the row of a page that has none, or this one
-read_none : (rows : List (List Bool)) (i : ℕ) → slice_get rows i ≡ None → get_or rows i [] ≡ []
-read_none [] i e = refl
-read_none (row ∷ rows) zero e = absurd (cc)
-read_none (row ∷ rows) (suc i) e = read_none rows i e
-
-read_some : (rows : List (List Bool)) (i : ℕ) (r : List Bool) → slice_get rows i ≡ Some r → get_or rows i [] ≡ r
-read_some [] i r e = absurd (cc)
-read_some (row ∷ rows) zero r e = same_Some row r e
-read_some (row ∷ rows) (suc i) r e = read_some rows i r e
-
-pub no_row : (rows : List (List Bool)) (n : ℕ) → 0 < n → slice_get rows (n - 1) ≡ None → of_page rows n ≡ []
-no_row rows zero l e = absurd (omega (arith, l))
-no_row rows (suc i) l e = read_none rows i (ap (slice_get rows) (less i) ∙ e)
-  where
-    less : (i : ℕ) → i ≡ suc i - 1
-    less i = omega arith
-
-pub row_there : (rows : List (List Bool)) (n : ℕ) (r : List Bool) → 0 < n → slice_get rows (n - 1) ≡ Some r
-    → of_page rows n ≡ r
-row_there rows zero r l e = absurd (omega (arith, l))
-row_there rows (suc i) r l e = read_some rows i r (ap (slice_get rows) (less i) ∙ e)
-  where
-    less : (i : ℕ) → i ≡ suc i - 1
-    less i = omega arith
-
 module _ (h : HeapState) (n : ℕ) (low : 0 < n) where
-  pub none_drafted : slice_get h.live (n - 1) ≡ None → ([] ≡ drafted h n) × ([] ≡ drafted_sizes h n)
+  pub none_drafted : slice_get h.live (n - 1) ≡ None → ([] ≡ draft_of h n) × ([] ≡ draft_sizes h n)
   unfolding live_offsets
   none_drafted e =
-      let none = no_row h.live n low e in (
-        ap (λ row. map (drafted_entry h n) (offsets_from 0 row)) (sym none),
-        ap (λ row. map (drafted_size h n) (offsets_from 0 row)) (sym none),
+      let none = of_page_none h.live n low e in (
+        ap (λ row. map (draft_entry h n) (offsets_from 0 row)) (sym none),
+        ap (λ row. map (draft_size h n) (offsets_from 0 row)) (sym none),
       )
 
   pub row_drafted : (r : List Bool) → slice_get h.live (n - 1) ≡ Some r
-      → (map (drafted_entry h n) (offsets_from 0 r) ≡ drafted h n)
-      × (map (drafted_size h n) (offsets_from 0 r) ≡ drafted_sizes h n)
+      → (map (draft_entry h n) (offsets_from 0 r) ≡ draft_of h n)
+      × (map (draft_size h n) (offsets_from 0 r) ≡ draft_sizes h n)
   unfolding live_offsets
   row_drafted r e =
-      let is = row_there h.live n r low e in (
-        ap (λ row. map (drafted_entry h n) (offsets_from 0 row)) (sym is),
-        ap (λ row. map (drafted_size h n) (offsets_from 0 row)) (sym is),
+      let is = of_page_some h.live n r low e in (
+        ap (λ row. map (draft_entry h n) (offsets_from 0 row)) (sym is),
+        ap (λ row. map (draft_size h n) (offsets_from 0 row)) (sym is),
       )
 
   -- the row of a page has its words, and the draft of it rises
@@ -118,5 +91,5 @@ module _ (h : HeapState) (n : ℕ) (low : 0 < n) where
   row_sized r i e = i.live.words (n - 1) r e ∙ sym i.sizes.words
 
 pub draft_rises : (h : HeapState) (n : ℕ) (r : List Bool) → length r ≤ MOST_WORDS
-    → AreRising MOST_WORDS 0 (map (drafted_entry h n) (offsets_from 0 r))
+    → AreRising MOST_WORDS 0 (map (draft_entry h n) (offsets_from 0 r))
 draft_rises h n r few = side_rises MOST_WORDS 0 r (address_of h n) (omega (arith, few))

@@ -4,7 +4,8 @@ use Rattle.std.proofs.Common.{◌-◌, set, drop, length, map, Option, Some, Non
 use Rattle.std.proofs.Common.{◌∙◌, ap, ap₂, subst, arith, length-append}
 use Rattle.std.specs.List.{slice_get, flat_map, sum_by}
 use Rattle.std.proofs.lemmas.Bool.{leb-true}
-use Rattle.std.proofs.lemmas.List.{length-map}
+use Rattle.std.proofs.lemmas.List.{length-map, map-append}
+use Rattle.std.proofs.lemmas.Simd.{map-map}
 use Rattle.std.proofs.lemmas.List.Sums.{sum_by-cons}
 use Rattle.std.proofs.lemmas.Option.{same_Some}
 use Rattle.layout.specs.declared.shape.Layout.{Layout}
@@ -19,33 +20,26 @@ use Rattle.model.specs.Plans.{words_of, with_sides, moves_of}
 use Rattle.model.specs.Protections.{has_twice, with_targets, with_protected, protect_with, protect}
 use Rattle.heap.specs.Relocating.{start_protection}
 use Rattle.model.proofs.Plans.{places_length, side_rises}
-use Rattle.relocate.specs.Drafts.{drafted, drafted_entry, drafted_sizes, drafted_size, address_of, settled_sides}
-use Rattle.relocate.specs.Drafts.{put_settled, settled}
-use Rattle.relocate.proofs.Settled.{sides_settled}
+use Rattle.model.proofs.Plans as plans
+use Rattle.relocate.specs.Drafts.{draft_of, draft_entry, draft_sizes, draft_size, address_of, with_placed_sides}
+use Rattle.relocate.specs.Drafts.{with_placed_drafts, with_places}
+use Rattle.relocate.proofs.Settled.{sides_placed}
 
 -- sizes
 
 -- the sizes that are drafted are those that are planned
-mapped_joined : {X Y : Type 0} (f : X → Y) (xs ys : List X) → map f (xs ++ ys) ≡ map f xs ++ map f ys
-mapped_joined f [] ys = refl
-mapped_joined f (x ∷ xs) ys = ap (λ zs. f x ∷ zs) (mapped_joined f xs ys)
-
-mapped_twice : {X Y Z : Type 0} (f : Y → Z) (g : X → Y) (xs : List X) → map (λ x. f (g x)) xs ≡ map f (map g xs)
-mapped_twice f g [] = refl
-mapped_twice f g (x ∷ xs) = ap (λ zs. f (g x) ∷ zs) (mapped_twice f g xs)
-
 flat_mapped : {X Y Z : Type 0} (f : Y → Z) (g : X → List Y) (k : X → List Z) (xs : List X)
     → ((x : X) → k x ≡ map f (g x)) → flat_map k xs ≡ map f (flat_map g xs)
 flat_mapped f g k [] h = refl
 flat_mapped f g k (x ∷ xs) h =
-    ap₂ (λ ys zs. ys ++ zs) (h x) (flat_mapped f g k xs h) ∙ sym (mapped_joined f (g x) (flat_map g xs))
+    ap₂ (λ ys zs. ys ++ zs) (h x) (flat_mapped f g k xs h) ∙ sym (map-append f (g x) (flat_map g xs))
 
 pub sizes_planned : (h : HeapState) (pages : List ℕ)
-    → places_from h.store.words 0 0 (flat_map (drafted_sizes h) pages) ≡ plan_of h pages
+    → places_from h.store.words 0 0 (flat_map (draft_sizes h) pages) ≡ plan_of h pages
 unfolding plan_of live_objects
 sizes_planned h pages = ap (places_from h.store.words 0 0)
-    (flat_mapped (object_words h) (live_on h) (drafted_sizes h) pages
-    (λ n. mapped_twice (object_words h) (address_of h n) (live_offsets h n)))
+    (flat_mapped (object_words h) (live_on h) (draft_sizes h) pages
+    (λ n. sym (map-map (object_words h) (address_of h n) (live_offsets h n))))
 
 -- as many places as there are entries
 counted_flat : {X Y : Type 0} (f : X → List Y) (g : X → ℕ) (xs : List X) → ((x : X) → length (f x) ≡ g x)
@@ -62,68 +56,19 @@ counted_mapped f g (x ∷ xs) h =
     omega (arith, sum_by-cons length (f x) (map f xs), sum_by-cons g x xs, h x, counted_mapped f g xs h)
 
 pub enough_places : (h : HeapState) (pages : List ℕ)
-    → sum_by length (map (drafted h) pages) ≤ length (plan_of h pages)
+    → sum_by length (map (draft_of h) pages) ≤ length (plan_of h pages)
 enough_places h pages =
-    let entries = counted_mapped (drafted h) (λ n. length (live_offsets h n)) pages
-    (λ n. length-map (live_offsets h n) (drafted_entry h n)) in
-    let sizes = counted_flat (drafted_sizes h) (λ n. length (live_offsets h n)) pages
-    (λ n. length-map (live_offsets h n) (drafted_size h n)) in
-    let places = places_length h.store.words 0 0 (flat_map (drafted_sizes h) pages) in
+    let entries = counted_mapped (draft_of h) (λ n. length (live_offsets h n)) pages
+    (λ n. length-map (live_offsets h n) (draft_entry h n)) in
+    let sizes = counted_flat (draft_sizes h) (λ n. length (live_offsets h n)) pages
+    (λ n. length-map (live_offsets h n) (draft_size h n)) in
+    let places = places_length h.store.words 0 0 (flat_map (draft_sizes h) pages) in
     let planned = ap length (sizes_planned h pages) in
     omega (arith, entries, sizes, places, planned)
 
 -- places
 
--- a place is in this target or in one behind it
-from_target : (w t o : ℕ) (ns : List ℕ) (i : ℕ) (p : ℕ × ℕ) → slice_get (places_from w t o ns) i ≡ Some p → t ≤ p.0
-from_target w t o [] i p e = absurd (cc)
-from_target w t o (n ∷ ns) i p e = by_test (nat_le (o + n) w) i e (from_target w t (o + n) ns)
-    (from_target w (t + 1) n ns)
-  where
-    by_test : (b : Bool) (i : ℕ)
-        → slice_get (cond b ((t, o) ∷ places_from w t (o + n) ns) ((t + 1, 0) ∷ places_from w (t + 1) n ns)) i ≡ Some p
-        → ((i : ℕ) (p : ℕ × ℕ) → slice_get (places_from w t (o + n) ns) i ≡ Some p → t ≤ p.0)
-        → ((i : ℕ) (p : ℕ × ℕ) → slice_get (places_from w (t + 1) n ns) i ≡ Some p → t + 1 ≤ p.0)
-        → t ≤ p.0
-    by_test true zero e x y = let is : t ≡ p.0 = ap (λ (z : ℕ × ℕ). z.0) (same_Some _ _ e) in omega (arith, is)
-    by_test true (suc i) e x y = x i p e
-    by_test false zero e x y = let is : t + 1 ≡ p.0 = ap (λ (z : ℕ × ℕ). z.0) (same_Some _ _ e) in omega (arith, is)
-    by_test false (suc i) e x y = omega (arith, y i p e)
-
--- it is one of the targets
-last_counts : (p : ℕ × ℕ) (ps : List (ℕ × ℕ)) → target_count ps ≤ target_count (p ∷ ps)
-last_counts p [] = omega arith
-last_counts p (q ∷ ps) = omega arith
-
-counted_head : (t o : ℕ) (ps : List (ℕ × ℕ)) → ((i : ℕ) (p : ℕ × ℕ) → slice_get ps i ≡ Some p → t ≤ p.0)
-    → ((i : ℕ) (p : ℕ × ℕ) → slice_get ps i ≡ Some p → p.0 < target_count ps) → t < target_count ((t, o) ∷ ps)
-counted_head t o [] from below = omega arith
-counted_head t o (q ∷ ps) from below = omega (arith, from zero q refl, below zero q refl)
-
-in_targets : (w t o : ℕ) (ns : List ℕ) (i : ℕ) (p : ℕ × ℕ) → slice_get (places_from w t o ns) i ≡ Some p
-    → p.0 < target_count (places_from w t o ns)
-in_targets w t o [] i p e = absurd (cc)
-in_targets w t o (n ∷ ns) i p e = by_test (nat_le (o + n) w) i e (in_targets w t (o + n) ns) (in_targets w (t + 1) n ns)
-  where
-    behind : (t2 o2 : ℕ) (ps : List (ℕ × ℕ)) → ((i : ℕ) (p : ℕ × ℕ) → slice_get ps i ≡ Some p → t2 ≤ p.0)
-        → ((i : ℕ) (p : ℕ × ℕ) → slice_get ps i ≡ Some p → p.0 < target_count ps) → (i : ℕ)
-        → slice_get ((t2, o2) ∷ ps) i ≡ Some p → p.0 < target_count ((t2, o2) ∷ ps)
-    behind t2 o2 ps from below zero e =
-        let is : t2 ≡ p.0 = ap (λ (z : ℕ × ℕ). z.0) (same_Some _ _ e) in
-        omega (arith, is, counted_head t2 o2 ps from below)
-    behind t2 o2 ps from below (suc i) e = omega (arith, below i p e, last_counts (t2, o2) ps)
-
-    by_test : (b : Bool) (i : ℕ)
-        → slice_get (cond b ((t, o) ∷ places_from w t (o + n) ns) ((t + 1, 0) ∷ places_from w (t + 1) n ns)) i ≡ Some p
-        → ((i : ℕ) (p : ℕ × ℕ) → slice_get (places_from w t (o + n) ns) i ≡ Some p
-        → p.0 < target_count (places_from w t (o + n) ns))
-        → ((i : ℕ) (p : ℕ × ℕ) → slice_get (places_from w (t + 1) n ns) i ≡ Some p
-        → p.0 < target_count (places_from w (t + 1) n ns))
-        → p.0 < target_count (cond b ((t, o) ∷ places_from w t (o + n) ns) ((t + 1, 0) ∷ places_from w (t + 1) n ns))
-    by_test true i e near far = behind t o (places_from w t (o + n) ns) (from_target w t (o + n) ns) near i e
-    by_test false i e near far = behind (t + 1) 0 (places_from w (t + 1) n ns) (from_target w (t + 1) n ns) far i e
-
--- and begins within it, where each object has a word
+-- a place begins within its target, where each object has a word
 begins_within : (w t o : ℕ) (ns : List ℕ) → 0 < w → Each ns (λ n. 0 < n) → (i : ℕ) (p : ℕ × ℕ)
     → slice_get (places_from w t o ns) i ≡ Some p → p.1 < w
 begins_within w t o [] low some i p e = absurd (cc)
@@ -162,12 +107,13 @@ pub places_counted : (h : HeapState) (pages : List ℕ) (n : ℕ) → n ≡ targ
     → Each (plan_of h pages) (λ p. p.0 < n)
 unfolding plan_of
 places_counted h pages n e i p at =
-    let low = in_targets h.store.words 0 0 (map (object_words h) (live_objects h pages)) i p at in omega (arith, e, low)
+    let low = plans.places_counted h.store.words 0 0 (map (object_words h) (live_objects h pages)) i p at in
+    omega (arith, e, low)
 
 -- side arrays
 
 pub drafts_rise : (h : HeapState) (pages : List ℕ) → IsHeap h
-    → Each (map (drafted h) pages) (AreRising h.config.words 0)
+    → Each (map (draft_of h) pages) (AreRising h.config.words 0)
 unfolding live_offsets
 drafts_rise h [] d i fs e = absurd (cc)
 drafts_rise h (n ∷ ns) d zero fs e = subst (AreRising h.config.words 0) (same_Some _ _ e)
@@ -183,35 +129,35 @@ drafts_rise h (n ∷ ns) d (suc i) fs e = drafts_rise h ns d i fs e
 
 -- what is put is what is settled
 put_is : (h : HeapState) (ts pages : List ℕ) (ps : List (ℕ × ℕ)) (sides : List (List Forwarding))
-    → put_settled h.store.words ts pages (map (drafted h) pages) ps sides ≡ settled_sides h ts pages ps sides
+    → with_placed_drafts h.store.words ts pages (map (draft_of h) pages) ps sides ≡ with_placed_sides h ts pages ps sides
 put_is h ts [] ps sides = refl
 put_is h ts (n ∷ ns) ps sides =
-    put_is h ts ns (drop (length (drafted h n)) ps) (set sides (n - 1) (settled h.store.words ts ps (drafted h n)))
-    ∙ ap (λ k. settled_sides h ts ns (drop k ps) (set sides (n - 1) (settled h.store.words ts ps (drafted h n))))
-    (length-map (live_offsets h n) (drafted_entry h n))
+    put_is h ts ns (drop (length (draft_of h n)) ps) (set sides (n - 1) (with_places h.store.words ts ps (draft_of h n)))
+    ∙ ap (λ k. with_placed_sides h ts ns (drop k ps) (set sides (n - 1) (with_places h.store.words ts ps (draft_of h n))))
+    (length-map (live_offsets h n) (draft_entry h n))
 
 pub put_moves : (h : HeapState) (ts pages : List ℕ) (sides : List (List Forwarding)) → IsHeap h
     → has_twice pages ≡ false
-    → put_settled h.store.words ts pages (map (drafted h) pages) (plan_of h pages) sides
+    → with_placed_drafts h.store.words ts pages (map (draft_of h) pages) (plan_of h pages) sides
     ≡ with_sides h (moves_of h pages ts) pages sides
-put_moves h ts pages sides d once = put_is h ts pages (plan_of h pages) sides ∙ sym (sides_settled h ts pages sides
+put_moves h ts pages sides d once = put_is h ts pages (plan_of h pages) sides ∙ sym (sides_placed h ts pages sides
     (λ i row e. d.live.words i row e ∙ sym d.sizes.words) once)
 
 -- pages are protected
 
 -- targets are opened, side arrays put, and pages protected
 pub protected_is : (h g mid final : HeapState) (ts pages : List ℕ) (drafts : List (List Forwarding)) (ps : List (ℕ × ℕ))
-    (n : ℕ) → IsHeap h → has_twice pages ≡ false → drafts ≡ map (drafted h) pages → ps ≡ plan_of h pages
+    (n : ℕ) → IsHeap h → has_twice pages ≡ false → drafts ≡ map (draft_of h) pages → ps ≡ plan_of h pages
     → n ≡ target_count (plan_of h pages) → g ≡ (with_targets n h).0 → ts ≡ (with_targets n h).1
     → g.store.words ≡ h.store.words
-    → mid ≡ record g { sides = put_settled g.store.words ts pages drafts ps g.sides }
+    → mid ≡ record g { sides = with_placed_drafts g.store.words ts pages drafts ps g.sides }
     → final ≡ start_protection mid pages → final ≡ protect h pages
 unfolding protect with_protected start_protection
 protected_is h g mid final ts pages drafts ps n d once drafted_so planned count opened pages_are words put started =
-    let sides : put_settled g.store.words ts pages drafts ps g.sides
+    let sides : with_placed_drafts g.store.words ts pages drafts ps g.sides
     ≡ with_sides h (moves_of h pages ts) pages g.sides =
-    ap (λ w. put_settled w ts pages drafts ps g.sides) words
-    ∙ ap₂ (λ ds qs. put_settled h.store.words ts pages ds qs g.sides) drafted_so planned
+    ap (λ w. with_placed_drafts w ts pages drafts ps g.sides) words
+    ∙ ap₂ (λ ds qs. with_placed_drafts h.store.words ts pages ds qs g.sides) drafted_so planned
     ∙ put_moves h ts pages g.sides d once in
     started ∙ ap (λ (m : HeapState). start_protection m pages) put
     ∙ ap (λ (ss : List (List Forwarding)). start_protection (record g { sides = ss }) pages) sides

@@ -17,7 +17,7 @@ use Rattle.model.specs.Protections.{has_twice}
 use Rattle.model.specs.States.{HeapState}
 use Rattle.model.proofs.Lists.{none_passes}
 use Rattle.model.proofs.Plans.{IsIn, in_either, in_at, mapped_in, in_objects, offset_told, places_length}
-use Rattle.relocate.specs.Drafts.{drafted, settled, settled_sides}
+use Rattle.relocate.specs.Drafts.{draft_of, with_places, with_placed_sides}
 
 -- lists without repeats
 
@@ -147,7 +147,7 @@ planned_moves h pages targets long once =
 entries_settled : (words start : ℕ) (targets : List ℕ) (moves : List (ℕ × ℕ)) (offsets later : List ℕ)
     (ps : List (ℕ × ℕ)) → AreMoved moves (map (λ o. start + o) offsets ++ later) (map (address_in words targets) ps)
     → map (λ o. record { offset = o; to = place_of moves (start + o); copied = false }) offsets
-    ≡ settled words targets ps (map (λ o. record { offset = o; to = start + o; copied = false }) offsets)
+    ≡ with_places words targets ps (map (λ o. record { offset = o; to = start + o; copied = false }) offsets)
 entries_settled words start targets moves [] later ps k = refl
 entries_settled words start targets moves (o ∷ os) later [] k = absurd k
 entries_settled words start targets moves (o ∷ os) later (p ∷ ps) (here, rest) = λ i.
@@ -165,7 +165,7 @@ moved_behind words start targets moves (o ∷ os) later (p ∷ ps) (here, rest) 
 
 side_settled : (h : HeapState) (targets : List ℕ) (moves : List (ℕ × ℕ)) (n : ℕ) (later : List ℕ) (ps : List (ℕ × ℕ))
     → AreMoved moves (live_on h n ++ later) (map (address_in h.store.words targets) ps)
-    → side_of h moves n ≡ settled h.store.words targets ps (drafted h n)
+    → side_of h moves n ≡ with_places h.store.words targets ps (draft_of h n)
 unfolding side_of
 side_settled h targets moves n later ps k =
     entries_settled h.store.words (n * h.store.words) targets moves (live_offsets h n) later ps k
@@ -175,20 +175,20 @@ side_settled h targets moves n later ps k =
 pages_settled : (h : HeapState) (targets : List ℕ) (moves : List (ℕ × ℕ)) (pages : List ℕ) (ps : List (ℕ × ℕ))
     (sides : List (List Forwarding))
     → AreMoved moves (flat_map (live_on h) pages) (map (address_in h.store.words targets) ps)
-    → with_sides h moves pages sides ≡ settled_sides h targets pages ps sides
+    → with_sides h moves pages sides ≡ with_placed_sides h targets pages ps sides
 pages_settled h targets moves [] ps sides k = refl
 pages_settled h targets moves (n ∷ ns) ps sides k =
     let later = flat_map (live_on h) ns in
     let words = h.store.words in
     ap (λ side. with_sides h moves ns (set sides (n - 1) side)) (side_settled h targets moves n later ps k)
     ∙ pages_settled h targets moves ns (drop (length (live_offsets h n)) ps)
-    (set sides (n - 1) (settled words targets ps (drafted h n)))
+    (set sides (n - 1) (with_places words targets ps (draft_of h n)))
     (moved_behind words (n * words) targets moves (live_offsets h n) later ps k)
 
 -- to give each draft the next places of the plan is to make each side array of the moves
-pub sides_settled : (h : HeapState) (targets pages : List ℕ) (sides : List (List Forwarding))
+pub sides_placed : (h : HeapState) (targets pages : List ℕ) (sides : List (List Forwarding))
     → Each h.live (λ row. length row ≡ h.store.words) → has_twice pages ≡ false
-    → with_sides h (moves_of h pages targets) pages sides ≡ settled_sides h targets pages (plan_of h pages) sides
-sides_settled h targets pages sides long once =
+    → with_sides h (moves_of h pages targets) pages sides ≡ with_placed_sides h targets pages (plan_of h pages) sides
+sides_placed h targets pages sides long once =
     pages_settled h targets (moves_of h pages targets) pages (plan_of h pages) sides
     (planned_moves h pages targets long once)

@@ -9,7 +9,7 @@ use Rattle.model.specs.Holding.{AreRising}
 use Rattle.model.specs.Plans.{address_in}
 use Rattle.model.specs.States.{change_at, change_found}
 use Rattle.forward.specs.Settling.{set_place_of}
-use Rattle.relocate.specs.Drafts.{settled}
+use Rattle.relocate.specs.Drafts.{with_places}
 
 -- the element behind others that are left out
 pub get_dropped : {X : Type 0} (xs : List X) (a i j : ℕ) → j ≡ a + i → slice_get (drop a xs) i ≡ slice_get xs j
@@ -34,47 +34,47 @@ changed_behind f fs i g = by_found (slice_get fs i)
 -- the entry of a number gets its place
 one_settled : (w : ℕ) (ts : List ℕ) (ps : List (ℕ × ℕ)) (fs : List Forwarding) (i : ℕ) (p : ℕ × ℕ)
     → slice_get ps i ≡ Some p → i < length fs
-    → take i fs ++ settled w ts (drop i ps) (drop i fs)
+    → take i fs ++ with_places w ts (drop i ps) (drop i fs)
     ≡ take (suc i) (change_at fs i (set_place_of (address_in w ts p)))
-    ++ settled w ts (drop (suc i) ps) (drop (suc i) (change_at fs i (set_place_of (address_in w ts p))))
+    ++ with_places w ts (drop (suc i) ps) (drop (suc i) (change_at fs i (set_place_of (address_in w ts p))))
 one_settled w ts ps [] i p e l = absurd (omega (arith, l))
 one_settled w ts [] (f ∷ fs) i p e l = absurd (cc)
 one_settled w ts (q ∷ ps) (f ∷ fs) zero p e l =
-    ap (λ z. set_place_of (address_in w ts z) f ∷ settled w ts ps fs) (same_Some q p e)
+    ap (λ z. set_place_of (address_in w ts z) f ∷ with_places w ts ps fs) (same_Some q p e)
 one_settled w ts (q ∷ ps) (f ∷ fs) (suc i) p e l =
     ap (λ xs. f ∷ xs) (one_settled w ts ps fs i p e (omega (arith, l)))
-    ∙ ap (λ xs. take (suc (suc i)) xs ++ settled w ts (drop (suc (suc i)) (q ∷ ps)) (drop (suc (suc i)) xs))
+    ∙ ap (λ xs. take (suc (suc i)) xs ++ with_places w ts (drop (suc (suc i)) (q ∷ ps)) (drop (suc (suc i)) xs))
     (sym (changed_behind f fs i (set_place_of (address_in w ts p))))
 
 pub settled_next : (w : ℕ) (ts : List ℕ) (ps : List (ℕ × ℕ)) (fs gs whole : List Forwarding) (i : ℕ) (p : ℕ × ℕ)
     → slice_get ps i ≡ Some p → i < length fs → gs ≡ change_at fs i (set_place_of (address_in w ts p))
-    → whole ≡ take i fs ++ settled w ts (drop i ps) (drop i fs)
-    → whole ≡ take (i + 1) gs ++ settled w ts (drop (i + 1) ps) (drop (i + 1) gs)
+    → whole ≡ take i fs ++ with_places w ts (drop i ps) (drop i fs)
+    → whole ≡ take (i + 1) gs ++ with_places w ts (drop (i + 1) ps) (drop (i + 1) gs)
 settled_next w ts ps fs gs whole i p e l is h = h ∙ one_settled w ts ps fs i p e l
-    ∙ ap (λ xs. take (suc i) xs ++ settled w ts (drop (suc i) ps) (drop (suc i) xs)) (sym is)
-    ∙ ap (λ n. take n gs ++ settled w ts (drop n ps) (drop n gs)) (more i)
+    ∙ ap (λ xs. take (suc i) xs ++ with_places w ts (drop (suc i) ps) (drop (suc i) xs)) (sym is)
+    ∙ ap (λ n. take n gs ++ with_places w ts (drop n ps) (drop n gs)) (more i)
   where
     more : (i : ℕ) → suc i ≡ i + 1
     more i = omega arith
 
 -- all have got theirs
 pub settled_all : (w : ℕ) (ts : List ℕ) (ps : List (ℕ × ℕ)) (fs whole : List Forwarding) (i : ℕ) → length fs ≤ i
-    → whole ≡ take i fs ++ settled w ts (drop i ps) (drop i fs) → fs ≡ whole
+    → whole ≡ take i fs ++ with_places w ts (drop i ps) (drop i fs) → fs ≡ whole
 settled_all w ts ps fs whole i l h = sym (h ∙ past ps fs i l)
   where
     past : (ps : List (ℕ × ℕ)) (fs : List Forwarding) (i : ℕ) → length fs ≤ i
-        → take i fs ++ settled w ts (drop i ps) (drop i fs) ≡ fs
+        → take i fs ++ with_places w ts (drop i ps) (drop i fs) ≡ fs
     past ps [] zero l = refl
     past ps [] (suc i) l = refl
     past ps (f ∷ fs) zero l = absurd (omega (arith, l))
     past [] (f ∷ fs) (suc i) l = ap (λ xs. f ∷ xs)
-        (ap (λ (qs : List (ℕ × ℕ)). take i fs ++ settled w ts qs (drop i fs)) (sym (dropped_none i))
+        (ap (λ (qs : List (ℕ × ℕ)). take i fs ++ with_places w ts qs (drop i fs)) (sym (dropped_none i))
         ∙ past [] fs i (omega (arith, l)))
     past (p ∷ ps) (f ∷ fs) (suc i) l = ap (λ xs. f ∷ xs) (past ps fs i (omega (arith, l)))
 
 -- entries that get places stay where they are
 pub settled_rises : (v low w : ℕ) (ts : List ℕ) (ps : List (ℕ × ℕ)) (fs : List Forwarding) → AreRising v low fs
-    → AreRising v low (settled w ts ps fs)
+    → AreRising v low (with_places w ts ps fs)
 settled_rises v low w ts ps [] r = tt
 settled_rises v low w ts [] (f ∷ fs) (a, b, r) = (a, b, settled_rises v (f.offset + 1) w ts [] fs r)
 settled_rises v low w ts (p ∷ ps) (f ∷ fs) (a, b, r) = (a, b, settled_rises v (f.offset + 1) w ts ps fs r)

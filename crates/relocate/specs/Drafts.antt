@@ -9,37 +9,37 @@ abbrev pub address_of : HeapState → ℕ → ℕ → ℕ
 address_of h n o = n * h.store.words + o
 
 -- the entry of the object at an offset of page n, before places are known: it goes to where it is
-abbrev pub drafted_entry : HeapState → ℕ → ℕ → Forwarding
-drafted_entry h n o = record { offset = o; to = address_of h n o; copied = false }
+abbrev pub draft_entry : HeapState → ℕ → ℕ → Forwarding
+draft_entry h n o = record { offset = o; to = address_of h n o; copied = false }
 
 -- the entries of page n, before places are known
-abbrev pub drafted : HeapState → ℕ → List Forwarding
-drafted h n = map (drafted_entry h n) (live_offsets h n)
+abbrev pub draft_of : HeapState → ℕ → List Forwarding
+draft_of h n = map (draft_entry h n) (live_offsets h n)
 
 -- how many words the object at an offset of page n has
-abbrev pub drafted_size : HeapState → ℕ → ℕ → ℕ
-drafted_size h n o = object_words h (address_of h n o)
+abbrev pub draft_size : HeapState → ℕ → ℕ → ℕ
+draft_size h n o = object_words h (address_of h n o)
 
 -- how many words the live objects of page n have
-abbrev pub drafted_sizes : HeapState → ℕ → List ℕ
-drafted_sizes h n = map (drafted_size h n) (live_offsets h n)
+abbrev pub draft_sizes : HeapState → ℕ → List ℕ
+draft_sizes h n = map (draft_size h n) (live_offsets h n)
 
 -- entries whose objects go to these places, in order, in targets of which these are the pages
-abbrev pub settled : ℕ → List ℕ → List (ℕ × ℕ) → List Forwarding → List Forwarding
-settled words targets ps [] = []
-settled words targets [] (f ∷ fs) = f ∷ settled words targets [] fs
-settled words targets (p ∷ ps) (f ∷ fs) = record f { to = address_in words targets p } ∷ settled words targets ps fs
+abbrev pub with_places : ℕ → List ℕ → List (ℕ × ℕ) → List Forwarding → List Forwarding
+with_places words targets ps [] = []
+with_places words targets [] (f ∷ fs) = f ∷ with_places words targets [] fs
+with_places words targets (p ∷ ps) (f ∷ fs) = record f { to = address_in words targets p } ∷ with_places words targets ps fs
 
 -- side arrays of which those of these pages are settled, one page's places behind the other's
-abbrev pub settled_sides : HeapState → List ℕ → List ℕ → List (ℕ × ℕ) → List (List Forwarding) → List (List Forwarding)
-settled_sides h targets [] ps sides = sides
-settled_sides h targets (n ∷ ns) ps sides = settled_sides h targets ns (drop (length (live_offsets h n)) ps)
-    (slice_set sides (n - 1) (settled h.store.words targets ps (drafted h n)))
+abbrev pub with_placed_sides : HeapState → List ℕ → List ℕ → List (ℕ × ℕ) → List (List Forwarding) → List (List Forwarding)
+with_placed_sides h targets [] ps sides = sides
+with_placed_sides h targets (n ∷ ns) ps sides = with_placed_sides h targets ns (drop (length (live_offsets h n)) ps)
+    (slice_set sides (n - 1) (with_places h.store.words targets ps (draft_of h n)))
 
 -- side arrays of which those of these pages are these drafts, settled one behind the other
-abbrev pub put_settled : ℕ → List ℕ → List ℕ → List (List Forwarding) → List (ℕ × ℕ) → List (List Forwarding)
+abbrev pub with_placed_drafts : ℕ → List ℕ → List ℕ → List (List Forwarding) → List (ℕ × ℕ) → List (List Forwarding)
     → List (List Forwarding)
-put_settled words targets [] drafts ps sides = sides
-put_settled words targets (n ∷ ns) [] ps sides = sides
-put_settled words targets (n ∷ ns) (d ∷ ds) ps sides =
-    put_settled words targets ns ds (drop (length d) ps) (slice_set sides (n - 1) (settled words targets ps d))
+with_placed_drafts words targets [] drafts ps sides = sides
+with_placed_drafts words targets (n ∷ ns) [] ps sides = sides
+with_placed_drafts words targets (n ∷ ns) (d ∷ ds) ps sides =
+    with_placed_drafts words targets ns ds (drop (length d) ps) (slice_set sides (n - 1) (with_places words targets ps d))

@@ -5,7 +5,7 @@ ghost use Rattle.std.specs.Prelude.{◌≡◌, ◌<◌, ◌≤◌, ◌++◌, len
 ghost use Rattle.model.specs.Plans.{offsets_from};
 ghost use Rattle.model.specs.Owning.{Each};
 ghost use Rattle.std.specs.List.{flat_map};
-ghost use Rattle.relocate.specs.Drafts.{drafted, drafted_entry, drafted_size, drafted_sizes};
+ghost use Rattle.relocate.specs.Drafts.{draft_of, draft_entry, draft_size, draft_sizes};
 
 use forward::Side;
 use heap::{Heap, Row};
@@ -24,8 +24,8 @@ fn draft_side(
     requires low { 0 < page }
     requires high { page ≤ heap.now.store.count }
     requires size { length row.now ≡ heap.now.store.words }
-    ensures entries { IfOk result (λ v. v.items ≡ map (drafted_entry heap.now page) (offsets_from 0 row.now)) }
-    ensures sizes { OnOk result (sizes.new.items ≡ sizes.old.items ++ map (drafted_size heap.now page) (offsets_from 0 row.now)) }
+    ensures entries { IfOk result (λ v. v.items ≡ map (draft_entry heap.now page) (offsets_from 0 row.now)) }
+    ensures sizes { OnOk result (sizes.new.items ≡ sizes.old.items ++ map (draft_size heap.now page) (offsets_from 0 row.now)) }
 {
     let mut entries = Vec::with_capacity(alloc, row.count())?;
     let mut from = 0;
@@ -52,8 +52,8 @@ fn draft_page(
 ) -> Result<Side, AllocError>
     requires low { 0 < page }
     requires high { page ≤ heap.now.store.count }
-    ensures side { IfOk result (λ side. side ≡ drafted heap.now page) }
-    ensures sizes { OnOk result (sizes.new.items ≡ sizes.old.items ++ drafted_sizes heap.now page) }
+    ensures side { IfOk result (λ side. side ≡ draft_of heap.now page) }
+    ensures sizes { OnOk result (sizes.new.items ≡ sizes.old.items ++ draft_sizes heap.now page) }
 {
     heap.law();
     match heap.live().get((page - 1) as usize) {
@@ -79,8 +79,8 @@ pub(crate) struct Draft {
 pub(crate) fn draft_pages(alloc: Global, heap: &Heap, pages: &[u32]) -> Result<Draft, AllocError>
     requires low { Each pages.now (λ n. 0 < n) }
     requires high { Each pages.now (λ n. n ≤ heap.now.store.count) }
-    ensures sides { IfOk result (λ d. d.sides.items ≡ map (drafted heap.now) pages.now) }
-    ensures sizes { IfOk result (λ d. d.sizes.items ≡ flat_map (drafted_sizes heap.now) pages.now) }
+    ensures sides { IfOk result (λ d. d.sides.items ≡ map (draft_of heap.now) pages.now) }
+    ensures sizes { IfOk result (λ d. d.sizes.items ≡ flat_map (draft_sizes heap.now) pages.now) }
 {
     let mut sides = Vec::with_capacity(alloc, pages.len())?;
     let mut sizes = Vec::new(alloc);

@@ -10,7 +10,7 @@ ghost use Rattle.model.specs.declared.steps.Step.TheVariants as steps;
 ghost use Rattle.model.specs.Stores.{state_at};
 ghost use Rattle.model.specs.declared.records.PageState.TheVariants.{Closed};
 ghost use Rattle.model.specs.declared.records.Phase.TheVariants.{Idle};
-ghost use Rattle.relocate.specs.Drafts.{drafted};
+ghost use Rattle.relocate.specs.Drafts.{draft_of};
 
 use crate::drafting::draft_pages;
 use crate::ripe::{all_ripe, room_for};
@@ -37,7 +37,7 @@ fn prepare(alloc: Global, heap: &Heap, pages: &[u32]) -> Result<Preparation, All
     requires low { Each pages.now (λ n. 0 < n) }
     requires high { Each pages.now (λ n. n ≤ heap.now.store.count) }
     ensures plan { IfOk result (λ p. p.plan ≡ plan_of heap.now pages.now) }
-    ensures sides { IfOk result (λ p. p.sides.items ≡ map (drafted heap.now) pages.now) }
+    ensures sides { IfOk result (λ p. p.sides.items ≡ map (draft_of heap.now) pages.now) }
     ensures empty { IfOk result (λ p. p.targets.items ≡ []) }
     ensures room { IfOk result (λ p. target_count (plan_of heap.now pages.now) ≤ vec_capacity p.targets) }
 {
@@ -58,7 +58,7 @@ fn protect_prepared(heap: &mut Heap, pages: &[u32], prepared: Preparation)
     requires closed { Each pages.now (λ n. state_at heap.old.store n ≡ Closed) }
     requires once { has_twice pages.now ≡ false }
     requires plan { prepared.plan ≡ plan_of heap.old pages.now }
-    requires sides { prepared.sides.items ≡ map (drafted heap.old) pages.now }
+    requires sides { prepared.sides.items ≡ map (draft_of heap.old) pages.now }
     requires empty { prepared.targets.items ≡ [] }
     requires room { target_count (plan_of heap.old pages.now) ≤ vec_capacity prepared.targets }
     requires frames { target_count (plan_of heap.old pages.now) ≤ free_count heap.old.store }

@@ -2,34 +2,13 @@
 //! targets.
 
 ghost use Rattle.std.specs.Prelude.{◌≡◌, ◌<◌, ◌≤◌, IfOk, OnOk};
-ghost use Rattle.model.specs.Cycles.{is_buffer_on, is_lent};
 ghost use Rattle.model.specs.Owning.{Each};
 ghost use Rattle.model.specs.Protections.{all_ripe, free_count, ripe, room_for, unused_count};
 ghost use Rattle.model.specs.Stores.{state_at};
 ghost use Rattle.model.specs.declared.records.PageState.TheVariants.{Closed};
 
 use heap::Heap;
-use model::{Buffer, PageState, Refusal};
-
-/// Whether a buffer, if there is one, lies on a page, by the page's number.
-fn is_buffer_on(page: u32, buffer: Option<Buffer>) -> bool
-    ensures { result ≡ is_buffer_on page buffer }
-{
-    match buffer {
-        None => false,
-        Some(buffer) => buffer.page == page,
-    }
-}
-
-/// Whether a thread has a buffer on a page, by the page's number.
-#[tactic(auto, unfolding(model::specs::Cycles::is_lent))]
-fn is_lent(heap: &Heap, page: u32) -> bool
-    ensures { result ≡ is_lent heap.now.threads page }
-{
-    heap.threads()
-        .iter()
-        .any(|thread| is_buffer_on(page, thread.buffer()))
-}
+use model::{PageState, Refusal};
 
 /// Whether a page, by its number, may be protected: a closed one. Refused as `Lent` where it is open
 /// and a thread has a buffer on it, and as `Unripe` where it isn't closed.
@@ -39,7 +18,7 @@ fn ripe(heap: &Heap, page: u32) -> Result<(), Refusal>
     ensures closed { OnOk result (state_at heap.now.store page ≡ Closed) }
 {
     let state = heap.store().state(page);
-    if matches!(state, PageState::Open) && is_lent(heap, page) {
+    if matches!(state, PageState::Open) && heap.is_lent(page) {
         return Err(Refusal::Lent { page });
     }
     if matches!(state, PageState::Closed) {

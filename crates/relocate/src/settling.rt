@@ -8,7 +8,7 @@ ghost use Rattle.model.specs.Owning.{Each};
 ghost use Rattle.model.specs.Plans.{address_in};
 ghost use Rattle.model.specs.States.{change_at};
 ghost use Rattle.forward.specs.Settling.{set_place_of};
-ghost use Rattle.relocate.specs.Drafts.{settled, put_settled};
+ghost use Rattle.relocate.specs.Drafts.{with_places, with_placed_drafts};
 
 use forward::{Plan, Side};
 use heap::Heap;
@@ -42,7 +42,7 @@ pub(crate) fn settle(heap: &Heap, plan: &Plan, first: usize, targets: &[u32], si
     requires high { Each targets.now (λ n. n ≤ heap.now.store.count) }
     requires counted { Each plan.now (λ p. p.0 < length targets.now) }
     requires within { Each plan.now (λ p. p.1 < heap.now.store.words) }
-    ensures { side.new ≡ settled heap.now.store.words targets.now (drop first plan.now) side.old }
+    ensures { side.new ≡ with_places heap.now.store.words targets.now (drop first plan.now) side.old }
 {
     let _ = plan.len();
     for index in 0..side.len() {
@@ -66,7 +66,7 @@ fn settle_page(
     requires high { Each targets.now (λ n. n ≤ heap.old.store.count) }
     requires counted { Each plan.now (λ p. p.0 < length targets.now) }
     requires within { Each plan.now (λ p. p.1 < heap.old.store.words) }
-    ensures heap { heap.new ≡ record heap.old { sides = slice_set heap.old.sides (page - 1) (settled heap.old.store.words targets.now (drop first plan.now) side) } }
+    ensures heap { heap.new ≡ record heap.old { sides = slice_set heap.old.sides (page - 1) (with_places heap.old.store.words targets.now (drop first plan.now) side) } }
     ensures next { result ≡ first + length side }
 {
     let mut side = side;
@@ -93,7 +93,7 @@ pub(crate) fn settle_pages(
     requires high { Each targets.now (λ n. n ≤ heap.old.store.count) }
     requires counted { Each plan.now (λ p. p.0 < length targets.now) }
     requires within { Each plan.now (λ p. p.1 < heap.old.store.words) }
-    ensures { heap.new ≡ record heap.old { sides = put_settled heap.old.store.words targets.now pages.now sides.old.items plan.now heap.old.sides } }
+    ensures { heap.new ≡ record heap.old { sides = with_placed_drafts heap.old.store.words targets.now pages.now sides.old.items plan.now heap.old.sides } }
 {
     let alloc = *sides.allocator();
     let mut first = 0;
