@@ -8,5 +8,6 @@ mod size;
 mod store;
 
 pub use copies::many;
+pub use frame::Frame;
 pub use model::{Buffer, Page, PageState, Room};
 pub use store::{Store, record_count};

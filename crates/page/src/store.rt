@@ -150,6 +150,20 @@ impl Store {
         self.frames.as_slice().len()
     }
 
+    /// The frames, by number from 0: at most 4,096. Each has the words of a page.
+    pub fn frames(&self) -> &[Frame]
+        ensures { result.now ≡ self.now.frames }
+    {
+        &self.frames
+    }
+
+    /// The number of the page that each frame is the memory of; a free frame has none.
+    pub fn owners(&self) -> &[Option<u32>]
+        ensures { result.now ≡ self.now.owners }
+    {
+        &self.owners
+    }
+
     /// The number of free frames.
     pub fn free_frames(&self) -> u32
         ensures { result ≡ count_by is_none self.now.owners }

@@ -1,0 +1,10 @@
+pub mod Leading
+pub mod Visiting
+pub mod Walking
+pub mod Passing
+pub mod Sharing
+pub mod Claiming
+pub mod Verdicts
+pub mod Tabling
+mod RowSizes
+mod Listing

@@ -1,0 +1,9 @@
+pub mod Images
+pub mod Soundness
+pub mod Claims
+pub mod Faults
+pub mod Copies
+pub mod Walks
+pub mod Searches
+pub mod Twins
+pub mod Pictures

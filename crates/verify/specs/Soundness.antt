@@ -1,0 +1,95 @@
+-- When the image of a heap is sound.
+use Rattle.std.specs.Prelude.{◌≡◌, ◌≢◌, ◌⊎◌, ◌≤◌, ℕ, ◌+◌, ◌==◌, Bool, true, false, List, length, Option, Some}
+use Rattle.std.specs.Prelude.{None, is_some, option_map, slice_get, count_by, nat_lt}
+use Rattle.std.specs.Option.{option_flatten}
+use Rattle.model.specs.Configs.{is_page_size}
+use Rattle.model.specs.Stores.{has_memory}
+use Rattle.model.specs.Owning.{Each}
+use Rattle.verify.specs.Images.{ImageData, PageData, ◌>>=◌, is_copied, object_at, leads, field}
+use Rattle.verify.specs.declared.verdict.Root.{Root}
+use Rattle.verify.specs.declared.verdict.Root.TheVariants as roots
+
+-- a value is good: null, or a word that resolves to an object's start in a page with a frame
+abbrev pub IsGood : ImageData → ℕ → Type 0
+IsGood i value = (found : Option ℕ) × (leads i value ≡ Some found)
+
+-- frames
+
+-- the frame of a page is this one
+abbrev pub is_frame : ℕ → Option ℕ → Bool
+is_frame f None = false
+is_frame f (Some g) = g == f
+
+-- how many pages have a frame
+abbrev pub owners_in : List PageData → ℕ → ℕ
+owners_in pages f = count_by (λ p. is_frame f p.frame) pages
+
+-- how often a frame stands in a list
+abbrev pub times_in : List ℕ → ℕ → ℕ
+times_in frames f = count_by (λ g. g == f) frames
+
+-- how often a frame is owned by a page, or free
+abbrev pub uses_of : ImageData → ℕ → ℕ
+uses_of i f = owners_in i.pages f + times_in i.free f
+
+-- one for what is, and zero for what isn't
+abbrev pub as_number : Bool → ℕ
+as_number true = 1
+as_number false = 0
+
+-- a page has a frame exactly where its state says so
+abbrev pub HasItsFrame : PageData → Type 0
+HasItsFrame p = is_some p.frame ≡ has_memory p.state
+
+-- each frame of the configured number is owned by one page or stands once among the free ones, and no other frame is or
+-- does
+abbrev pub IsOnce : ImageData → Type 0
+IsOnce i = (f : ℕ) → uses_of i f ≡ as_number (nat_lt f i.frame_count)
+
+-- pages are of a size within the limits, each frame has the words of a page, as many frames as configured are there,
+-- and each of these has one owner or is free, once
+pub record HasFrames (i : ImageData) : Type 0 where
+  pub size : is_page_size i.words ≡ true
+  pub words : Each i.frames (λ ws. length ws ≡ i.words)
+  pub there : i.frame_count ≤ length i.frames
+  pub states : Each i.pages HasItsFrame
+  pub once : IsOnce i
+
+-- roots
+
+-- the value of a root, if there is that root: a register by thread and number, the word so far of a thread's load, or a
+-- global by number
+abbrev pub root_value : ImageData → Root → Option ℕ
+root_value i (roots.Register t r) = slice_get i.registers t >>= (λ registers. slice_get registers r)
+root_value i (roots.Pending t) = option_flatten (slice_get i.loads t)
+root_value i (roots.Global g) = slice_get i.globals g
+
+-- paths
+
+-- an address ends a path: what a root leads to, or what a field of the object at such an address leads to
+pub data IsReached (i : ImageData) : ℕ → Type 0 where
+  FromRoot : (a value : ℕ) (r : Root) → root_value i r ≡ Some value → leads i value ≡ Some (Some a) → IsReached i a
+  FromField : (c a k value : ℕ) → IsReached i a → field i a k ≡ Some value → leads i value ≡ Some (Some c)
+      → IsReached i c
+
+-- births
+
+-- an object of this birth starts at an address
+abbrev pub IsBirthAt : ImageData → ℕ → ℕ → Type 0
+IsBirthAt i a b = option_map (λ o. o.birth) (object_at i a) ≡ Some b
+
+-- two different addresses have objects of this birth: one that is reached, and one that is reached too, or wasn't
+-- copied
+pub record AreTwins (i : ImageData) (b a c : ℕ) : Type 0 where
+  pub apart : a ≢ c
+  pub reached : IsReached i a
+  pub other : IsReached i c ⊎ (is_copied i c ≡ false)
+  pub first : IsBirthAt i a b
+  pub second : IsBirthAt i c b
+
+-- an image is sound
+pub record IsSound (i : ImageData) : Type 0 where
+  pub frames : HasFrames i
+  pub roots : (r : Root) (value : ℕ) → root_value i r ≡ Some value → IsGood i value
+  pub fields : (a k value : ℕ) → IsReached i a → field i a k ≡ Some value → IsGood i value
+  pub alone : (a c b : ℕ) → AreTwins i b a c → ⊥

@@ -1,0 +1,78 @@
+-- The walk along references that finds what is reached: what it knows of each address, and the addresses whose
+-- fields are still to be looked at.
+use Rattle.std.specs.Prelude.{◌≡◌, ◌≢◌, ◌⊎◌, ◌≤◌, ℕ, ◌+◌, ◌*◌, Bool, true, false, List, [], ◌∷◌, ◌++◌, length}
+use Rattle.std.specs.Prelude.{Option, Some, None, count_by, Contains, get_or, slice_set, min, if◌then◌else◌}
+use Rattle.std.specs.Option.{option_flatten}
+use Rattle.refword.specs.declared.addr.TheConstants.Addr as addresses
+use Rattle.verify.specs.declared.objects.Object.{Object}
+use Rattle.verify.specs.declared.walk.Spot.{Spot}
+use Rattle.verify.specs.declared.walk.Spot.TheVariants.{Empty, Unseen, Reached}
+use Rattle.verify.specs.Images.{ImageData, ◌>>=◌, object_at, leads, field}
+use Rattle.verify.specs.Soundness.{IsReached}
+
+-- the address that field k of the object at an address leads to, if it is good and not null
+unfoldable pub target : ImageData → ℕ → ℕ → Option ℕ
+target i a k = do
+  value ← field i a k
+  option_flatten (leads i value)
+
+-- addresses of objects are below this one
+abbrev pub space : ImageData → ℕ
+space i = min addresses.LIMIT ((length i.pages + 1) * i.words)
+
+-- a walk
+pub record WalkData : Type 0 where
+  pub spots : List Spot
+  pub waiting : List ℕ
+
+-- what the walk knows of an address; there is nothing past the last
+abbrev pub spot_at : List Spot → ℕ → Spot
+spot_at spots a = get_or spots a Empty
+
+-- the walk has come to an address
+abbrev pub IsMet : WalkData → ℕ → Type 0
+IsMet w a = spot_at w.spots a ≡ Reached
+
+-- an object starts there, to which the walk hasn't come
+abbrev pub is_unseen : Spot → Bool
+is_unseen Unseen = true
+is_unseen _ = false
+
+-- what a walk that has come nowhere knows of an address
+abbrev pub first_spot : Option Object → Spot
+first_spot None = Empty
+first_spot (Some o) = Unseen
+
+-- the walk comes to an address, and looks at its fields later if it wasn't there before
+unfoldable pub with_visit : WalkData → ℕ → WalkData
+with_visit w a = record {
+  spots = slice_set w.spots a Reached;
+  waiting = if is_unseen (spot_at w.spots a) then w.waiting ++ a ∷ [] else w.waiting;
+}
+
+-- how often the walk may still look at an object's fields, at most
+abbrev pub looks_left : WalkData → ℕ
+looks_left w = count_by is_unseen w.spots + length w.waiting
+
+-- what the walk has come to is reached, what waits was come to, and the fields of all else that it has come to were
+-- looked at
+pub record IsWalk (i : ImageData) (w : WalkData) : Type 0 where
+  pub sized : length w.spots ≡ space i
+  pub objects : (a : ℕ) (o : Object) → object_at i a ≡ Some o → spot_at w.spots a ≢ Empty
+  pub reached : (a : ℕ) → IsMet w a → IsReached i a
+  pub met : (a : ℕ) → Contains w.waiting a → IsMet w a
+  pub closed : (a k c : ℕ) → IsMet w a → target i a k ≡ Some c → Contains w.waiting a ⊎ IsMet w c
+
+-- the same, but of the object at address b only the fields before field n were looked at
+pub record IsWalkAt (i : ImageData) (b n : ℕ) (w : WalkData) : Type 0 where
+  pub sized : length w.spots ≡ space i
+  pub objects : (a : ℕ) (o : Object) → object_at i a ≡ Some o → spot_at w.spots a ≢ Empty
+  pub here : IsReached i b
+  pub reached : (a : ℕ) → IsMet w a → IsReached i a
+  pub met : (a : ℕ) → Contains w.waiting a → IsMet w a
+  pub closed : (a k c : ℕ) → IsMet w a → target i a k ≡ Some c
+      → (Contains w.waiting a ⊎ IsMet w c) ⊎ ((a ≡ b) × (n ≤ k))
+
+-- what one walk has come to, a later one has
+abbrev pub Keeps : WalkData → WalkData → Type 0
+Keeps v w = (a : ℕ) → IsMet v a → IsMet w a

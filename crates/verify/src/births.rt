@@ -1,0 +1,118 @@
+//! Births of objects, and which two objects share.
+
+ghost use Rattle.std.specs.Prelude.{◌≡◌, ◌<◌, ◌≤◌, ℕ, Some, None, IfOk, MatchOption, length, nat_eq, Option};
+ghost use Rattle.std.specs.Prelude.{if◌then◌else◌, ◌==◌};
+ghost use Rattle.verify.specs.Searches.{TellsReached};
+ghost use Rattle.verify.specs.Twins.{TellsBirths, SharesAt, SharesBelow, IsLeast, IsOnly, HasTwins, lesser};
+ghost use Rattle.std.specs.HashMap as hash;
+
+use crate::chart::Chart;
+use crate::walk::{Spot, is_reached};
+use std::alloc::{AllocError, Global};
+use std::collections::HashMap;
+
+/// An address for each birth.
+#[derive(Drop)]
+struct Births {
+    addresses: HashMap<u32, u64>,
+}
+
+impl Births {
+    /// Nothing is noted of any birth.
+    fn new(alloc: Global) -> Births
+        ensures { (b : ℕ) → hash.get nat_eq result.addresses b ≡ None }
+    {
+        Births {
+            addresses: HashMap::new(alloc),
+        }
+    }
+
+    /// Notes an address of a birth, in place of what was noted.
+    fn note(&mut self, birth: u32, address: u64) -> Result<(), AllocError>
+        ensures { IfOk result (λ _. (b : ℕ) → hash.get nat_eq self.new.addresses b
+            ≡ (if b == birth then Some address else hash.get nat_eq self.old.addresses b)) }
+    {
+        self.addresses.insert(birth, address)?;
+        Ok(())
+    }
+
+    /// The address that is noted of a birth.
+    fn get(&self, birth: u32) -> Option<u64>
+        ensures { result ≡ hash.get nat_eq self.now.addresses birth }
+    {
+        self.addresses.get(&birth).copied()
+    }
+
+    /// The birth of the object at an address that is reached or wasn't copied, where another
+    /// address is noted of it.
+    fn shared_at(&self, chart: &Chart, spots: &[Spot], address: u64) -> Option<u32>
+        requires sized { 0 < chart.now.words }
+        requires spots { TellsReached chart.now spots.now }
+        requires within { address < length spots.now }
+        ensures { IsOnly (SharesAt chart.now (hash.get nat_eq self.now.addresses) address) result }
+    {
+        if !is_reached(spots, address) && chart.is_copied(address) {
+            return None;
+        }
+        let birth = chart.image().birth_at(address)?;
+        match self.get(birth) {
+            None => None,
+            Some(other) => { if other == address { None } else { Some(birth) } }
+        }
+    }
+
+    /// The least birth that is shared.
+    fn least_shared(&self, chart: &Chart, spots: &[Spot]) -> Option<u32>
+        requires sized { 0 < chart.now.words }
+        requires spots { TellsReached chart.now spots.now }
+        ensures { IsLeast (SharesBelow chart.now (hash.get nat_eq self.now.addresses) (length spots.now)) result }
+    {
+        let mut least: Option<u32> = None;
+        for c in 0..spots.len() as u64 {
+            least = lesser(least, self.shared_at(chart, spots, c));
+        }
+        least
+    }
+}
+
+/// The lesser of two numbers that may be missing.
+fn lesser(one: Option<u32>, other: Option<u32>) -> Option<u32>
+    ensures { result ≡ lesser one other }
+{
+    match (one, other) {
+        (None, _) => other,
+        (_, None) => one,
+        (Some(a), Some(b)) => { if a <= b { one } else { other } }
+    }
+}
+
+/// An address for each birth of a reached object.
+fn births_of(alloc: Global, chart: &Chart, spots: &[Spot]) -> Result<Births, AllocError>
+    requires sized { 0 < chart.now.words }
+    requires spots { TellsReached chart.now spots.now }
+    ensures { IfOk result (λ m. TellsBirths chart.now (length spots.now) (hash.get nat_eq m.addresses)) }
+{
+    let mut births = Births::new(alloc);
+    for a in 0..spots.len() as u64 {
+        if is_reached(spots, a) {
+            if let Some(birth) = chart.image().birth_at(a) {
+                births.note(birth, a)?;
+            }
+        }
+    }
+    Ok(births)
+}
+
+/// The least birth that two objects have, of which one is reached, and the other too or wasn't copied.
+pub(crate) fn least_twins(
+    alloc: Global,
+    chart: &Chart,
+    spots: &[Spot],
+) -> Result<Option<u32>, AllocError>
+    requires sized { 0 < chart.now.words }
+    requires spots { TellsReached chart.now spots.now }
+    ensures { IfOk result (IsLeast (HasTwins chart.now)) }
+{
+    let births = births_of(alloc, chart, spots)?;
+    Ok(births.least_shared(chart, spots))
+}

@@ -1,0 +1,166 @@
+//! Whether the frames of an image are in order: each the memory of one page, or free.
+
+ghost use Rattle.std.specs.Prelude.{if◌then◌else◌, ◌≡◌, ◌≢◌, ◌<◌, ◌≤◌, ◌⊎◌, ◌+◌, ◌==◌, ℕ, false, true, length};
+ghost use Rattle.std.specs.Prelude.{get_or, slice_set, vec_len, IfOk, MatchBool, count_by, nat_lt};
+ghost use Rattle.model.specs.Configs.{is_page_size};
+ghost use Rattle.model.specs.Owning.{Each};
+ghost use Rattle.verify.specs.Soundness.{HasFrames, HasItsFrame, IsOnce, owners_in, times_in};
+ghost use Rattle.verify.specs.Claims.{AreNoted, IsOverclaimed, TellsIf, noted};
+
+use crate::image::{Image, PageImage, Words};
+use model::PageState;
+use std::alloc::{AllocError, Global};
+
+impl Words {
+    /// How many words there are.
+    fn len(&self) -> u64
+        ensures { result ≡ length self.now }
+    {
+        self.words.len() as u64
+    }
+}
+
+impl PageImage {
+    /// Its frame.
+    fn frame(&self) -> Option<u32>
+        ensures { result ≡ self.now.frame }
+    {
+        self.frame
+    }
+
+    /// Whether it has a frame exactly where its state says so.
+    fn has_its_frame(&self) -> bool
+        ensures { TellsIf result (HasItsFrame self.now) }
+    {
+        match self.state {
+            PageState::Unused | PageState::Gone => self.frame.is_none(),
+            _ => self.frame.is_some(),
+        }
+    }
+}
+
+/// Whether pages may have so many words: a power of two from 16 to 4096.
+fn is_page_size(words: u32) -> bool
+    ensures { result ≡ is_page_size words }
+{
+    matches!(words, 16 | 32 | 64 | 128 | 256 | 512 | 1024 | 2048 | 4096)
+}
+
+/// Whether all frames have so many words.
+fn all_sized(frames: &[Words], words: u32) -> bool
+    ensures { TellsIf result (Each frames.now (λ ws. length ws ≡ words)) }
+{
+    for frame in frames {
+        if frame.len() != u64::from(words) {
+            return false;
+        }
+    }
+    true
+}
+
+/// Whether all pages have a frame exactly where their state says so.
+fn all_framed(pages: &[PageImage]) -> bool
+    ensures { TellsIf result (Each pages.now HasItsFrame) }
+{
+    for page in pages {
+        if !page.has_its_frame() {
+            return false;
+        }
+    }
+    true
+}
+
+/// Notes a frame, if there is such a frame, and it wasn't noted before.
+fn claim(seen: &mut Vec<bool>, frame: u32) -> bool
+    ensures len { vec_len seen.new ≡ vec_len seen.old }
+    ensures new { MatchBool result (get_or seen.old.items frame false ≡ false)
+        ((get_or seen.old.items frame false ≡ true) ⊎ (vec_len seen.old ≤ frame)) }
+    ensures set { seen.new.items ≡ (if result then slice_set seen.old.items frame true else seen.old.items) }
+    ensures within { result ≡ true → frame < vec_len seen.old }
+{
+    let at = frame as usize;
+    if at < seen.len() && !seen[at] {
+        seen[at] = true;
+        true
+    } else {
+        false
+    }
+}
+
+/// Notes the frames of pages, if no two have the same.
+fn claim_pages(seen: &mut Vec<bool>, pages: &[PageImage]) -> bool
+    requires { (f : ℕ) → get_or seen.old.items f false ≡ false }
+    ensures len { vec_len seen.new ≡ vec_len seen.old }
+    ensures claimed { MatchBool result (AreNoted seen.new.items (owners_in pages.now))
+        (IsOverclaimed (vec_len seen.old) (owners_in pages.now)) }
+{
+    for page in pages {
+        if let Some(frame) = page.frame() {
+            if !claim(seen, frame) {
+                return false;
+            }
+        }
+    }
+    true
+}
+
+/// Notes free frames, if none was noted before.
+fn claim_free(seen: &mut Vec<bool>, free: &[u32]) -> bool
+    ensures len { vec_len seen.new ≡ vec_len seen.old }
+    ensures claimed { MatchBool result (AreNoted seen.new.items (λ f. noted seen.old.items f + times_in free.now f))
+        (IsOverclaimed (vec_len seen.old) (λ f. noted seen.old.items f + times_in free.now f)) }
+{
+    for frame in free {
+        if !claim(seen, *frame) {
+            return false;
+        }
+    }
+    true
+}
+
+/// Whether all frames were noted.
+fn all_seen(seen: &[bool]) -> bool
+    ensures { MatchBool result ((f : ℕ) → get_or seen.now f false ≡ nat_lt f (length seen.now))
+        ((f : ℕ) × (f < length seen.now) × (get_or seen.now f false ≡ false)) }
+{
+    for bit in seen {
+        if !*bit {
+            return false;
+        }
+    }
+    true
+}
+
+/// Whether each frame of the configured number is owned once or free once, and no other is.
+fn all_once(alloc: Global, image: &Image) -> Result<bool, AllocError>
+    requires { image.now.frame_count ≤ length image.now.frames }
+    ensures { IfOk result (λ yes. TellsIf yes (IsOnce image.now)) }
+{
+    let mut seen = vec![in alloc; false; image.frame_count as usize]?;
+    if !claim_pages(&mut seen, &image.pages) {
+        return Ok(false);
+    }
+    if !claim_free(&mut seen, &image.free) {
+        return Ok(false);
+    }
+    Ok(all_seen(&seen))
+}
+
+/// Whether the frames of an image are in order.
+pub(crate) fn has_frames(alloc: Global, image: &Image) -> Result<bool, AllocError>
+    ensures { IfOk result (λ yes. TellsIf yes (HasFrames image.now)) }
+{
+    if !is_page_size(image.words) {
+        return Ok(false);
+    }
+    if !all_sized(&image.frames, image.words) {
+        return Ok(false);
+    }
+    if image.frame_count as usize > image.frames.len() {
+        return Ok(false);
+    }
+    if !all_framed(&image.pages) {
+        return Ok(false);
+    }
+    all_once(alloc, image)
+}

@@ -1,0 +1,21 @@
+//! The verifier of a heap's image (ours): whether memory and roots, as plain data, are a sound heap,
+//! or else what is wrong first. It knows nothing of the collector that made them.
+#![tactic(auto)]
+
+mod births;
+mod chart;
+mod fields;
+mod frames;
+mod image;
+mod objects;
+mod printing;
+mod roots;
+mod tables;
+mod taking;
+mod verdict;
+mod verifier;
+mod walk;
+
+pub use image::{Image, PageImage, Words};
+pub use verdict::{Fault, Root, Verdict};
+pub use verifier::{one_verdict, verify, verify_image};

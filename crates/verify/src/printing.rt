@@ -1,0 +1,155 @@
+//! The text of an image (ours): all that is in it, a line for each part, so that a fault can be
+//! studied, and a planted one written down. Each line ends with a newline.
+//!
+//! | Line | For |
+//! |---|---|
+//! | `image words W frames N free F F ..` | the whole: the words of a page, how many frames there are to be, and which are free |
+//! | `layout R D` | each layout: how many references and data |
+//! | `page P STATE frame F starts O O .. side O>A O>A* ..` | each page, from 1: its frame, or `-`; at which offsets objects start; its side array, an offset and the address that its object goes to, in decimals, with `*` where it is copied |
+//! | `frame F X X ..` | each frame, from 0: its words, in hexadecimal digits |
+//! | `thread T load X registers X X ..` | each thread, from 0: the word so far of its load, or `-`, and its registers, in hexadecimal digits |
+//! | `global G X` | each global, from 0 |
+
+use crate::image::{Image, PageImage, Words};
+use layout::Layout;
+use model::{Forwarding, PageState};
+use std::fmt::{Display, Formatter, Result, Write};
+
+fn put_words<W: Write>(f: &mut Formatter<W>, words: &[u64]) -> Result {
+    for word in words {
+        write!(f, " {word:x}")?;
+    }
+    Ok(())
+}
+
+fn put_free<W: Write>(f: &mut Formatter<W>, free: &[u32]) -> Result {
+    for frame in free {
+        write!(f, " {frame}")?;
+    }
+    Ok(())
+}
+
+fn put_layouts<W: Write>(f: &mut Formatter<W>, layouts: &[Layout]) -> Result {
+    for layout in layouts {
+        let (refs, nums) = (layout.refs, layout.nums);
+        writeln!(f, "layout {refs} {nums}")?;
+    }
+    Ok(())
+}
+
+fn put_starts<W: Write>(f: &mut Formatter<W>, starts: &[bool]) -> Result {
+    for offset in 0..starts.len() {
+        if starts[offset] {
+            write!(f, " {offset}")?;
+        }
+    }
+    Ok(())
+}
+
+fn put_side<W: Write>(f: &mut Formatter<W>, side: &[Forwarding]) -> Result {
+    for entry in side {
+        let (offset, to) = (entry.offset, entry.to.number());
+        write!(f, " {offset}>{to}")?;
+        if entry.copied {
+            f.write_str("*")?;
+        }
+    }
+    Ok(())
+}
+
+fn name_of(state: PageState) -> &'static str {
+    match state {
+        PageState::Unused => "unused",
+        PageState::Open => "open",
+        PageState::Closed => "closed",
+        PageState::From => "from",
+        PageState::Gone => "gone",
+    }
+}
+
+fn put_page<W: Write>(f: &mut Formatter<W>, number: usize, page: &PageImage) -> Result {
+    write!(f, "page {number} ")?;
+    f.write_str(name_of(page.state))?;
+    match page.frame {
+        None => f.write_str(" frame -")?,
+        Some(frame) => write!(f, " frame {frame}")?,
+    }
+    f.write_str(" starts")?;
+    put_starts(f, &page.starts)?;
+    f.write_str(" side")?;
+    put_side(f, &page.side)?;
+    writeln!(f)
+}
+
+fn put_pages<W: Write>(f: &mut Formatter<W>, pages: &[PageImage]) -> Result {
+    for index in 0..pages.len() {
+        put_page(f, index + 1, &pages[index])?;
+    }
+    Ok(())
+}
+
+fn put_frames<W: Write>(f: &mut Formatter<W>, frames: &[Words]) -> Result {
+    for frame in 0..frames.len() {
+        let memory = &frames[frame];
+        write!(f, "frame {frame}")?;
+        put_words(f, &memory.words)?;
+        writeln!(f)?;
+    }
+    Ok(())
+}
+
+fn put_thread<W: Write>(
+    f: &mut Formatter<W>,
+    thread: usize,
+    load: Option<u64>,
+    registers: &[u64],
+) -> Result {
+    write!(f, "thread {thread} load ")?;
+    match load {
+        None => f.write_str("-")?,
+        Some(word) => write!(f, "{word:x}")?,
+    }
+    f.write_str(" registers")?;
+    put_words(f, registers)?;
+    writeln!(f)
+}
+
+fn put_globals<W: Write>(f: &mut Formatter<W>, globals: &[u64]) -> Result {
+    for global in 0..globals.len() {
+        let word = globals[global];
+        writeln!(f, "global {global} {word:x}")?;
+    }
+    Ok(())
+}
+
+impl Image {
+    /// The registers of a thread; none past the list.
+    fn registers_of(&self, thread: usize) -> &[u64] {
+        match self.registers.get(thread) {
+            None => &[],
+            Some(registers) => &registers.words,
+        }
+    }
+
+    fn put_threads<W: Write>(&self, f: &mut Formatter<W>) -> Result {
+        for thread in 0..self.registers.len().max(self.loads.len()) {
+            let load = self.loads.get(thread).copied().flatten();
+            put_thread(f, thread, load, self.registers_of(thread))?;
+        }
+        Ok(())
+    }
+}
+
+impl Display for Image {
+    fn fmt<W: Write>(&self, f: &mut Formatter<W>) -> Result {
+        let (words, frames) = (self.words, self.frame_count);
+        write!(f, "image words {words} frames {frames} free")?;
+        put_free(f, &self.free)?;
+        writeln!(f)?;
+        put_layouts(f, &self.layouts)?;
+        put_pages(f, &self.pages)?;
+        put_frames(f, &self.frames)?;
+        self.put_threads(f)?;
+        put_globals(f, &self.globals)
+    }
+}

@@ -1,0 +1,193 @@
+//! The image of a heap is taken (ours).
+
+ghost use Rattle.std.specs.Prelude.{◌≡◌, ◌<◌, ◌≤◌, IfOk, map, length, slice_get};
+ghost use Rattle.model.specs.Bits.{of_page};
+ghost use Rattle.model.specs.Stores.{frame_in, page_at};
+ghost use Rattle.refword.specs.Words.{bits_of};
+ghost use Rattle.verify.specs.Pictures.{free_of, image_of, is_free, load_of, page_data, pages_of, registers_of};
+
+use crate::image::{Image, PageImage, Words};
+use heap::Heap;
+use markbits::Row;
+use model::{Forwarding, Global as Root};
+use page::{Frame, Store};
+use refword::Word;
+use std::alloc::{AllocError, Global};
+use threads::Thread;
+
+/// The numbers that stand for words.
+fn numbers(alloc: Global, words: &[Word]) -> Result<Words, AllocError>
+    ensures { IfOk result (λ v. v ≡ map bits_of words.now) }
+{
+    Ok(Words {
+        words: words.iter().map(|word| word.bits()).collect(alloc)?,
+    })
+}
+
+/// The registers of each thread.
+fn registers(alloc: Global, threads: &[Thread]) -> Result<Vec<Words>, AllocError>
+    ensures { IfOk result (λ v. v.items ≡ map registers_of threads.now) }
+{
+    let mut registers = Vec::with_capacity(alloc, threads.len())?;
+    for number in 0..threads.len() {
+        registers.push(numbers(alloc, threads[number].registers())?)?;
+    }
+    Ok(registers)
+}
+
+/// The word so far of a thread's load, if it has one that isn't finished.
+fn load(thread: &Thread) -> Option<u64>
+    ensures { result ≡ load_of thread.now }
+{
+    match thread.barrier() {
+        None => None,
+        Some(barrier) => Some(barrier.now.bits()),
+    }
+}
+
+/// The word so far of each thread's load.
+fn loads(alloc: Global, threads: &[Thread]) -> Result<Vec<Option<u64>>, AllocError>
+    ensures { IfOk result (λ v. v.items ≡ map load_of threads.now) }
+{
+    threads.iter().map(|thread| load(thread)).collect(alloc)
+}
+
+/// The numbers that stand in globals.
+fn globals(alloc: Global, globals: &[Root]) -> Result<Vec<u64>, AllocError>
+    ensures { IfOk result (λ v. v.items ≡ map (λ g. bits_of g.word) globals.now) }
+{
+    globals
+        .iter()
+        .map(|global| global.word.bits())
+        .collect(alloc)
+}
+
+/// The memory of each frame.
+fn frames(alloc: Global, frames: &[Frame]) -> Result<Vec<Words>, AllocError>
+    ensures { IfOk result (λ v. v.items ≡ frames.now) }
+{
+    let mut memory = Vec::with_capacity(alloc, frames.len())?;
+    for number in 0..frames.len() {
+        let words = Vec::from_slice(alloc, frames[number].words())?;
+        memory.push(Words { words })?;
+    }
+    Ok(memory)
+}
+
+/// The places of a row, which has so many.
+fn places(alloc: Global, row: &Row, words: u32) -> Result<Vec<bool>, AllocError>
+    requires { length row.now ≡ words }
+    ensures { IfOk result (λ v. v.items ≡ row.now) }
+{
+    let mut places = Vec::with_capacity(alloc, words as usize)?;
+    for offset in 0..words as usize {
+        places.push(row.test(offset))?;
+    }
+    Ok(places)
+}
+
+/// Whether a frame is there, and free.
+fn is_free(store: &Store, frame: u32) -> bool
+    ensures { result ≡ is_free (slice_get store.now.owners frame) }
+{
+    matches!(store.owners().get(frame as usize), Some(None))
+}
+
+/// The numbers of the free frames, of so many frames.
+#[tactic(auto, using(crate::proofs::Listing::one_kept, crate::proofs::Listing::one_left_out))]
+fn free_frames(alloc: Global, store: &Store, count: u32) -> Result<Vec<u32>, AllocError>
+    requires { length store.now.owners ≡ count }
+    ensures { IfOk result (λ v. v.items ≡ free_of store.now) }
+{
+    let mut free = Vec::with_capacity(alloc, store.free_frames() as usize)?;
+    for frame in 0..count {
+        if is_free(store, frame) {
+            free.push(frame)?;
+        }
+    }
+    Ok(free)
+}
+
+/// Where objects start on a page, by its number from 1.
+#[tactic(auto, using(model::proofs::OfPages::of_page_none, model::proofs::OfPages::of_page_some, crate::proofs::RowSizes::row_sized))]
+fn starts(alloc: Global, heap: &Heap, number: u32) -> Result<Vec<bool>, AllocError>
+    requires { 0 < number }
+    ensures { IfOk result (λ v. v.items ≡ of_page heap.now.starts number) }
+{
+    heap.law();
+    match heap.starts().get((number - 1) as usize) {
+        None => Ok(Vec::new(alloc)),
+        Some(row) => places(alloc, row, heap.store().page_words()),
+    }
+}
+
+/// The side array of a page, by its number from 1.
+#[tactic(auto, using(model::proofs::OfPages::of_page_none, model::proofs::OfPages::of_page_some))]
+fn side(alloc: Global, heap: &Heap, number: u32) -> Result<Vec<Forwarding>, AllocError>
+    requires { 0 < number }
+    ensures { IfOk result (λ v. v.items ≡ of_page heap.now.sides number) }
+{
+    match heap.sides().get((number - 1) as usize) {
+        None => Ok(Vec::new(alloc)),
+        Some(side) => Vec::from_slice(alloc, side.entries()),
+    }
+}
+
+/// The frame of a page, by its number.
+fn frame(store: &Store, number: u32) -> Option<u32>
+    ensures { result ≡ frame_in (page_at store.now number) }
+{
+    let record = store.page(number)?;
+    record.frame
+}
+
+/// The image of a page, by its number from 1.
+fn page(alloc: Global, heap: &Heap, number: u32) -> Result<PageImage, AllocError>
+    requires { 0 < number }
+    ensures { IfOk result (λ p. p ≡ page_data heap.now number) }
+{
+    Ok(PageImage {
+        state: heap.store().state(number),
+        frame: frame(heap.store(), number),
+        starts: starts(alloc, heap, number)?,
+        side: side(alloc, heap, number)?,
+    })
+}
+
+/// The images of all pages that have a record.
+#[tactic(auto, using(crate::proofs::Listing::mapped_more))]
+fn pages(alloc: Global, heap: &Heap) -> Result<Vec<PageImage>, AllocError>
+    ensures { IfOk result (λ v. v.items ≡ pages_of heap.now) }
+{
+    heap.law();
+    let count = heap.store().pages().len();
+    let mut pages = Vec::with_capacity(alloc, count)?;
+    for index in 0..count {
+        pages.push(page(alloc, heap, index as u32 + 1)?)?;
+    }
+    Ok(pages)
+}
+
+impl Image {
+    /// The image of a heap as it stands: all that can be reached from it is in the image, and no
+    /// part of the heap is lent. Fails only by memory.
+    #[tactic(auto, unfolding(crate::specs::Pictures::image_of))]
+    pub fn of(alloc: Global, heap: &Heap) -> Result<Image, AllocError>
+        ensures { IfOk result (λ image. image ≡ image_of heap.now) }
+    {
+        heap.law();
+        let store = heap.store();
+        let config = heap.config();
+        Ok(Image {
+            words: store.page_words(),
+            frame_count: config.frames,
+            free: free_frames(alloc, store, config.frames)?,
+            pages: pages(alloc, heap)?,
+            frames: frames(alloc, store.frames())?,
+            registers: registers(alloc, heap.threads())?,
+            loads: loads(alloc, heap.threads())?,
+            globals: globals(alloc, heap.globals())?,
+            layouts: Vec::from_slice(alloc, config.layouts.as_slice())?,
+        })
+    }
+}

@@ -1,0 +1,65 @@
+//! The verifier: all searches for a fault, in order.
+
+ghost use Rattle.std.specs.Prelude.{IfOk};
+ghost use Rattle.verify.specs.Soundness.{HasFrames};
+ghost use Rattle.verify.specs.Walks.{IsWalk};
+ghost use Rattle.verify.specs.Faults.{VerdictIs, OneVerdict};
+ghost use Rattle.verify.specs.Pictures.{image_of};
+
+use crate::births::least_twins;
+use crate::chart::Chart;
+use crate::fields::first_bad_field;
+use crate::frames::has_frames;
+use crate::image::Image;
+use crate::roots::find_reached;
+use crate::verdict::{Fault, Verdict};
+use crate::walk::Walk;
+use heap::Heap;
+use std::alloc::{AllocError, Global};
+
+/// Whether an image is sound, or else its first fault (ours): the frames first, then roots, then
+/// fields of reached objects, then births. Its time is linear in the words and objects of the
+/// image. Fails only by memory; all of it but the births' is taken before the walk begins.
+pub fn verify_image(alloc: Global, image: &Image) -> Result<Verdict, AllocError>
+    ensures { IfOk result (VerdictIs image.now) }
+{
+    if !has_frames(alloc, image)? {
+        return Ok(Verdict::Faulty(Fault::Frames));
+    }
+    let chart = Chart::new(alloc, image)?;
+    let walk = Walk::new(alloc, image)?;
+    verify_chart(alloc, walk, &chart)
+}
+
+/// The same, where the frames are in order, by a walk that has come nowhere. Fails only by memory.
+fn verify_chart(alloc: Global, walk: Walk, chart: &Chart) -> Result<Verdict, AllocError>
+    requires frames { HasFrames chart.now }
+    requires walk { IsWalk chart.now walk }
+    ensures { IfOk result (VerdictIs chart.now) }
+{
+    let spots = match find_reached(walk, chart) {
+        Err(root) => return Ok(Verdict::Faulty(Fault::Root(root))),
+        Ok(spots) => spots,
+    };
+    if let Some(fault) = first_bad_field(chart, &spots) {
+        return Ok(Verdict::Faulty(fault));
+    }
+    match least_twins(alloc, chart, &spots)? {
+        None => Ok(Verdict::Sound),
+        Some(birth) => Ok(Verdict::Faulty(Fault::Twins(birth))),
+    }
+}
+
+/// Whether a heap is sound as it stands, or else its first fault (ours): an image is taken, and
+/// verified. Its time is linear in the words of all frames and pages. Fails only by memory.
+pub fn verify(alloc: Global, heap: &Heap) -> Result<Verdict, AllocError>
+    ensures { IfOk result (VerdictIs (image_of heap.now)) }
+{
+    let image = Image::of(alloc, heap)?;
+    verify_image(alloc, &image)
+}
+
+/// There is one verdict on an image (ours).
+pub fn one_verdict()
+    ensures { OneVerdict }
+{}
