@@ -1,0 +1,16 @@
+//! That the image of a heap is sound. There is no code here. One function without a body has this
+//! as its clause, and a crate that needs it calls it.
+//!
+//! The verifier (`verify`) knows nothing of the collector: an image is memory and roots as plain
+//! data, and what it asks of them is said of any data. The collector's own invariant
+//! (`refinement`, `laws`) is said of the state of a heap. Here the two meet: a state that stands
+//! for a plain heap has an image in which the verifier finds nothing wrong.
+#![tactic(auto)]
+
+ghost use Rattle.soundness.specs.Laws.{ImagesSound};
+
+/// The image of a heap that stands for a plain heap is sound (ours). It is said of every state that
+/// has what all heaps have, `IsStore` and `IsHeap`, in each phase of the collector.
+pub fn law()
+    ensures { ImagesSound }
+{}
