@@ -38,10 +38,11 @@ fn next_global(heap: &Heap) -> Option<usize>
     heap.globals().iter().position(|global| global.todo)
 }
 
-/// What a worker does next that drains the mark: it scans the object that it has; else it marks the
-/// first global that is still to be marked; else it picks the first object that no worker has.
+/// What a worker does next that drains the mark (the paper's Mark phase; the order is ours): it scans
+/// the object that it has; else it marks the first global that is still to be marked; else it picks
+/// the first object that no worker has. `None` where nothing of this is there. Workers count from 0.
 #[tactic(auto, unfolding(model::specs::Scans::next_drain))]
-fn next_drain(heap: &Heap, worker: u32) -> Option<Step>
+pub fn next_drain(heap: &Heap, worker: u32) -> Option<Step>
     ensures { result ≡ next_drain heap.now worker }
 {
     if has_scan(heap, worker) {

@@ -49,7 +49,7 @@ mod running;
 mod stepping;
 
 pub use book::{Book, Entry};
-pub use draining::{drains_end, verdict};
+pub use draining::{drains_end, next_drain, verdict};
 pub use loading::three_traps;
 pub use model::{Actor, Answer, PageList, Reply, Step};
 pub use running::run;

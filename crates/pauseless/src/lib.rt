@@ -6,9 +6,13 @@
 //! what comes is a `Reply`: an `Answer` or a `Refusal`. Calls that need memory take an allocator first, which
 //! a program gets from its runtime by `rt.alloc()`.
 //!
+//! A runtime's author who doubts a heap asks `verify`: it takes the heap's `Image`, all of its memory
+//! and roots as plain data, and says `Sound` or the first fault. An image can be printed.
+//!
 //! There is no code here: each name stands in a crate of its own, with its contract.
 #![tactic(auto)]
 
 pub use cycle::{Actor, Answer, Book, Entry, PageList, Reply, Step, Stepping, run, three_traps};
 pub use heap::{Config, ConfigFault, Heap, NewFault, Refusal};
 pub use layout::{Layout, Layouts};
+pub use verify::{Fault, Image, PageImage, Root, Verdict, Words, verify, verify_image};

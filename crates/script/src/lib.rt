@@ -10,5 +10,5 @@ pub use fault::RunFault;
 pub use parser::{
     Command, FaultKind, LineFault, MOST_BYTES, Order, ParseFault, Script, Then, Verb, parse,
 };
-pub use reporting::report;
-pub use schedule::by_schedule;
+pub use reporting::{report, tell};
+pub use schedule::{by_schedule, new_book, tell_command};

@@ -19,7 +19,7 @@ use text::{
     WordText,
 };
 
-/// Writes a text.
+/// Writes a text. The fault is a writer that failed.
 pub fn tell<W: io::Write>(w: &mut W, text: &String) -> Result<(), RunFault>
     ensures { OnOk result (Appends (W.contents w.old) (W.contents w.new) (string_bytes text.now)) }
 {

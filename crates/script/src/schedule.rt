@@ -1,7 +1,8 @@
 //! Commands one by one.
 
-ghost use Rattle.std.specs.Prelude.{◌≡◌, ◌++◌, length, string_bytes, OnOk};
+ghost use Rattle.std.specs.Prelude.{◌≡◌, ◌++◌, length, string_bytes, IfOk, OnOk};
 ghost use Rattle.std.specs.Io.KnownBytes.{Appends};
+ghost use Rattle.cycle.specs.Books.{first_book};
 ghost use Rattle.cycle.specs.Drains.{verdict};
 ghost use Rattle.script.specs.Output.{output_text, lines_text, command_line, drain_line, book_after, told_text};
 
@@ -48,8 +49,9 @@ fn put_command(
     }
 }
 
-/// Writes the line of a command.
-fn tell_command<W: io::Write>(
+/// Writes the line of a command, by way of a text, which is lost: its number, its actor, and what its
+/// steps said. The faults are want of memory, and a writer that failed.
+pub fn tell_command<W: io::Write>(
     number: u64,
     command: &Command,
     replies: &[Result<Answer, Refusal>],
@@ -98,6 +100,18 @@ fn tell_all<W: io::Write>(
     report(alloc, book.heap(), book.history(), w)
 }
 
+/// A new book of a script's configuration. The fault is want of memory.
+pub fn new_book(alloc: Global, script: &Script) -> Result<Book, RunFault>
+    ensures { IfOk result (λ book. book ≡ first_book script.now.config) }
+{
+    let config = script.config().copy(alloc)?;
+    match Book::new(alloc, config) {
+        Ok(book) => Ok(book),
+        Err(NewFault::Memory) => Err(RunFault::Memory),
+        Err(NewFault::Config(_)) => unreachable!(),
+    }
+}
+
 /// Runs a script on a new heap: writes the line of each command, and then the report.
 ///
 /// A step that is refused has its line, and the run goes on. The faults are want of memory, also
@@ -106,11 +120,6 @@ fn tell_all<W: io::Write>(
 pub fn by_schedule<W: io::Write>(alloc: Global, script: &Script, w: &mut W) -> Result<(), RunFault>
     ensures { OnOk result (Appends (W.contents w.old) (W.contents w.new) (output_text script.now)) }
 {
-    let config = script.config().copy(alloc)?;
-    let mut book = match Book::new(alloc, config) {
-        Ok(book) => book,
-        Err(NewFault::Memory) => return Err(RunFault::Memory),
-        Err(NewFault::Config(_)) => unreachable!(),
-    };
+    let mut book = new_book(alloc, script)?;
     tell_all(alloc, &mut book, script.commands(), w)
 }

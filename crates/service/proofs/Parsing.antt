@@ -2,7 +2,7 @@
 -- three are too many, and two are its values.
 use Rattle.std.proofs.Common.{◌≡◌, ◌∙◌, ◌==◌, ◌∷◌, ℕ, Bool, true, false, List, []}
 use Rattle.std.proofs.Common.{Some, None, refl, sym, ap, ap₂, codes, is_some, fold}
-use Rattle.std.specs.Prelude.{if◌then◌else◌, option_and_then, unwrap_or}
+use Rattle.std.specs.Prelude.{if◌then◌else◌, option_and_then, option_map, unwrap_or}
 use Rattle.std.specs.Str.{bytes_eq}
 use Rattle.std.proofs.lemmas.Bool.{not-true}
 use Rattle.std.proofs.lemmas.Slice.Eq.{bytes_eq-Decides}
@@ -19,9 +19,9 @@ use Rattle.clap.specs.declared.error.kind.ErrorKind.TheVariants as kind
 use Rattle.clap.specs.declared.parser.matches.Found.{Found}
 use Rattle.clap.proofs.OnLiterals.{clap_on_literals}
 use Rattle.clap.proofs.WalkLemmas.{both, first_value-rows}
-use Rattle.service.specs.Asking.{are_plain, asked_by, is_plain_word}
+use Rattle.service.specs.Asking.{are_plain, asked_by, is_plain_word, mode_named}
 use Rattle.service.specs.Program.{program}
-use Rattle.service.specs.declared.asking.Mode.TheVariants.{Run}
+use Rattle.service.specs.declared.asking.Mode.{Mode}
 
 -- ---- the command
 
@@ -213,23 +213,28 @@ module _ (texts words : List Text) (named : texts ≡ codes "pauseless" ∷ word
         × (first_value f (codes "file") ≡ Some file)
     values = taken_are words f plain (ap (fault_of program) (sym named) ∙ none) (rows ∙ ap (matches_of program) named)
 
-    pub run_answer : (file : Text) → first_value f (codes "mode") ≡ Some (codes "run")
-        → first_value f (codes "file") ≡ Some file → asked_by words ≡ Some (Run, file)
-    run_answer file mode at =
+    -- both have values, and what they ask for is what the words do
+    pub both_asked : (name file : Text) → first_value f (codes "mode") ≡ Some name
+        → first_value f (codes "file") ≡ Some file → asked_by words ≡ option_map (λ m. (m, file)) (mode_named name)
+    both_asked name file mode at =
         let v = values in
-        let same_mode : v.0 ≡ codes "run" = ap (λ o. unwrap_or o []) (sym v.3 ∙ mode) in
+        let same_mode : v.0 ≡ name = ap (λ o. unwrap_or o []) (sym v.3 ∙ mode) in
         let same_file : v.1 ≡ file = ap (λ o. unwrap_or o []) (sym v.4 ∙ at) in
         ap asked_by v.2 ∙ ap₂ (λ (m : Text) (t : Text). asked_by (m ∷ t ∷ [])) same_mode same_file
 
-    pub other_answer :
-        (first_value f (codes "mode") ≡ Some (codes "run") → is_some (first_value f (codes "file")) ≡ true → ⊥)
+    pub mode_asked : (name file : Text) (mode : Mode) → first_value f (codes "mode") ≡ Some name
+        → first_value f (codes "file") ≡ Some file → Some mode ≡ mode_named name → asked_by words ≡ Some (mode, file)
+    mode_asked name file mode there at is =
+        both_asked name file there at ∙ ap (option_map (λ m. (m, file))) (sym is)
+
+    pub no_mode_asked : (name file : Text) → first_value f (codes "mode") ≡ Some name
+        → first_value f (codes "file") ≡ Some file → None ≡ mode_named name → asked_by words ≡ None
+    no_mode_asked name file there at is =
+        both_asked name file there at ∙ ap (option_map (λ m. (m, file))) (sym is)
+
+    pub both_there :
+        (is_some (first_value f (codes "mode")) ≡ true → is_some (first_value f (codes "file")) ≡ true → ⊥)
         → asked_by words ≡ None
-    other_answer other =
+    both_there other =
         let v = values in
-        ap asked_by v.2 ∙ go v.0 v.1 (λ run. other (v.3 ∙ ap (λ (m : Text). Some m) run) (ap is_some v.4))
-        (bytes_eq v.0 (codes "run")) refl
-      where
-        go : (mode file : Text) → (mode ≡ codes "run" → ⊥) → (b : Bool) → bytes_eq mode (codes "run") ≡ b
-            → asked_by (mode ∷ file ∷ []) ≡ None
-        go mode file not_run true e = absurd (not_run ((bytes_eq-Decides mode (codes "run")).0 e))
-        go mode file not_run false e = rw e refl
+        absurd (other (ap is_some v.3) (ap is_some v.4))

@@ -42,7 +42,7 @@ fault_all (Some all) bytes h k = elim (cases_lt 4194304 (length all)) [
   | inr short ↦ subst HasFault (h ∙ take_all (4194304 + 1) all (omega (arith, short))) k
 ]
 
-pub faults_all : {E : Type 0} (r : Result Unit E) (P : E → Type 0) (known : Option (List ℕ)) (bytes : List ℕ)
+pub faults_all : {X E : Type 0} (r : Result X E) (P : E → Type 0) (known : Option (List ℕ)) (bytes : List ℕ)
     → ReadsUpTo known bytes
     → IfErr r (λ e. P e → HasFault bytes) → IfErr r (λ e. P e → IfSome known HasFault)
 faults_all (Ok u) P known bytes h k = search rules

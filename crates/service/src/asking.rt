@@ -4,7 +4,7 @@ ghost use Rattle.std.specs.Prelude.{◌≡◌, ◌≢◌, ◌∷◌, [], true, S
 ghost use Rattle.std.specs.IoError.{error_kind};
 ghost use Rattle.std.specs.declared.io.ErrorKind.TheVariants.{OutOfMemory};
 ghost use Rattle.clap.specs.Words.{app_of, fault_of, found_of, matches_of, rows_of};
-ghost use Rattle.service.specs.Asking.{are_plain, asked_by};
+ghost use Rattle.service.specs.Asking.{are_plain, asked_by, mode_named};
 ghost use Rattle.service.specs.Program.{program, texts_in};
 ghost use Rattle.service.specs.declared.asking.AskFault.TheVariants.{Memory, Usage};
 
@@ -19,6 +19,21 @@ use thiserror::Error;
 pub enum Mode {
     /// Its commands are done in order.
     Run,
+    /// The same, and the heap is verified after each step.
+    Check,
+}
+
+impl Mode {
+    /// The mode of this name, if there is one: `run` or `check`.
+    fn named(name: &str) -> Option<Mode>
+        ensures { result ≡ mode_named name.now }
+    {
+        match name {
+            "run" => Some(Mode::Run),
+            "check" => Some(Mode::Check),
+            _ => None,
+        }
+    }
 }
 
 /// A mode, and the name of the script's file.
@@ -32,7 +47,7 @@ pub struct Asked {
 #[derive(Clone, Copy, Debug, PartialEq, Eq, Error)]
 pub enum AskFault {
     /// The words aren't a mode and a file.
-    #[error("usage: pauseless run FILE")]
+    #[error("usage: pauseless run|check FILE")]
     Usage,
     /// Memory was refused.
     #[error("pauseless: out of memory")]
@@ -142,13 +157,12 @@ fn found<'a>(alloc: Global, texts: &'a [&'a str]) -> Result<ArgMatches<'a>, AskF
     }
 }
 
-/// What the words ask for, without the program's name (ours). They are a mode, of which there is
-/// `run`, and the name of a file; all else is the usage fault. It answers `Memory` where memory was
-/// refused.
+/// What the words ask for, without the program's name (ours). They are a mode, `run` or `check`, and
+/// the name of a file; all else is the usage fault. It answers `Memory` where memory was refused.
 ///
 /// No clause speaks of words of which one begins with `-`: they are read by the rules of flags,
 /// of which the program has none.
-#[tactic(auto, using(crate::proofs::Parsing::other_answer, crate::proofs::Parsing::refused_answer, crate::proofs::Parsing::run_answer))]
+#[tactic(auto, using(crate::proofs::Parsing::both_there, crate::proofs::Parsing::refused_answer, crate::proofs::Parsing::mode_asked, crate::proofs::Parsing::no_mode_asked))]
 pub fn ask(alloc: Global, words: &[String]) -> Result<Asked, AskFault>
     // What is asked for is what the words say.
     ensures asked { are_plain (map string_bytes words.now) ≡ true
@@ -159,11 +173,14 @@ pub fn ask(alloc: Global, words: &[String]) -> Result<Asked, AskFault>
 {
     let texts = named(alloc, words)?;
     let matches = found(alloc, &texts)?;
-    match (matches.get_str("mode"), matches.get_str("file")) {
-        (Some("run"), Some(file)) => Ok(Asked {
-            mode: Mode::Run,
-            file: String::from_str(alloc, file)?,
-        }),
-        _ => Err(AskFault::Usage),
-    }
+    let (Some(mode), Some(file)) = (matches.get_str("mode"), matches.get_str("file")) else {
+        return Err(AskFault::Usage);
+    };
+    let Some(mode) = Mode::named(mode) else {
+        return Err(AskFault::Usage);
+    };
+    Ok(Asked {
+        mode,
+        file: String::from_str(alloc, file)?,
+    })
 }

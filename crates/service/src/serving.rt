@@ -1,12 +1,16 @@
 //! Serving what was asked for.
 
-ghost use Rattle.std.specs.Prelude.{◌≡◌, ◌+◌, [], IfErr, IfSome, OnOk, IfOk};
+ghost use Rattle.std.specs.Prelude.{◌≡◌, ◌≤◌, ◌+◌, [], length, Ok, IfErr, IfSome, OnOk, IfOk};
+ghost use Rattle.parser.specs.Reading.{script_in};
+ghost use Rattle.parser.specs.declared.script.TheConstants.{MOST_BYTES};
+ghost use Rattle.service.specs.declared.asking.Mode.TheVariants.{Run};
 ghost use Rattle.std.specs.Io.Buffered.{writer_buffer, writer_contents};
 ghost use Rattle.std.specs.Io.KnownBytes.{Appends, Keeps};
 ghost use Rattle.script.specs.Output.{output_text};
 ghost use Rattle.service.specs.Serving.{HasFault, IsStatus, Prints, ReadsUpTo, fault_status};
 
 use crate::asking::{Asked, Mode};
+use checking::{Checked, by_check};
 use script::{MOST_BYTES, ParseFault, RunFault, Script, by_schedule, parse};
 use std::alloc::Global;
 use std::io;
@@ -68,6 +72,21 @@ fn read_bytes<R: io::Read>(alloc: Global, reader: &mut R) -> Result<Vec<u8>, Ser
     }
 }
 
+/// The script that bytes spell.
+fn script_in(alloc: Global, bytes: &[u8]) -> Result<Script, ServeFault>
+    ensures fits { IfOk result (λ script. length bytes.now ≤ MOST_BYTES) }
+    ensures read { IfOk result (λ script. script_in bytes.now ≡ Ok script) }
+    ensures faults { IfErr result (λ fault. fault_status fault ≡ 2 → HasFault bytes.now) }
+{
+    if bytes.len() > MOST_BYTES {
+        return Err(ServeFault::Parse(ParseFault::TooLong));
+    }
+    match parse(alloc, bytes) {
+        Ok(script) => Ok(script),
+        Err(fault) => Err(ServeFault::Parse(fault)),
+    }
+}
+
 /// Runs the script that the bytes spell.
 fn run_bytes<W: io::Write + Drop>(
     alloc: Global,
@@ -79,13 +98,7 @@ fn run_bytes<W: io::Write + Drop>(
     ensures faults { IfErr result (λ fault. fault_status fault ≡ 2 → HasFault bytes.now) }
     ensures kept { IfErr result (λ fault. fault_status fault ≡ 2 → output.new ≡ output.old) }
 {
-    if bytes.len() > MOST_BYTES {
-        return Err(ServeFault::Parse(ParseFault::TooLong));
-    }
-    let script = match parse(alloc, bytes) {
-        Ok(script) => script,
-        Err(fault) => return Err(ServeFault::Parse(fault)),
-    };
+    let script = script_in(alloc, bytes)?;
     run_script(alloc, &script, output)
 }
 
@@ -154,10 +167,64 @@ fn run<R: io::Read, W: io::Write + Drop>(
     run_bytes(alloc, &bytes, output)
 }
 
+/// Runs a script, whose heap is verified after each step.
+fn check_script<W: io::Write + Drop>(
+    alloc: Global,
+    script: &Script,
+    output: &mut BufWriter<W>,
+) -> Result<u8, ServeFault>
+    ensures sound { IfOk result (λ status. status ≡ 0) }
+    ensures flushed { OnOk result (writer_buffer output.new ≡ []) }
+    ensures faults { IfErr result (λ fault. fault_status fault ≡ 3) }
+{
+    match by_check(alloc, script, output) {
+        Ok(checked) => {
+            flushed(output)?;
+            Ok(match checked {
+                Checked::Sound(_) => 0,
+                Checked::Faulty(_) => 1,
+            })
+        }
+        Err(fault) => Err(ServeFault::Run(fault)),
+    }
+}
+
+/// Runs the script that the bytes spell, whose heap is verified after each step.
+fn check_bytes<W: io::Write + Drop>(
+    alloc: Global,
+    bytes: &[u8],
+    output: &mut BufWriter<W>,
+) -> Result<u8, ServeFault>
+    ensures sound { IfOk result (λ status. status ≡ 0) }
+    ensures flushed { OnOk result (writer_buffer output.new ≡ []) }
+    ensures faults { IfErr result (λ fault. fault_status fault ≡ 2 → HasFault bytes.now) }
+    ensures kept { IfErr result (λ fault. fault_status fault ≡ 2 → output.new ≡ output.old) }
+{
+    let script = script_in(alloc, bytes)?;
+    check_script(alloc, &script, output)
+}
+
+/// Runs the script that is read, and verifies its heap after each step. Gives the exit status: 0
+/// where the heap is sound, 1 where a verification found a fault, which none does.
+fn check<R: io::Read, W: io::Write + Drop>(
+    alloc: Global,
+    reader: &mut R,
+    output: &mut BufWriter<W>,
+) -> Result<u8, ServeFault>
+    ensures sound { IfOk result (λ status. status ≡ 0) }
+    ensures flushed { OnOk result (writer_buffer output.new ≡ []) }
+    ensures faults { IfErr result (λ fault. fault_status fault ≡ 2 → IfSome (R.remaining reader.old) HasFault) }
+    ensures kept { IfErr result (λ fault. fault_status fault ≡ 2 → output.new ≡ output.old) }
+{
+    let bytes = read_bytes(alloc, reader)?;
+    check_bytes(alloc, &bytes, output)
+}
+
 /// Reads the script and does what was asked for; writes to `output` and `errors` as to standard
 /// output and standard error, and gives the exit status.
 ///
-/// 0: it is done, and nothing of the output waits in the buffer. 2: the script has a fault, and
+/// 0: it is done, and nothing of the output waits in the buffer. 1: a verification found a fault in
+/// the heap, which no status of this library says. 2: the script has a fault, and
 /// `output` is as it was. 3: memory was refused, or the file can't be read, or the output can't be
 /// written. A fault is one line of `errors`. All of this is ours.
 pub fn serve<R: io::Read, W: io::Write + Drop, E: io::Write>(
@@ -167,7 +234,8 @@ pub fn serve<R: io::Read, W: io::Write + Drop, E: io::Write>(
     output: &mut BufWriter<W>,
     errors: &mut E,
 ) -> u8
-    ensures done { result ≡ 0 → IfSome (R.remaining reader.old) (Prints W.contents output.old output.new) }
+    ensures done { asked.now.mode ≡ Run → result ≡ 0
+        → IfSome (R.remaining reader.old) (Prints W.contents output.old output.new) }
     ensures flushed { result ≡ 0 → writer_buffer output.new ≡ [] }
     ensures faults { result ≡ 2 → IfSome (R.remaining reader.old) HasFault }
     ensures kept { result ≡ 2 → output.new ≡ output.old }
@@ -176,6 +244,10 @@ pub fn serve<R: io::Read, W: io::Write + Drop, E: io::Write>(
     match asked.mode() {
         Mode::Run => match run(alloc, reader, output) {
             Ok(()) => 0,
+            Err(fault) => fault.tell(asked, errors),
+        },
+        Mode::Check => match check(alloc, reader, output) {
+            Ok(status) => status,
             Err(fault) => fault.tell(asked, errors),
         },
     }

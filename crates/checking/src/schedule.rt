@@ -1,0 +1,103 @@
+//! Runs of scripts.
+
+ghost use Rattle.std.specs.Prelude.{◌≡◌, None, IfOk};
+ghost use Rattle.checking.specs.Ends.{IsClean};
+
+use crate::faults::FaultText;
+use crate::steps::{check_command, look};
+use cycle::Book;
+use parser::{Command, Script};
+use script::{RunFault, new_book, report, tell, tell_command};
+use std::alloc::{AllocError, Global};
+use std::fmt::Write as _;
+use std::io;
+use verify::Fault;
+
+/// How a run ended in which the heap was verified.
+#[derive(Clone, Copy, Debug, PartialEq, Eq)]
+pub enum Checked {
+    /// All of so many verifications found the heap sound.
+    Sound(u64),
+    /// The last one found this fault.
+    Faulty(Fault),
+}
+
+/// Does commands in order, and writes a line for each, up to the first in which a verification finds
+/// a fault: that fault.
+fn check_commands<W: io::Write>(
+    alloc: Global,
+    book: &mut Book,
+    commands: &[Command],
+    text: &mut String,
+    w: &mut W,
+) -> Result<Option<Fault>, RunFault>
+    ensures { IfOk result (λ fault. fault ≡ None) }
+{
+    let mut replies = Vec::new(alloc);
+    let mut number = 1u64;
+    for command in commands {
+        let fault = check_command(alloc, book, command, &mut replies)?;
+        if fault.is_some() {
+            return Ok(fault);
+        }
+        tell_command(number, command, &replies, text, w)?;
+        number += 1;
+    }
+    Ok(None)
+}
+
+/// The first fault, of the heap as it stands, or as it is behind a step of these commands.
+fn first_fault<W: io::Write>(
+    alloc: Global,
+    book: &mut Book,
+    commands: &[Command],
+    text: &mut String,
+    w: &mut W,
+) -> Result<Option<Fault>, RunFault>
+    ensures { IfOk result (λ fault. fault ≡ None) }
+{
+    if let Some(fault) = look(alloc, book)? {
+        return Ok(Some(fault));
+    }
+    check_commands(alloc, book, commands, text, w)
+}
+
+/// Puts the line of a fault into a text.
+fn put_fault(text: &mut String, fault: Fault, words: u32) -> Result<(), AllocError> {
+    let fault = FaultText { fault, words };
+    text.clear();
+    writeln!(text, "{fault}")
+}
+
+/// Puts the last line of a run without a fault into a text: how many verifications there were.
+fn put_verified(text: &mut String, count: u64) -> Result<(), AllocError> {
+    text.clear();
+    writeln!(text, "verified {count}")
+}
+
+/// Runs a script on a new heap as `by_schedule` does, and verifies the heap before the first command
+/// and after each accepted step, those inside a whole load or a drain too (ours). Behind the report
+/// comes the line `verified n`, with how many verifications there were.
+///
+/// Where one finds a fault, the command of its step has no line: the fault's line comes, and then
+/// nothing more. No run of this library comes to that. The faults of the run itself are want of memory and a writer that failed.
+pub fn by_check<W: io::Write>(
+    alloc: Global,
+    script: &Script,
+    w: &mut W,
+) -> Result<Checked, RunFault>
+    ensures { IfOk result IsClean }
+{
+    let mut book = new_book(alloc, script)?;
+    let mut text = String::new(alloc);
+    if let Some(fault) = first_fault(alloc, &mut book, script.commands(), &mut text, w)? {
+        put_fault(&mut text, fault, book.heap().store().page_words())?;
+        tell(w, &text)?;
+        return Ok(Checked::Faulty(fault));
+    }
+    report(alloc, book.heap(), book.history(), w)?;
+    let count = book.history().len() as u64 + 1;
+    put_verified(&mut text, count)?;
+    tell(w, &text)?;
+    Ok(Checked::Sound(count))
+}
