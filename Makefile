@@ -3,7 +3,7 @@
 # make run        builds the program and runs examples/first.script
 # make test       the whole test command; its last line is 'N passed, M failed'
 # make install    puts the program into PREFIX/bin
-# make bench      times the program on generated scripts
+# make bench      times the program on generated scripts, and loops over the library's calls
 # make clean      removes the program, the log and all that earlier checks kept
 #
 # The program is proved before it is built, so a first build takes minutes.
@@ -61,7 +61,9 @@ install: pauseless
 	$(INSTALL) -m 755 pauseless '$(DESTDIR)$(PREFIX)/bin/pauseless'
 
 bench: pauseless
+	@cd crates/bench && $(RT) run -- copies 64 3 2 > '$(CURDIR)/$(LOG)' 2>&1 || { cd '$(CURDIR)'; $(show_log); }
 	$(PYTHON) bench/run.py ./pauseless
+	$(PYTHON) bench/calls.py crates/bench/out/bench
 
 clean:
 	rm -f pauseless '$(LOG)'

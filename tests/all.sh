@@ -38,6 +38,7 @@ count 'rt ci' "$RT" ci
 # 'rt ci' leaves the program as it proved and built it.
 if "$INSTALL" -m 755 crates/report/out/report pauseless; then
     count 'the scripts' sh tests/scripts.sh
+    count 'the checks' sh tests/check.sh
     count 'the faults' sh tests/faults.sh
     count 'the program' sh tests/program.sh
     count 'long scripts' sh tests/long.sh

@@ -1,38 +1,21 @@
 """A model of the heap, by the rules in docs/HEAP.md and docs/SCRIPT.md, that has
 nothing in common with the program: objects are Python objects here, a word is an
-object with its NMT bit, and there are no rows or addresses but those that are
-printed.
+object with its NMT bit and a place of it, and there are no rows, no memory and no
+copies. moving_model.py has the pages.
 """
 
-from heapq import heappop, heappush
-
-
-class Refused(Exception):
-    """A step is refused; the text is that of the refusal."""
-
-
-class Thing:
-    """An object: where it is, and what it holds."""
-
-    def __init__(self, page, offset, refs, nums):
-        self.page = page
-        self.offset = offset
-        self.refs = [None] * refs
-        self.data = [0] * nums
-        self.marked = False
-        self.todo = False
-        self.live = False
+from moving_model import Pages, Refused, Thing, Word, refuse_if
 
 
 class Barrier:
-    """A load that hasn't ended: the target register, the list and index of the place, the word that was
-    loaded, the word as it is by now, and whether the place was healed."""
+    """A load that hasn't ended: the target register, the list that was loaded from and the index there, the
+    word that was loaded, the word as it is by now, and whether it was written back."""
 
-    def __init__(self, target, place, index):
+    def __init__(self, target, holder, index):
         self.target = target
-        self.place = place
+        self.holder = holder
         self.index = index
-        self.loaded = place[index]
+        self.loaded = holder[index]
         self.now = self.loaded
         self.healed = False
 
@@ -46,48 +29,34 @@ class Thread:
         self.barrier = None
 
 
-class Page:
-    def __init__(self):
-        self.top = 0
-        self.is_open = True
-        self.things = []
-
-
-# A word is None, or an object and its NMT bit.
 def text_of(word):
-    return "-" if word is None else f"{word[0].page}.{word[0].offset}/{word[1]}"
+    return "-" if word is None else str(word)
 
 
 def thing_of(word):
-    return None if word is None else word[0]
+    return None if word is None else word.thing
 
 
 # The commands of workers; all others are those of threads.
-OF_WORKERS = ("mark", "endmark", "pick", "scan", "scang", "crossfor", "drain")
+OF_WORKERS = ("mark", "endmark", "pick", "scan", "scang", "crossfor", "drain", "protect", "copy", "release")
 
-
-def refuse_if(condition, text):
-    if condition:
-        raise Refused(text)
+# The phase behind each checkpoint.
+BEHIND = {"mark-crossing": "scanning", "protect-crossing": "relocating"}
 
 
 class Heap:
-    """A heap, with its history's length. No page is ever protected."""
+    """A heap, with its history's length."""
 
     def __init__(self, words, frames, pages, threads, workers, registers, globals_, layouts, births, history):
-        self.words = words
-        self.frames = frames
-        self.page_count = pages
         self.layouts = layouts
         self.most_births = births
         self.most_history = history
-        self.pages = []
+        self.pages = Pages(words, frames, pages)
         self.threads = [Thread(registers) for _ in range(threads)]
         self.workers = [None] * workers
         self.globals = [None] * globals_
         self.todo_globals = [False] * globals_
-        self.things = {}
-        self.todo_places = []
+        self.todo_things = {}
         self.phase = "idle"
         self.nmt = 0
         self.cycles = []
@@ -113,7 +82,7 @@ class Heap:
     # Whether the numbers name something; registers always do, in a script.
     def are_there(self, name, operands):
         if name == "take":
-            return 1 <= operands[0] <= self.words
+            return 1 <= operands[0] <= self.pages.words
         if name == "new":
             return operands[1] < len(self.layouts)
         if name == "loadg":
@@ -121,25 +90,16 @@ class Heap:
         if name in ("storeg", "scang"):
             return operands[0] < len(self.globals)
         if name == "pick":
-            return 1 <= operands[0] <= self.page_count
+            return 1 <= operands[0] <= self.pages.count
+        if name == "protect":
+            return len(set(operands)) == len(operands) and 1 <= min(operands) <= max(operands) <= self.pages.count
         return True
-
-    def lowest_with_room(self, size):
-        for index, page in enumerate(self.pages):
-            if page.is_open and page.top + size <= self.words:
-                return index
-        refuse_if(len(self.pages) == self.frames, "NoFrames 1 0")
-        refuse_if(len(self.pages) == self.page_count, "NoPages")
-        self.pages.append(Page())
-        return len(self.pages) - 1
 
     def do_take(self, thread, size):
         refuse_if(thread.buffer is not None, "HasBuffer")
-        index = self.lowest_with_room(size)
-        offset = self.pages[index].top
-        self.pages[index].top += size
-        thread.buffer = (index + 1, offset, offset + size)
-        return f"lent {index + 1}.{offset}"
+        page, offset = self.pages.lend(size)
+        thread.buffer = (page, offset, offset + size)
+        return f"lent {page}.{offset}"
 
     def do_give(self, thread):
         refuse_if(thread.buffer is None, "NoRoom")
@@ -154,20 +114,33 @@ class Heap:
         refuse_if(end - offset < size, "NoRoom")
         refuse_if(self.births == self.most_births, "Births")
         thread.buffer = (page, offset + size, end)
-        thing = Thing(page, offset, refs, nums)
+        thing = Thing((page, offset), refs, nums)
         thing.marked = self.phase in ("mark-crossing", "scanning")
-        thing.todo = self.phase == "mark-crossing"
-        self.things[page, offset] = thing
-        if thing.todo:
-            heappush(self.todo_places, (page, offset))
-        self.pages[page - 1].things.append(thing)
-        thread.registers[target] = (thing, self.nmt)
+        if self.phase == "mark-crossing":
+            self.todo_things[thing.place] = thing
+        self.pages.put(thing)
+        thread.registers[target] = Word(thing, self.nmt, thing.place)
         self.births += 1
         return f"birth {self.births - 1}"
 
+    # Why a thread may not use a word: the page that it names is being emptied, or was. None where it may.
+    def obstacle(self, thread, word):
+        if word is None or not self.pages.used[word.place[0]].is_protected():
+            return None
+        if self.phase != "protect-crossing":
+            return "Stale"
+        return "Stall" if thread.crossed else None
+
+    # The object in a register that the thread may use, or None where the register is null.
+    def used_or_null(self, thread, register):
+        word = thread.registers[register]
+        obstacle = self.obstacle(thread, word)
+        refuse_if(obstacle is not None, obstacle)
+        return thing_of(word)
+
     def used(self, thread, register):
         refuse_if(thread.registers[register] is None, "Null")
-        return thing_of(thread.registers[register])
+        return self.used_or_null(thread, register)
 
     def do_load(self, thread, target, register, index):
         thing = self.used(thread, register)
@@ -180,35 +153,50 @@ class Heap:
         return "loaded"
 
     # A word that a thread has loaded has still to be marked.
-    def is_due(self, thread, word):
+    def is_unmarked(self, thread, word):
         seen = self.phase == "scanning" or self.phase == "mark-crossing" and thread.crossed
-        return seen and word is not None and word[1] != self.nmt
+        return seen and word is not None and word.nmt != self.nmt
+
+    # A trap is due for a word that a thread has loaded.
+    def is_due(self, thread, word):
+        return self.obstacle(thread, word) is not None or self.is_unmarked(thread, word)
 
     # The word that marking leaves; its object is marked.
     def mark_word(self, word):
         if word is None:
             return None
-        if not word[0].marked:
-            word[0].marked = True
-            word[0].todo = True
-            heappush(self.todo_places, (word[0].page, word[0].offset))
-        return (word[0], self.nmt)
+        thing = word.thing
+        if not thing.marked:
+            thing.marked = True
+            self.todo_things[thing.place] = thing
+        return Word(thing, self.nmt, thing.place)
+
+    # The word that a thread has instead of one that it may not use; its object is copied where it wasn't.
+    def moved_word(self, word):
+        refuse_if(self.phase == "protect-crossing", "Stall")
+        if word.thing.planned is not None:
+            self.pages.copy(word.thing)
+        return word._replace(place=word.thing.place)
 
     def do_trap(self, thread):
         refuse_if(thread.barrier is None, "NotBusy")
-        if not self.is_due(thread, thread.barrier.now):
-            return "clear"
-        thread.barrier.now = self.mark_word(thread.barrier.now)
-        return "marked"
+        barrier = thread.barrier
+        if self.obstacle(thread, barrier.now) is not None:
+            barrier.now = self.moved_word(barrier.now)
+            return "moved"
+        if self.is_unmarked(thread, barrier.now):
+            barrier.now = self.mark_word(barrier.now)
+            return "marked"
+        return "clear"
 
     def do_heal(self, thread):
         refuse_if(thread.barrier is None, "NotBusy")
         barrier = thread.barrier
         refuse_if(self.is_due(thread, barrier.now), "Busy")
         barrier.healed = True
-        if barrier.place[barrier.index] != barrier.loaded:
+        if barrier.holder[barrier.index] != barrier.loaded:
             return "changed"
-        barrier.place[barrier.index] = barrier.now
+        barrier.holder[barrier.index] = barrier.now
         return "healed"
 
     def do_finish(self, thread):
@@ -223,10 +211,12 @@ class Heap:
     def do_store(self, thread, register, index, source):
         thing = self.used(thread, register)
         refuse_if(index >= len(thing.refs), "BadIndex")
+        self.used_or_null(thread, source)
         thing.refs[index] = thread.registers[source]
         return "ok"
 
     def do_storeg(self, thread, number, source):
+        self.used_or_null(thread, source)
         self.globals[number] = thread.registers[source]
         return "ok"
 
@@ -242,7 +232,7 @@ class Heap:
         return "ok"
 
     def do_same(self, thread, left, right):
-        same = thing_of(thread.registers[left]) is thing_of(thread.registers[right])
+        same = self.used_or_null(thread, left) is self.used_or_null(thread, right)
         return "true" if same else "false"
 
     def do_null(self, thread, register):
@@ -257,17 +247,22 @@ class Heap:
         return "ok"
 
     def do_cross(self, thread):
-        refuse_if(self.phase != "mark-crossing", "Phase")
+        refuse_if(self.phase not in BEHIND, "Phase")
         refuse_if(thread.crossed, "AlreadyCrossed")
-        thread.registers = [self.mark_word(word) for word in thread.registers]
+        if self.phase == "mark-crossing":
+            thread.registers = [self.mark_word(word) for word in thread.registers]
         thread.crossed = True
         if all(other.crossed for other in self.threads):
-            self.phase = "scanning"
+            self.phase = BEHIND[self.phase]
         return "ok"
 
     def do_scrub(self, thread, register):
-        self.used(thread, register)
-        return "clean"
+        word = thread.registers[register]
+        refuse_if(word is None, "Null")
+        if self.obstacle(thread, word) is None:
+            return "clean"
+        thread.registers[register] = self.moved_word(word)
+        return "moved"
 
     def do_park(self, thread):
         thread.parked = True
@@ -279,23 +274,31 @@ class Heap:
         return "ok"
 
     def do_mark(self, worker):
-        refuse_if(self.phase != "idle", "Phase")
+        refuse_if(self.phase not in ("idle", "relocating"), "Phase")
+        for number in sorted(self.pages.used):
+            self.pages.refuse_uncopied(number)
         self.nmt = 1 - self.nmt
-        self.phase = "mark-crossing"
         self.todo_globals = [True] * len(self.globals)
-        for thread in self.threads:
-            thread.crossed = False
+        self.open_checkpoint("mark-crossing")
         return "ok"
 
-    def refuse_unless_scanning(self):
-        refuse_if(self.phase == "idle", "Phase")
+    def open_checkpoint(self, phase):
+        self.phase = phase
+        for thread in self.threads:
+            thread.crossed = False
+
+    def refuse_uncrossed(self):
         for number, thread in enumerate(self.threads):
             refuse_if(not thread.crossed, f"NotCrossed {number}")
 
+    def refuse_unless_scanning(self):
+        refuse_if(self.phase not in ("mark-crossing", "scanning"), "Phase")
+        self.refuse_uncrossed()
+
     def do_pick(self, worker, page, offset):
         self.refuse_unless_scanning()
-        thing = self.things.get((page, offset))
-        refuse_if(thing is None or not thing.todo, "NotTodo")
+        refuse_if((page, offset) not in self.todo_things, "NotTodo")
+        thing = self.todo_things[page, offset]
         taken = any(scan is not None and scan[0] is thing for scan in self.workers)
         refuse_if(self.workers[worker] is not None or taken, "Taken")
         self.workers[worker] = (thing, 0)
@@ -306,7 +309,7 @@ class Heap:
         refuse_if(self.workers[worker] is None, "NotTodo")
         thing, index = self.workers[worker]
         if index == len(thing.refs):
-            thing.todo = False
+            del self.todo_things[thing.place]
             self.workers[worker] = None
             return "done"
         thing.refs[index] = self.mark_word(thing.refs[index])
@@ -326,32 +329,38 @@ class Heap:
 
     def do_endmark(self, worker):
         self.refuse_unless_scanning()
-        refuse_if(any(self.todo_globals) or any(thing.todo for thing in self.things.values()), "TodoLeft")
+        refuse_if(any(self.todo_globals) or self.todo_things, "TodoLeft")
         for number, thread in enumerate(self.threads):
             refuse_if(thread.barrier is not None, f"Pending {number}")
-        for thing in self.things.values():
-            thing.live, thing.marked = thing.marked, False
-        lent = [thread.buffer[0] for thread in self.threads if thread.buffer is not None]
-        for index, page in enumerate(self.pages):
-            page.is_open = page.is_open and index + 1 in lent
         self.phase = "idle"
-        self.cycles.append(sum(thing.live for thing in self.things.values()))
-        return f"ended live {self.cycles[-1]} retired 0"
+        self.cycles.append(self.pages.end_mark(self.lent_pages()))
+        return "ended live {} retired {}".format(*self.cycles[-1])
+
+    # The pages with a lent buffer.
+    def lent_pages(self):
+        return {thread.buffer[0] for thread in self.threads if thread.buffer is not None}
+
+    def do_protect(self, worker, *numbers):
+        refuse_if(self.phase != "idle", "Phase")
+        objects, targets = self.pages.protect(numbers, self.lent_pages())
+        self.open_checkpoint("protect-crossing")
+        return f"protected objects {objects} targets {targets}"
+
+    def do_copy(self, worker, page, entry):
+        refuse_if(self.phase not in ("protect-crossing", "relocating"), "Phase")
+        self.refuse_uncrossed()
+        return "copied {}.{}".format(*self.pages.copy_entry(page, entry))
+
+    def do_release(self, worker, page):
+        refuse_if(self.phase == "idle", "Phase")
+        if self.phase == "protect-crossing":
+            self.refuse_uncrossed()
+        return f"released free {self.pages.release(page)}"
 
     # The lowest object that is todo and that no worker has; None where there is none.
     def next_todo(self):
-        taken = [scan[0] for scan in self.workers if scan is not None]
-        passed = []
-        found = None
-        while self.todo_places and found is None:
-            place = heappop(self.todo_places)
-            thing = self.things[place]
-            if thing.todo:
-                passed.append(place)
-                found = None if thing in taken else place
-        for place in passed:
-            heappush(self.todo_places, place)
-        return found
+        taken = [scan[0].place for scan in self.workers if scan is not None]
+        return min((place for place in self.todo_things if place not in taken), default=None)
 
     # What a worker does next that drains the mark; None where nothing is left.
     def next_of_drain(self, worker):
@@ -398,20 +407,16 @@ class Heap:
             return "finish"
         if step != "trap" or texts[-1] != "clear":
             return "trap"
-        return "heal" if "marked" in texts else "finish"
+        return "finish" if texts == ["loaded", "clear"] else "heal"
 
     def report(self):
-        used = f"frames {len(self.pages)}/{self.frames}"
+        used = f"frames {self.pages.frames - len(self.pages.free)}/{self.pages.frames}"
         lines = [f"phase {self.phase} nmt {self.nmt} births {self.births} {used}"]
-        for index, page in enumerate(self.pages):
-            state = "open" if page.is_open else "closed"
-            live = sum(thing.live for thing in page.things)
-            lines.append(f"page {index + 1} {state} frame {index} top {page.top}"
-                         f" objects {len(page.things)} live {live}")
+        lines += [f"page {number} {page}" for number, page in sorted(self.pages.used.items())]
         for number, thread in enumerate(self.threads):
             state = "parked" if thread.parked else "running" if thread.barrier is None else "loading"
             buffer = "-" if thread.buffer is None else "{}.{}-{}".format(*thread.buffer)
             registers = "".join(f" r{i} {text_of(word)}" for i, word in enumerate(thread.registers))
             lines.append(f"thread {number} {state} buffer {buffer}{registers}")
         lines += [f"global {i} {text_of(word)}" for i, word in enumerate(self.globals)]
-        return lines + [f"cycle {k + 1} live {live} retired 0" for k, live in enumerate(self.cycles)]
+        return lines + ["cycle {} live {} retired {}".format(k + 1, *cycle) for k, cycle in enumerate(self.cycles)]

@@ -4,151 +4,14 @@
     python3 tests/long.py FOLDER
 
 For each script NAME.script in the folder NAME.expected is its output, worked
-out by the model of the heap in heap_model.py.
+out by the model of the heap in heap_model.py. A script that meets less than it
+is made for is a failure: the numbers are printed, and the status is 1.
 """
 
-import os
 import sys
 
-from heap_model import OF_WORKERS, Heap, thing_of
-
-
-class Numbers:
-    """Numbers that look random and are the same in each run."""
-
-    def __init__(self, seed):
-        self.state = seed
-
-    def below(self, limit):
-        self.state = (self.state * 6364136223846793005 + 1442695040888963407) % 2 ** 64
-        return (self.state >> 33) % limit
-
-    def one_of(self, choices):
-        return choices[self.below(len(choices))]
-
-
-class Writing:
-    """A script that is written, and its output beside it."""
-
-    def __init__(self, words, frames, pages, threads, workers, registers, globals_, layouts, births, history):
-        self.heap = Heap(words, frames, pages, threads, workers, registers, globals_, layouts, births, history)
-        self.script = [f"heap words {words} frames {frames} pages {pages} threads {threads} workers {workers}"
-                       f" registers {registers} globals {globals_} births {births} history {history}"]
-        self.script += [f"layout {refs} {nums}" for refs, nums in layouts]
-        self.output = []
-        self.accepted = 0
-
-    # Which operands of a command are registers.
-    REGISTERS = {"new": [0], "load": [0, 1], "loadg": [0], "get": [0, 1], "getg": [0], "store": [0, 2],
-                 "storeg": [1], "datum": [0], "set": [0], "same": [0, 1], "null": [0], "mov": [0, 1],
-                 "clear": [0], "scrub": [0]}
-
-    def line(self, number, name, operands):
-        registers = self.REGISTERS.get(name, [])
-        words = [f"r{n}" if i in registers else str(n) for i, n in enumerate(operands)]
-        if name == "pick":
-            words = ["{}.{}".format(*operands)]
-        if name == "crossfor":
-            words = [f"t{operands[0]}"]
-        return " ".join([self.actor(number, name), name] + words)
-
-    @staticmethod
-    def actor(number, name):
-        return f"{'w' if name in OF_WORKERS else 't'}{number}"
-
-    def do(self, number, name, operands):
-        text = self.heap.command(number, name, operands)
-        self.accepted += "refused" not in text
-        self.output.append(f"{len(self.output) + 1} {self.actor(number, name)} {text}")
-
-    def say(self, number, name, *operands):
-        self.script.append(self.line(number, name, operands))
-        self.do(number, name, operands)
-
-    def block(self, times, commands):
-        self.script.append(f"times {times}")
-        self.script += [self.line(*command) for command in commands]
-        self.script.append("end")
-        for _ in range(times):
-            for command in commands:
-                self.do(*command)
-
-    def write(self, folder, name):
-        for end, lines in ((".script", self.script), (".expected", self.output + self.heap.report())):
-            with open(os.path.join(folder, name + end), "w", encoding="ascii") as file:
-                file.write("\n".join(lines) + "\n")
-
-
-# How often each command comes, among others.
-OFTEN = {"take": 1, "give": 1, "new": 30, "datum": 10, "set": 12, "store": 12, "storeg": 5, "get": 12, "getg": 8,
-         "load": 3, "loadg": 3, "trap": 1, "heal": 1, "finish": 1, "same": 5, "null": 5, "mov": 5, "clear": 1,
-         "scrub": 2, "cross": 1, "park": 1, "unpark": 1}
-
-
-def random_name(thread, numbers, names):
-    """A command. What the thread has to do before all else often comes first."""
-    name = numbers.one_of(names)
-    if numbers.below(4) == 0:
-        return name
-    if thread.parked:
-        return "unpark"
-    if thread.barrier is not None:
-        return numbers.one_of(["trap", "heal", "finish"])
-    if name == "new" and thread.buffer is None:
-        return "take"
-    if name == "new" and thread.buffer[2] - thread.buffer[1] < 4:
-        return "give"
-    return name
-
-
-class Operands:
-    """Operands that mostly name something."""
-
-    def __init__(self, heap, thread, numbers):
-        self.heap = heap
-        self.thread = thread
-        self.numbers = numbers
-
-    def mostly(self):
-        return self.numbers.below(8) > 0
-
-    def register(self):
-        full = [i for i, word in enumerate(self.thread.registers) if word is not None]
-        if full and self.mostly():
-            return self.numbers.one_of(full)
-        return self.numbers.below(len(self.thread.registers))
-
-    # An object's register, and the number of one of its references or data.
-    def field(self, part):
-        register = self.register()
-        thing = thing_of(self.thread.registers[register])
-        if thing is not None and getattr(thing, part) and self.mostly():
-            return register, self.numbers.below(len(getattr(thing, part)))
-        return register, self.numbers.below(13)
-
-    def place(self):
-        return self.numbers.below(len(self.heap.globals) + self.numbers.below(2))
-
-    def of(self, name):
-        if name == "take":
-            return (self.numbers.below(20 if self.mostly() else self.heap.words + 3),)
-        if name == "new":
-            layout = self.numbers.below(len(self.heap.layouts) + self.numbers.below(2))
-            return self.register(), layout
-        if name in ("load", "get"):
-            return (self.register(),) + self.field("refs")
-        if name in ("loadg", "getg"):
-            return self.register(), self.place()
-        if name == "store":
-            return self.field("refs") + (self.register(),)
-        if name == "storeg":
-            return self.place(), self.register()
-        if name == "datum":
-            return self.field("data")
-        if name == "set":
-            return self.field("data") + (self.numbers.below(2 ** 31),)
-        registers = {"same": 2, "mov": 2, "null": 1, "clear": 1, "scrub": 1}
-        return tuple(self.register() for _ in range(registers.get(name, 0)))
+from heap_model import thing_of
+from writing import OFTEN, Numbers, Operands, Writing, random_name
 
 
 def many_pages():
@@ -160,11 +23,10 @@ def many_pages():
     while len(writing.output) < 199_000:
         number = numbers.below(len(writing.heap.threads))
         thread = writing.heap.threads[number]
-        name = random_name(thread, numbers, names)
+        name = random_name(writing.heap, thread, numbers, names)
         writing.say(number, name, *Operands(writing.heap, thread, numbers).of(name))
-    if writing.accepted < 100_000 or len(writing.heap.pages) < 1_000 or writing.heap.births < 12_000:
-        sys.exit(f"many_pages: {writing.accepted} accepted, {len(writing.heap.pages)} pages,"
-                 f" {writing.heap.births} births")
+    writing.demand("many_pages", {"accepted": 100_000, "pages": 1_000, "birth": 12_000},
+                   pages=len(writing.heap.pages.used))
     return writing
 
 
@@ -188,23 +50,32 @@ def next_of_mark(heap, numbers):
     worker = numbers.below(len(heap.workers))
     if heap.phase == "idle":
         return worker, "mark", ()
-    behind = [number for number, thread in enumerate(heap.threads) if not thread.crossed]
-    parked = [number for number in behind if heap.threads[number].parked]
+    if heap.phase == "mark-crossing":
+        return next_of_crossing(heap, numbers, worker, ("scan", ()))
     loading = [number for number, thread in enumerate(heap.threads) if thread.barrier is not None]
-    if parked:
-        return worker, "crossfor", (numbers.one_of(parked),)
-    if behind and numbers.below(4) == 0 or heap.workers[worker] is not None:
+    if heap.workers[worker] is not None:
         return worker, "scan", ()
-    if behind:
-        return end_of_load(heap, numbers.one_of(behind), "cross")
     if True in heap.todo_globals:
-        return worker, "scang", (numbers.below(len(heap.globals)),)
-    todo = [place for place, thing in heap.things.items() if thing.todo]
-    if todo:
-        return worker, "pick", numbers.one_of(todo)
+        todo = [number for number, todo in enumerate(heap.todo_globals) if todo]
+        return worker, "scang", (numbers.one_of(todo) if numbers.below(2) == 0 else numbers.below(len(heap.globals)),)
+    if heap.todo_things:
+        place, thing = numbers.one_of(list(heap.todo_things.items()))
+        holders = [number for number, scan in enumerate(heap.workers) if scan is not None and scan[0] is thing]
+        return (holders[0], "scan", ()) if holders and numbers.below(4) > 0 else (worker, "pick", place)
     if loading and numbers.below(4) > 0:
         return end_of_load(heap, numbers.one_of(loading), "finish")
     return worker, "endmark", ()
+
+
+def next_of_crossing(heap, numbers, worker, early):
+    """The next command at a checkpoint, and its actor; at times one of a worker that comes too early."""
+    behind = [number for number, thread in enumerate(heap.threads) if not thread.crossed]
+    parked = [number for number in behind if heap.threads[number].parked]
+    if parked:
+        return worker, "crossfor", (numbers.one_of(parked),)
+    if numbers.below(4) == 0:
+        return worker, *early
+    return end_of_load(heap, numbers.one_of(behind), "cross")
 
 
 def end_of_load(heap, number, otherwise):
@@ -231,11 +102,230 @@ def many_marks():
             actor, name, operands = next_of_mark(heap, numbers)
             writing.say(actor, name, *operands)
         else:
-            name = random_name(thread, numbers, names)
+            name = random_name(heap, thread, numbers, names)
             writing.say(number, name, *Operands(heap, thread, numbers).of(name))
-    if writing.accepted < 25_000 or len(heap.cycles) < 30:
-        sys.exit(f"many_marks: {writing.accepted} accepted, {len(heap.cycles)} cycles")
+    writing.demand("many_marks", {"accepted": 25_000, "cycles": 30})
     return writing
+
+
+def pages_to_protect(heap, numbers):
+    """Closed pages: mostly those on which the least lives, else any. At times any numbers, also one twice."""
+    if numbers.below(2) == 0:
+        pages = tuple(numbers.below(heap.pages.count + 2) for _ in range(1 + numbers.below(3)))
+        return pages if numbers.below(4) > 0 else pages + pages[:1]
+    closed = numbers.shuffled(number for number, page in heap.pages.used.items() if page.state == "closed")
+    if numbers.below(4) > 0:
+        closed.sort(key=lambda number: sum(thing.size() for thing in heap.pages.used[number].live))
+    return tuple(closed[:1 + numbers.below(40)])
+
+
+def next_of_copies(heap, numbers):
+    """The next command that copies or gives memory up, or the next mark's start. At times one that comes too early
+    or too late."""
+    emptied = [number for number, page in heap.pages.used.items() if page.state == "from"]
+    if not emptied:
+        return "mark", ()
+    number = numbers.one_of(emptied)
+    live = heap.pages.used[number].live
+    left = [entry for entry, thing in enumerate(live) if thing.planned is not None]
+    if numbers.below(8) == 0:
+        any_entry = (number, numbers.below(len(live) + 2))
+        return numbers.one_of([("mark", ()), ("release", (number,)), ("copy", any_entry)])
+    return ("copy", (number, numbers.one_of(left))) if left else ("release", (number,))
+
+
+def any_of_workers(heap, numbers):
+    """A worker's command of any kind, which is mostly refused."""
+    page = numbers.below(heap.pages.count + 2)
+    return numbers.one_of([
+        ("mark", ()), ("endmark", ()), ("pick", (page, numbers.below(heap.pages.words))), ("scan", ()),
+        ("scang", (numbers.below(len(heap.globals) + 1),)), ("crossfor", (numbers.below(len(heap.threads)),)),
+        ("protect", (page,)), ("copy", (page, numbers.below(4))), ("release", (page,))])
+
+
+def next_of_moves(heap, numbers):
+    """The next command of an endless cycle of marks and moves, and its actor."""
+    worker = numbers.below(len(heap.workers))
+    if numbers.below(32) == 0:
+        return worker, *any_of_workers(heap, numbers)
+    if heap.phase == "idle" and numbers.below(16) > 0:
+        pages = pages_to_protect(heap, numbers)
+        return (worker, "protect", pages) if pages else (worker, "mark", ())
+    if heap.phase == "protect-crossing":
+        return next_of_crossing(heap, numbers, worker, next_of_copies(heap, numbers))
+    if heap.phase == "relocating" or numbers.below(128) == 0:
+        return worker, *next_of_copies(heap, numbers)
+    if heap.phase == "scanning" and numbers.below(32) == 0:
+        return worker, numbers.one_of(["drain", "endmark"]), ()
+    return next_of_mark(heap, numbers)
+
+
+# The refusals that a heap may come to whose births and history don't end.
+REFUSALS = ("BadIndex", "Parked", "NotParked", "Busy", "NotBusy", "Null", "Stall", "Stale", "NoRoom", "HasBuffer",
+            "NoFrames", "NoPages", "Phase", "AlreadyCrossed", "NotCrossed", "NotTodo", "Taken", "TodoLeft", "Pending",
+            "Unripe", "Uncopied", "Copied", "Lent")
+
+
+def many_moves():
+    """64 threads and 16 workers in whole cycles: what lives moves from page to page, copied by workers and by the
+    threads that come upon it, while the threads go on, faster than those who copy. The last free frames are mostly
+    left to the moves."""
+    layouts = [(0, 2), (3, 0), (2, 1), (1, 4), (5, 0)]
+    writing = Writing(64, 54, 58, 64, 16, 6, 16, layouts, 2 ** 32, 1_000_000)
+    heap = writing.heap
+    numbers = Numbers(5)
+    often_here = dict(OFTEN, give=12, new=70, store=40, storeg=8, clear=0, scrub=6)
+    names = [name for name, often in often_here.items() for _ in range(often)]
+    while len(writing.output) < 60_000:
+        number = numbers.below(len(heap.threads))
+        thread = heap.threads[number]
+        if numbers.below(6 if heap.phase == "relocating" else 2) == 0:
+            actor, name, operands = next_of_moves(heap, numbers)
+            writing.say(actor, name, *operands)
+        else:
+            name = random_name(heap, thread, numbers, names)
+            if name == "take" and len(heap.pages.free) < 3 and numbers.below(16) > 0:
+                name = "getg"
+            writing.say(number, name, *Operands(heap, thread, numbers).of(name))
+    writing.demand("many_moves", dict(
+        dict.fromkeys(REFUSALS, 5), accepted=30_000, cycles=50, moved_objects=2_000, moved_by_threads=500,
+        retired_pages=400))
+    return writing
+
+
+class Fragmenting:
+    """Cycles of a small heap. In each there are new objects among garbage, some that lived are dropped, and all
+    that lives moves. A global names an object of layout 0, and that one another. Each thread makes its objects in
+    its registers 0 and 1, and reads into 2 and 3."""
+
+    LAYOUTS = [(1, 2), (0, 3), (2, 1), (1, 6)]
+
+    def __init__(self):
+        self.writing = Writing(32, 16, 20, 3, 2, 4, 16, self.LAYOUTS, 2 ** 32, 1_000_000)
+        self.heap = self.writing.heap
+        self.numbers = Numbers(7)
+        self.made = 0
+        self.came_back = 0
+        self.reading = 0
+
+    def say(self, *command):
+        self.writing.say(*command)
+
+    def any_thread(self):
+        return self.numbers.below(len(self.heap.threads))
+
+    def any_worker(self):
+        return self.numbers.below(len(self.heap.workers))
+
+    def make(self, thread, register, layout):
+        """A new object with data that no other has."""
+        self.say(thread, "new", register, layout)
+        self.made += 1
+        for index in range(self.LAYOUTS[layout][1]):
+            self.say(thread, "set", register, index, 10 * self.made + index)
+
+    def fill_page(self):
+        """A page of garbage, with two objects that live somewhere in it."""
+        thread = self.any_thread()
+        self.say(thread, "take", 32)
+        for _ in range(self.numbers.below(4)):
+            self.say(thread, "new", 0, 1)
+        self.make(thread, 1, 1 + self.numbers.below(3))
+        self.say(thread, "new", 0, 1)
+        self.make(thread, 0, 0)
+        self.say(thread, "store", 0, 0, 1)
+        self.say(thread, "storeg", self.numbers.below(len(self.heap.globals)), 0)
+        while self.heap.threads[thread].buffer[2] - self.heap.threads[thread].buffer[1] >= 4:
+            self.say(thread, "new", 0, 1)
+        self.say(thread, "give")
+
+    def drop(self):
+        """What a global names is dropped; of what another names, the object behind it."""
+        thread = self.any_thread()
+        self.say(thread, "clear", 1)
+        self.say(thread, "storeg", self.numbers.below(len(self.heap.globals)), 1)
+        self.say(thread, "getg", 2, self.numbers.below(len(self.heap.globals)))
+        self.say(thread, "store", 2, 0, 1)
+
+    def read(self, number):
+        """All data of what a global names, and of the object behind it."""
+        thread = self.any_thread()
+        for register, load in (2, ("getg", 2, number)), (3, ("get", 3, 2, 0)):
+            self.say(thread, *load)
+            thing = thing_of(self.heap.threads[thread].registers[register])
+            if thing is None:
+                return
+            for index in range(len(thing.data)):
+                self.say(thread, "datum", register, index)
+
+    def at_point(self, point):
+        """Here a cycle may read: each at one of five points, and each tenth all that there is."""
+        if self.reading != point:
+            return
+        globals_ = range(len(self.heap.globals))
+        for number in globals_ if len(self.heap.cycles) % 10 == 0 else self.numbers.shuffled(globals_)[:3]:
+            self.read(number)
+
+    def cross(self):
+        for thread in self.numbers.shuffled(range(len(self.heap.threads))):
+            self.say(thread, "cross")
+
+    def mark(self):
+        self.say(self.any_worker(), "mark")
+        self.at_point(0)
+        self.cross()
+        self.at_point(1)
+        self.say(self.any_worker(), "drain")
+        self.say(self.any_worker(), "endmark")
+
+    def copy(self, number, entry):
+        """A worker copies an object, where no thread comes before it. At times what can't be yet is asked for."""
+        if self.numbers.below(16) == 0:
+            self.read(self.numbers.below(len(self.heap.globals)))
+        if self.numbers.below(16) == 0:
+            self.say(self.any_thread(), "scrub", self.numbers.below(4))
+        self.say(self.any_worker(), "copy", number, entry)
+        if self.numbers.below(8) == 0:
+            self.say(self.any_worker(), *self.numbers.one_of([("mark",), ("release", number)]))
+
+    def move(self):
+        """All pages are emptied, and each gives its frame back early or late; one at times only as the next mark
+        ends. Then the targets alone have frames, and that page."""
+        pages = self.heap.pages
+        self.say(self.any_worker(), "protect", *self.numbers.shuffled(pages.used))
+        targets = int(self.writing.output[-1].split(" ")[-1])
+        self.at_point(2)
+        self.cross()
+        emptied = [number for number, page in pages.used.items() if page.state == "from"]
+        entries = [(number, entry) for number in emptied for entry in range(len(pages.used[number].live))]
+        for entry in self.numbers.shuffled(entries):
+            self.copy(*entry)
+        self.at_point(3)
+        left = self.numbers.shuffled(number for number in emptied if pages.state(number) == "from")
+        kept = self.numbers.below(2) if left else 0
+        for number in left[kept:]:
+            self.say(self.any_worker(), "release", number)
+        last = next(line for line in reversed(self.writing.output) if "released" in line)
+        self.came_back += last.endswith(f" free {pages.frames - targets - kept}")
+        self.at_point(4)
+
+
+def fragmentation():
+    """A heap of 16 frames is fragmented and emptied a thousand times; each time as many frames come back as have
+    to."""
+    fragmenting = Fragmenting()
+    for _ in range(1_000):
+        for _ in range(3):
+            fragmenting.fill_page()
+        fragmenting.drop()
+        fragmenting.reading = fragmenting.numbers.below(5)
+        fragmenting.mark()
+        fragmenting.move()
+    fragmenting.writing.demand("fragmentation", {
+        "accepted": 100_000, "cycles": 1_000, "frames_came_back": 1_000, "moved_objects": 20_000,
+        "moved_by_threads": 500, "retired_pages": 6_000, "datum": 15_000, "Copied": 500, "Uncopied": 500},
+        frames_came_back=fragmenting.came_back)
+    return fragmenting.writing
 
 
 def long_list():
@@ -259,13 +349,13 @@ def long_list():
         writing.say(0, "drain")
         writing.say(0, "endmark")
         writing.say(0, "clear", 0)
-    if writing.heap.cycles != [90_090, 45_045]:
+    if writing.heap.cycles != [(90_090, 0), (45_045, 0)]:
         sys.exit(f"long_list: {writing.heap.cycles}")
     return writing
 
 
 def main():
-    for script in (many_pages, full_history, many_marks, long_list):
+    for script in (many_pages, full_history, many_marks, long_list, many_moves, fragmentation):
         script().write(sys.argv[1], script.__name__)
 
 

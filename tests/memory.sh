@@ -12,17 +12,24 @@ cd "$(dirname "$0")/.." || exit 1
 echo 'pauseless: out of memory' > "$kept/line"
 
 whole() {
-    [ "$status" = 0 ] && cmp -s "$kept/output" "examples/$name.expected"
+    [ "$status" = 0 ] && cmp -s "$kept/output" "$expected"
 }
 
 told() {
     size=$(wc -c < "$kept/output")
-    head -c "$size" "examples/$name.expected" > "$kept/beginning"
+    head -c "$size" "$expected" > "$kept/beginning"
     [ "$status" = 3 ] && cmp -s "$kept/line" "$kept/errors" && cmp -s "$kept/beginning" "$kept/output"
 }
 
 for example in first list moving; do
+    expected=examples/$example.expected
     refuse_each "$example" "$program" run "examples/$example.script"
 done
+
+# The mode 'check' prints one line more.
+expected=$kept/checked
+cp examples/first.expected "$expected"
+echo 'verified 7' >> "$expected"
+refuse_each 'first, checked' "$program" check examples/first.script
 echo "$passed passed, $failed failed"
 [ "$failed" = 0 ]

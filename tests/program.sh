@@ -44,7 +44,7 @@ is_told() {
     ends "$what" "$wanted" "$line" "$kept/nothing"
 }
 
-usage='usage: pauseless run FILE\n'
+usage='usage: pauseless run|check FILE\n'
 strange=$kept/$(printf 'a\377b')
 cp "$script" "$strange"
 cp "$script" "$kept/-name"
@@ -54,7 +54,8 @@ is_told 'no words' 2 "$usage"
 is_told 'a file alone' 2 "$usage" "$script"
 is_told 'a mode alone' 2 "$usage" run
 is_told 'three words' 2 "$usage" run "$script" "$script"
-is_told 'a mode that is not there' 2 "$usage" check "$script"
+is_told 'a mode that is not there' 2 "$usage" threads "$script"
+is_told 'a mode alone that checks' 2 "$usage" check
 is_told 'an empty mode' 2 "$usage" '' "$script"
 is_told 'a flag' 2 "$usage" run --help
 is_told 'a flag for a file' 2 "$usage" run "-name"

@@ -15,15 +15,21 @@ mod heaps;
 #[cfg(test)]
 mod histories;
 #[cfg(test)]
+mod images;
+#[cfg(test)]
 mod loads;
 #[cfg(test)]
 mod marks;
 #[cfg(test)]
 mod moves;
 #[cfg(test)]
+mod naive;
+#[cfg(test)]
 mod objects;
 #[cfg(test)]
 mod pages;
+#[cfg(test)]
+mod pictures;
 #[cfg(test)]
 mod plans;
 #[cfg(test)]
@@ -42,6 +48,8 @@ mod serving;
 mod sides;
 #[cfg(test)]
 mod texts;
+#[cfg(test)]
+mod verified;
 #[cfg(test)]
 mod words;
 #[cfg(test)]

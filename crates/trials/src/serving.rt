@@ -1,7 +1,7 @@
 //! What the program's words ask for, and what it writes and answers for scripts and for files
 //! that can't be read.
 
-use service::{AskFault, Asked, ask, serve};
+use service::{AskFault, Asked, Mode, ask, serve};
 use std::alloc::Global;
 use std::io;
 use std::io::{BufWriter, Read};
@@ -31,7 +31,7 @@ fn are_refused(rt: &impl Abort, alloc: Global, line: &str) -> Result<(), Fail> {
             assert_eq!(rt; fault.tell(&mut errors), 2);
             assert_eq!(rt;
                 errors.as_slice(),
-                b"usage: pauseless run FILE\n".as_slice()
+                b"usage: pauseless run|check FILE\n".as_slice()
             );
         }
     }
@@ -40,8 +40,11 @@ fn are_refused(rt: &impl Abort, alloc: Global, line: &str) -> Result<(), Fail> {
 
 #[test]
 fn words(rt: HostRuntime) -> Result<(), Fail> {
-    let asked = words_asked(rt.alloc(), "run a.script")?;
-    assert_eq!(rt; asked.file(), "a.script");
+    for (line, mode) in [("run a.script", Mode::Run), ("check a.script", Mode::Check)] {
+        let asked = words_asked(rt.alloc(), line)?;
+        assert_eq!(rt; asked.mode(), mode);
+        assert_eq!(rt; asked.file(), "a.script");
+    }
     Ok(())
 }
 
@@ -53,7 +56,8 @@ fn other_words(rt: HostRuntime) -> Result<(), Fail> {
         "a.script",
         "walk a.script",
         "threads a.script",
-        "check a.script",
+        "check",
+        "checks a.script",
         "run a.script b.script",
         "run --help",
         "--version",

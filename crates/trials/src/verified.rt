@@ -1,0 +1,231 @@
+//! Images of heaps, and their texts; the texts of faults.
+
+use crate::images::{add_entry, set_load, set_page};
+use checking::{FaultText, verify_book};
+use cycle::{Actor, Answer, Book, Step};
+use heap::NewFault;
+use layout::{Layout, Layouts};
+use model::{Config, PageList, PageState, Refusal};
+use std::alloc::{AllocError, Global};
+use std::fmt::{Display, Write as _};
+use std::process::Abort;
+use std::test::Fail;
+use verify::{Fault, Image, Root, Verdict, verify, verify_image};
+
+const THREAD: Actor = Actor::Thread(0);
+
+const WORKER: Actor = Actor::Worker(0);
+
+/// Pages of 16 words, of which objects take 3: a reference and a datum.
+fn config(alloc: Global) -> Result<Config, AllocError> {
+    let layouts = vec![in alloc; Layout { refs: 1, nums: 1 }]?;
+    let mut config = Config::new(16, 3, Layouts::new(layouts));
+    config.registers = 2;
+    config.globals = 1;
+    Ok(config)
+}
+
+fn book(alloc: Global) -> Result<Book, NewFault> {
+    Book::new(alloc, config(alloc)?)
+}
+
+/// An object that names itself, and that a global names.
+fn make_object(book: &mut Book) -> Result<(), Refusal> {
+    let (target, layout) = (0, 0);
+    book.act(THREAD, Step::Take(3))?;
+    book.act(THREAD, Step::New { target, layout })?;
+    let (object, field, source) = (0, 0, 0);
+    book.act(
+        THREAD,
+        Step::Store {
+            object,
+            field,
+            source,
+        },
+    )?;
+    let (index, value) = (0, 255);
+    book.act(
+        THREAD,
+        Step::SetDatum {
+            object,
+            index,
+            value,
+        },
+    )?;
+    book.act(THREAD, Step::StoreGlobal { global: 0, source })?;
+    book.act(THREAD, Step::GiveBack)?;
+    Ok(())
+}
+
+/// A mark finds the object, and its page is protected; the thread's load hasn't ended.
+fn move_object(book: &mut Book, pages: PageList) -> Result<(), Refusal> {
+    book.act(WORKER, Step::StartMark)?;
+    book.act(THREAD, Step::Cross)?;
+    book.act(WORKER, Step::ScanGlobal(0))?;
+    book.act(WORKER, Step::Pick { page: 1, offset: 0 })?;
+    book.act(WORKER, Step::ScanField)?;
+    book.act(WORKER, Step::ScanField)?;
+    book.act(WORKER, Step::EndMark)?;
+    book.act(WORKER, Step::Protect(pages))?;
+    book.act(THREAD, Step::Cross)?;
+    book.act(WORKER, Step::Copy { page: 1, entry: 0 })?;
+    let (target, global) = (1, 0);
+    book.act(THREAD, Step::LoadGlobal { target, global })?;
+    Ok(())
+}
+
+/// The text of something.
+fn text_of<D: Display>(alloc: Global, what: &D) -> Result<String, AllocError> {
+    let mut text = String::new(alloc);
+    write!(text, "{what}")?;
+    Ok(text)
+}
+
+/// The heap of a book has an image of this text, and is sound.
+fn looks(rt: &impl Abort, alloc: Global, book: &Book, wanted: &str) -> Result<(), AllocError> {
+    let image = Image::of(alloc, book.heap())?;
+    assert_eq!(rt; text_of(alloc, &image)?.as_str(), wanted);
+    assert_eq!(rt; verify(alloc, book.heap())?, Verdict::Sound);
+    assert_eq!(rt; verify_book(alloc, book)?, Verdict::Sound);
+    Ok(())
+}
+
+#[test]
+fn the_image_of_a_heap(rt: HostRuntime) -> Result<(), Fail> {
+    let alloc: Global = rt.alloc();
+    let mut book = book(alloc)?;
+    assert_eq!(rt; make_object(&mut book), Ok(()));
+    let wanted = "image words 16 frames 3 free 1 2\n\
+        layout 1 1\n\
+        page 1 open frame 0 starts 0 side\n\
+        page 2 unused frame - starts side\n\
+        page 3 unused frame - starts side\n\
+        page 4 unused frame - starts side\n\
+        page 5 unused frame - starts side\n\
+        page 6 unused frame - starts side\n\
+        frame 0 0 10 ff 0 0 0 0 0 0 0 0 0 0 0 0 0\n\
+        frame 1 0 0 0 0 0 0 0 0 0 0 0 0 0 0 0 0\n\
+        frame 2 0 0 0 0 0 0 0 0 0 0 0 0 0 0 0 0\n\
+        thread 0 load - registers 10 0\n\
+        global 0 10\n";
+    looks(&rt, alloc, &book, wanted)?;
+    Ok(())
+}
+
+#[test]
+fn the_image_of_an_object_that_moves(rt: HostRuntime) -> Result<(), Fail> {
+    let alloc: Global = rt.alloc();
+    let mut book = book(alloc)?;
+    let pages = PageList::new(vec![in alloc; 1; 1]?);
+    make_object(&mut book)?;
+    move_object(&mut book, pages)?;
+    let wanted = "image words 16 frames 3 free 2\n\
+        layout 1 1\n\
+        page 1 from frame 0 starts 0 side 0>32*\n\
+        page 2 open frame 1 starts 0 side\n\
+        page 3 unused frame - starts side\n\
+        page 4 unused frame - starts side\n\
+        page 5 unused frame - starts side\n\
+        page 6 unused frame - starts side\n\
+        frame 0 0 8000000000000010 ff 0 0 0 0 0 0 0 0 0 0 0 0 0\n\
+        frame 1 0 8000000000000010 ff 0 0 0 0 0 0 0 0 0 0 0 0 0\n\
+        frame 2 0 0 0 0 0 0 0 0 0 0 0 0 0 0 0 0\n\
+        thread 0 load 8000000000000010 registers 8000000000000010 0\n\
+        global 0 8000000000000010\n";
+    looks(&rt, alloc, &book, wanted)?;
+    Ok(())
+}
+
+/// A fault has this text, where pages have 16 words.
+fn reads(rt: &impl Abort, alloc: Global, fault: Fault, wanted: &str) -> Result<(), AllocError> {
+    let fault = FaultText { fault, words: 16 };
+    assert_eq!(rt; text_of(alloc, &fault)?.as_str(), wanted);
+    Ok(())
+}
+
+#[test]
+fn the_texts_of_faults(rt: HostRuntime) -> Result<(), Fail> {
+    let alloc: Global = rt.alloc();
+    reads(&rt, alloc, Fault::Frames, "fault frames")?;
+    reads(
+        &rt,
+        alloc,
+        Fault::Root(Root::Register(1, 2)),
+        "fault root t1.r2",
+    )?;
+    reads(
+        &rt,
+        alloc,
+        Fault::Root(Root::Pending(3)),
+        "fault pending t3",
+    )?;
+    reads(&rt, alloc, Fault::Root(Root::Global(4)), "fault global 4")?;
+    reads(&rt, alloc, Fault::Field(37, 5), "fault field 2.5.5")?;
+    reads(&rt, alloc, Fault::Twins(6), "fault twins 6")?;
+    Ok(())
+}
+
+/// A book whose object has moved from page 1, which is released, to page 2. A register, a global and
+/// a load that hasn't ended name it by its old address.
+fn moved_book(rt: &impl Abort, alloc: Global) -> Result<Book, NewFault> {
+    let pages = PageList::new(vec![in alloc; 1; 1]?);
+    let mut book = book(alloc)?;
+    assert_eq!(rt; make_object(&mut book), Ok(()));
+    assert_eq!(rt; move_object(&mut book, pages), Ok(()));
+    let released = book.act(WORKER, Step::Release(1));
+    assert_eq!(rt; released, Ok(Answer::Released { free: 2 }));
+    Ok(book)
+}
+
+/// An image has this as its first fault.
+fn finds(rt: &impl Abort, alloc: Global, image: &Image, fault: Fault) {
+    assert_eq!(rt; verify_image(alloc, image), Ok(Verdict::Faulty(fault)));
+}
+
+/// With this entry alone in the first page's side array, an image has this as its first fault.
+fn finds_by_entry(
+    rt: &impl Abort,
+    alloc: Global,
+    image: &mut Image,
+    entry: (u32, u64, bool),
+    fault: Fault,
+) -> Result<(), AllocError> {
+    if let Some(page) = image.pages.first_mut() {
+        page.side.clear();
+    }
+    add_entry(image, 1, entry)?;
+    finds(rt, alloc, image, fault);
+    Ok(())
+}
+
+#[test]
+fn entries_that_lead_nowhere(rt: HostRuntime) -> Result<(), Fail> {
+    let alloc: Global = rt.alloc();
+    let book = moved_book(&rt, alloc)?;
+    let mut image = Image::of(alloc, book.heap())?;
+    assert_eq!(rt; verify_image(alloc, &image), Ok(Verdict::Sound));
+    let first = Fault::Root(Root::Register(0, 0));
+    finds_by_entry(&rt, alloc, &mut image, (0, 32, false), first)?;
+    finds_by_entry(&rt, alloc, &mut image, (0, 33, true), first)?;
+    Ok(())
+}
+
+#[test]
+fn a_copy_without_memory(rt: HostRuntime) -> Result<(), Fail> {
+    let alloc: Global = rt.alloc();
+    let book = moved_book(&rt, alloc)?;
+    let mut image = Image::of(alloc, book.heap())?;
+    set_page(&mut image, 2, PageState::Open, None);
+    finds(&rt, alloc, &image, Fault::Frames);
+    Ok(())
+}
+
+#[test]
+fn a_load_that_names_nothing(rt: HostRuntime) -> Result<(), Fail> {
+    let alloc: Global = rt.alloc();
+    let book = moved_book(&rt, alloc)?;
+    let mut image = Image::of(alloc, book.heap())?;
+    set_load(&mut image, 0, Some((1 << 63) + 48));
+    finds(&rt, alloc, &image, Fault::Root(Root::Pending(0)));
+    Ok(())
+}
