@@ -80,7 +80,8 @@ fn put_verified(text: &mut String, count: u64) -> Result<(), AllocError> {
 /// comes the line `verified n`, with how many verifications there were.
 ///
 /// Where one finds a fault, the command of its step has no line: the fault's line comes, and then
-/// nothing more. No run of this library comes to that. The faults of the run itself are want of memory and a writer that failed.
+/// nothing more. No run of this library comes to that. The faults of the run itself are want of
+/// memory and a writer that failed.
 pub fn by_check<W: io::Write>(
     alloc: Global,
     script: &Script,
