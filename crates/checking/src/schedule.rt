@@ -75,6 +75,50 @@ fn put_verified(text: &mut String, count: u64) -> Result<(), AllocError> {
     writeln!(text, "verified {count}")
 }
 
+/// Tells of a fault that a verification found.
+fn tell_fault<W: io::Write>(
+    book: &Book,
+    text: &mut String,
+    fault: Fault,
+    w: &mut W,
+) -> Result<Checked, RunFault> {
+    put_fault(text, fault, book.heap().store().page_words())?;
+    tell(w, text)?;
+    Ok(Checked::Faulty(fault))
+}
+
+/// Tells of a heap that was found sound each time: the report, and how many verifications there were.
+fn tell_sound<W: io::Write>(
+    alloc: Global,
+    book: &Book,
+    text: &mut String,
+    w: &mut W,
+) -> Result<Checked, RunFault>
+    ensures { IfOk result IsClean }
+{
+    report(alloc, book.heap(), book.history(), w)?;
+    let count = book.history().len() as u64 + 1;
+    put_verified(text, count)?;
+    tell(w, text)?;
+    Ok(Checked::Sound(count))
+}
+
+/// Does commands in order on a book whose heap is verified each time, and tells how it ended.
+fn check_book<W: io::Write>(
+    alloc: Global,
+    book: &mut Book,
+    commands: &[Command],
+    w: &mut W,
+) -> Result<Checked, RunFault>
+    ensures { IfOk result IsClean }
+{
+    let mut text = String::new(alloc);
+    match first_fault(alloc, book, commands, &mut text, w)? {
+        Some(fault) => tell_fault(book, &mut text, fault, w),
+        None => tell_sound(alloc, book, &mut text, w),
+    }
+}
+
 /// Runs a script on a new heap as `by_schedule` does, and verifies the heap before the first command
 /// and after each accepted step, those inside a whole load or a drain too (ours). Behind the report
 /// comes the line `verified n`, with how many verifications there were.
@@ -90,15 +134,5 @@ pub fn by_check<W: io::Write>(
     ensures { IfOk result IsClean }
 {
     let mut book = new_book(alloc, script)?;
-    let mut text = String::new(alloc);
-    if let Some(fault) = first_fault(alloc, &mut book, script.commands(), &mut text, w)? {
-        put_fault(&mut text, fault, book.heap().store().page_words())?;
-        tell(w, &text)?;
-        return Ok(Checked::Faulty(fault));
-    }
-    report(alloc, book.heap(), book.history(), w)?;
-    let count = book.history().len() as u64 + 1;
-    put_verified(&mut text, count)?;
-    tell(w, &text)?;
-    Ok(Checked::Sound(count))
+    check_book(alloc, &mut book, script.commands(), w)
 }
