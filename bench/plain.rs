@@ -3,8 +3,7 @@
 //! the library's calls. It has no collector, so it stays in `Idle` and no page is ever protected;
 //! the tests of phase, page state and NMT bit are made all the same.
 //!
-//! `plain MIX COUNT` does so many turns of a mix, as `crates/bench/src/mixes.rt` describes them, and
-//! prints a number that they give.
+//! `plain MIX COUNT` does turns of a mix of `crates/bench/src/mixes.rt`, and prints what they give.
 
 use std::{collections::BTreeSet, env, error::Error, hint::black_box};
 
@@ -324,9 +323,8 @@ impl Heap {
 
     /// Whether the place of the load still had what was loaded, and was written.
     fn heal(&mut self, thread: u32) -> Result<bool, Refusal> {
-        let (barrier, crossed) = self.barrier(thread)?;
+        let (&barrier, crossed) = self.barrier(thread)?;
         refuse(self.trap_due(barrier.now, crossed), Refusal::Busy)?;
-        let barrier = *barrier;
         self.threads[thread as usize].barrier = Some(Barrier { healed: true, ..barrier });
         let word = match barrier.source {
             Source::Field(address) => self.place(address).and_then(|place| self.words.get_mut(place)),
@@ -492,8 +490,10 @@ fn main() -> Result<(), Box<dyn Error>> {
         "globals" => (1, globals),
         _ => return Err("no such mix".into()),
     };
-    // The compiler isn't to know what the heap holds, least of all its phase.
+    // The compiler isn't to know what the heap holds, least of all its phase. The memory is written
+    // before the turns, as the library's is.
     let mut heap = black_box(Heap::empty(WORDS as usize, frames, vec![Layout { refs: 1, nums: 1 }]));
+    heap.words.fill(0);
     let done = build(&mut heap, 1_000).and_then(|_| turns(&mut heap, count));
     println!("{}", done.map_err(|refusal| format!("refused {refusal:?}"))?);
     Ok(())
