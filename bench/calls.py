@@ -1,5 +1,5 @@
 #!/usr/bin/env python3
-"""Times loops over the library's calls: python3 bench/calls.py [PROGRAM].
+"""Times loops over the library's calls: python3 bench/calls.py [--instructions] [PROGRAM].
 
 The program is that of the crate `bench`. Each figure is the difference of two
 runs, the best of several, of which one leaves the calls out; the runs take
@@ -11,12 +11,22 @@ copied from one list to another, a slice of a page at a time.
 
 Verifications: half the frames of a heap are filled with objects of 4 words
 that live, and the heap is verified some times.
+
+Steps: loops of steps, each of one mix (crates/bench/src/mixes.rt), by each
+form of calls, and by `bench/plain.rs`, a heap written by hand in plain Rust,
+which `rustc` compiles. Where there is no `rustc`, the ratios are left out.
+With --instructions this is all that is done, and instructions are counted, by
+`valgrind`, instead of time.
 """
 
+import argparse
 import os
+import re
 import resource
+import shutil
 import subprocess
 import sys
+import tempfile
 
 RUNS = 25
 PAGES = 2_048
@@ -27,6 +37,17 @@ SIZES = [2, 8, 64, 511]
 HEAPS = [(16, 16, 2_000), (16, 256, 200), (16, 4_096, 10), (4_096, 16, 20), (4_096, 256, 2), (4_096, 4_096, 1)]
 VERIFICATION_RUNS = 5
 
+# Mixes, with the steps of a turn.
+MIXES = {"data": 2, "build": 3, "walk": 4, "registers": 4, "globals": 4}
+STEP_RUNS = 15
+
+# Forms of calls, with the turns that are timed. A history has at most 1,000,000 entries.
+TURNS = {"plain": 5_000_000, "step": 2_000_000, "act": 200_000}
+
+# Turns that are counted, and turns before the count.
+COUNTED = 40_000
+UNCOUNTED = 2_000
+
 
 def spent():
     """Seconds of a processor that ended runs have spent."""
@@ -34,27 +55,35 @@ def spent():
     return usage.ru_utime + usage.ru_stime
 
 
-def timed(program, words):
+def timed(command):
     """Seconds of a processor that one run spends."""
     before = spent()
-    subprocess.run([program] + [str(word) for word in words], stdout=subprocess.DEVNULL, check=True)
+    subprocess.run(command, stdout=subprocess.DEVNULL, check=True)
     return spent() - before
 
 
-def differences(program, runs, forms):
-    """Seconds by which the second of each form's two runs takes longer than the first."""
+def counted(command):
+    """Instructions that one run takes."""
+    tool = ["valgrind", "--tool=callgrind", "--callgrind-out-file=/dev/null"]
+    run = subprocess.run(tool + command, capture_output=True, text=True, check=True)
+    return int(re.search(r"Collected : (\d+)", run.stderr).group(1))
+
+
+def differences(measured, runs, forms):
+    """What the second of each form's two commands takes more than the first, by a measure of a run."""
     best = {(form, which): float("inf") for form in forms for which in (0, 1)}
     for _ in range(runs):
         for form, which in best:
-            best[form, which] = min(best[form, which], timed(program, forms[form][which]))
+            command = [str(word) for word in forms[form][which]]
+            best[form, which] = min(best[form, which], measured(command))
     return {form: best[form, 1] - best[form, 0] for form in forms}
 
 
 def print_copies(program):
     """Times copies of objects, beside copies of slices."""
-    forms = {size: [["copies", size, PAGES, copied] for copied in (0, PAGES)] for size in SIZES}
-    forms["slices"] = [["slices", PAGES, copied] for copied in (0, PAGES)]
-    took = differences(program, RUNS, forms)
+    forms = {size: [[program, "copies", size, PAGES, copied] for copied in (0, PAGES)] for size in SIZES}
+    forms["slices"] = [[program, "slices", PAGES, copied] for copied in (0, PAGES)]
+    took = differences(timed, RUNS, forms)
     slices = took["slices"] / (PAGES * WORDS) * 1e9
     print(f"A word of a slice: {slices:.2f} ns")
     print()
@@ -67,9 +96,9 @@ def print_copies(program):
 
 def print_verifications(program):
     """Times verifications of heaps of several sizes."""
-    forms = {(words, frames, times): [["verified", words, frames, count] for count in (0, times)]
+    forms = {(words, frames, times): [[program, "verified", words, frames, count] for count in (0, times)]
              for words, frames, times in HEAPS}
-    took = differences(program, VERIFICATION_RUNS, forms)
+    took = differences(timed, VERIFICATION_RUNS, forms)
     print("| Words a page | Frames | ms a verification | ns a word |")
     print("|---|---|---|---|")
     for words, frames, times in HEAPS:
@@ -77,13 +106,91 @@ def print_verifications(program):
         print(f"| {words:,} | {frames:,} | {each * 1e3:.3f} | {each / (words * frames) * 1e9:.1f} |")
 
 
+def compiled_plain(folder):
+    """The plain heap as a program in a folder; none where there is no compiler."""
+    compiler = shutil.which("rustc")
+    if compiler is None:
+        print("There is no rustc, so the library isn't put beside a plain heap.")
+        print()
+        return None
+    plain = os.path.join(folder, "plain")
+    source = os.path.join(os.path.dirname(os.path.abspath(__file__)), "plain.rs")
+    subprocess.run([compiler, "--edition", "2021", "-C", "opt-level=3", "-o", plain, source], check=True)
+    return plain
+
+
+def mix_commands(program, plain):
+    """For each mix by each form of calls, the words of a command but for its count."""
+    commands = {}
+    for mix in MIXES:
+        for form in TURNS:
+            if form != "plain":
+                commands[mix, form] = [program, f"{form}-{mix}"]
+            elif plain is not None:
+                commands[mix, form] = [plain, mix]
+    return commands
+
+
+def check_agreement(commands):
+    """All forms of a mix must give the same number."""
+    for mix in MIXES:
+        numbers = {subprocess.run(command + ["3000"], capture_output=True, text=True, check=True).stdout.strip()
+                   for (named, _), command in commands.items() if named == mix}
+        if len(numbers) != 1:
+            sys.exit(f"the forms of the mix {mix} give different numbers: {', '.join(sorted(numbers))}")
+
+
+def times_a_step(commands):
+    """Nanoseconds a step, of each mix by each form."""
+    forms = {key: [command + [turns] for turns in (0, TURNS[key[1]])] for key, command in commands.items()}
+    took = differences(timed, STEP_RUNS, forms)
+    return {(mix, form): took[mix, form] / (TURNS[form] * MIXES[mix]) * 1e9 for mix, form in commands}
+
+
+def instructions_a_step(commands):
+    """Instructions a step, of each mix by each form."""
+    if shutil.which("valgrind") is None:
+        sys.exit("there is no valgrind, which counts instructions")
+    forms = {key: [command + [turns] for turns in (UNCOUNTED, UNCOUNTED + COUNTED)]
+             for key, command in commands.items()}
+    took = differences(counted, 1, forms)
+    return {(mix, form): took[mix, form] / (COUNTED * MIXES[mix]) for mix, form in commands}
+
+
+def print_steps(program, instructions):
+    """Times steps of each mix by each form of calls, or counts their instructions."""
+    with tempfile.TemporaryDirectory() as folder:
+        plain = compiled_plain(folder)
+        commands = mix_commands(program, plain)
+        check_agreement(commands)
+        each = instructions_a_step(commands) if instructions else times_a_step(commands)
+    forms = [form for form in TURNS if plain is not None or form != "plain"]
+    over = [form for form in forms if form != "plain"] if plain is not None else []
+    heads = ["Mix"] + forms + [f"{form} over plain" for form in over]
+    print("Instructions a step:" if instructions else "Nanoseconds a step:")
+    print()
+    print("| " + " | ".join(heads) + " |")
+    print("|---" * len(heads) + "|")
+    for mix in MIXES:
+        cells = [f"{each[mix, form]:.1f}" for form in forms]
+        cells += [f"{each[mix, form] / each[mix, 'plain']:.1f}" for form in over]
+        print("| " + " | ".join([mix] + cells) + " |")
+
+
 def main():
-    program = os.path.abspath(sys.argv[1] if len(sys.argv) > 1 else "crates/bench/out/bench")
+    parser = argparse.ArgumentParser(description="Times loops over the library's calls.")
+    parser.add_argument("program", nargs="?", default="crates/bench/out/bench")
+    parser.add_argument("--instructions", action="store_true", help="count instructions of steps, and nothing else")
+    words = parser.parse_args()
+    program = os.path.abspath(words.program)
     if not os.access(program, os.X_OK):
         sys.exit(f"{program} isn't there: run 'make bench'")
-    print_copies(program)
-    print()
-    print_verifications(program)
+    if not words.instructions:
+        print_copies(program)
+        print()
+        print_verifications(program)
+        print()
+    print_steps(program, words.instructions)
 
 
 if __name__ == "__main__":

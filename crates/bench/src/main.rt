@@ -4,10 +4,14 @@
 //! loop's.
 #![tactic(auto)]
 
+mod acting;
+mod mixes;
 mod moving;
+mod stepping;
 mod verifying;
 
 use anyhow::{Result, bail};
+use std::alloc::Global;
 use std::env;
 
 /// The word of a place, as a number; 0 where there is none.
@@ -27,6 +31,22 @@ fn words(rt: &HostRuntime) -> Result<Vec<String>> {
     Ok(words)
 }
 
+/// So many turns of a mix by a form of calls, as `step-data` names them. Gives a number that they
+/// give.
+fn turns(alloc: Global, name: &str, count: u32) -> Result<u64> {
+    let Some((form, mix)) = name.split_once('-') else {
+        bail!("no such mix");
+    };
+    let Some(mix) = mixes::named(mix) else {
+        bail!("no such mix");
+    };
+    match form {
+        "step" => stepping::run(alloc, mix, count),
+        "act" => acting::run(alloc, mix, count),
+        _ => bail!("no such form"),
+    }
+}
+
 /// Runs a mix, and prints a number that its work gives.
 fn run(rt: &HostRuntime, words: &[String]) -> Result<()> {
     let Some(mix) = words.first() else {
@@ -40,7 +60,7 @@ fn run(rt: &HostRuntime, words: &[String]) -> Result<()> {
             verifying::verifications(rt.alloc(), first, second, third)?
         )?,
         "slices" => println!(rt; "{}", moving::slices(rt.alloc(), first, second)?)?,
-        _ => bail!("no such mix"),
+        name => println!(rt; "{}", turns(rt.alloc(), name, first)?)?,
     }
     Ok(())
 }
