@@ -3,13 +3,14 @@
 
 ghost use Rattle.std.specs.Prelude.{◌≡◌};
 ghost use Rattle.model.specs.Refusing.{Does};
+ghost use Rattle.model.specs.Saying.{said, done, healed};
 ghost use Rattle.model.specs.Outcome.{Passes};
 ghost use Rattle.model.specs.declared.steps.Step.TheVariants as steps;
 ghost use Rattle.model.specs.Loads.{are_bits_of, set_healed, heal_place, heal_outcome, may_finish, end_load, finish_outcome};
 
 use crate::traps::trap_due;
 use heap::{Edits, Heap};
-use model::{Answer, Barrier, Refusal, Reply};
+use model::{Barrier, Refusal};
 use refword::Word;
 
 /// Whether bits are there, and are those of a word.
@@ -34,29 +35,30 @@ fn set_healed(barrier: Barrier) -> Barrier
     }
 }
 
-/// Writes the word of a barrier back, where its place still has what was loaded.
+/// Writes the word of a barrier back, where its place still has what was loaded. Gives whether it
+/// has.
 #[tactic(auto, unfolding(model::specs::Loads::heal_place))]
-fn heal_place(heap: &mut Heap, thread: u32, barrier: Barrier) -> Answer
-    ensures { heal_place heap.old thread barrier ≡ (heap.new, result) }
+fn heal_place(heap: &mut Heap, thread: u32, barrier: Barrier) -> bool
+    ensures { heal_place heap.old thread barrier ≡ (heap.new, healed result) }
 {
     if are_bits_of(heap.bits_at(barrier.place), barrier.raw) {
         heap.set_place(barrier.place, barrier.now);
         heap.set_barrier(thread, set_healed(barrier));
-        Answer::Healed
+        true
     } else {
         heap.set_barrier(thread, set_healed(barrier));
-        Answer::Changed
+        false
     }
 }
 
-/// The place of a thread's load gets the word in its barrier, where it still has what was loaded:
-/// `Healed`, else `Changed`. Threads count from 0.
+/// The place of a thread's load gets the word in its barrier, where it still has what was loaded.
+/// Gives whether it has. Threads count from 0.
 ///
 /// Refused where no barrier is open (`NotBusy`), and where a trap is due (`Busy`).
 #[tactic(auto, unfolding(model::specs::Loads::heal_outcome))]
-pub fn heal(heap: &mut Heap, thread: u32) -> Reply
+pub fn heal(heap: &mut Heap, thread: u32) -> Result<bool, Refusal>
     requires { Passes heap.old thread steps.Heal }
-    ensures { Does heap.old result heap.new (heal_outcome heap.old thread) }
+    ensures { Does heap.old (said healed result) heap.new (heal_outcome heap.old thread) }
 {
     let Some(barrier) = heap.barrier(thread) else {
         return Err(Refusal::NotBusy);
@@ -68,6 +70,7 @@ pub fn heal(heap: &mut Heap, thread: u32) -> Reply
 }
 
 /// Whether a load may end: its word is the one that was loaded, or its place is healed.
+#[inline(always)]
 fn may_finish(barrier: &Barrier) -> bool
     ensures { result ≡ may_finish barrier.entry.now }
 {
@@ -75,15 +78,16 @@ fn may_finish(barrier: &Barrier) -> bool
 }
 
 /// Ends a load for whose word no trap is due.
+#[inline(always)]
 #[tactic(auto, unfolding(model::specs::Loads::end_load))]
-fn end_load(heap: &mut Heap, thread: u32, barrier: Barrier) -> Reply
-    ensures { Does heap.old result heap.new (end_load heap.old thread barrier) }
+fn end_load(heap: &mut Heap, thread: u32, barrier: Barrier) -> Result<(), Refusal>
+    ensures { Does heap.old (said done result) heap.new (end_load heap.old thread barrier) }
 {
     if !may_finish(&barrier) {
         return Err(Refusal::Busy);
     }
     heap.set_loaded(thread, barrier.target, barrier.now);
-    Ok(Answer::Done)
+    Ok(())
 }
 
 /// A thread's load ends: its register gets the word in the barrier, which closes. Threads count
@@ -91,10 +95,11 @@ fn end_load(heap: &mut Heap, thread: u32, barrier: Barrier) -> Reply
 ///
 /// Refused where no barrier is open (`NotBusy`); `Busy` where a trap is due, or the word was
 /// corrected and its place isn't healed.
+#[inline(always)]
 #[tactic(auto, unfolding(model::specs::Loads::finish_outcome))]
-pub fn finish(heap: &mut Heap, thread: u32) -> Reply
+pub fn finish(heap: &mut Heap, thread: u32) -> Result<(), Refusal>
     requires { Passes heap.old thread steps.Finish }
-    ensures { Does heap.old result heap.new (finish_outcome heap.old thread) }
+    ensures { Does heap.old (said done result) heap.new (finish_outcome heap.old thread) }
 {
     let Some(open) = heap.barrier(thread) else {
         return Err(Refusal::NotBusy);

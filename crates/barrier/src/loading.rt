@@ -1,16 +1,19 @@
 //! Loads begin: the first half of the paper's read barrier.
 
-ghost use Rattle.std.specs.Prelude.{◌≡◌};
+ghost use Rattle.std.specs.Prelude.{◌≡◌, Ok};
 ghost use Rattle.model.specs.Refusing.{Does};
+ghost use Rattle.model.specs.Saying.{said, loaded};
 ghost use Rattle.model.specs.Outcome.{Passes};
 ghost use Rattle.model.specs.declared.steps.Step.TheVariants as steps;
+ghost use Rattle.model.specs.declared.steps.Answer.TheVariants as answers;
 ghost use Rattle.model.specs.Loads.{new_barrier, load_outcome, load_global_outcome};
 
 use heap::{Edits, Heap, read_reference};
-use model::{Answer, Barrier, Place, Refusal, Reply};
+use model::{Barrier, Place, Refusal};
 use refword::Word;
 
 /// The barrier of a load that has just read a word.
+#[inline(always)]
 fn new_barrier(target: u32, place: Place, word: Word) -> Barrier
     ensures { result ≡ new_barrier target place word }
 {
@@ -27,16 +30,23 @@ fn new_barrier(target: u32, place: Place, word: Word) -> Barrier
 /// references count from 0.
 ///
 /// Refused as `Heap::usable` is for the object; `BadIndex` where it has no such reference.
+#[inline(always)]
 #[tactic(auto, unfolding(model::specs::Loads::load_outcome))]
-pub fn load(heap: &mut Heap, thread: u32, target: u32, object: u32, field: u32) -> Reply
+pub fn load(
+    heap: &mut Heap,
+    thread: u32,
+    target: u32,
+    object: u32,
+    field: u32,
+) -> Result<(), Refusal>
     requires { Passes heap.old thread (steps.Load target object field) }
-    ensures { Does heap.old result heap.new (load_outcome heap.old thread target object field) }
+    ensures { Does heap.old (said loaded result) heap.new (load_outcome heap.old thread target object field) }
 {
     let address = heap.usable(thread, object)?;
-    let Some(place) = heap.field_at(address, field) else {
+    let Some(ahead) = heap.field_behind(address, field) else {
         return Err(Refusal::BadIndex);
     };
-    let Some(bits) = heap.store().word(place) else {
+    let Some(bits) = heap.store().word_behind(address, ahead) else {
         return Err(Refusal::BadIndex);
     };
     let place = Place::Field {
@@ -44,17 +54,17 @@ pub fn load(heap: &mut Heap, thread: u32, target: u32, object: u32, field: u32) 
         index: field,
     };
     heap.set_barrier(thread, new_barrier(target, place, read_reference(bits)));
-    Ok(Answer::Loaded)
+    Ok(())
 }
 
 /// A thread begins to load a global for a register. Threads, registers and globals count from 0.
 /// Refuses nothing.
+#[inline(always)]
 #[tactic(auto, unfolding(model::specs::Loads::load_global_outcome))]
-pub fn load_global(heap: &mut Heap, thread: u32, target: u32, global: u32) -> Reply
+pub fn load_global(heap: &mut Heap, thread: u32, target: u32, global: u32)
     requires { Passes heap.old thread (steps.LoadGlobal target global) }
-    ensures { Does heap.old result heap.new (load_global_outcome heap.old thread target global) }
+    ensures { load_global_outcome heap.old thread target global ≡ Ok (heap.new, answers.Loaded) }
 {
     let word = heap.global(global);
     heap.set_barrier(thread, new_barrier(target, Place::Global(global), word));
-    Ok(Answer::Loaded)
 }

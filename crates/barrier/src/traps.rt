@@ -2,6 +2,7 @@
 
 ghost use Rattle.std.specs.Prelude.{◌≡◌, Ok};
 ghost use Rattle.model.specs.Refusing.{Does};
+ghost use Rattle.model.specs.Saying.{said, trapped};
 ghost use Rattle.model.specs.Outcome.{Passes};
 ghost use Rattle.model.specs.declared.steps.Step.TheVariants as steps;
 ghost use Rattle.model.specs.Loads.{gc_trap_due, nmt_trap_due, trap_due, set_now_of, nmt_trap};
@@ -9,11 +10,12 @@ ghost use Rattle.model.specs.Traps.{gc_trap, trap_outcome};
 
 use heap::{Edits, Heap};
 use marker::mark;
-use model::{Answer, Barrier, Phase, Refusal, Reply};
+use model::{Barrier, Phase, Refusal, Trap};
 use refword::Word;
 use relocate::follow;
 
 /// Whether a GC trap is due: the word names a page that the thread may not use.
+#[inline(always)]
 fn gc_trap_due(heap: &Heap, thread: u32, word: Word) -> bool
     ensures { result ≡ gc_trap_due heap.now thread word }
 {
@@ -24,6 +26,7 @@ fn gc_trap_due(heap: &Heap, thread: u32, word: Word) -> bool
 }
 
 /// Whether an NMT trap is due: the word has still to be marked.
+#[inline(always)]
 fn nmt_trap_due(heap: &Heap, thread: u32, word: Word) -> bool
     ensures { result ≡ nmt_trap_due heap.now thread word }
 {
@@ -34,6 +37,7 @@ fn nmt_trap_due(heap: &Heap, thread: u32, word: Word) -> bool
 }
 
 /// Whether a trap is due for a word that a thread, by its number from 0, has loaded.
+#[inline(always)]
 #[tactic(auto, unfolding(model::specs::Loads::trap_due))]
 pub fn trap_due(heap: &Heap, thread: u32, word: Word) -> bool
     ensures { result ≡ trap_due heap.now thread word }
@@ -55,43 +59,44 @@ fn set_now(barrier: Barrier, word: Word) -> Barrier
 }
 
 /// The NMT trap: the word of a barrier is marked, where that is due.
-fn nmt_trap(heap: &mut Heap, thread: u32, barrier: Barrier) -> Answer
-    ensures { nmt_trap heap.old thread barrier ≡ Ok (heap.new, result) }
+fn nmt_trap(heap: &mut Heap, thread: u32, barrier: Barrier) -> Trap
+    ensures { nmt_trap heap.old thread barrier ≡ Ok (heap.new, trapped result) }
 {
     if !nmt_trap_due(heap, thread, barrier.now) {
-        return Answer::Clear;
+        return Trap::Clear;
     }
     let marked = mark(heap, barrier.now);
     heap.set_barrier(thread, set_now(barrier, marked));
-    Answer::Marked
+    Trap::Marked
 }
 
 /// The GC trap: the word of a barrier names the copy, which is made first where it wasn't. Refused
 /// as `Stall` while pages are being protected.
-fn gc_trap(heap: &mut Heap, thread: u32, barrier: Barrier) -> Reply
-    ensures { Does heap.old result heap.new (gc_trap heap.old thread barrier barrier.now) }
+fn gc_trap(heap: &mut Heap, thread: u32, barrier: Barrier) -> Result<Trap, Refusal>
+    ensures { Does heap.old (said trapped result) heap.new (gc_trap heap.old thread barrier barrier.now) }
 {
     let Some(address) = barrier.now.addr() else {
-        return Ok(Answer::Clear);
+        return Ok(Trap::Clear);
     };
     if matches!(heap.phase(), Phase::ProtectCrossing) {
         return Err(Refusal::Stall);
     }
     let moved = follow(heap, address, barrier.now.nmt());
     heap.set_barrier(thread, set_now(barrier, moved));
-    Ok(Answer::Moved)
+    Ok(Trap::Moved)
 }
 
 /// A thread, by its number from 0, asks for the trap that is due for its word. Where it is a GC
 /// trap, the word names the copy of its object, which is made first where it wasn't (`Moved`); where
-/// it is an NMT trap, the word is marked (`Marked`); where none is due, the answer is `Clear`.
+/// it is an NMT trap, the word is marked (`Marked`); where none is due, it gives `Clear`.
 ///
 /// Refused where no barrier is open (`NotBusy`), and where a GC trap is due while some thread hasn't
 /// crossed the checkpoint of protected pages (`Stall`).
+#[inline(always)]
 #[tactic(auto, unfolding(model::specs::Traps::trap_outcome))]
-pub fn trap(heap: &mut Heap, thread: u32) -> Reply
+pub fn trap(heap: &mut Heap, thread: u32) -> Result<Trap, Refusal>
     requires { Passes heap.old thread steps.Trap }
-    ensures { Does heap.old result heap.new (trap_outcome heap.old thread) }
+    ensures { Does heap.old (said trapped result) heap.new (trap_outcome heap.old thread) }
 {
     let Some(barrier) = heap.barrier(thread) else {
         return Err(Refusal::NotBusy);

@@ -5,6 +5,7 @@
 #![tactic(auto)]
 
 mod acting;
+mod calling;
 mod mixes;
 mod moving;
 mod stepping;
@@ -41,6 +42,7 @@ fn turns(alloc: Global, name: &str, count: u32) -> Result<u64> {
         bail!("no such mix");
     };
     match form {
+        "call" => calling::run(alloc, mix, count),
         "step" => stepping::run(alloc, mix, count),
         "act" => acting::run(alloc, mix, count),
         _ => bail!("no such form"),

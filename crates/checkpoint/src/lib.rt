@@ -4,10 +4,12 @@
 //! one of its sections tells a rule of that section; all else is ours.
 #![tactic(auto)]
 
-ghost use Rattle.std.specs.Prelude.{◌≡◌};
+ghost use Rattle.std.specs.Prelude.{◌≡◌, Ok};
 ghost use Rattle.model.specs.Refusing.{Does};
+ghost use Rattle.model.specs.Saying.{said, done, scrubbed};
 ghost use Rattle.model.specs.Outcome.{Passes, WorkerPasses};
 ghost use Rattle.model.specs.declared.steps.Step.TheVariants as steps;
+ghost use Rattle.model.specs.declared.steps.Answer.TheVariants as answers;
 ghost use Rattle.model.specs.Checkpoints.{with_marked_register, with_marked_registers, marked_at_crossing, cross_thread, may_cross, cross_for_outcome};
 ghost use Rattle.model.specs.Checkpoints.{cross_outcome, park_outcome, unpark_outcome};
 ghost use Rattle.model.specs.Traps.{scrub_word, scrub_outcome};
@@ -76,12 +78,12 @@ fn may_cross(heap: &Heap, thread: u32) -> Result<(), Refusal>
 
 /// What `cross` does, for either actor.
 #[tactic(auto, unfolding(model::specs::Checkpoints::cross_outcome))]
-fn cross_open(heap: &mut Heap, thread: u32) -> Reply
-    ensures { Does heap.old result heap.new (cross_outcome heap.old thread) }
+fn cross_open(heap: &mut Heap, thread: u32) -> Result<(), Refusal>
+    ensures { Does heap.old (said done result) heap.new (cross_outcome heap.old thread) }
 {
     may_cross(heap, thread)?;
     cross_thread(heap, thread);
-    Ok(Answer::Done)
+    Ok(())
 }
 
 /// A thread crosses the open checkpoint (the paper's checkpoints). At a mark's checkpoint the words
@@ -89,9 +91,9 @@ fn cross_open(heap: &mut Heap, thread: u32) -> Reply
 /// the last, the next phase begins. Threads count from 0.
 ///
 /// Refused where no checkpoint is open (`Phase`), and where it has crossed (`AlreadyCrossed`).
-pub fn cross(heap: &mut Heap, thread: u32) -> Reply
+pub fn cross(heap: &mut Heap, thread: u32) -> Result<(), Refusal>
     requires { Passes heap.old thread steps.Cross }
-    ensures { Does heap.old result heap.new (cross_outcome heap.old thread) }
+    ensures { Does heap.old (said done result) heap.new (cross_outcome heap.old thread) }
 {
     cross_open(heap, thread)
 }
@@ -106,37 +108,44 @@ pub fn cross_for(heap: &mut Heap, worker: u32, thread: u32) -> Reply
     ensures { Does heap.old result heap.new (cross_for_outcome heap.old thread) }
 {
     if heap.is_parked(thread) {
-        cross_open(heap, thread)
+        cross_open(heap, thread)?;
+        Ok(Answer::Done)
     } else {
         Err(Refusal::NotParked)
     }
 }
 
 /// Corrects the word in a register, where the thread may not use its address for good.
-fn scrub_word(heap: &mut Heap, thread: u32, register: u32, address: Addr, nmt: bool) -> Reply
-    ensures { Does heap.old result heap.new (scrub_word heap.old thread register (address, nmt)) }
+fn scrub_word(
+    heap: &mut Heap,
+    thread: u32,
+    register: u32,
+    address: Addr,
+    nmt: bool,
+) -> Result<bool, Refusal>
+    ensures { Does heap.old (said scrubbed result) heap.new (scrub_word heap.old thread register (address, nmt)) }
 {
     if heap.let_through(thread, address).is_ok() {
-        return Ok(Answer::Clean);
+        return Ok(false);
     }
     if matches!(heap.phase(), Phase::ProtectCrossing) {
         return Err(Refusal::Stall);
     }
     let moved = follow(heap, address, nmt);
     heap.set_register(thread, register, moved);
-    Ok(Answer::Moved)
+    Ok(true)
 }
 
 /// A register that names a protected page is corrected: it names the copy, which is made first where
-/// it wasn't (`Moved`); where it may be used as it is, the answer is `Clean` (ours). Threads and
-/// registers count from 0.
+/// it wasn't; where it may be used as it is, it stays (ours). Gives whether it was corrected. Threads
+/// and registers count from 0.
 ///
 /// Refused where it is null (`Null`), and where it names a protected page while some thread hasn't
 /// crossed the checkpoint of protected pages, and this one has (`Stall`).
 #[tactic(auto, unfolding(model::specs::Traps::scrub_outcome))]
-pub fn scrub(heap: &mut Heap, thread: u32, register: u32) -> Reply
+pub fn scrub(heap: &mut Heap, thread: u32, register: u32) -> Result<bool, Refusal>
     requires { Passes heap.old thread (steps.Scrub register) }
-    ensures { Does heap.old result heap.new (scrub_outcome heap.old thread register) }
+    ensures { Does heap.old (said scrubbed result) heap.new (scrub_outcome heap.old thread register) }
 {
     let word = heap.register(thread, register);
     match word.addr() {
@@ -148,23 +157,22 @@ pub fn scrub(heap: &mut Heap, thread: u32, register: u32) -> Reply
 /// A thread is parked: it does nothing but `Unpark` (ours; the paper's checkpoints speak of blocked
 /// threads). Threads count from 0. Refuses nothing.
 #[tactic(auto, unfolding(model::specs::Checkpoints::park_outcome))]
-pub fn park(heap: &mut Heap, thread: u32) -> Reply
+pub fn park(heap: &mut Heap, thread: u32)
     requires { Passes heap.old thread steps.Park }
-    ensures { Does heap.old result heap.new (park_outcome heap.old thread) }
+    ensures { park_outcome heap.old thread ≡ Ok (heap.new, answers.Done) }
 {
     heap.set_parked(thread, true);
-    Ok(Answer::Done)
 }
 
 /// A thread runs again (ours). Threads count from 0. Refused where it isn't parked (`NotParked`).
 #[tactic(auto, unfolding(model::specs::Checkpoints::unpark_outcome))]
-pub fn unpark(heap: &mut Heap, thread: u32) -> Reply
+pub fn unpark(heap: &mut Heap, thread: u32) -> Result<(), Refusal>
     requires { Passes heap.old thread steps.Unpark }
-    ensures { Does heap.old result heap.new (unpark_outcome heap.old thread) }
+    ensures { Does heap.old (said done result) heap.new (unpark_outcome heap.old thread) }
 {
     if !heap.is_parked(thread) {
         return Err(Refusal::NotParked);
     }
     heap.set_parked(thread, false);
-    Ok(Answer::Done)
+    Ok(())
 }

@@ -1,4 +1,5 @@
 pub mod Books
+pub mod Mutating
 pub mod Loads
 pub mod Drains
 pub mod Replays

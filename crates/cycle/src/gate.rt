@@ -7,6 +7,7 @@ use crate::pages::{are_bad_pages, no_page};
 use heap::Heap;
 use model::{Refusal, Step};
 
+#[inline(always)]
 #[tactic(auto, unfolding(model::specs::Outcome::no_register))]
 fn no_register(heap: &Heap, register: u32) -> bool
     ensures { result ≡ no_register heap.now register }
@@ -14,12 +15,14 @@ fn no_register(heap: &Heap, register: u32) -> bool
     register >= heap.config().registers
 }
 
+#[inline(always)]
 fn no_layout(heap: &Heap, layout: u32) -> bool
     ensures { result ≡ nat_le (length heap.now.config.layouts) layout }
 {
     layout as usize >= heap.config().layouts.len()
 }
 
+#[inline(always)]
 #[tactic(auto, unfolding(model::specs::Outcome::no_global))]
 fn no_global(heap: &Heap, global: u32) -> bool
     ensures { result ≡ no_global heap.now global }
@@ -27,6 +30,7 @@ fn no_global(heap: &Heap, global: u32) -> bool
     global as usize >= heap.globals().len()
 }
 
+#[inline(always)]
 fn no_thread(heap: &Heap, thread: u32) -> bool
     ensures { result ≡ nat_le (length heap.now.threads) thread }
 {
@@ -34,6 +38,7 @@ fn no_thread(heap: &Heap, thread: u32) -> bool
 }
 
 /// Whether a number in a step names nothing.
+#[inline(always)]
 fn has_bad_index(heap: &Heap, step: &Step) -> bool
     ensures { result ≡ has_bad_index heap.now step.now }
 {
@@ -70,6 +75,7 @@ fn has_bad_index(heap: &Heap, step: &Step) -> bool
 }
 
 /// Whether a worker does such a step; threads do all others.
+#[inline(always)]
 fn is_for_workers(step: &Step) -> bool
     ensures { result ≡ is_for_workers step.now }
 {
@@ -88,6 +94,7 @@ fn is_for_workers(step: &Step) -> bool
 }
 
 /// Whether a parked thread may do such a step.
+#[inline(always)]
 fn is_for_parked(step: &Step) -> bool
     ensures { result ≡ is_for_parked step.now }
 {
@@ -95,12 +102,14 @@ fn is_for_parked(step: &Step) -> bool
 }
 
 /// Whether a thread with an open barrier may do such a step.
+#[inline(always)]
 fn is_for_loading(step: &Step) -> bool
     ensures { result ≡ is_for_loading step.now }
 {
     matches!(step, Step::Trap | Step::Heal | Step::Finish)
 }
 
+#[inline(always)]
 fn is_loading(heap: &Heap, thread: u32) -> bool
     ensures { result ≡ is_loading_in (slice_get heap.now.threads thread) }
 {
@@ -110,6 +119,7 @@ fn is_loading(heap: &Heap, thread: u32) -> bool
 /// The tests of every step of a thread, in their order: no such thread, or no step of a thread;
 /// a number that names nothing; a parked thread, unless it is to run again; an open barrier, unless
 /// the step is one of its own.
+#[inline(always)]
 #[tactic(auto, unfolding(model::specs::Outcome::thread_gate))]
 pub fn thread_gate(heap: &Heap, thread: u32, step: &Step) -> Result<(), Refusal>
     ensures { result ≡ thread_gate heap.now thread step.now }

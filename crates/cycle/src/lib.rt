@@ -41,16 +41,20 @@
 #![tactic(auto)]
 
 mod book;
+mod calls;
 mod draining;
 mod gate;
 mod loading;
+mod mutating;
 mod pages;
 mod running;
+mod saying;
 mod stepping;
 
 pub use book::{Book, Entry};
 pub use draining::{drains_end, next_drain, verdict};
 pub use loading::three_traps;
-pub use model::{Actor, Answer, PageList, Reply, Step};
+pub use model::{Actor, Answer, Buffer, PageList, Reply, Step, Trap};
+pub use mutating::Mutating;
 pub use running::run;
 pub use stepping::Stepping;

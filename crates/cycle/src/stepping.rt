@@ -2,12 +2,15 @@
 
 ghost use Rattle.std.specs.Prelude.{◌≡◌, false};
 ghost use Rattle.model.specs.Refusing.{Does, DoesStep};
-ghost use Rattle.model.specs.Outcome.{Passes, WorkerPasses, thread_row, worker_row, outcome};
+ghost use Rattle.model.specs.declared.steps.Actor.TheVariants.{Thread};
+ghost use Rattle.model.specs.Outcome.{WorkerPasses, worker_row, outcome};
 ghost use Rattle.refinement.specs.Standing.{KeepsStanding};
 
+use crate::calls;
 use crate::gate::{thread_gate, worker_gate};
+use crate::saying::{done, healed, lent, loaded, scrubbed, trapped};
 use heap::Heap;
-use model::{Actor, Refusal, Reply, Step};
+use model::{Actor, Answer, Refusal, Reply, Step};
 
 /// What actors do to a heap, one step at a time.
 pub trait Stepping {
@@ -33,15 +36,12 @@ impl Stepping for Heap {
 }
 
 /// The step of an actor.
-#[tactic(auto, unfolding(model::specs::Outcome::outcome, model::specs::Outcome::thread_gate, model::specs::Outcome::worker_gate))]
+#[tactic(auto, unfolding(model::specs::Outcome::outcome, model::specs::Outcome::worker_gate))]
 fn actor_row(heap: &mut Heap, actor: Actor, step: &Step) -> Reply
     ensures { DoesStep heap.old step.now result heap.new (outcome heap.old actor step.now) }
 {
     match actor {
-        Actor::Thread(thread) => {
-            thread_gate(heap, thread, step)?;
-            thread_row(heap, thread, step)
-        }
+        Actor::Thread(thread) => thread_step(heap, thread, step),
         Actor::Worker(worker) => {
             worker_gate(heap, worker, step)?;
             worker_row(heap, worker, step)
@@ -49,47 +49,60 @@ fn actor_row(heap: &mut Heap, actor: Actor, step: &Step) -> Reply
     }
 }
 
-/// The step of a thread whose leading tests were passed.
-fn thread_row(heap: &mut Heap, thread: u32, step: &Step) -> Reply
-    requires { Passes heap.old thread step.now }
-    ensures { Does heap.old result heap.new (thread_row heap.old thread step.now) }
+/// The step of a thread: its call, and the answer that the value stands for.
+#[tactic(auto, unfolding(model::specs::Outcome::outcome, model::specs::Outcome::thread_gate))]
+fn thread_step(heap: &mut Heap, thread: u32, step: &Step) -> Reply
+    ensures { Does heap.old result heap.new (outcome heap.old (Thread thread) step.now) }
 {
     match step {
-        Step::Take(words) => heap.take(thread, *words),
-        Step::GiveBack => heap.give_back(thread),
-        Step::New { target, layout } => heap.new_object(thread, *target, *layout),
+        Step::Take(words) => Ok(lent(calls::take(heap, thread, *words)?)),
+        Step::GiveBack => done(calls::give_back(heap, thread)),
+        Step::New { target, layout } => {
+            Ok(Answer::Birth(calls::new_object(heap, thread, *target, *layout)?))
+        }
         Step::Load {
             target,
             object,
             field,
-        } => barrier::load(heap, thread, *target, *object, *field),
-        Step::LoadGlobal { target, global } => {
-            barrier::load_global(heap, thread, *target, *global)
-        }
-        Step::Trap => barrier::trap(heap, thread),
-        Step::Heal => barrier::heal(heap, thread),
-        Step::Finish => barrier::finish(heap, thread),
+        } => loaded(calls::load(heap, thread, *target, *object, *field)),
+        Step::LoadGlobal { target, global } => loaded(calls::load_global(
+            heap, thread, *target, *global,
+        )),
+        Step::Trap => Ok(trapped(calls::trap(heap, thread)?)),
+        Step::Heal => Ok(healed(calls::heal(heap, thread)?)),
+        Step::Finish => done(calls::finish(heap, thread)),
         Step::Store {
             object,
             field,
             source,
-        } => heap.store_reference(thread, *object, *field, *source),
-        Step::StoreGlobal { global, source } => heap.store_global(thread, *global, *source),
-        Step::Datum { object, index } => heap.datum(thread, *object, *index),
+        } => done(calls::store(heap, thread, *object, *field, *source)),
+        Step::StoreGlobal { global, source } => done(calls::store_global(
+            heap, thread, *global, *source,
+        )),
+        Step::Datum { object, index } => {
+            Ok(Answer::Datum(calls::datum(heap, thread, *object, *index)?))
+        }
         Step::SetDatum {
             object,
             index,
             value,
-        } => heap.set_datum(thread, *object, *index, *value),
-        Step::Same { left, right } => heap.same(thread, *left, *right),
-        Step::IsNull(register) => heap.is_null(thread, *register),
-        Step::CopyReg { target, source } => heap.copy_register(thread, *target, *source),
-        Step::ClearReg(register) => heap.clear_register(thread, *register),
-        Step::Cross => checkpoint::cross(heap, thread),
-        Step::Scrub(register) => checkpoint::scrub(heap, thread, *register),
-        Step::Park => checkpoint::park(heap, thread),
-        Step::Unpark => checkpoint::unpark(heap, thread),
-        _ => Err(Refusal::NoActor),
+        } => done(calls::set_datum(heap, thread, *object, *index, *value)),
+        Step::Same { left, right } => {
+            Ok(Answer::Truth(calls::same(heap, thread, *left, *right)?))
+        }
+        Step::IsNull(register) => Ok(Answer::Truth(calls::is_null(heap, thread, *register)?)),
+        Step::CopyReg { target, source } => done(calls::copy_register(
+            heap, thread, *target, *source,
+        )),
+        Step::ClearReg(target) => done(calls::clear_register(heap, thread, *target)),
+        Step::Cross => done(calls::cross(heap, thread)),
+        Step::Scrub(register) => Ok(scrubbed(calls::scrub(heap, thread, *register)?)),
+        Step::Park => done(calls::park(heap, thread)),
+        Step::Unpark => done(calls::unpark(heap, thread)),
+        _ => {
+            thread_gate(heap, thread, step)?;
+            Err(Refusal::NoActor)
+        }
     }
 }
 

@@ -32,11 +32,13 @@ use threads::{Thread, Threads};
 /// thread's buffer lies in an open page, that births stay within their limit, and that no page is
 /// protected while the collector is idle.
 ///
-/// A user makes one, reads it, and asks for steps by `Stepping` of `cycle`. For the crates that do
-/// steps there are rows besides: `take`, `give_back`, `new_object`, `store_reference`,
-/// `store_global`, `datum`, `set_datum`, `same`, `is_null`, `copy_register` and `clear_register`.
-/// A row asks that its step has passed the tests before it (the thread is there, numbers are in
-/// range, it isn't parked and has no open barrier), which are made by `cycle`. The rows of loads
+/// A user makes one, reads it, and asks for steps by `Mutating` or `Stepping` of `cycle`. For the crates that do
+/// steps there are rows besides, one for each step of a thread on its buffer, registers, objects
+/// and globals (`take_row`, `give_back_row`, `new_row`, `store_row`, `store_global_row`,
+/// `datum_row`, `set_datum_row`, `same_row`, `is_null_row`, `copy_register_row` and
+/// `clear_register_row`), which give plain values. A row asks that its step has passed the tests
+/// before it (the thread is there, numbers are in range, it isn't parked and has no open barrier),
+/// which are made by `cycle`, where the calls of an embedder stand (`Mutating`). The rows of loads
 /// stand in `barrier`, those of checkpoints in `checkpoint`, those of marks in `marker`, those of
 /// moving in `relocate`; they are made of the readers here, of `Edits` and `CollectorEdits`, and of
 /// what is called a raw edit. Threads, workers, globals and registers count from 0.

@@ -8,6 +8,7 @@ pub mod First
 pub mod Bits
 pub mod Holding
 pub mod Refusing
+pub mod Saying
 pub mod Registers
 pub mod Data
 pub mod References

@@ -16,4 +16,4 @@ pub use limits::{
     MOST_THREADS, MOST_WORDS, MOST_WORKERS,
 };
 pub use records::{Barrier, Buffer, Forwarding, Global, Page, PageState, Phase, Place, Room, Scan};
-pub use steps::{Actor, Answer, PageList, Refusal, Reply, Step};
+pub use steps::{Actor, Answer, PageList, Refusal, Reply, Step, Trap};

@@ -206,6 +206,18 @@ pub enum Answer {
     Released { free: u64 },
 }
 
+/// What a thread's trap came to: `Moved`, `Marked` or `Clear` of `Answer`, as the value of a call
+/// (the paper's read barrier).
+#[derive(Clone, Copy, Debug, PartialEq, Eq)]
+pub enum Trap {
+    /// The word names the copy now.
+    Moved,
+    /// The word was marked.
+    Marked,
+    /// No trap was due.
+    Clear,
+}
+
 /// Why a step isn't accepted (ours). A refused step changes nothing. As a text it is its name, then
 /// its numbers, each after a space: `NoFrames 1 0`.
 #[derive(Clone, Copy, Debug, PartialEq, Eq)]

@@ -4,6 +4,7 @@ pub mod Retiring
 pub mod Ended
 pub mod Keeping
 pub mod Lying
+pub mod Behind
 pub mod Trees
 pub mod Masks
 pub mod Relocated

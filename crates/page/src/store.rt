@@ -6,7 +6,7 @@ mod relocating;
 ghost use Rattle.std.specs.Prelude.{◌≡◌, ◌≤◌, ◌<◌, ◌+◌, ◌-◌, ◌/◌, ◌%◌, ◌^◌, length, slice_get, slice_set, slice_range, replicate, IfOk, IfSome, count_by, is_some, is_none, Some, None, true};
 ghost use Rattle.std.specs.Option.{option_map};
 ghost use Rattle.std.specs.Borrow.{sem};
-ghost use Rattle.model.specs.Stores.{first_store, page_at, state_at, state_in, spot_of, word_at, with_word, words_at, take_buffer, Takes, give_words, open_fresh, top_in, is_open, page_with_room, free_frame, unused_page, frame_in, record_count, take_fresh};
+ghost use Rattle.model.specs.Stores.{first_store, page_at, state_at, state_in, spot_of, word_in, word_at, changed_in, with_word, words_at, take_buffer, Takes, give_words, open_fresh, top_in, is_open, page_with_room, free_frame, unused_page, frame_in, record_count, take_fresh};
 ghost use Rattle.model.specs.Configs.{is_page_size};
 ghost use Rattle.model.specs.declared.limits.TheConstants.{MOST_WORDS, MOST_FRAMES, MOST_PAGES};
 ghost use Rattle.model.specs.Owning.{IsStore, LiesIn, TakesWell};
@@ -179,6 +179,7 @@ impl Store {
     }
 
     /// The record of a page by its number, if it has one: none for 0, nor past the records.
+    #[inline(always)]
     #[tactic(auto, unfolding(model::specs::Stores::page_at))]
     pub fn page(&self, number: u32) -> Option<Page>
         ensures { result ≡ page_at self.now number }
@@ -188,6 +189,7 @@ impl Store {
     }
 
     /// The frame of a page, if it has memory.
+    #[inline(always)]
     fn frame(&self, number: u32) -> Option<u32>
         ensures { result ≡ frame_in (page_at self.now number) }
     {
@@ -198,6 +200,7 @@ impl Store {
     }
 
     /// How a page is used; unused where there is no such page.
+    #[inline(always)]
     #[tactic(auto, unfolding(model::specs::Stores::state_at))]
     pub fn state(&self, number: u32) -> PageState
         ensures { result ≡ state_at self.now number }
@@ -210,6 +213,7 @@ impl Store {
 
     /// The page of an address, which there need not be: no address is so high that its page has no
     /// number.
+    #[inline(always)]
     pub fn page_of(&self, address: Addr) -> u32
         ensures { result ≡ address / self.now.words }
     {
@@ -217,6 +221,7 @@ impl Store {
     }
 
     /// The offset of an address in its page: below the words of a page.
+    #[inline(always)]
     pub fn offset_of(&self, address: Addr) -> u32
         ensures { result ≡ address % self.now.words }
     {
@@ -236,14 +241,48 @@ impl Store {
         Some((frame, self.size.offset_of(address) as usize))
     }
 
+    /// The frame and the offset so many words behind an address, if they are on a page that has
+    /// memory. Where that is the page of the address, no other is looked up.
+    #[inline(always)]
+    #[tactic(auto, using(crate::proofs::Behind::spot_behind))]
+    fn spot_behind(&self, address: Addr, ahead: u64) -> Option<(u32, usize)>
+        requires { ahead < 512 }
+        ensures { result ≡ spot_of self.now (address + ahead) }
+    {
+        let offset = self.size.offset_of(address.number()) + ahead;
+        if offset >= u64::from(self.words) {
+            return self.spot(address.number() + ahead);
+        }
+        let frame = self.frame(self.page_of(address))?;
+        Some((frame, offset as usize))
+    }
+
+    /// The word at a frame and an offset, if they are there.
+    #[inline(always)]
+    fn word_in(&self, spot: Option<(u32, usize)>) -> Option<u64>
+        ensures { result ≡ word_in self.now.frames spot }
+    {
+        let (frame, offset) = spot?;
+        let frame = self.frames.get(frame as usize)?;
+        frame.get(offset)
+    }
+
     /// The word at an address, if its page has memory.
     #[tactic(auto, unfolding(model::specs::Stores::word_at))]
     pub fn word(&self, address: u64) -> Option<u64>
         ensures { result ≡ word_at self.now address }
     {
-        let (frame, offset) = self.spot(address)?;
-        let frame = self.frames.get(frame as usize)?;
-        frame.get(offset)
+        self.word_in(self.spot(address))
+    }
+
+    /// The word less than 512 words behind an address, if it is on a page that has memory.
+    #[inline(always)]
+    #[tactic(auto, unfolding(model::specs::Stores::word_at))]
+    pub fn word_behind(&self, address: Addr, ahead: u64) -> Option<u64>
+        requires { ahead < 512 }
+        ensures { result ≡ word_at self.now (address + ahead) }
+    {
+        self.word_in(self.spot_behind(address, ahead))
     }
 
     /// The words of a page by its number, if it has memory.
@@ -256,16 +295,36 @@ impl Store {
         Some(frame.words())
     }
 
+    /// Writes the word at an offset of a frame, if it is there.
+    #[inline(always)]
+    fn set_word_in(&mut self, frame: u32, offset: usize, value: u64)
+        ensures { self.new ≡ record self.old { frames = changed_in self.old.frames (Some frame) (λ ws. slice_set ws offset value) } }
+    {
+        if (frame as usize) < self.frames.len() {
+            let frame = &mut self.frames[frame as usize];
+            frame.set(offset, value);
+        }
+    }
+
     /// Writes the word at an address, if its page has memory.
     #[tactic(auto, unfolding(model::specs::Stores::with_word, model::specs::Stores::with_words, model::specs::Stores::spot_of))]
     pub fn set_word(&mut self, address: u64, value: u64)
         ensures { self.new ≡ with_word self.old address value }
     {
         if let Some((frame, offset)) = self.spot(address) {
-            if (frame as usize) < self.frames.len() {
-                let frame = &mut self.frames[frame as usize];
-                frame.set(offset, value);
-            }
+            self.set_word_in(frame, offset, value);
+        }
+    }
+
+    /// Writes the word less than 512 words behind an address, if it is on a page that has memory.
+    #[inline(always)]
+    #[tactic(auto, unfolding(model::specs::Stores::with_word, model::specs::Stores::with_words, model::specs::Stores::spot_of))]
+    pub fn set_word_behind(&mut self, address: Addr, ahead: u64, value: u64)
+        requires { ahead < 512 }
+        ensures { self.new ≡ with_word self.old (address + ahead) value }
+    {
+        if let Some((frame, offset)) = self.spot_behind(address, ahead) {
+            self.set_word_in(frame, offset, value);
         }
     }
 

@@ -92,6 +92,7 @@ impl Threads {
 
     /// Whether a thread has crossed the open checkpoint, by its number from 0; true where there is
     /// no such thread.
+    #[inline(always)]
     pub fn has_crossed(&self, thread: u32) -> bool
         ensures { result ≡ has_crossed (slice_get self.now thread) }
     {
@@ -102,6 +103,7 @@ impl Threads {
     }
 
     /// Whether a thread is parked, by its number from 0; false where there is no such thread.
+    #[inline(always)]
     pub fn is_parked(&self, thread: u32) -> bool
         ensures { result ≡ is_parked_in (slice_get self.now thread) }
     {
@@ -112,6 +114,7 @@ impl Threads {
     }
 
     /// The load of a thread that isn't finished, by the thread's number from 0, if there is one.
+    #[inline(always)]
     pub fn barrier(&self, thread: u32) -> Option<Barrier>
         ensures { result ≡ barrier_of (slice_get self.now thread) }
     {
@@ -122,6 +125,7 @@ impl Threads {
     }
 
     /// The buffer of a thread, by its number from 0, if it has one.
+    #[inline(always)]
     pub fn buffer(&self, thread: u32) -> Option<Buffer>
         ensures { result ≡ buffer_in (slice_get self.now thread) }
     {
@@ -133,6 +137,7 @@ impl Threads {
 
     /// The word in a register, null where there is no such register. Threads and registers count
     /// from 0.
+    #[inline(always)]
     pub fn register(&self, thread: u32, register: u32) -> Word
         ensures { result ≡ register_in (slice_get self.now thread) register }
     {
@@ -184,6 +189,7 @@ impl Threads {
     }
 
     /// Writes a register of a thread, if it is there.
+    #[inline(always)]
     #[tactic(auto, using(crate::proofs::Counting::still_behind))]
     pub fn set_register(&mut self, thread: u32, register: u32, word: Word)
         ensures { self.new ≡ change_at self.old thread (set_register_of register word) }
@@ -206,6 +212,7 @@ impl Threads {
     }
 
     /// Opens or changes the barrier of a thread, if it is there, or closes it.
+    #[inline(always)]
     #[tactic(auto, using(crate::proofs::Counting::still_behind))]
     pub fn set_barrier(&mut self, thread: u32, barrier: Option<Barrier>)
         ensures { self.new ≡ change_at self.old thread (set_barrier_of barrier) }
@@ -218,6 +225,7 @@ impl Threads {
 
     /// Ends the load of a thread, if it is there: a register, by its number from 0, gets the word,
     /// and the barrier closes.
+    #[inline(always)]
     #[tactic(auto, using(crate::proofs::Counting::still_behind))]
     pub fn set_loaded(&mut self, thread: u32, register: u32, word: Word)
         ensures { self.new ≡ change_at self.old thread (set_loaded_of register word) }

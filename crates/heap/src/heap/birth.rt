@@ -5,8 +5,10 @@ ghost use Rattle.layout.specs.Objects.{size_of};
 ghost use Rattle.model.specs.Stores.{overlay, with_words};
 ghost use Rattle.model.specs.Owning.{LiesIn};
 ghost use Rattle.model.specs.Refusing.{Does};
+ghost use Rattle.model.specs.Saying.{said};
 ghost use Rattle.model.specs.Outcome.{Passes};
 ghost use Rattle.model.specs.declared.steps.Step.TheVariants as steps;
+ghost use Rattle.model.specs.declared.steps.Answer.TheVariants as answers;
 ghost use Rattle.model.specs.States.{change_at};
 ghost use Rattle.model.specs.Bits.{put_bit};
 ghost use Rattle.model.specs.Births.{place_object, new_outcome, hand_object};
@@ -15,7 +17,7 @@ ghost use Rattle.model.specs.Phases.{is_marking, is_mark_crossing};
 use crate::heap::Heap;
 use layout::{Header, Layout};
 use markbits::{IndexedRows, Rows};
-use model::{Answer, Buffer, Phase, Refusal, Reply};
+use model::{Buffer, Phase, Refusal};
 use page::Store;
 use refword::{Addr, Word};
 
@@ -62,14 +64,14 @@ fn note_start(
 
 impl Heap {
     /// A thread makes an object in its buffer, with null references and data of 0, and a
-    /// register gets its word, which is marked through.
+    /// register gets its word, which is marked through. Gives its birth number.
     ///
     /// Refused where there is no buffer, or it has fewer words left than the object
     /// (`NoRoom`); `BadIndex` where there is no such layout; `Births` where no more may be born.
     #[tactic(auto, unfolding(model::specs::Births::new_outcome))]
-    pub fn new_object(&mut self, thread: u32, target: u32, number: u32) -> Reply
+    pub fn new_row(&mut self, thread: u32, target: u32, number: u32) -> Result<u32, Refusal>
         requires { Passes self.old thread (steps.New target number) }
-        ensures { Does self.old result self.new (new_outcome self.old thread target number) }
+        ensures { Does self.old (said answers.Birth result) self.new (new_outcome self.old thread target number) }
     {
         let Some(buffer) = self.buffer(thread) else {
             return Err(Refusal::NoRoom);
@@ -85,7 +87,7 @@ impl Heap {
         }
         let birth = self.births as u32;
         self.place(thread, target, number, layout, buffer);
-        Ok(Answer::Birth(birth))
+        Ok(birth)
     }
 
     /// Makes an object in a buffer that has room for it.

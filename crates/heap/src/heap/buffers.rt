@@ -4,12 +4,13 @@ ghost use Rattle.std.specs.Prelude.{◌≡◌, ◌≤◌, ◌<◌, slice_get, So
 ghost use Rattle.model.specs.Owning.{LiesIn};
 ghost use Rattle.model.specs.Buffers.{buffer_of_thread, opened_rows, with_opened_rows, with_buffer, lend_buffer, take_outcome, give_back_outcome};
 ghost use Rattle.model.specs.Refusing.{Does};
+ghost use Rattle.model.specs.Saying.{said, done, lent};
 ghost use Rattle.model.specs.Outcome.{Passes};
 ghost use Rattle.model.specs.declared.steps.Step.TheVariants as steps;
 
 use crate::heap::Heap;
 use markbits::{IndexedRows, Rows};
-use model::{Answer, Buffer, Refusal, Reply, Room};
+use model::{Buffer, Refusal, Room};
 
 /// Clears the row of a page of which a buffer is the first.
 fn open_row(rows: &mut Rows, buffer: Buffer)
@@ -59,14 +60,14 @@ impl Heap {
     }
 
     /// A thread takes a buffer of 1 to the words of a page, in the lowest open page with room,
-    /// else in a fresh page (ours).
+    /// else in a fresh page (ours). Gives the buffer.
     ///
     /// Refused where it has one (`HasBuffer`); where no page has room and no frame is free
     /// (`NoFrames`); where no page number is unused (`NoPages`).
     #[tactic(auto, unfolding(model::specs::Buffers::take_outcome, model::specs::Buffers::lend_buffer), using(model::proofs::Passing::take_low, model::proofs::Passing::take_high))]
-    pub fn take(&mut self, thread: u32, words: u32) -> Reply
+    pub fn take_row(&mut self, thread: u32, words: u32) -> Result<Buffer, Refusal>
         requires { Passes self.old thread (steps.Take words) }
-        ensures { Does self.old result self.new (take_outcome self.old thread words) }
+        ensures { Does self.old (said lent result) self.new (take_outcome self.old thread words) }
     {
         if self.buffer(thread).is_some() {
             return Err(Refusal::HasBuffer);
@@ -74,10 +75,7 @@ impl Heap {
         match self.store.take(words) {
             Ok(buffer) => {
                 self.lend(thread, buffer);
-                Ok(Answer::Lent {
-                    page: buffer.page,
-                    offset: buffer.next,
-                })
+                Ok(buffer)
             }
             Err(Room::NoFrames) => Err(Refusal::NoFrames { need: 1, free: 0 }),
             Err(Room::NoPages) => Err(Refusal::NoPages),
@@ -85,17 +83,16 @@ impl Heap {
     }
 
     /// A thread gives its buffer back, whose rest is lost. Refused where it has none (`NoRoom`).
-    ///
     #[tactic(auto, unfolding(model::specs::Buffers::give_back_outcome, model::specs::Buffers::with_buffer), using(crate::proofs::Keeping::thread_keeps))]
-    pub fn give_back(&mut self, thread: u32) -> Reply
+    pub fn give_back_row(&mut self, thread: u32) -> Result<(), Refusal>
         requires { Passes self.old thread steps.GiveBack }
-        ensures { Does self.old result self.new (give_back_outcome self.old thread) }
+        ensures { Does self.old (said done result) self.new (give_back_outcome self.old thread) }
     {
         let Some(buffer) = self.buffer(thread) else {
             return Err(Refusal::NoRoom);
         };
         self.store.give_back(buffer);
         self.threads.set_buffer(thread, None);
-        Ok(Answer::Done)
+        Ok(())
     }
 }

@@ -1,15 +1,17 @@
 //! References of objects, and globals.
 
-ghost use Rattle.std.specs.Prelude.{◌≡◌, ◌<◌, IfSome};
+ghost use Rattle.std.specs.Prelude.{◌≡◌, ◌+◌, ◌<◌, IfSome};
+ghost use Rattle.std.specs.Option.{option_map};
 ghost use Rattle.model.specs.References.{read_reference, global_of, field_at, store_outcome, store_global_outcome};
 ghost use Rattle.model.specs.Refusing.{Does};
+ghost use Rattle.model.specs.Saying.{said, done};
 ghost use Rattle.model.specs.Outcome.{Passes};
 ghost use Rattle.model.specs.declared.steps.Step.TheVariants as steps;
 ghost use Rattle.model.specs.Loads.{bits_at};
 
 use crate::heap::Heap;
 use crate::heap::edits::Edits;
-use model::{Answer, Place, Refusal, Reply};
+use model::{Place, Refusal};
 use refword::{Addr, Word};
 
 /// The reference that 64 bits in memory are; bits that are no word's count as null (ours).
@@ -23,21 +25,34 @@ pub fn read_reference(bits: u64) -> Word
 }
 
 impl Heap {
-    /// Where a reference of the object at an address stands, by the reference's number from 0;
-    /// none where the object has no such reference.
+    /// How many words behind the address of an object a reference of it stands, by the reference's
+    /// number from 0; none where the object has no such reference.
+    #[inline(always)]
     #[tactic(auto, unfolding(model::specs::References::field_at))]
-    pub fn field_at(&self, address: Addr, index: u32) -> Option<u64>
-        ensures value { result ≡ field_at self.now address index }
+    pub fn field_behind(&self, address: Addr, index: u32) -> Option<u64>
+        ensures value { option_map (λ k. address + k) result ≡ field_at self.now address index }
         ensures few { IfSome result (λ _. index < 256) }
+        ensures near { IfSome result (λ k. k < 512) }
     {
         let layout = self.layout_at(address)?;
         if index >= u32::from(layout.refs) {
             return None;
         }
-        Some(address.number() + 1 + u64::from(index))
+        Some(1 + u64::from(index))
+    }
+
+    /// Where a reference of the object at an address stands, by the reference's number from 0;
+    /// none where the object has no such reference.
+    pub fn field_at(&self, address: Addr, index: u32) -> Option<u64>
+        ensures value { result ≡ field_at self.now address index }
+        ensures few { IfSome result (λ _. index < 256) }
+    {
+        let ahead = self.field_behind(address, index)?;
+        Some(address.number() + ahead)
     }
 
     /// The word in a global, by its number from 0; null where there is no such global.
+    #[inline(always)]
     #[tactic(auto, unfolding(model::specs::References::global_of))]
     pub fn global(&self, number: u32) -> Word
         ensures { result ≡ global_of self.now number }
@@ -64,31 +79,44 @@ impl Heap {
     ///
     /// Refused as `usable` is for the object; `BadIndex` where it has no such reference; as
     /// `usable_or_null` is for the source.
+    #[inline(always)]
     #[tactic(auto, unfolding(model::specs::References::store_outcome))]
-    pub fn store_reference(&mut self, thread: u32, object: u32, field: u32, source: u32) -> Reply
+    pub fn store_row(
+        &mut self,
+        thread: u32,
+        object: u32,
+        field: u32,
+        source: u32,
+    ) -> Result<(), Refusal>
         requires { Passes self.old thread (steps.Store object field source) }
-        ensures { Does self.old result self.new (store_outcome self.old thread object field source) }
+        ensures { Does self.old (said done result) self.new (store_outcome self.old thread object field source) }
     {
         let address = self.usable(thread, object)?;
-        let Some(place) = self.field_at(address, field) else {
+        let Some(ahead) = self.field_behind(address, field) else {
             return Err(Refusal::BadIndex);
         };
         self.usable_or_null(thread, source)?;
         let word = self.register(thread, source);
-        self.set_word(place, word.bits());
-        Ok(Answer::Done)
+        self.set_word_behind(address, ahead, word.bits());
+        Ok(())
     }
 
     /// Stores a register's word in a global, by the global's number from 0. Refused as
     /// `usable_or_null` is.
+    #[inline(always)]
     #[tactic(auto, unfolding(model::specs::References::store_global_outcome))]
-    pub fn store_global(&mut self, thread: u32, global: u32, register: u32) -> Reply
+    pub fn store_global_row(
+        &mut self,
+        thread: u32,
+        global: u32,
+        register: u32,
+    ) -> Result<(), Refusal>
         requires { Passes self.old thread (steps.StoreGlobal global register) }
-        ensures { Does self.old result self.new (store_global_outcome self.old thread global register) }
+        ensures { Does self.old (said done result) self.new (store_global_outcome self.old thread global register) }
     {
         self.usable_or_null(thread, register)?;
         let word = self.register(thread, register);
         self.set_global(global, word);
-        Ok(Answer::Done)
+        Ok(())
     }
 }

@@ -1,19 +1,22 @@
 //! Registers, and the steps on them alone.
 
-ghost use Rattle.std.specs.Prelude.{◌≡◌, is_none};
+ghost use Rattle.std.specs.Prelude.{◌≡◌, is_none, Ok};
 ghost use Rattle.model.specs.Registers.{register_of, with_register, let_through, usable, usable_or_null, same_outcome, is_null_outcome, copy_register_outcome, clear_register_outcome};
 ghost use Rattle.model.specs.Refusing.{Does};
+ghost use Rattle.model.specs.Saying.{said};
 ghost use Rattle.model.specs.Outcome.{Passes};
 ghost use Rattle.model.specs.declared.steps.Step.TheVariants as steps;
+ghost use Rattle.model.specs.declared.steps.Answer.TheVariants as answers;
 
 use crate::heap::Heap;
 use crate::heap::edits::Edits;
-use model::{Answer, PageState, Phase, Refusal, Reply};
+use model::{PageState, Phase, Refusal};
 use refword::{Addr, Word};
 
 impl Heap {
     /// The word in a register, null where there is no such register. Threads and registers count
     /// from 0.
+    #[inline(always)]
     #[tactic(auto, unfolding(model::specs::Registers::register_of))]
     pub fn register(&self, thread: u32, register: u32) -> Word
         ensures { result ≡ register_of self.now thread register }
@@ -24,6 +27,7 @@ impl Heap {
     /// Whether a thread, by its number from 0, may use an address: not on a protected page, unless
     /// the thread has still to cross the checkpoint at which pages are being protected (ours).
     /// Refused as `Stall` where it has crossed that checkpoint, and in other phases as `Stale`.
+    #[inline(always)]
     #[tactic(auto, unfolding(model::specs::Registers::let_through))]
     pub fn let_through(&self, thread: u32, address: Addr) -> Result<(), Refusal>
         ensures { result ≡ let_through self.now thread address }
@@ -49,6 +53,7 @@ impl Heap {
     ///
     /// Refused where it is null (`Null`); on a protected page `Stall`, where pages are being
     /// protected and the thread has crossed, and in other phases `Stale` (ours).
+    #[inline(always)]
     #[tactic(auto, unfolding(model::specs::Registers::usable))]
     pub fn usable(&self, thread: u32, register: u32) -> Result<Addr, Refusal>
         ensures { result ≡ usable self.now thread register }
@@ -62,6 +67,7 @@ impl Heap {
 
     /// The address in a register that may be used, or none where it is null. Else refused as
     /// `usable` is.
+    #[inline(always)]
     #[tactic(auto, unfolding(model::specs::Registers::usable_or_null))]
     pub fn usable_or_null(&self, thread: u32, register: u32) -> Result<Option<Addr>, Refusal>
         ensures { result ≡ usable_or_null self.now thread register }
@@ -75,43 +81,45 @@ impl Heap {
 
     /// Whether two registers name the same object, or both none; their NMT bits don't count.
     /// Refused as `usable_or_null` is.
+    #[inline(always)]
     #[tactic(auto, unfolding(model::specs::Registers::same_outcome))]
-    pub fn same(&self, thread: u32, left: u32, right: u32) -> Reply
+    pub fn same_row(&self, thread: u32, left: u32, right: u32) -> Result<bool, Refusal>
         requires { Passes self.now thread (steps.Same left right) }
-        ensures { Does self.now result self.now (same_outcome self.now thread left right) }
+        ensures { Does self.now (said answers.Truth result) self.now (same_outcome self.now thread left right) }
     {
         let left = self.usable_or_null(thread, left)?;
         let right = self.usable_or_null(thread, right)?;
-        Ok(Answer::Truth(left == right))
+        Ok(left == right)
     }
 
     /// Whether a register is null. Refuses nothing.
+    #[inline(always)]
     #[tactic(auto, unfolding(model::specs::Registers::is_null_outcome))]
-    pub fn is_null(&self, thread: u32, register: u32) -> Reply
+    pub fn is_null_row(&self, thread: u32, register: u32) -> bool
         requires { Passes self.now thread (steps.IsNull register) }
-        ensures { Does self.now result self.now (is_null_outcome self.now thread register) }
+        ensures { is_null_outcome self.now thread register ≡ Ok (self.now, answers.Truth result) }
     {
-        Ok(Answer::Truth(self.register(thread, register).is_null()))
+        self.register(thread, register).is_null()
     }
 
     /// A register gets another one's word. Refuses nothing.
+    #[inline(always)]
     #[tactic(auto, unfolding(model::specs::Registers::copy_register_outcome))]
-    pub fn copy_register(&mut self, thread: u32, target: u32, source: u32) -> Reply
+    pub fn copy_register_row(&mut self, thread: u32, target: u32, source: u32)
         requires { Passes self.old thread (steps.CopyReg target source) }
-        ensures { Does self.old result self.new (copy_register_outcome self.old thread target source) }
+        ensures { copy_register_outcome self.old thread target source ≡ Ok (self.new, answers.Done) }
     {
         let word = self.register(thread, source);
         self.set_register(thread, target, word);
-        Ok(Answer::Done)
     }
 
     /// A register becomes null. Refuses nothing.
+    #[inline(always)]
     #[tactic(auto, unfolding(model::specs::Registers::clear_register_outcome))]
-    pub fn clear_register(&mut self, thread: u32, target: u32) -> Reply
+    pub fn clear_register_row(&mut self, thread: u32, target: u32)
         requires { Passes self.old thread (steps.ClearReg target) }
-        ensures { Does self.old result self.new (clear_register_outcome self.old thread target) }
+        ensures { clear_register_outcome self.old thread target ≡ Ok (self.new, answers.Done) }
     {
         self.set_register(thread, target, Word::null());
-        Ok(Answer::Done)
     }
 }

@@ -1,0 +1,65 @@
+//! The answers that plain values stand for.
+
+ghost use Rattle.std.specs.Prelude.{◌≡◌};
+ghost use Rattle.model.specs.Saying.{said, done, loaded, lent, trapped, healed, scrubbed};
+
+use model::{Answer, Buffer, Refusal, Reply, Trap};
+
+/// The reply to a step that has nothing to tell but that it is done.
+pub fn done(told: Result<(), Refusal>) -> Reply
+    ensures { result ≡ said done told }
+{
+    told?;
+    Ok(Answer::Done)
+}
+
+/// The reply to a step that begins a load.
+pub fn loaded(told: Result<(), Refusal>) -> Reply
+    ensures { result ≡ said loaded told }
+{
+    told?;
+    Ok(Answer::Loaded)
+}
+
+/// The answer that a buffer is.
+pub fn lent(buffer: Buffer) -> Answer
+    ensures { result ≡ lent buffer }
+{
+    Answer::Lent {
+        page: buffer.page,
+        offset: buffer.next,
+    }
+}
+
+/// The answer that a trap is.
+pub fn trapped(trap: Trap) -> Answer
+    ensures { result ≡ trapped trap }
+{
+    match trap {
+        Trap::Moved => Answer::Moved,
+        Trap::Marked => Answer::Marked,
+        Trap::Clear => Answer::Clear,
+    }
+}
+
+/// The answer to `Heal`.
+pub fn healed(written: bool) -> Answer
+    ensures { result ≡ healed written }
+{
+    if written {
+        Answer::Healed
+    } else {
+        Answer::Changed
+    }
+}
+
+/// The answer to `Scrub`.
+pub fn scrubbed(corrected: bool) -> Answer
+    ensures { result ≡ scrubbed corrected }
+{
+    if corrected {
+        Answer::Moved
+    } else {
+        Answer::Clean
+    }
+}
