@@ -1,14 +1,14 @@
 -- The index of rows that have a bit.
-use Rattle.std.proofs.Common.{◌≡◌, ℕ, zero, suc, ◌+◌, ◌*◌, ◌<◌, Bool, true, false, not, cond, List, [], ◌∷◌, map}
+use Rattle.std.proofs.Common.{◌≡◌, ℕ, zero, suc, ◌+◌, ◌*◌, ◌<◌, Bool, false, not, cond, List, [], ◌∷◌, map}
 use Rattle.std.proofs.Common.{replicate, set}
 use Rattle.std.proofs.Common.{count_by, Option, Some, None, refl, sym, ◌∙◌, ap, ap₂, subst, arith}
-use Rattle.std.specs.List.{slice_get}
+use Rattle.std.specs.List.{slice_get, slice_index_or}
 use Rattle.std.specs.Prelude.{◌==◌}
-use Rattle.std.proofs.lemmas.List.{map-set}
+use Rattle.std.proofs.lemmas.List.{map-set, set-get_or}
 use Rattle.std.proofs.lemmas.List.Sums.{sum_by-cons}
 use Rattle.std.proofs.lemmas.Bool.Decides.{nat_tests}
 use Rattle.model.specs.States.{change_at, change_found}
-use Rattle.model.specs.Bits.{bit_count}
+use Rattle.model.specs.Bits.{bit_count, put_bit}
 use Rattle.model.proofs.Lists.{get_set_same, count_replicate, as_number}
 use Rattle.markbits.specs.Indexing.{has_bits, settle}
 
@@ -24,6 +24,20 @@ settled rows new busy i f e k = subst (λ n. settle busy i (slice_get n i) ≡ m
     by_row None g = ap (settle (map has_bits rows) i) g
     by_row (Some row) g = ap (settle (map has_bits rows) i) (get_set_same rows i row (f row) g)
         ∙ sym (map-set has_bits rows i (f row))
+
+-- a bit that is put where it is as it was changes nothing
+pub put_again : (rows : List (List Bool)) (i o : ℕ) (bit : Bool) (row : List Bool) → slice_get rows i ≡ Some row
+    → slice_index_or row o false ≡ bit → change_at rows i (put_bit o bit) ≡ rows
+put_again rows i o bit row e is = ap (λ r. change_found rows i r (put_bit o bit)) e
+    ∙ ap (set rows i) (subst (λ b. set row o b ≡ row) is (set-get_or row o false)) ∙ set_back rows i row e
+  where
+    set_back : (xs : List (List Bool)) (i : ℕ) (x : List Bool) → slice_get xs i ≡ Some x → set xs i x ≡ xs
+    set_back [] i x e = refl
+    set_back (y ∷ xs) zero x e = ap (λ z. z ∷ xs) (sym (some_is y x e))
+      where
+        some_is : (y x : List Bool) → ◌≡◌ {A = Option (List Bool)} (Some y) (Some x) → y ≡ x
+        some_is y x e = cc
+    set_back (y ∷ xs) (suc i) x e = ap (λ zs. y ∷ zs) (set_back xs i x e)
 
 -- rows that are clear have no bit
 pub none_busy : (count words : ℕ) → replicate count false ≡ map has_bits (replicate count (replicate words false))

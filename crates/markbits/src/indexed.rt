@@ -83,11 +83,17 @@ impl IndexedRows {
         self.busy.next_from(index)
     }
 
-    /// Sets or clears a bit of a row, if it is there.
-    #[tactic(auto, using(crate::proofs::Busy::settled))]
+    /// Sets or clears a bit of a row, if it is there. Where the bit is as it is to be, that is all
+    /// that is looked at.
+    #[tactic(auto, using(crate::proofs::Busy::settled, crate::proofs::Busy::put_again))]
     pub fn put(&mut self, index: usize, offset: usize, bit: bool)
         ensures { self.new ≡ change_at self.old index (put_bit offset bit) }
     {
+        if let Some(row) = self.get(index) {
+            if row.test(offset) == bit {
+                return;
+            }
+        }
         self.rows.put(index, offset, bit);
         settle(&mut self.busy, &self.rows, index);
     }

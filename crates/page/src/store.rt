@@ -184,8 +184,7 @@ impl Store {
     pub fn page(&self, number: u32) -> Option<Page>
         ensures { result ≡ page_at self.now number }
     {
-        let index = number.checked_sub(1)?;
-        self.pages.get(index as usize).copied()
+        self.pages.get((number as usize).wrapping_sub(1)).copied()
     }
 
     /// The frame of a page, if it has memory.
@@ -241,28 +240,11 @@ impl Store {
         Some((frame, self.size.offset_of(address) as usize))
     }
 
-    /// The frame and the offset so many words behind an address, if they are on a page that has
-    /// memory. Where that is the page of the address, no other is looked up.
+    /// The word at an offset of a frame, if it is there.
     #[inline(always)]
-    #[tactic(auto, using(crate::proofs::Behind::spot_behind))]
-    fn spot_behind(&self, address: Addr, ahead: u64) -> Option<(u32, usize)>
-        requires { ahead < 512 }
-        ensures { result ≡ spot_of self.now (address + ahead) }
+    fn word_in(&self, frame: u32, offset: usize) -> Option<u64>
+        ensures { result ≡ word_in self.now.frames (Some (frame, offset)) }
     {
-        let offset = self.size.offset_of(address.number()) + ahead;
-        if offset >= u64::from(self.words) {
-            return self.spot(address.number() + ahead);
-        }
-        let frame = self.frame(self.page_of(address))?;
-        Some((frame, offset as usize))
-    }
-
-    /// The word at a frame and an offset, if they are there.
-    #[inline(always)]
-    fn word_in(&self, spot: Option<(u32, usize)>) -> Option<u64>
-        ensures { result ≡ word_in self.now.frames spot }
-    {
-        let (frame, offset) = spot?;
         let frame = self.frames.get(frame as usize)?;
         frame.get(offset)
     }
@@ -272,17 +254,24 @@ impl Store {
     pub fn word(&self, address: u64) -> Option<u64>
         ensures { result ≡ word_at self.now address }
     {
-        self.word_in(self.spot(address))
+        let (frame, offset) = self.spot(address)?;
+        self.word_in(frame, offset)
     }
 
-    /// The word less than 512 words behind an address, if it is on a page that has memory.
+    /// The word less than 512 words behind an address, if it is on a page that has memory. Where
+    /// that is the page of the address, no other is looked up.
     #[inline(always)]
-    #[tactic(auto, unfolding(model::specs::Stores::word_at))]
+    #[tactic(auto, unfolding(model::specs::Stores::word_at), using(crate::proofs::Behind::spot_behind))]
     pub fn word_behind(&self, address: Addr, ahead: u64) -> Option<u64>
         requires { ahead < 512 }
         ensures { result ≡ word_at self.now (address + ahead) }
     {
-        self.word_in(self.spot_behind(address, ahead))
+        let offset = self.size.offset_of(address.number()) + ahead;
+        if offset >= u64::from(self.words) {
+            return self.word(address.number() + ahead);
+        }
+        let frame = self.frame(self.page_of(address))?;
+        self.word_in(frame, offset as usize)
     }
 
     /// The words of a page by its number, if it has memory.
@@ -317,14 +306,18 @@ impl Store {
     }
 
     /// Writes the word less than 512 words behind an address, if it is on a page that has memory.
+    /// Where that is the page of the address, no other is looked up.
     #[inline(always)]
-    #[tactic(auto, unfolding(model::specs::Stores::with_word, model::specs::Stores::with_words, model::specs::Stores::spot_of))]
+    #[tactic(auto, unfolding(model::specs::Stores::with_word, model::specs::Stores::with_words, model::specs::Stores::spot_of), using(crate::proofs::Behind::spot_behind))]
     pub fn set_word_behind(&mut self, address: Addr, ahead: u64, value: u64)
         requires { ahead < 512 }
         ensures { self.new ≡ with_word self.old (address + ahead) value }
     {
-        if let Some((frame, offset)) = self.spot_behind(address, ahead) {
-            self.set_word_in(frame, offset, value);
+        let offset = self.size.offset_of(address.number()) + ahead;
+        if offset >= u64::from(self.words) {
+            self.set_word(address.number() + ahead, value);
+        } else if let Some(frame) = self.frame(self.page_of(address)) {
+            self.set_word_in(frame, offset as usize, value);
         }
     }
 

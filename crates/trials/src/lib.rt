@@ -23,6 +23,8 @@ mod marks;
 #[cfg(test)]
 mod moves;
 #[cfg(test)]
+mod mutating;
+#[cfg(test)]
 mod naive;
 #[cfg(test)]
 mod objects;
