@@ -25,6 +25,7 @@ impl Stepping for Heap {
     ///
     /// Where the heap stands for a plain heap, which never moves or frees an object, it does so
     /// after an accepted step, and the answer is the plain heap's.
+    #[inline(always)]
     fn step(&mut self, actor: Actor, step: &Step) -> Reply
         ensures does { DoesStep self.old step.now result self.new (outcome self.old actor step.now) }
         ensures stands { KeepsStanding self.old actor step.now result self.new }
@@ -36,6 +37,7 @@ impl Stepping for Heap {
 }
 
 /// The step of an actor.
+#[inline(always)]
 #[tactic(auto, unfolding(model::specs::Outcome::outcome, model::specs::Outcome::worker_gate))]
 fn actor_row(heap: &mut Heap, actor: Actor, step: &Step) -> Reply
     ensures { DoesStep heap.old step.now result heap.new (outcome heap.old actor step.now) }
@@ -50,6 +52,7 @@ fn actor_row(heap: &mut Heap, actor: Actor, step: &Step) -> Reply
 }
 
 /// The step of a thread: its call, and the answer that the value stands for.
+#[inline(always)]
 #[tactic(auto, unfolding(model::specs::Outcome::outcome, model::specs::Outcome::thread_gate))]
 fn thread_step(heap: &mut Heap, thread: u32, step: &Step) -> Reply
     ensures { Does heap.old result heap.new (outcome heap.old (Thread thread) step.now) }
@@ -107,6 +110,7 @@ fn thread_step(heap: &mut Heap, thread: u32, step: &Step) -> Reply
 }
 
 /// The step of a worker whose leading tests were passed.
+#[inline(never)]
 fn worker_row(heap: &mut Heap, worker: u32, step: &Step) -> Reply
     requires { WorkerPasses heap.old worker step.now }
     ensures { DoesStep heap.old step.now result heap.new (worker_row heap.old worker step.now) }

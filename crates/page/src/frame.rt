@@ -13,14 +13,28 @@ use std_alloc::vec::run_mut;
 #[derive(Drop)]
 pub struct Frame {
     words: Vec<u64, Global>,
+    /// Whether one may have been written since all were 0.
+    written: bool,
 }
 
 impl Model for Frame {
-    ghost use Rattle.std.specs.Prelude.{List, ℕ};
+    ghost use Rattle.std.specs.Prelude.{◌≡◌, List, ℕ, false, length, replicate};
 
     ghost Value = { List ℕ };
 
     ghost view = { λ f. f.words.items };
+
+    ghost invariant = { λ f. f.written ≡ false → f.words.items ≡ replicate (length f.words.items) 0 };
+}
+
+/// Writes words over those of a list from an offset on, as far as it goes.
+fn write_over(list: &mut Vec<u64, Global>, offset: usize, words: &[u64])
+    ensures { list.new.items ≡ overlay list.old.items offset words.now }
+{
+    let start = offset.min(list.len());
+    let count = words.len().min(list.len() - start);
+    let part = run_mut(list, start, start + count);
+    part.copy_from_slice(&words[..count]);
 }
 
 impl Frame {
@@ -30,6 +44,7 @@ impl Frame {
     {
         Ok(Frame {
             words: vec![in alloc; 0; words as usize]?,
+            written: false,
         })
     }
 
@@ -39,6 +54,7 @@ impl Frame {
     {
         Frame {
             words: Vec::new(alloc),
+            written: false,
         }
     }
 
@@ -54,15 +70,19 @@ impl Frame {
         ensures { self.new ≡ slice_set self.old offset value }
     {
         if offset < self.words.len() {
+            self.written = true;
             self.words[offset] = value;
         }
     }
 
-    /// Makes all words zero.
+    /// Makes all words zero. Where none was written since they were, that costs nothing.
     pub fn clear(&mut self)
         ensures { self.new ≡ replicate (length self.old) 0 }
     {
-        self.words.fill(0);
+        if self.written {
+            self.words.fill(0);
+            self.written = false;
+        }
     }
 
     /// All words.
@@ -79,6 +99,7 @@ impl Frame {
         ensures value { result.now ≡ slice_range self.old start end }
         ensures* after { sem 𝓛 (LendsRun self.entry start result) }
     {
+        self.written = true;
         run_mut(&mut self.words, start, end)
     }
 
@@ -95,9 +116,7 @@ impl Frame {
     pub fn write_run(&mut self, offset: usize, words: &[u64])
         ensures { self.new ≡ overlay self.old offset words.now }
     {
-        let start = offset.min(self.words.len());
-        let count = words.len().min(self.words.len() - start);
-        let part = run_mut(&mut self.words, start, start + count);
-        part.copy_from_slice(&words[..count]);
+        self.written = true;
+        write_over(&mut self.words, offset, words);
     }
 }
