@@ -47,6 +47,7 @@ mod gate;
 mod loading;
 mod mutating;
 mod pages;
+mod replies;
 mod running;
 mod saying;
 mod stepping;
