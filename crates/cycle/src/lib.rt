@@ -48,8 +48,9 @@ mod pages;
 mod running;
 mod stepping;
 
-pub use book::{Book, Entry};
+pub use book::Book;
 pub use draining::{drains_end, next_drain, verdict};
+pub use entries::{Entry, EntryRef, History};
 pub use loading::three_traps;
 pub use model::{Actor, Answer, PageList, Reply, Step};
 pub use running::run;

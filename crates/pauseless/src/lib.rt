@@ -12,7 +12,10 @@
 //! There is no code here: each name stands in a crate of its own, with its contract.
 #![tactic(auto)]
 
-pub use cycle::{Actor, Answer, Book, Entry, PageList, Reply, Step, Stepping, run, three_traps};
+pub use cycle::{
+    Actor, Answer, Book, Entry, EntryRef, History, PageList, Reply, Step, Stepping, run,
+    three_traps,
+};
 pub use heap::{Config, ConfigFault, Heap, NewFault, Refusal};
 pub use layout::{Layout, Layouts};
 pub use verify::{Fault, Image, PageImage, Root, Verdict, Words, verify, verify_image};
