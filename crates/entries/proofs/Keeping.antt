@@ -5,7 +5,7 @@ use Rattle.std.proofs.lemmas.List.{get_or_append_left, get_or_push, map-append}
 use Rattle.std.proofs.lemmas.List.Elements.{All-tail}
 use Rattle.model.specs.declared.steps.Step.{Step}
 use Rattle.entries.specs.declared.entry.Entry.{Entry}
-use Rattle.entries.specs.declared.history.Kept.{Kept}
+use Rattle.entries.specs.declared.blocks.Kept.{Kept}
 use Rattle.entries.specs.Events.{step_in, place_in}
 use Rattle.entries.specs.Views.{entry_in, entry_with, Stands, StandsBy}
 

@@ -1,11 +1,12 @@
 -- A history as it is kept.
-use Rattle.std.specs.Prelude.{ℕ, ◌<◌, ◌&&◌, List, length, map, get_or, nat_lt, vec_len, vec_capacity, Option, Some, None, Bool}
+use Rattle.std.specs.Prelude.{ℕ, ◌<◌, ◌&&◌, Bool, List, length, map, get_or, nat_lt, Option, Some, None}
+use Rattle.std.specs.Prelude.{vec_len, vec_capacity}
 use Rattle.std.specs.List.{All}
 use Rattle.model.specs.declared.steps.Step.{Step}
 use Rattle.model.specs.declared.steps.Step.TheVariants as steps
 use Rattle.model.specs.declared.steps.Answer.TheVariants as answers
 use Rattle.entries.specs.declared.entry.Entry.{Entry}
-use Rattle.entries.specs.declared.history.Kept.{Kept}
+use Rattle.entries.specs.declared.blocks.Kept.{Kept}
 use Rattle.entries.specs.declared.history.History.TheInside.{Inside}
 use Rattle.entries.specs.Histories.{HistoryState}
 use Rattle.entries.specs.Events.{step_in, answer_in, place_in}
@@ -30,7 +31,7 @@ Stands n k = StandsBy n k (step_in k.event)
 
 -- there is room for one more
 abbrev pub has_room : Inside → Bool
-has_room h = nat_lt (vec_len h.kept) (vec_capacity h.kept) && nat_lt (vec_len h.whole) (vec_capacity h.whole)
+has_room h = h.kept.has_room && nat_lt (vec_len h.whole) (vec_capacity h.whole)
 
 -- its entries
 abbrev pub history_of : Inside → HistoryState

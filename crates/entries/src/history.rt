@@ -1,32 +1,25 @@
 //! Histories.
 
-ghost use Rattle.std.specs.Prelude.{◌≡◌, ◌++◌, ◌∷◌, [], true, length, nat_eq, slice_get, OnOk, ◌<◌, ◌^◌, vec_len, vec_capacity};
+ghost use Rattle.std.specs.Prelude.{◌≡◌, ◌<◌, ◌^◌, ◌++◌, ◌∷◌, [], true, length, nat_eq, slice_get, OnOk};
+ghost use Rattle.std.specs.Prelude.{vec_len, vec_capacity};
 ghost use Rattle.std.specs.Option.{option_map};
 ghost use Rattle.entries.specs.Histories.{entry_of};
 ghost use Rattle.entries.specs.Views.{entry_in, Stands};
 
+use crate::blocks::{Blocks, Kept};
 use crate::entry::{Entry, EntryRef};
 use crate::event::{Event, answer_in, place_in, short_event, step_in};
 use model::{Actor, Answer, Step};
 use std::alloc::{AllocError, Global};
 use std::marker::Model;
 
-/// An entry as it is kept.
-#[derive(Clone, Copy, Debug)]
-pub(crate) struct Kept {
-    pub(crate) actor: Actor,
-    pub(crate) event: Event,
-}
-
-const _: () = prove!(size_of::<Kept>() == 32);
-
-/// Accepted steps with their answers, oldest first. An entry takes 32 bytes, and where the step and
-/// the answer seldom go together, or the step has a list, 64 more and the list (ours).
+/// Accepted steps with their answers, oldest first. An entry takes 32 bytes; that of `Protect`, and
+/// of a step with an answer that it never has in a heap, takes 64 more, and the list (ours).
 ///
 /// A contract sees the list of the entries, and whether there is room for one more.
 #[derive(Debug, Drop)]
 pub struct History {
-    kept: Vec<Kept, Global>,
+    kept: Blocks,
     /// The entries that have no short form.
     whole: Vec<Entry, Global>,
 }
@@ -58,14 +51,6 @@ fn found(kept: Kept, whole: &[Entry]) -> EntryRef<'_>
     }
 }
 
-/// Enters an entry by its short form.
-fn enter_short(kept: &mut Vec<Kept, Global>, actor: Actor, event: Event)
-    requires { vec_len kept.old < vec_capacity kept.old }
-    ensures { kept.new.items ≡ kept.old.items ++ record { actor = actor; event = event } ∷ [] }
-{
-    let _ = kept.push(Kept { actor, event });
-}
-
 /// Lets an entry stand whole, behind the others.
 fn enter_whole(whole: &mut Vec<Entry, Global>, entry: Entry)
     requires { vec_len whole.old < vec_capacity whole.old }
@@ -80,7 +65,7 @@ impl History {
         ensures { result.entries ≡ [] }
     {
         History {
-            kept: Vec::new(alloc),
+            kept: Blocks::new(alloc),
             whole: Vec::new(alloc),
         }
     }
@@ -97,7 +82,7 @@ impl History {
     pub fn is_empty(&self) -> bool
         ensures { result ≡ nat_eq (length self.now.entries) 0 }
     {
-        self.kept.is_empty()
+        self.len() == 0
     }
 
     /// The entry of a number, from 0, if there is one.
@@ -106,7 +91,7 @@ impl History {
     {
         match self.kept.get(index) {
             None => None,
-            Some(kept) => Some(found(*kept, &self.whole)),
+            Some(kept) => Some(found(kept, &self.whole)),
         }
     }
 
@@ -115,7 +100,7 @@ impl History {
         ensures entries { self.new.entries ≡ self.old.entries }
         ensures room { OnOk result (self.new.has_room ≡ true) }
     {
-        self.kept.reserve(1)?;
+        self.kept.reserve()?;
         self.whole.reserve(1)
     }
 
@@ -125,10 +110,11 @@ impl History {
         ensures { self.new.entries ≡ self.old.entries ++ record { actor = actor; step = step; answer = answer } ∷ [] }
     {
         match short_event(&step, answer) {
-            Some(event) => enter_short(&mut self.kept, actor, event),
+            Some(event) => self.kept.push(Kept { actor, event }),
             None => {
                 let place = self.whole.len();
-                enter_short(&mut self.kept, actor, Event::Whole(place));
+                let event = Event::Whole(place);
+                self.kept.push(Kept { actor, event });
                 enter_whole(
                     &mut self.whole,
                     Entry {

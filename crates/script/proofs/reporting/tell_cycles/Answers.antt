@@ -7,8 +7,8 @@ loop-index-preserved g c =
     record {
       count = omega (arith, c.loop-index.invariant.count, c.next_cycle-number.ensures.bound);
       told = cycle_item c.loop-index.number c.next_cycle-number.result c.loop-index.index c.args.history.now.entries
-          c.answer_at-answer.result _ _ _ _ c.loop-index.invariant.told (omega (arith, c.loop-index-test.true, c.len-index-end.ensures.value))
-          c.answer_at-answer.ensures
+          c.answer_at-answer.result _ _ _ _ c.loop-index.invariant.told
+          (omega (arith, c.loop-index-test.true, c.len-index-end.ensures.value)) c.answer_at-answer.ensures
           c.in_ok-tell_cycle.ensures c.next_cycle-number.ensures.value;
     }
 

@@ -4,6 +4,6 @@ use Rattle.entries.proofs.history.History.enter.Goals as goal
 
 pub returns-in-None : goal.returns-in-None
 returns-in-None c =
-    rw (c.enter_whole.ensures, c.enter_short-in-None.ensures, ← c.self.view_is)
+    rw (c.enter_whole.ensures, c.push-in-None.ensures, ← c.self.view_is)
     (entered_whole c.self.inside.whole.items _ c.self.inside.kept.items _ c.self.invariant refl
     (c.len-place.ensures ∙ c.self.inside.whole.ok.0))
