@@ -25,7 +25,7 @@ use Rattle.model.specs.Scans.{scan_of, with_scan, may_scan, pick_outcome, with_m
 use Rattle.model.specs.Scans.{scan_field_outcome, with_marked_global, scan_global_outcome, next_todo, pick_step}
 use Rattle.model.specs.Scans.{global_step_or, next_drain}
 use Rattle.model.specs.Outcome.{outcome, worker_gate, worker_row}
-use Rattle.cycle.specs.declared.book.Entry.{Entry}
+use Rattle.entries.specs.declared.entry.Entry.{Entry}
 use Rattle.cycle.specs.Books.{BookState, BookOutcome, act_outcome, enter_accepted, is_full}
 use Rattle.cycle.specs.Loads.{Told}
 use Rattle.cycle.specs.Drains.{drain_step, drain_within, DrainsEnd}

@@ -20,7 +20,7 @@ use Rattle.refinement.specs.Worlds.{world_of}
 use Rattle.refinement.specs.PlainHeaps.{births_of}
 use Rattle.refinement.specs.Standing.{Holds, StepKeeps, AnswersPlain, FirstHolds, StepsHold, MarksFind, PhasesMove}
 use Rattle.refinement.specs.Standing.{Finds, KeepsStanding}
-use Rattle.cycle.specs.declared.book.Entry.{Entry}
+use Rattle.entries.specs.declared.entry.Entry.{Entry}
 use Rattle.cycle.specs.Books.{BookState, first_book, is_full}
 use Rattle.cycle.specs.Replays.{Replayed, after_entry, after_entries, before_entries}
 use Rattle.cycle.specs.Replays.{replayed, AnswersAre, IsBook, KeepsPromises, last_entry}

@@ -14,7 +14,7 @@ use Rattle.model.specs.Refusing.{Outcome}
 use Rattle.model.specs.Outcome.{outcome}
 use Rattle.heap.specs.declared.fault.NewFault.{NewFault}
 use Rattle.heap.specs.declared.fault.NewFault.TheVariants as faults
-use Rattle.cycle.specs.declared.book.Entry.{Entry}
+use Rattle.entries.specs.declared.entry.Entry.{Entry}
 
 -- a book: its heap, and its accepted steps with their answers, oldest first
 pub record BookState : Type 0 where

@@ -11,7 +11,7 @@ use Rattle.laws.specs.Promises.{StandsForPlain, UsableHasMemory}
 use Rattle.refinement.specs.Worlds.{world_of}
 use Rattle.refinement.specs.PlainHeaps.{births_of}
 use Rattle.refinement.specs.Standing.{Holds, AnswersPlain, Finds, MovesPhase, kept_at_mark}
-use Rattle.cycle.specs.declared.book.Entry.{Entry}
+use Rattle.entries.specs.declared.entry.Entry.{Entry}
 use Rattle.cycle.specs.Books.{BookState, Reply, Acts, act_outcome}
 
 -- a plain heap, and what it was as the last mark began

@@ -5,7 +5,7 @@ use Rattle.cycle.specs.Replays.{IsBook}
 
 -- its heap, and the list of its entries
 abbrev pub book_of : Inside → BookState
-book_of b = record { heap = b.heap; history = b.history.items }
+book_of b = record { heap = b.heap; history = b.history.entries }
 
 -- the law holds of it
 abbrev pub IsBookInside : Inside → Type 0

@@ -1,26 +1,16 @@
 //! A heap and its history.
 
-ghost use Rattle.std.specs.Prelude.{◌≡◌, ◌<◌, ◌++◌, ◌∷◌, [], IfOk, vec_len, vec_capacity};
+ghost use Rattle.std.specs.Prelude.{◌≡◌, IfOk};
 ghost use Rattle.cycle.specs.Books.{Acts, MakesBook, act_outcome, is_full, first_book};
 ghost use Rattle.cycle.specs.Replays.{IsBook, KeepsPromises, StepPromises};
 ghost use Rattle.refinement.specs.Standing.{MovesPhase};
 
 use crate::stepping::Stepping;
+use entries::History;
 use heap::{Config, Heap, NewFault};
-use model::{Actor, Answer, Refusal, Reply, Step};
+use model::{Actor, Refusal, Reply, Step};
 use std::alloc::Global;
 use std::marker::Model;
-
-/// An accepted step of an actor, with its answer.
-#[derive(Debug, Drop)]
-pub struct Entry {
-    /// Who did it.
-    pub actor: Actor,
-    /// What was done.
-    pub step: Step,
-    /// What it said.
-    pub answer: Answer,
-}
 
 /// A heap and the history of its accepted steps, oldest first.
 ///
@@ -30,7 +20,7 @@ pub struct Entry {
 #[derive(Drop)]
 pub struct Book {
     heap: Heap,
-    history: Vec<Entry>,
+    history: History,
 }
 
 impl Model for Book {
@@ -71,7 +61,7 @@ impl Book {
                 heap.law();
                 Ok(Book {
                     heap,
-                    history: Vec::new(alloc),
+                    history: History::new(alloc),
                 })
             }
             Err(fault) => Err(fault),
@@ -86,8 +76,8 @@ impl Book {
     }
 
     /// The accepted steps so far, with their answers, oldest first.
-    pub fn history(&self) -> &[Entry]
-        ensures { result.now ≡ self.now.history }
+    pub fn history(&self) -> &History
+        ensures { result.now.entries ≡ self.now.history }
     {
         &self.history
     }
@@ -127,27 +117,12 @@ impl Book {
         if self.is_full() {
             return Err(Refusal::HistoryFull);
         }
-        if self.history.reserve(1).is_err() {
+        if self.history.reserve().is_err() {
             return Err(Refusal::Memory);
         }
         let answer = self.heap.step(actor, &step)?;
         self.heap.law();
-        enter(
-            &mut self.history,
-            Entry {
-                actor,
-                step,
-                answer,
-            },
-        );
+        self.history.enter(actor, step, answer);
         Ok(answer)
     }
-}
-
-/// Adds an entry for which there is room.
-fn enter(history: &mut Vec<Entry>, entry: Entry)
-    requires { vec_len history.old < vec_capacity history.old }
-    ensures { history.new.items ≡ history.old.items ++ entry ∷ [] }
-{
-    let _ = history.push(entry);
 }

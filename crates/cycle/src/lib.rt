@@ -52,8 +52,9 @@ mod running;
 mod saying;
 mod stepping;
 
-pub use book::{Book, Entry};
+pub use book::Book;
 pub use draining::{drains_end, next_drain, verdict};
+pub use entries::{Entry, EntryRef, History};
 pub use loading::three_traps;
 pub use model::{Actor, Answer, Buffer, PageList, Reply, Step, Trap};
 pub use mutating::Mutating;

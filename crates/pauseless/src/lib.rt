@@ -15,8 +15,8 @@
 #![tactic(auto)]
 
 pub use cycle::{
-    Actor, Answer, Book, Buffer, Entry, Mutating, PageList, Reply, Step, Stepping, Trap, run,
-    three_traps,
+    Actor, Answer, Book, Buffer, Entry, EntryRef, History, Mutating, PageList, Reply, Step,
+    Stepping, Trap, run, three_traps,
 };
 pub use heap::{Config, ConfigFault, Heap, NewFault, Refusal};
 pub use layout::{Layout, Layouts};

@@ -1,9 +1,12 @@
 -- Texts that are written one after another.
-use Rattle.std.proofs.Common.{◌≡◌, ℕ, ◌+◌, ◌<◌, ◌≤◌, List, [], ◌∷◌, ◌++◌, length, drop, get_or, Option, Some, None}
-use Rattle.std.proofs.Common.{refl, ap, sym, subst, ◌∙◌, add-one, drop-cons, append_assoc, append-nil}
+use Rattle.std.proofs.Common.{◌≡◌, ℕ, ◌+◌, ◌<◌, ◌≤◌, List, [], ◌∷◌, ◌++◌, length, drop, get_or}
+use Rattle.std.proofs.Common.{slice_get, Option, Some, None, IfSome}
+use Rattle.std.proofs.Common.{refl, ap, sym, subst, ◌∙◌, add-one, drop-cons, append_assoc, append-nil, not-suc-le-zero}
 use Rattle.std.proofs.lemmas.List.{drop_all}
+use Rattle.std.proofs.lemmas.Option.{slice_get-get_or}
+use Rattle.model.specs.declared.steps.Answer.{Answer}
 use Rattle.std.specs.Io.KnownBytes.{Appends}
-use Rattle.cycle.specs.declared.book.Entry.{Entry}
+use Rattle.entries.specs.declared.entry.Entry.{Entry}
 use Rattle.cycle.specs.Books.{BookState, Reply}
 use Rattle.parser.specs.declared.order.Command.{Command}
 use Rattle.text.specs.Texts.{Leads}
@@ -120,13 +123,17 @@ pub told_item :
 told_item f i xs x old c new all h le e a =
     told_next f i xs x old c new all h le (subst (λ y. Appends c new (f i y)) e a)
 
-pub cycle_item : (k n i : ℕ) (es : List Entry) (e : Entry) (old c new : Option (List ℕ)) (all : List ℕ)
+-- the same of an answer that was read
+pub cycle_item : (k n i : ℕ) (es : List Entry) (a : Answer) (old c new : Option (List ℕ)) (all : List ℕ)
     → Leads old c (cycles_from k (drop i es)) all
-    → i < length es → e ≡ get_or es i e → Appends c new (cycle_line k e.answer) → n ≡ next_cycle k e.answer
-    → Leads old new (cycles_from n (drop (i + 1) es)) all
-cycle_item k n i es e old c new all h le q a m =
-    cycle_told k n i es e old c new all h le (subst (λ (y : Entry). Appends c new (cycle_line k y.answer)) q a)
-    (subst (λ (y : Entry). n ≡ next_cycle k y.answer) q m)
+    → i < length es → IfSome (slice_get es i) (λ e. a ≡ e.answer) → Appends c new (cycle_line k a)
+    → n ≡ next_cycle k a → Leads old new (cycles_from n (drop (i + 1) es)) all
+cycle_item k n i [] a old c new all h le q t m = absurd (not-suc-le-zero le)
+cycle_item k n i (d ∷ ds) a old c new all h le q t m =
+    let read : a ≡ (get_or (d ∷ ds) i d).answer =
+    subst (λ o. IfSome o (λ (e : Entry). a ≡ e.answer)) (slice_get-get_or (d ∷ ds) i d le) q in
+    cycle_told k n i (d ∷ ds) d old c new all h le (subst (λ (y : Answer). Appends c new (cycle_line k y)) read t)
+    (subst (λ (y : Answer). n ≡ next_cycle k y) read m)
 
 -- nothing is appended
 pub appends_nothing : (o : Option (List ℕ)) → Appends o o []

@@ -12,7 +12,7 @@ use Rattle.model.specs.declared.records.Global.{Global}
 use Rattle.model.specs.declared.records.Page.{Page}
 use Rattle.model.specs.States.{HeapState, ThreadState}
 use Rattle.model.specs.Stores.{is_protected, is_unused}
-use Rattle.cycle.specs.declared.book.Entry.{Entry}
+use Rattle.entries.specs.declared.entry.Entry.{Entry}
 use Rattle.cycle.specs.Books.{BookState, Reply, first_book}
 use Rattle.cycle.specs.Drains.{drain, verdict}
 use Rattle.cycle.specs.Loads.{Told, whole_load, one_step}

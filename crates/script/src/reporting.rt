@@ -1,13 +1,13 @@
 //! The report: the heap as it stands, and what each mark has found.
 
-ghost use Rattle.std.specs.Prelude.{◌≡◌, ◌++◌, ◌∷◌, [], IfSome, ◌+◌, ◌<◌, ◌≤◌, ◌^◌, OnOk, string_bytes};
+ghost use Rattle.std.specs.Prelude.{◌≡◌, ◌++◌, ◌∷◌, [], IfSome, ◌+◌, ◌<◌, ◌≤◌, ◌^◌, OnOk, string_bytes, length, slice_get};
 ghost use Rattle.std.specs.Io.KnownBytes.{Appends};
 ghost use Rattle.model.specs.Stores.{is_protected, is_unused};
 ghost use Rattle.text.specs.Reports.{texts_from};
 ghost use Rattle.script.specs.Output.{head_line, page_line, thread_line, global_line, cycle_line, cycles_from, next_cycle, report_text, bits_in, copied_in, copies_in, copies_of, activity_of};
 
 use crate::fault::RunFault;
-use cycle::{Answer, Entry};
+use cycle::{Answer, History};
 use forward::{Side, Sides};
 use heap::{Heap, Rows, Thread};
 use model::{Global, Page, PageState};
@@ -255,17 +255,29 @@ fn next_cycle(number: u64, answer: Answer) -> u64
     }
 }
 
+/// The answer of the entry of a number, from 0.
+fn answer_at(history: &History, index: usize) -> Answer
+    requires { index < length history.now.entries }
+    ensures { IfSome (slice_get history.now.entries index) (λ e. result ≡ e.answer) }
+{
+    match history.get(index) {
+        Some(found) => found.entry().answer,
+        None => unreachable!(),
+    }
+}
+
 fn tell_cycles<W: io::Write>(
-    history: &[Entry],
+    history: &History,
     text: &mut String,
     w: &mut W,
 ) -> Result<(), RunFault>
-    ensures { OnOk result (Appends (W.contents w.old) (W.contents w.new) (cycles_from 1 history.now)) }
+    ensures { OnOk result (Appends (W.contents w.old) (W.contents w.new) (cycles_from 1 history.now.entries)) }
 {
     let mut number = 1u64;
-    for entry in history {
-        tell_cycle(number, entry.answer, text, w)?;
-        number = next_cycle(number, entry.answer);
+    for index in 0..history.len() {
+        let answer = answer_at(history, index);
+        tell_cycle(number, answer, text, w)?;
+        number = next_cycle(number, answer);
     }
     Ok(())
 }
@@ -276,10 +288,10 @@ fn tell_cycles<W: io::Write>(
 pub fn report<W: io::Write>(
     alloc: Memory,
     heap: &Heap,
-    history: &[Entry],
+    history: &History,
     w: &mut W,
 ) -> Result<(), RunFault>
-    ensures { OnOk result (Appends (W.contents w.old) (W.contents w.new) (report_text heap.now history.now)) }
+    ensures { OnOk result (Appends (W.contents w.old) (W.contents w.new) (report_text heap.now history.now.entries)) }
 {
     let mut text = String::new(alloc);
     tell_head(heap, &mut text, w)?;

@@ -81,9 +81,9 @@ fn filled(rt: &impl Abort, book: &mut Book, rows: Vec<Row>) {
     play(rt, book, rows);
     assert_eq!(rt; book.history().len(), 6);
     assert_eq!(rt; book.heap().births(), 1);
-    match book.history().last() {
+    match book.history().get(5) {
         None => assert!(rt; false),
-        Some(last) => is_last(rt, last),
+        Some(last) => is_last(rt, last.entry()),
     }
 }
 

@@ -1,10 +1,112 @@
-//! A history that is filled to the highest limit.
+//! Entries of histories, and a history that is filled to the highest limit.
 
 use crate::samples::small_book;
-use cycle::{Actor, Answer, Book, Step};
+use cycle::{Actor, Answer, Book, Entry, History, PageList, Step};
 use heap::Refusal;
+use std::alloc::{AllocError, Global};
 use std::process::Abort;
 use std::test::Fail;
+
+/// Steps with their answers: with all numbers that an entry has room for, with a list, and with an
+/// answer that the step never has.
+fn told_steps(alloc: Global) -> Result<Vec<(Step, Answer)>, AllocError> {
+    let pages = PageList::new(vec![in alloc; 4, 2, 9]?);
+    Ok(vec![in alloc;
+        (Step::Unpark, Answer::Done),
+        (
+            Step::Protect(pages),
+            Answer::Protected {
+                objects: 1 << 40,
+                targets: 3
+            }
+        ),
+        (
+            Step::SetDatum {
+                object: 1,
+                index: 2,
+                value: u64::MAX
+            },
+            Answer::Done
+        ),
+        (
+            Step::Copy { page: 3, entry: 4 },
+            Answer::MovedTo { page: 5, offset: 6 }
+        ),
+        (
+            Step::EndMark,
+            Answer::Ended {
+                live: 1 << 50,
+                retired: 7
+            }
+        ),
+        (Step::Trap, Answer::Released { free: 8 }),
+        (Step::IsNull(9), Answer::Truth(false)),
+    ]?)
+}
+
+/// An entry is that of this step, as a text, and answer.
+fn is_entry(
+    rt: &impl Abort,
+    alloc: Global,
+    entry: &Entry,
+    step: &str,
+    answer: Answer,
+) -> Result<(), Fail> {
+    let text = format!(in alloc; "{:?}", entry.step)?;
+    assert_eq!(rt; text.as_str(), step);
+    assert_eq!(rt; entry.actor, Actor::Worker(3));
+    assert_eq!(rt; entry.answer, answer);
+    Ok(())
+}
+
+/// Enters a step with its answer, which are found then behind all others.
+fn enters(
+    rt: &impl Abort,
+    alloc: Global,
+    history: &mut History,
+    step: Step,
+    answer: Answer,
+) -> Result<(), Fail> {
+    let text = format!(in alloc; "{step:?}")?;
+    let index = history.len();
+    history.reserve()?;
+    history.enter(Actor::Worker(3), step, answer);
+    match history.get(index) {
+        None => assert!(rt; false),
+        Some(found) => is_entry(rt, alloc, found.entry(), &text, answer)?,
+    }
+    Ok(())
+}
+
+/// The list of pages stands behind later entries as before them, and nothing stands behind the last.
+fn stays(rt: &impl Abort, alloc: Global, history: &History) -> Result<(), Fail> {
+    let answer = Answer::Protected {
+        objects: 1 << 40,
+        targets: 3,
+    };
+    match history.get(1) {
+        None => assert!(rt; false),
+        Some(found) => is_entry(
+            rt,
+            alloc,
+            found.entry(),
+            "Protect(PageList { pages: [4, 2, 9] })",
+            answer,
+        )?,
+    }
+    assert!(rt; history.get(history.len()).is_none());
+    Ok(())
+}
+
+#[test]
+fn entries(rt: HostRuntime) -> Result<(), Fail> {
+    let mut history = History::new(rt.alloc());
+    assert!(rt; history.is_empty());
+    for (step, answer) in told_steps(rt.alloc())? {
+        enters(&rt, rt.alloc(), &mut history, step, answer)?;
+    }
+    stays(&rt, rt.alloc(), &history)
+}
 
 /// The book accepts as many steps as it may, and refuses the next.
 fn fill(rt: &impl Abort, book: &mut Book) {

@@ -1,7 +1,7 @@
 //! What runs of scripts write, and what a report says of a history that no script of today has.
 
 use crate::samples::small_book;
-use cycle::{Actor, Answer, Book, Entry, Step};
+use cycle::{Actor, Answer, Book, History, Step};
 use script::{RunFault, by_schedule, parse, report};
 use std::alloc::Global;
 use std::process::Abort;
@@ -50,13 +50,10 @@ fn runs(rt: HostRuntime) -> Result<(), Fail> {
 
 /// What a report of a new heap says of the answers to these ends of marks.
 fn told(alloc: Global, book: &Book, answers: &[Answer]) -> Result<Vec<u8>, RunFault> {
-    let mut history = Vec::new(alloc);
+    let mut history = History::new(alloc);
     for answer in answers {
-        history.push(Entry {
-            actor: Actor::Worker(0),
-            step: Step::EndMark,
-            answer: *answer,
-        })?;
+        history.reserve()?;
+        history.enter(Actor::Worker(0), Step::EndMark, *answer);
     }
     let mut written = Vec::new(alloc);
     report(alloc, book.heap(), &history, &mut written)?;

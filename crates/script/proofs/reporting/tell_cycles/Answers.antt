@@ -2,15 +2,16 @@ use Rattle.std.proofs.Common.{arith}
 use Rattle.script.proofs.Telling.{cycle_item, cycles_told}
 use Rattle.script.proofs.reporting.tell_cycles.Goals as goal
 
-pub loop-entry-preserved : goal.loop-entry-preserved
-loop-entry-preserved g c =
+pub loop-index-preserved : goal.loop-index-preserved
+loop-index-preserved g c =
     record {
-      count = omega (arith, c.loop-entry.invariant.count, c.next_cycle-number.ensures.bound);
-      told = cycle_item c.loop-entry.number c.next_cycle-number.result c.loop-entry.entry-index c.args.history.now
-          c.entry-item.result _ _ _ _ c.loop-entry.invariant.told c.loop-entry-test.true c.entry-item.is
+      count = omega (arith, c.loop-index.invariant.count, c.next_cycle-number.ensures.bound);
+      told = cycle_item c.loop-index.number c.next_cycle-number.result c.loop-index.index c.args.history.now.entries
+          c.answer_at-answer.result _ _ _ _ c.loop-index.invariant.told
+          (omega (arith, c.loop-index-test.true, c.len-index-end.ensures.value)) c.answer_at-answer.ensures
           c.in_ok-tell_cycle.ensures c.next_cycle-number.ensures.value;
     }
 
 pub returns : goal.returns
-returns g c = cycles_told c.loop-entry.number c.loop-entry.entry-index c.args.history.now
-    _ _ _ c.loop-entry.invariant.told c.loop-entry-test.false
+returns g c = cycles_told c.loop-index.number c.loop-index.index c.args.history.now.entries
+    _ _ _ c.loop-index.invariant.told (omega (arith, c.loop-index-test.false, c.len-index-end.ensures.value))

@@ -1,0 +1,5 @@
+pub mod Histories
+pub mod Events
+pub mod Blocks
+pub mod BlockViews
+pub mod Views
