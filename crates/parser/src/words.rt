@@ -4,7 +4,7 @@
 ghost use Rattle.std.specs.Prelude.{◌==◌, position, ◌≡◌, ◌+◌, ◌-◌, ◌*◌, ◌^◌, ◌≤◌, ◌<◌, length, min, true, IfOk, IfSome};
 ghost use Rattle.std.specs.Option.{option_map};
 ghost use Rattle.std.specs.List.{list_all};
-ghost use Rattle.parser.specs.Words.{seen, word_at, word_or, is_digit, is_number, capped_from, number_at, small_at, named_at, end_at, fixed_at};
+ghost use Rattle.parser.specs.Words.{seen, word_at, word_or, is_digit, is_number, capped_from, number_at, small_at, named_at, named_in, end_at, fixed_at};
 ghost use Rattle.parser.specs.Words.{number_in, point_parts, address_at};
 
 use crate::fault::{FaultKind, Flaw};
@@ -130,13 +130,26 @@ fn short_number_in(word: &[u8]) -> Option<u64>
 }
 
 /// The number that a word is, or 2^64 where that is less; none where it is no number.
+#[inline]
 fn number_in(word: &[u8]) -> Option<u128>
     ensures { result ≡ number_in word.now }
 {
     match short_number_in(word) {
         Some(value) => Some(u128::from(value)),
-        None if is_number(word) => Some(capped(word)),
-        None => None,
+        None => long_number_in(word),
+    }
+}
+
+/// The same of any word, digit by digit in 128 bits.
+#[cold]
+#[inline(never)]
+fn long_number_in(word: &[u8]) -> Option<u128>
+    ensures { result ≡ number_in word.now }
+{
+    if is_number(word) {
+        Some(capped(word))
+    } else {
+        None
     }
 }
 
@@ -184,6 +197,21 @@ pub fn named_at(
     ensures { result ≡ named_at line.now at letter count missing }
 {
     let (word, after) = word_or(line, at, FaultKind::UnknownWord)?;
+    named_in(word, after, at, letter, count, missing)
+}
+
+/// The number in such a word, which stands at a place, and the place after the word.
+pub fn named_in(
+    word: &[u8],
+    after: usize,
+    at: usize,
+    letter: u8,
+    count: u32,
+    missing: FaultKind,
+) -> Result<(u32, usize), Flaw>
+    requires { at + 1 < 2 ^ 64 }
+    ensures { result ≡ named_in word.now after at letter count missing }
+{
     let wrong = Flaw {
         column: at + 1,
         kind: FaultKind::UnknownWord,
