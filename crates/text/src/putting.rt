@@ -1,16 +1,17 @@
 //! Texts that are put at the end of a text, without a formatter.
 
-ghost use Rattle.std.specs.Prelude.{◌≡◌, ◌++◌, ◌<◌, OnOk, string_bytes};
+ghost use Rattle.std.specs.Prelude.{◌≡◌, ◌++◌, ◌<◌, Err, OnOk, string_bytes};
 ghost use Rattle.std.specs.Fmt.{decimal};
 ghost use Rattle.text.specs.Texts.{actor_text, answer_text, reply_text};
 
-use crate::steps::{AnswerParts, ReplyText};
+use crate::steps::AnswerParts;
 use itoa::Buffer;
-use model::{Actor, Answer, Reply};
+use model::{Actor, Answer, Refusal, Reply};
 use std::alloc::AllocError;
 use std::fmt::Write as _;
 
 /// Puts a number below 10.
+#[inline]
 #[tactic(auto, using(std::proofs::lemmas::Fmt::decimal_digit))]
 fn put_digit(text: &mut String, digit: u8) -> Result<(), AllocError>
     requires { digit < 10 }
@@ -20,14 +21,23 @@ fn put_digit(text: &mut String, digit: u8) -> Result<(), AllocError>
 }
 
 /// Puts a number.
+#[inline]
 pub(crate) fn put_number(text: &mut String, number: u64) -> Result<(), AllocError>
     ensures { OnOk result (string_bytes text.new ≡ string_bytes text.old ++ decimal number) }
 {
     if number < 10 {
         put_digit(text, number as u8)
     } else {
-        text.push_str(Buffer::new().format(number))
+        put_digits(text, number)
     }
+}
+
+/// Puts a number of any length.
+#[inline(never)]
+fn put_digits(text: &mut String, number: u64) -> Result<(), AllocError>
+    ensures { OnOk result (string_bytes text.new ≡ string_bytes text.old ++ decimal number) }
+{
+    text.push_str(Buffer::new().format(number))
 }
 
 /// Puts an actor.
@@ -67,9 +77,14 @@ pub(crate) fn put_reply(text: &mut String, reply: Reply) -> Result<(), AllocErro
 {
     match reply {
         Ok(answer) => put_answer(text, answer),
-        Err(_) => {
-            let reply = ReplyText(reply);
-            write!(text, "{reply}")
-        }
+        Err(refusal) => put_refusal(text, refusal),
     }
+}
+
+/// Puts what a step says that is refused.
+#[inline(never)]
+fn put_refusal(text: &mut String, refusal: Refusal) -> Result<(), AllocError>
+    ensures { OnOk result (string_bytes text.new ≡ string_bytes text.old ++ reply_text (Err refusal)) }
+{
+    write!(text, "refused {refusal}")
 }
