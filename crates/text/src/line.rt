@@ -12,8 +12,8 @@ use std::alloc::AllocError;
 use std::io;
 
 /// What a step says behind another one.
-fn put_next(text: &mut String, reply: Reply) -> Result<(), AllocError>
-    ensures { OnOk result (string_bytes text.new ≡ string_bytes text.old ++ next_text reply) }
+fn put_next(text: &mut String, reply: &Reply) -> Result<(), AllocError>
+    ensures { OnOk result (string_bytes text.new ≡ string_bytes text.old ++ next_text reply.now) }
 {
     text.push_str(", ")?;
     put_reply(text, reply)
@@ -23,7 +23,7 @@ fn put_others(text: &mut String, replies: &[Reply]) -> Result<(), AllocError>
     ensures { OnOk result (string_bytes text.new ≡ string_bytes text.old ++ flat_map next_text replies.now) }
 {
     for reply in replies {
-        put_next(text, *reply)?;
+        put_next(text, reply)?;
     }
     Ok(())
 }
@@ -34,11 +34,12 @@ fn put_replies(text: &mut String, replies: &[Reply]) -> Result<(), AllocError>
     let Some((first, others)) = replies.split_first() else {
         return Ok(());
     };
-    put_reply(text, *first)?;
+    put_reply(text, first)?;
     put_others(text, others)
 }
 
 /// Puts the head of a line: a command's number and its actor, with a space behind each.
+#[inline(always)]
 fn put_head(text: &mut String, number: u64, actor: Actor) -> Result<(), AllocError>
     ensures { OnOk result (string_bytes text.new
         ≡ string_bytes text.old ++ decimal number ++ codes " " ++ actor_text actor ++ codes " ") }

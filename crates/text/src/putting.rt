@@ -41,6 +41,7 @@ fn put_digits(text: &mut String, number: u64) -> Result<(), AllocError>
 }
 
 /// Puts an actor.
+#[inline]
 pub(crate) fn put_actor(text: &mut String, actor: Actor) -> Result<(), AllocError>
     ensures { OnOk result (string_bytes text.new ≡ string_bytes text.old ++ actor_text actor) }
 {
@@ -72,10 +73,10 @@ pub(crate) fn put_answer(text: &mut String, answer: Answer) -> Result<(), AllocE
 }
 
 /// Puts what a step said.
-pub(crate) fn put_reply(text: &mut String, reply: Reply) -> Result<(), AllocError>
-    ensures { OnOk result (string_bytes text.new ≡ string_bytes text.old ++ reply_text reply) }
+pub(crate) fn put_reply(text: &mut String, reply: &Reply) -> Result<(), AllocError>
+    ensures { OnOk result (string_bytes text.new ≡ string_bytes text.old ++ reply_text reply.now) }
 {
-    match reply {
+    match *reply {
         Ok(answer) => put_answer(text, answer),
         Err(refusal) => put_refusal(text, refusal),
     }
