@@ -87,7 +87,7 @@ fn thread_at(sizes: &Sizes, line: &[u8], at: usize) -> Result<(u32, usize), Flaw
     named_at(line, at, b't', sizes.threads, FaultKind::NoSuchActor)
 }
 
-#[inline(never)]
+#[inline(always)]
 #[tactic(auto, unfolding(crate::specs::Orders::register_at))]
 fn register_at(sizes: &Sizes, line: &[u8], at: usize) -> Result<(u32, usize), Flaw>
     ensures { result ≡ register_at sizes.now line.now at }

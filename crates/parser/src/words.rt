@@ -17,6 +17,7 @@ fn first_space(rest: &[u8]) -> Option<usize>
 }
 
 /// The word at a place, and the place after it. It may be empty.
+#[inline(always)]
 #[tactic(auto, unfolding(crate::specs::Words::word_at))]
 pub fn word_at(line: &[u8], at: usize) -> Option<(&[u8], usize)>
     ensures found { option_map (λ x. (x.0.now, x.1)) result ≡ word_at line.now at }
@@ -36,6 +37,7 @@ pub fn word_at(line: &[u8], at: usize) -> Option<(&[u8], usize)>
 }
 
 /// The word at a place, or this kind of fault where it is missing.
+#[inline(always)]
 #[tactic(auto, unfolding(crate::specs::Words::word_or))]
 pub fn word_or(line: &[u8], at: usize, kind: FaultKind) -> Result<(&[u8], usize), Flaw>
     ensures found { seen (λ x. (x.0.now, x.1)) result ≡ word_or line.now at kind }
@@ -186,6 +188,7 @@ pub fn small_at(line: &[u8], at: usize) -> Result<(u32, usize), Flaw>
 }
 
 /// The number in a word that is a letter and a number below `count`, and the place after the word.
+#[inline(always)]
 #[tactic(auto, unfolding(crate::specs::Words::named_at))]
 pub fn named_at(
     line: &[u8],
@@ -201,6 +204,7 @@ pub fn named_at(
 }
 
 /// The number in such a word, which stands at a place, and the place after the word.
+#[inline(always)]
 pub fn named_in(
     word: &[u8],
     after: usize,
