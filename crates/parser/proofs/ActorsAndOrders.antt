@@ -51,6 +51,10 @@ verb_again : (v : Verb) → verb_of (row_of v).text ≡ Some v
 unfolding verb_of
 verb_again v = grind arith
 
+-- a word that equals a verb's word is read as that verb
+pub verb_met : (w : List ℕ) (v : Verb) → bytes_eq w (row_of v).text ≡ true → Some v ≡ verb_of w
+verb_met w v same = sym (ap verb_of ((bytes_eq-Decides w (row_of v).text).0 same) ∙ verb_again v)
+
 -- the verb that a word is for an actor is one that the actor does
 pub actor_verb : (actor : Actor) (w : List ℕ) (v : Verb) → verb_in actor w ≡ Some v
     → (does actor v ≡ true) × (w ≡ (row_of v).text)

@@ -65,6 +65,10 @@ unfoldable pub capped_from : ℕ → List ℕ → ℕ
 capped_from v [] = v
 capped_from v (b ∷ bs) = capped_from (min (v * 10 + (b - 48)) (2 ^ 64)) bs
 
+-- the number that a word is, with all from 2^64 on taken as one
+abbrev pub number_in : List ℕ → Option ℕ
+number_in word = if is_number word then Some (capped_from 0 word) else None
+
 -- a number in a range, or the fault
 abbrev pub in_range : ℕ → ℕ → ℕ → ℕ → ℕ → Result (ℕ × ℕ) Flaw
 in_range value after at low high =

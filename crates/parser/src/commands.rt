@@ -1,6 +1,9 @@
 //! The actor, the verb and the operands of a command.
 
 ghost use Rattle.std.specs.Prelude.{◌≡◌, ◌==◌};
+ghost use Rattle.parser.specs.declared.fault.FaultKind.TheVariants.{NoSuchActor};
+ghost use Rattle.parser.specs.Words.{named_at};
+ghost use Rattle.parser.specs.Reading.{first_word};
 ghost use Rattle.parser.specs.Verbs.{IsSmall, IsWide};
 ghost use Rattle.parser.specs.Orders.{register_at, thread_at, operand_at, actor_at, first_byte};
 ghost use Rattle.parser.specs.Orders.{does, verb_in, numbers_at, more_at, operands_at, order_at, Finds};
@@ -10,22 +13,43 @@ use crate::heading::Sizes;
 use crate::number_list::NumberList;
 use crate::order::Order;
 use crate::verbs::{Kind, Verb, verb_of};
-use crate::words::{address_at, end_at, named_at, number_at, small_at, word_or};
+use crate::words::{address_at, end_at, named_at, named_in, number_at, small_at, word_or};
 use model::Actor;
 use std::alloc::Global;
 
-/// The actor at the front of a line, and the place after it.
+/// The actor that a line's first word is, and the place after it.
 #[tactic(auto, unfolding(crate::specs::Orders::actor_at))]
-pub fn actor_at(sizes: &Sizes, line: &[u8]) -> Result<(Actor, usize), Flaw>
+pub fn actor_at(
+    sizes: &Sizes,
+    line: &[u8],
+    word: &[u8],
+    after: usize,
+) -> Result<(Actor, usize), Flaw>
+    requires { (word.now, after) ≡ first_word line.now }
     ensures { result ≡ actor_at sizes.now line.now }
 {
     if begins_with_w(line) {
-        let (worker, after) = named_at(line, 0, b'w', sizes.workers, FaultKind::NoSuchActor)?;
+        let (worker, after) = first_named(line, word, after, b'w', sizes.workers)?;
         Ok((Actor::Worker(worker), after))
     } else {
-        let (thread, after) = thread_at(sizes, line, 0)?;
+        let (thread, after) = first_named(line, word, after, b't', sizes.threads)?;
         Ok((Actor::Thread(thread), after))
     }
+}
+
+/// The number in a line's first word, where that is a letter and a number below `count`, and the place after it.
+#[tactic(auto, using(crate::proofs::FirstWords::first_named))]
+fn first_named(
+    line: &[u8],
+    word: &[u8],
+    after: usize,
+    letter: u8,
+    count: u32,
+) -> Result<(u32, usize), Flaw>
+    requires { (word.now, after) ≡ first_word line.now }
+    ensures { result ≡ named_at line.now 0 letter count NoSuchActor }
+{
+    named_in(word, after, 0, letter, count, FaultKind::NoSuchActor)
 }
 
 fn begins_with_w(line: &[u8]) -> bool
@@ -63,6 +87,7 @@ fn thread_at(sizes: &Sizes, line: &[u8], at: usize) -> Result<(u32, usize), Flaw
     named_at(line, at, b't', sizes.threads, FaultKind::NoSuchActor)
 }
 
+#[inline(always)]
 #[tactic(auto, unfolding(crate::specs::Orders::register_at))]
 fn register_at(sizes: &Sizes, line: &[u8], at: usize) -> Result<(u32, usize), Flaw>
     ensures { result ≡ register_at sizes.now line.now at }
@@ -71,6 +96,7 @@ fn register_at(sizes: &Sizes, line: &[u8], at: usize) -> Result<(u32, usize), Fl
 }
 
 /// An operand of 32 bits, and the place after it.
+#[inline(always)]
 #[tactic(auto, unfolding(crate::specs::Orders::operand_at))]
 fn small_operand_at(sizes: &Sizes, line: &[u8], at: usize, kind: Kind) -> Result<(u32, usize), Flaw>
     requires { IsSmall kind }
@@ -86,6 +112,7 @@ fn small_operand_at(sizes: &Sizes, line: &[u8], at: usize, kind: Kind) -> Result
 }
 
 /// An operand of 64 bits, and the place after it.
+#[inline(always)]
 #[tactic(auto, unfolding(crate::specs::Orders::operand_at))]
 fn wide_operand_at(sizes: &Sizes, line: &[u8], at: usize, kind: Kind) -> Result<(u64, usize), Flaw>
     requires { IsWide kind }
@@ -100,6 +127,7 @@ fn wide_operand_at(sizes: &Sizes, line: &[u8], at: usize, kind: Kind) -> Result<
 }
 
 /// The numbers of 32 bits from a place to the end of the line, and the place after them.
+#[inline(never)]
 #[tactic(auto, using(crate::proofs::ManyNumbers::begun, crate::proofs::ManyNumbers::one_more, crate::proofs::ManyNumbers::broken, crate::proofs::ManyNumbers::ended, crate::proofs::ManyNumbers::small_moves))]
 fn numbers_at(alloc: Global, line: &[u8], at: usize) -> Result<(NumberList, usize), Stop>
     ensures { Finds result (numbers_at line.now at) }
@@ -115,6 +143,7 @@ fn numbers_at(alloc: Global, line: &[u8], at: usize) -> Result<(NumberList, usiz
 }
 
 /// More numbers from a place on, where there may be some, and the place after them.
+#[inline(always)]
 fn more_at(alloc: Global, line: &[u8], at: usize, more: bool) -> Result<(NumberList, usize), Stop>
     ensures { Finds result (more_at more line.now at) }
 {

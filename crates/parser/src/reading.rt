@@ -129,10 +129,17 @@ impl Reading {
     }
 
     #[tactic(auto, unfolding(crate::specs::Reading::command_line))]
-    fn command_line(&mut self, sizes: &Sizes, line: &[u8]) -> Result<(), Stop>
+    fn command_line(
+        &mut self,
+        sizes: &Sizes,
+        line: &[u8],
+        word: &[u8],
+        at: usize,
+    ) -> Result<(), Stop>
+        requires { (word.now, at) ≡ first_word line.now }
         ensures { Follows result self.new (command_line self.old sizes.now line.now) }
     {
-        let (actor, at) = actor_at(sizes, line)?;
+        let (actor, at) = actor_at(sizes, line, word, at)?;
         if self.is_full() {
             return Err(flaw(FaultKind::TooManyCommands));
         }
@@ -186,7 +193,7 @@ impl Reading {
         } else if word == b"end".as_slice() {
             self.end_line(line, at)
         } else {
-            self.command_line(sizes, line)
+            self.command_line(sizes, line, word, at)
         }
     }
 

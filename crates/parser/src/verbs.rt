@@ -92,7 +92,7 @@ pub enum Verb {
     Release,
 }
 
-/// All verbs. A word is compared with theirs in this order, so frequent ones stand first.
+/// All verbs. A word that isn't the verb that it is likely to be is compared with theirs in this order.
 const VERBS: [Verb; 32] = [
     Verb::Get,
     Verb::Set,
@@ -259,10 +259,74 @@ impl Verb {
     }
 }
 
-/// The verb that a word is.
+/// A guess which verb a word is, by its first byte, its third one and its length. It is right of each verb's word;
+/// nothing rests on this but time, since the word is compared with the guess.
+fn likely(first: u8, third: u8, length: usize) -> Verb {
+    match first {
+        b'c' => match third {
+            b'e' => Verb::Clear,
+            b'o' if length == 5 => Verb::Cross,
+            b'o' => Verb::CrossFor,
+            _ => Verb::Copy,
+        },
+        b'd' if third == b't' => Verb::Datum,
+        b'd' => Verb::Drain,
+        b'e' => Verb::EndMark,
+        b'f' => Verb::Finish,
+        b'g' if third == b'v' => Verb::Give,
+        b'g' if length == 3 => Verb::Get,
+        b'g' => Verb::GetGlobal,
+        b'h' => Verb::Heal,
+        b'l' if length == 4 => Verb::Load,
+        b'l' => Verb::LoadGlobal,
+        b'm' if third == b'v' => Verb::Move,
+        b'm' => Verb::Mark,
+        b'n' if third == b'w' => Verb::New,
+        b'n' => Verb::Null,
+        b'p' => match third {
+            b'r' => Verb::Park,
+            b'c' => Verb::Pick,
+            _ => Verb::Protect,
+        },
+        b'r' => Verb::Release,
+        b's' => likely_in_s(third, length),
+        b't' if third == b'k' => Verb::Take,
+        b't' => Verb::Trap,
+        _ => Verb::Unpark,
+    }
+}
+
+/// Such a guess of a word that begins with `s`.
+fn likely_in_s(third: u8, length: usize) -> Verb {
+    match third {
+        b't' => Verb::Set,
+        b'o' if length == 5 => Verb::Store,
+        b'o' => Verb::StoreGlobal,
+        b'm' => Verb::Same,
+        b'r' => Verb::Scrub,
+        _ if length == 4 => Verb::Scan,
+        _ => Verb::ScanGlobal,
+    }
+}
+
+/// The verb that a word is, sought among all.
 #[tactic(auto, unfolding(crate::specs::Verbs::verb_of))]
-pub fn verb_of(word: &[u8]) -> Option<Verb>
+fn sought(word: &[u8]) -> Option<Verb>
     ensures { result ≡ verb_of word.now }
 {
     VERBS.iter().copied().find(|verb| word == verb.text())
+}
+
+/// The verb that a word is.
+#[tactic(auto, using(crate::proofs::ActorsAndOrders::verb_met))]
+pub fn verb_of(word: &[u8]) -> Option<Verb>
+    ensures { result ≡ verb_of word.now }
+{
+    if let [first, _, third, ..] = word {
+        let verb = likely(*first, *third, word.len());
+        if word == verb.text() {
+            return Some(verb);
+        }
+    }
+    sought(word)
 }

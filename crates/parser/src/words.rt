@@ -1,11 +1,11 @@
 //! The words of a line, from left to right. A place is the index of a word's first byte; it is one
 //! past the line's length where no word is left.
 
-ghost use Rattle.std.specs.Prelude.{◌==◌, position, ◌≡◌, ◌≤◌, ◌<◌, length, IfOk, IfSome};
+ghost use Rattle.std.specs.Prelude.{◌==◌, position, ◌≡◌, ◌+◌, ◌-◌, ◌*◌, ◌^◌, ◌≤◌, ◌<◌, length, min, true, IfOk, IfSome};
 ghost use Rattle.std.specs.Option.{option_map};
 ghost use Rattle.std.specs.List.{list_all};
-ghost use Rattle.parser.specs.Words.{seen, word_at, word_or, is_digit, is_number, capped_from, number_at, small_at, named_at, end_at, fixed_at};
-ghost use Rattle.parser.specs.Words.{point_parts, address_at};
+ghost use Rattle.parser.specs.Words.{seen, word_at, word_or, is_digit, is_number, capped_from, number_at, small_at, named_at, named_in, end_at, fixed_at};
+ghost use Rattle.parser.specs.Words.{number_in, point_parts, address_at};
 
 use crate::fault::{FaultKind, Flaw};
 
@@ -17,6 +17,7 @@ fn first_space(rest: &[u8]) -> Option<usize>
 }
 
 /// The word at a place, and the place after it. It may be empty.
+#[inline(always)]
 #[tactic(auto, unfolding(crate::specs::Words::word_at))]
 pub fn word_at(line: &[u8], at: usize) -> Option<(&[u8], usize)>
     ensures found { option_map (λ x. (x.0.now, x.1)) result ≡ word_at line.now at }
@@ -36,6 +37,7 @@ pub fn word_at(line: &[u8], at: usize) -> Option<(&[u8], usize)>
 }
 
 /// The word at a place, or this kind of fault where it is missing.
+#[inline(always)]
 #[tactic(auto, unfolding(crate::specs::Words::word_or))]
 pub fn word_or(line: &[u8], at: usize, kind: FaultKind) -> Result<(&[u8], usize), Flaw>
     ensures found { seen (λ x. (x.0.now, x.1)) result ≡ word_or line.now at kind }
@@ -93,6 +95,66 @@ fn capped(digits: &[u8]) -> u128
     value
 }
 
+/// A number with one digit more, below 2^64. None for another byte, and for a large number.
+fn with_digit(value: u64, byte: u8) -> Option<u64>
+    ensures digit { IfSome result (λ _. is_digit byte ≡ true) }
+    ensures value { IfSome result (λ next. next ≡ min (value * 10 + (byte - 48)) (2 ^ 64)) }
+{
+    if byte < b'0' || byte > b'9' || value >= 1 << 60 {
+        return None;
+    }
+    Some(value * 10 + u64::from(byte - b'0'))
+}
+
+/// The number that digits stand for, read in 64 bits. None where a byte is no digit, and for a large number.
+#[tactic(auto, unfolding(crate::specs::Words::capped_from))]
+fn short(word: &[u8]) -> Option<u64>
+    ensures digits { IfSome result (λ _. list_all is_digit word.now ≡ true) }
+    ensures value { IfSome result (λ value. value ≡ capped_from 0 word.now) }
+{
+    let mut value = 0u64;
+    for b in word {
+        value = with_digit(value, *b)?;
+    }
+    Some(value)
+}
+
+/// The number that a word is, read in 64 bits. None where it is no number, and for a large one.
+#[tactic(auto, unfolding(crate::specs::Words::is_number))]
+fn short_number_in(word: &[u8]) -> Option<u64>
+    ensures number { IfSome result (λ _. is_number word.now ≡ true) }
+    ensures value { IfSome result (λ value. value ≡ capped_from 0 word.now) }
+{
+    if word.is_empty() || (word.len() > 1 && word[0] == b'0') {
+        return None;
+    }
+    short(word)
+}
+
+/// The number that a word is, or 2^64 where that is less; none where it is no number.
+#[inline]
+fn number_in(word: &[u8]) -> Option<u128>
+    ensures { result ≡ number_in word.now }
+{
+    match short_number_in(word) {
+        Some(value) => Some(u128::from(value)),
+        None => long_number_in(word),
+    }
+}
+
+/// The same of any word, digit by digit in 128 bits.
+#[cold]
+#[inline(never)]
+fn long_number_in(word: &[u8]) -> Option<u128>
+    ensures { result ≡ number_in word.now }
+{
+    if is_number(word) {
+        Some(capped(word))
+    } else {
+        None
+    }
+}
+
 /// A number from `low` to `high` at a place, and the place after it.
 #[tactic(auto, unfolding(crate::specs::Words::number_at))]
 pub fn number_at(line: &[u8], at: usize, low: u64, high: u64) -> Result<(u64, usize), Flaw>
@@ -101,13 +163,12 @@ pub fn number_at(line: &[u8], at: usize, low: u64, high: u64) -> Result<(u64, us
     ensures within { IfOk result (λ _. at ≤ length line.now) }
 {
     let (word, after) = word_or(line, at, FaultKind::NumberExpected)?;
-    if !is_number(word) {
+    let Some(value) = number_in(word) else {
         return Err(Flaw {
             column: at + 1,
             kind: FaultKind::NumberExpected,
         });
-    }
-    let value = capped(word);
+    };
     if value < low as u128 || value > high as u128 {
         return Err(Flaw {
             column: at + 1,
@@ -127,6 +188,7 @@ pub fn small_at(line: &[u8], at: usize) -> Result<(u32, usize), Flaw>
 }
 
 /// The number in a word that is a letter and a number below `count`, and the place after the word.
+#[inline(always)]
 #[tactic(auto, unfolding(crate::specs::Words::named_at))]
 pub fn named_at(
     line: &[u8],
@@ -138,6 +200,22 @@ pub fn named_at(
     ensures { result ≡ named_at line.now at letter count missing }
 {
     let (word, after) = word_or(line, at, FaultKind::UnknownWord)?;
+    named_in(word, after, at, letter, count, missing)
+}
+
+/// The number in such a word, which stands at a place, and the place after the word.
+#[inline(always)]
+pub fn named_in(
+    word: &[u8],
+    after: usize,
+    at: usize,
+    letter: u8,
+    count: u32,
+    missing: FaultKind,
+) -> Result<(u32, usize), Flaw>
+    requires { at + 1 < 2 ^ 64 }
+    ensures { result ≡ named_in word.now after at letter count missing }
+{
     let wrong = Flaw {
         column: at + 1,
         kind: FaultKind::UnknownWord,
@@ -145,10 +223,12 @@ pub fn named_at(
     let Some((first, digits)) = word.split_first() else {
         return Err(wrong);
     };
-    if *first != letter || !is_number(digits) {
+    if *first != letter {
         return Err(wrong);
     }
-    let value = capped(digits);
+    let Some(value) = number_in(digits) else {
+        return Err(wrong);
+    };
     if value >= count as u128 {
         return Err(Flaw {
             column: at + 1,
@@ -190,10 +270,9 @@ pub fn address_at(line: &[u8], at: usize, words: u32) -> Result<(u64, usize), Fl
     let Some((page, offset)) = point_parts(word) else {
         return Err(wrong);
     };
-    if !is_number(page) || !is_number(offset) {
+    let (Some(page), Some(offset)) = (number_in(page), number_in(offset)) else {
         return Err(wrong);
-    }
-    let (page, offset) = (capped(page), capped(offset));
+    };
     if page >= 1 << 32 || offset >= words as u128 {
         return Err(Flaw {
             column: at + 1,

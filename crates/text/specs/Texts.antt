@@ -14,6 +14,8 @@ use Rattle.model.specs.declared.steps.Answer.{Answer}
 use Rattle.model.specs.declared.steps.Answer.TheVariants as answers
 use Rattle.model.specs.declared.steps.Refusal.{Refusal}
 use Rattle.model.specs.Texts.{refusal_text}
+use Rattle.text.specs.declared.steps.AnswerParts.{AnswerParts}
+use Rattle.text.specs.declared.steps.AnswerParts.TheVariants as parts
 
 -- the text of an actor
 abbrev pub actor_text : Actor → List ℕ
@@ -41,6 +43,12 @@ answer_text (answers.MovedTo p o) = codes "copied " ++ decimal p ++ codes "." ++
 answer_text (answers.Ended n m) = codes "ended live " ++ decimal n ++ codes " retired " ++ decimal m
 answer_text (answers.Protected n m) = codes "protected objects " ++ decimal n ++ codes " targets " ++ decimal m
 answer_text (answers.Released n) = codes "released free " ++ decimal n
+
+-- the text that parts are
+abbrev pub parts_text : AnswerParts → List ℕ
+parts_text (parts.Word w) = w.now
+parts_text (parts.One w n) = w.now ++ decimal n
+parts_text (parts.Two w n v m) = w.now ++ decimal n ++ v.now ++ decimal m
 
 -- the text of what a step said
 abbrev pub reply_text : Result Answer Refusal → List ℕ

@@ -2,6 +2,7 @@
 #![tactic(auto)]
 
 mod line;
+mod putting;
 mod records;
 mod report;
 mod steps;

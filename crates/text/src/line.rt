@@ -1,29 +1,29 @@
 //! The line of a command.
 
-ghost use Rattle.std.specs.Prelude.{◌++◌, OnOk, string_bytes, ◌≡◌};
+ghost use Rattle.std.specs.Prelude.{◌++◌, OnOk, codes, string_bytes, ◌≡◌};
+ghost use Rattle.std.specs.Fmt.{decimal};
 ghost use Rattle.std.specs.List.{flat_map};
 ghost use Rattle.std.specs.Io.KnownBytes.{Appends};
-ghost use Rattle.text.specs.Texts.{line_text, drained_line, next_text, replies_text};
+ghost use Rattle.text.specs.Texts.{actor_text, line_text, drained_line, next_text, replies_text};
 
-use crate::steps::{ActorText, ReplyText};
+use crate::putting::{put_actor, put_number, put_reply};
 use model::{Actor, Reply};
 use std::alloc::AllocError;
-use std::fmt::Write as _;
 use std::io;
 
 /// What a step says behind another one.
-fn put_next(text: &mut String, reply: Reply) -> Result<(), AllocError>
-    ensures { OnOk result (string_bytes text.new ≡ string_bytes text.old ++ next_text reply) }
+fn put_next(text: &mut String, reply: &Reply) -> Result<(), AllocError>
+    ensures { OnOk result (string_bytes text.new ≡ string_bytes text.old ++ next_text reply.now) }
 {
-    let reply = ReplyText(reply);
-    write!(text, ", {reply}")
+    text.push_str(", ")?;
+    put_reply(text, reply)
 }
 
 fn put_others(text: &mut String, replies: &[Reply]) -> Result<(), AllocError>
     ensures { OnOk result (string_bytes text.new ≡ string_bytes text.old ++ flat_map next_text replies.now) }
 {
     for reply in replies {
-        put_next(text, *reply)?;
+        put_next(text, reply)?;
     }
     Ok(())
 }
@@ -34,9 +34,20 @@ fn put_replies(text: &mut String, replies: &[Reply]) -> Result<(), AllocError>
     let Some((first, others)) = replies.split_first() else {
         return Ok(());
     };
-    let first = ReplyText(*first);
-    write!(text, "{first}")?;
+    put_reply(text, first)?;
     put_others(text, others)
+}
+
+/// Puts the head of a line: a command's number and its actor, with a space behind each.
+#[inline(always)]
+fn put_head(text: &mut String, number: u64, actor: Actor) -> Result<(), AllocError>
+    ensures { OnOk result (string_bytes text.new
+        ≡ string_bytes text.old ++ decimal number ++ codes " " ++ actor_text actor ++ codes " ") }
+{
+    put_number(text, number)?;
+    text.push(' ')?;
+    put_actor(text, actor)?;
+    text.push(' ')
 }
 
 /// Adds the line of a command to a text: its number, its actor, and what its steps said, with a
@@ -50,10 +61,9 @@ pub fn put_line(
 ) -> Result<(), AllocError>
     ensures { OnOk result (string_bytes text.new ≡ string_bytes text.old ++ line_text number actor replies.now) }
 {
-    let actor = ActorText(actor);
-    write!(text, "{number} {actor} ")?;
+    put_head(text, number, actor)?;
     put_replies(text, replies)?;
-    writeln!(text)
+    text.push('\n')
 }
 
 /// Adds the line of a drain to a text: its number, its actor, and how many steps were done. Where
@@ -66,8 +76,10 @@ pub fn put_drained(
 ) -> Result<(), AllocError>
     ensures { OnOk result (string_bytes text.new ≡ string_bytes text.old ++ drained_line number actor steps) }
 {
-    let actor = ActorText(actor);
-    writeln!(text, "{number} {actor} drained {steps}")
+    put_head(text, number, actor)?;
+    text.push_str("drained ")?;
+    put_number(text, steps as u64)?;
+    text.push('\n')
 }
 
 /// Writes the line of a command. `text` is room that is used again: what it holds is lost. The

@@ -1,5 +1,8 @@
 //! The texts of actors, answers, refusals, and of what steps said.
 
+ghost use Rattle.std.specs.Prelude.{◌≡◌};
+ghost use Rattle.text.specs.Texts.{answer_text, parts_text};
+
 use model::{Actor, Answer, Reply};
 use std::fmt;
 
@@ -25,6 +28,53 @@ impl fmt::Display for ActorText {
 #[derive(Clone, Copy, Debug, PartialEq, Eq)]
 pub struct AnswerText(pub Answer);
 
+/// The text of an answer in its parts: words, and a number behind each of them.
+pub(crate) enum AnswerParts {
+    /// A word alone.
+    Word(&'static str),
+    /// A word, and a number.
+    One(&'static str, u64),
+    /// A word, a number, another word, and its number.
+    Two(&'static str, u64, &'static str, u64),
+}
+
+impl AnswerParts {
+    /// The parts of an answer's text.
+    pub(crate) fn of(answer: Answer) -> AnswerParts
+        ensures { parts_text result ≡ answer_text answer }
+    {
+        use AnswerParts::{One, Two, Word};
+        match answer {
+            Answer::Lent { page, offset } => Two("lent ", u64::from(page), ".", u64::from(offset)),
+            Answer::Birth(birth) => One("birth ", u64::from(birth)),
+            Answer::Loaded => Word("loaded"),
+            Answer::Moved => Word("moved"),
+            Answer::Marked => Word("marked"),
+            Answer::Clear => Word("clear"),
+            Answer::Healed => Word("healed"),
+            Answer::Changed => Word("changed"),
+            Answer::Clean => Word("clean"),
+            Answer::Scanned => Word("scanned"),
+            Answer::Finished => Word("done"),
+            Answer::Done => Word("ok"),
+            Answer::Datum(value) => One("datum ", value),
+            Answer::Truth(true) => Word("true"),
+            Answer::Truth(false) => Word("false"),
+            Answer::MovedTo { page, offset } => Two(
+                "copied ",
+                u64::from(page),
+                ".",
+                u64::from(offset),
+            ),
+            Answer::Ended { live, retired } => Two("ended live ", live, " retired ", retired),
+            Answer::Protected { objects, targets } => {
+                Two("protected objects ", objects, " targets ", targets)
+            }
+            Answer::Released { free } => One("released free ", free),
+        }
+    }
+}
+
 impl fmt::Display for AnswerText {
     ghost use Rattle.std.specs.Prelude.{Some};
     ghost use Rattle.text.specs.Texts.{answer_text};
@@ -32,28 +82,12 @@ impl fmt::Display for AnswerText {
     ghost output = { λ t. Some (answer_text t.0) };
 
     fn fmt<W: fmt::Write>(&self, f: &mut fmt::Formatter<W>) -> fmt::Result {
-        match self.0 {
-            Answer::Lent { page, offset } => write!(f, "lent {page}.{offset}"),
-            Answer::Birth(birth) => write!(f, "birth {birth}"),
-            Answer::Loaded => f.write_str("loaded"),
-            Answer::Moved => f.write_str("moved"),
-            Answer::Marked => f.write_str("marked"),
-            Answer::Clear => f.write_str("clear"),
-            Answer::Healed => f.write_str("healed"),
-            Answer::Changed => f.write_str("changed"),
-            Answer::Clean => f.write_str("clean"),
-            Answer::Scanned => f.write_str("scanned"),
-            Answer::Finished => f.write_str("done"),
-            Answer::Done => f.write_str("ok"),
-            Answer::Datum(value) => write!(f, "datum {value}"),
-            Answer::Truth(true) => f.write_str("true"),
-            Answer::Truth(false) => f.write_str("false"),
-            Answer::MovedTo { page, offset } => write!(f, "copied {page}.{offset}"),
-            Answer::Ended { live, retired } => write!(f, "ended live {live} retired {retired}"),
-            Answer::Protected { objects, targets } => {
-                write!(f, "protected objects {objects} targets {targets}")
+        match AnswerParts::of(self.0) {
+            AnswerParts::Word(word) => f.write_str(word),
+            AnswerParts::One(word, number) => write!(f, "{word}{number}"),
+            AnswerParts::Two(word, first, between, second) => {
+                write!(f, "{word}{first}{between}{second}")
             }
-            Answer::Released { free } => write!(f, "released free {free}"),
         }
     }
 }
