@@ -47,7 +47,6 @@ mod gate;
 mod loading;
 mod mutating;
 mod pages;
-mod replies;
 mod running;
 mod saying;
 mod stepping;

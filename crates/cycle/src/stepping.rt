@@ -6,10 +6,11 @@ ghost use Rattle.model.specs.declared.steps.Actor.TheVariants.{Thread};
 ghost use Rattle.model.specs.Outcome.{WorkerPasses, worker_row, outcome};
 ghost use Rattle.refinement.specs.Standing.{KeepsStanding};
 
+use crate::calls;
 use crate::gate::{thread_gate, worker_gate};
-use crate::replies;
+use crate::saying::{done, healed, lent, loaded, scrubbed, trapped};
 use heap::Heap;
-use model::{Actor, Refusal, Reply, Step};
+use model::{Actor, Answer, Refusal, Reply, Step};
 
 /// What actors do to a heap, one step at a time.
 pub trait Stepping {
@@ -50,47 +51,57 @@ fn actor_row(heap: &mut Heap, actor: Actor, step: &Step) -> Reply
     }
 }
 
-/// The step of a thread.
-#[inline(never)]
+/// The step of a thread: its call, and the answer that the value stands for.
+#[inline(always)]
 #[tactic(auto, unfolding(model::specs::Outcome::outcome, model::specs::Outcome::thread_gate))]
 fn thread_step(heap: &mut Heap, thread: u32, step: &Step) -> Reply
     ensures { Does heap.old result heap.new (outcome heap.old (Thread thread) step.now) }
 {
     match step {
-        Step::Take(words) => replies::take(heap, thread, *words),
-        Step::GiveBack => replies::give_back(heap, thread),
-        Step::New { target, layout } => replies::new_object(heap, thread, *target, *layout),
+        Step::Take(words) => Ok(lent(calls::take(heap, thread, *words)?)),
+        Step::GiveBack => done(calls::give_back(heap, thread)),
+        Step::New { target, layout } => {
+            Ok(Answer::Birth(calls::new_object(heap, thread, *target, *layout)?))
+        }
         Step::Load {
             target,
             object,
             field,
-        } => replies::load(heap, thread, *target, *object, *field),
-        Step::LoadGlobal { target, global } => replies::load_global(heap, thread, *target, *global),
-        Step::Trap => replies::trap(heap, thread),
-        Step::Heal => replies::heal(heap, thread),
-        Step::Finish => replies::finish(heap, thread),
+        } => loaded(calls::load(heap, thread, *target, *object, *field)),
+        Step::LoadGlobal { target, global } => loaded(calls::load_global(
+            heap, thread, *target, *global,
+        )),
+        Step::Trap => Ok(trapped(calls::trap(heap, thread)?)),
+        Step::Heal => Ok(healed(calls::heal(heap, thread)?)),
+        Step::Finish => done(calls::finish(heap, thread)),
         Step::Store {
             object,
             field,
             source,
-        } => replies::store(heap, thread, *object, *field, *source),
-        Step::StoreGlobal { global, source } => replies::store_global(
+        } => done(calls::store(heap, thread, *object, *field, *source)),
+        Step::StoreGlobal { global, source } => done(calls::store_global(
             heap, thread, *global, *source,
-        ),
-        Step::Datum { object, index } => replies::datum(heap, thread, *object, *index),
+        )),
+        Step::Datum { object, index } => {
+            Ok(Answer::Datum(calls::datum(heap, thread, *object, *index)?))
+        }
         Step::SetDatum {
             object,
             index,
             value,
-        } => replies::set_datum(heap, thread, *object, *index, *value),
-        Step::Same { left, right } => replies::same(heap, thread, *left, *right),
-        Step::IsNull(register) => replies::is_null(heap, thread, *register),
-        Step::CopyReg { target, source } => replies::copy_register(heap, thread, *target, *source),
-        Step::ClearReg(target) => replies::clear_register(heap, thread, *target),
-        Step::Cross => replies::cross(heap, thread),
-        Step::Scrub(register) => replies::scrub(heap, thread, *register),
-        Step::Park => replies::park(heap, thread),
-        Step::Unpark => replies::unpark(heap, thread),
+        } => done(calls::set_datum(heap, thread, *object, *index, *value)),
+        Step::Same { left, right } => {
+            Ok(Answer::Truth(calls::same(heap, thread, *left, *right)?))
+        }
+        Step::IsNull(register) => Ok(Answer::Truth(calls::is_null(heap, thread, *register)?)),
+        Step::CopyReg { target, source } => done(calls::copy_register(
+            heap, thread, *target, *source,
+        )),
+        Step::ClearReg(target) => done(calls::clear_register(heap, thread, *target)),
+        Step::Cross => done(calls::cross(heap, thread)),
+        Step::Scrub(register) => Ok(scrubbed(calls::scrub(heap, thread, *register)?)),
+        Step::Park => done(calls::park(heap, thread)),
+        Step::Unpark => done(calls::unpark(heap, thread)),
         _ => {
             thread_gate(heap, thread, step)?;
             Err(Refusal::NoActor)
