@@ -52,7 +52,6 @@ fn actor_row(heap: &mut Heap, actor: Actor, step: &Step) -> Reply
 }
 
 /// The step of a thread: its call, and the answer that the value stands for.
-#[inline(always)]
 #[tactic(auto, unfolding(model::specs::Outcome::outcome, model::specs::Outcome::thread_gate))]
 fn thread_step(heap: &mut Heap, thread: u32, step: &Step) -> Reply
     ensures { Does heap.old result heap.new (outcome heap.old (Thread thread) step.now) }
@@ -110,7 +109,6 @@ fn thread_step(heap: &mut Heap, thread: u32, step: &Step) -> Reply
 }
 
 /// The step of a worker whose leading tests were passed.
-#[inline(never)]
 fn worker_row(heap: &mut Heap, worker: u32, step: &Step) -> Reply
     requires { WorkerPasses heap.old worker step.now }
     ensures { DoesStep heap.old step.now result heap.new (worker_row heap.old worker step.now) }
