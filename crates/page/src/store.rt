@@ -258,6 +258,16 @@ impl Store {
         self.word_in(frame, offset)
     }
 
+    /// The first word of an object at an address, if its page has memory.
+    #[inline(always)]
+    #[tactic(auto, unfolding(model::specs::Stores::word_at, model::specs::Stores::spot_of))]
+    pub fn first_word(&self, address: Addr) -> Option<u64>
+        ensures { result ≡ word_at self.now address }
+    {
+        let frame = self.frame(self.page_of(address))?;
+        self.word_in(frame, self.offset_of(address) as usize)
+    }
+
     /// The word less than 512 words behind an address, if it is on a page that has memory. Where
     /// that is the page of the address, no other is looked up.
     #[inline(always)]

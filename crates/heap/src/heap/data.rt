@@ -22,7 +22,7 @@ impl Heap {
     pub fn layout_at(&self, address: Addr) -> Option<Layout>
         ensures { result ≡ layout_at self.now address }
     {
-        let header = self.store.word_behind(address, 0)?;
+        let header = self.store.first_word(address)?;
         let number = (header >> 32) as u32;
         self.config.layouts.get(number)
     }
