@@ -64,6 +64,7 @@ bench: pauseless
 	@cd crates/bench && $(RT) run -- copies 64 3 2 > '$(CURDIR)/$(LOG)' 2>&1 || { cd '$(CURDIR)'; $(show_log); }
 	$(PYTHON) bench/run.py ./pauseless
 	$(PYTHON) bench/calls.py crates/bench/out/bench
+	$(PYTHON) bench/commands.py ./pauseless
 
 clean:
 	rm -f pauseless '$(LOG)'

@@ -15,6 +15,7 @@ What is left, with the step and its entry in the history, is `step`.
 
 import os
 import re
+import shutil
 import subprocess
 import sys
 import tempfile
@@ -70,6 +71,11 @@ def main():
     program = os.path.abspath(sys.argv[1] if len(sys.argv) > 1 else "./pauseless")
     if not os.access(program, os.X_OK):
         sys.exit(f"{program} isn't there: run 'make' first")
+    if shutil.which("valgrind") is None:
+        print("There is no valgrind, so instructions for a command aren't counted.")
+        return
+    print("Instructions a command of a script:")
+    print()
     print("| Mix | read | print | step | all |")
     print("|---|---|---|---|---|")
     with tempfile.TemporaryDirectory() as folder:
