@@ -5,6 +5,7 @@ use heap::{Heap, NewFault};
 use layout::{Layout, Layouts};
 use model::{Config, Refusal};
 use std::alloc::{AllocError, Global};
+use std::fmt::Debug;
 use std::process::Abort;
 use std::test::Fail;
 
@@ -31,83 +32,92 @@ fn config(alloc: Global) -> Result<Config, AllocError> {
     })
 }
 
+/// A call answers what is expected.
+fn told<T: PartialEq + Debug + Drop>(
+    rt: &impl Abort,
+    found: Result<T, Refusal>,
+    expected: Result<T, Refusal>,
+) {
+    assert_eq!(rt; found, expected);
+}
+
 /// A step of the worker is accepted.
-fn works(rt: &impl Abort, heap: &mut Heap, step: Step) {
+fn works(rt: &impl Abort, heap: &mut impl Stepping, step: Step) {
     assert!(rt; heap.step(WORKER, &step).is_ok());
 }
 
 /// Two objects are made in a page of their own, of which the first names the second.
-fn make(rt: &impl Abort, heap: &mut Heap) {
-    assert_eq!(rt; heap.give_back(FIRST), Err(Refusal::NoRoom));
-    assert_eq!(rt; heap.take(FIRST, 17), Err(Refusal::BadIndex));
+fn make(rt: &impl Abort, heap: &mut impl Mutating) {
+    told(rt, heap.give_back(FIRST), Err(Refusal::NoRoom));
+    told(rt, heap.take(FIRST, 17), Err(Refusal::BadIndex));
     let buffer = Buffer {
         page: 1,
         next: 0,
         end: 16,
     };
-    assert_eq!(rt; heap.take(FIRST, 16), Ok(buffer));
-    assert_eq!(rt; heap.take(FIRST, 1), Err(Refusal::HasBuffer));
-    assert_eq!(rt; heap.new_object(FIRST, 0, 0), Ok(0));
-    assert_eq!(rt; heap.new_object(FIRST, 1, 0), Ok(1));
-    assert_eq!(rt; heap.new_object(FIRST, 1, 0), Err(Refusal::Births));
-    assert_eq!(rt; heap.store(FIRST, 0, 0, 1), Ok(()));
-    assert_eq!(rt; heap.give_back(FIRST), Ok(()));
+    told(rt, heap.take(FIRST, 16), Ok(buffer));
+    told(rt, heap.take(FIRST, 1), Err(Refusal::HasBuffer));
+    told(rt, heap.new_object(FIRST, 0, 0), Ok(0));
+    told(rt, heap.new_object(FIRST, 1, 0), Ok(1));
+    told(rt, heap.new_object(FIRST, 1, 0), Err(Refusal::Births));
+    told(rt, heap.store(FIRST, 0, 0, 1), Ok(()));
+    told(rt, heap.give_back(FIRST), Ok(()));
 }
 
 /// Data are written and read.
-fn write(rt: &impl Abort, heap: &mut Heap) {
-    assert_eq!(rt; heap.set_datum(FIRST, 0, 0, 7), Ok(()));
-    assert_eq!(rt; heap.set_datum(FIRST, 1, 0, 8), Ok(()));
-    assert_eq!(rt; heap.datum(FIRST, 0, 0), Ok(7));
-    assert_eq!(rt; heap.datum(FIRST, 0, 1), Err(Refusal::BadIndex));
-    assert_eq!(rt; heap.datum(FIRST, 2, 0), Err(Refusal::Null));
-    assert_eq!(rt; heap.datum(2, 0, 0), Err(Refusal::NoActor));
+fn write(rt: &impl Abort, heap: &mut impl Mutating) {
+    told(rt, heap.set_datum(FIRST, 0, 0, 7), Ok(()));
+    told(rt, heap.set_datum(FIRST, 1, 0, 8), Ok(()));
+    told(rt, heap.datum(FIRST, 0, 0), Ok(7));
+    told(rt, heap.datum(FIRST, 0, 1), Err(Refusal::BadIndex));
+    told(rt, heap.datum(FIRST, 2, 0), Err(Refusal::Null));
+    told(rt, heap.datum(2, 0, 0), Err(Refusal::NoActor));
 }
 
 /// Registers are copied, compared and cleared.
-fn compare(rt: &impl Abort, heap: &mut Heap) {
-    assert_eq!(rt; heap.copy_register(FIRST, 2, 1), Ok(()));
-    assert_eq!(rt; heap.same(FIRST, 2, 1), Ok(true));
-    assert_eq!(rt; heap.same(FIRST, 2, 0), Ok(false));
-    assert_eq!(rt; heap.is_null(FIRST, 2), Ok(false));
-    assert_eq!(rt; heap.clear_register(FIRST, 2), Ok(()));
-    assert_eq!(rt; heap.is_null(FIRST, 2), Ok(true));
-    assert_eq!(rt; heap.is_null(FIRST, 4), Err(Refusal::BadIndex));
+fn compare(rt: &impl Abort, heap: &mut impl Mutating) {
+    told(rt, heap.copy_register(FIRST, 2, 1), Ok(()));
+    told(rt, heap.same(FIRST, 2, 1), Ok(true));
+    told(rt, heap.same(FIRST, 2, 0), Ok(false));
+    told(rt, heap.is_null(FIRST, 2), Ok(false));
+    told(rt, heap.clear_register(FIRST, 2), Ok(()));
+    told(rt, heap.is_null(FIRST, 2), Ok(true));
+    told(rt, heap.is_null(FIRST, 4), Err(Refusal::BadIndex));
 }
 
 /// The second thread loads both objects, by the global and by the first one's reference.
-fn load(rt: &impl Abort, heap: &mut Heap) {
-    assert_eq!(rt; heap.store_global(FIRST, 0, 0), Ok(()));
-    assert_eq!(rt; heap.trap(SECOND), Err(Refusal::NotBusy));
-    assert_eq!(rt; heap.load_global(SECOND, 0, 0), Ok(()));
-    assert_eq!(rt; heap.datum(SECOND, 0, 0), Err(Refusal::Busy));
-    assert_eq!(rt; heap.trap(SECOND), Ok(Trap::Clear));
-    assert_eq!(rt; heap.finish(SECOND), Ok(()));
-    assert_eq!(rt; heap.load(SECOND, 1, 0, 0), Ok(()));
-    assert_eq!(rt; heap.heal(SECOND), Ok(true));
-    assert_eq!(rt; heap.finish(SECOND), Ok(()));
-    assert_eq!(rt; heap.datum(SECOND, 1, 0), Ok(8));
+fn load(rt: &impl Abort, heap: &mut impl Mutating) {
+    told(rt, heap.store_global(FIRST, 0, 0), Ok(()));
+    told(rt, heap.trap(SECOND), Err(Refusal::NotBusy));
+    told(rt, heap.load_global(SECOND, 0, 0), Ok(()));
+    told(rt, heap.datum(SECOND, 0, 0), Err(Refusal::Busy));
+    told(rt, heap.trap(SECOND), Ok(Trap::Clear));
+    told(rt, heap.finish(SECOND), Ok(()));
+    told(rt, heap.load(SECOND, 1, 0, 0), Ok(()));
+    told(rt, heap.heal(SECOND), Ok(true));
+    told(rt, heap.finish(SECOND), Ok(()));
+    told(rt, heap.datum(SECOND, 1, 0), Ok(8));
 }
 
 /// A mark runs: the first thread crosses, the second is parked and crossed for.
-fn mark(rt: &impl Abort, heap: &mut Heap) {
-    assert_eq!(rt; heap.cross(FIRST), Err(Refusal::Phase));
-    assert_eq!(rt; heap.park(SECOND), Ok(()));
+fn mark<H: Mutating + Stepping>(rt: &impl Abort, heap: &mut H) {
+    told(rt, heap.cross(FIRST), Err(Refusal::Phase));
+    told(rt, heap.park(SECOND), Ok(()));
     works(rt, heap, Step::StartMark);
-    assert_eq!(rt; heap.cross(FIRST), Ok(()));
-    assert_eq!(rt; heap.is_null(SECOND, 0), Err(Refusal::Parked));
+    told(rt, heap.cross(FIRST), Ok(()));
+    told(rt, heap.is_null(SECOND, 0), Err(Refusal::Parked));
     works(rt, heap, Step::CrossFor(SECOND));
-    assert_eq!(rt; heap.unpark(SECOND), Ok(()));
-    assert_eq!(rt; heap.unpark(SECOND), Err(Refusal::NotParked));
-    assert_eq!(rt; heap.load_global(FIRST, 2, 0), Ok(()));
-    assert_eq!(rt; heap.trap(FIRST), Ok(Trap::Marked));
-    assert_eq!(rt; heap.finish(FIRST), Err(Refusal::Busy));
-    assert_eq!(rt; heap.heal(FIRST), Ok(true));
-    assert_eq!(rt; heap.finish(FIRST), Ok(()));
+    told(rt, heap.unpark(SECOND), Ok(()));
+    told(rt, heap.unpark(SECOND), Err(Refusal::NotParked));
+    told(rt, heap.load_global(FIRST, 2, 0), Ok(()));
+    told(rt, heap.trap(FIRST), Ok(Trap::Marked));
+    told(rt, heap.finish(FIRST), Err(Refusal::Busy));
+    told(rt, heap.heal(FIRST), Ok(true));
+    told(rt, heap.finish(FIRST), Ok(()));
 }
 
 /// Both objects are scanned, and the mark ends.
-fn scan(rt: &impl Abort, heap: &mut Heap) {
+fn scan(rt: &impl Abort, heap: &mut impl Stepping) {
     for offset in [0, 3] {
         works(rt, heap, Step::Pick { page: 1, offset });
         works(rt, heap, Step::ScanField);
@@ -118,25 +128,25 @@ fn scan(rt: &impl Abort, heap: &mut Heap) {
 }
 
 /// The page is protected, and both threads cross; what a register of the first names is moved then.
-fn protect(rt: &impl Abort, heap: &mut Heap, pages: PageList) {
+fn protect<H: Mutating + Stepping>(rt: &impl Abort, heap: &mut H, pages: PageList) {
     works(rt, heap, Step::Protect(pages));
-    assert_eq!(rt; heap.cross(FIRST), Ok(()));
-    assert_eq!(rt; heap.scrub(FIRST, 0), Err(Refusal::Stall));
-    assert_eq!(rt; heap.scrub(SECOND, 0), Ok(false));
-    assert_eq!(rt; heap.cross(SECOND), Ok(()));
-    assert_eq!(rt; heap.datum(FIRST, 0, 0), Err(Refusal::Stale));
-    assert_eq!(rt; heap.scrub(FIRST, 0), Ok(true));
-    assert_eq!(rt; heap.datum(FIRST, 0, 0), Ok(7));
+    told(rt, heap.cross(FIRST), Ok(()));
+    told(rt, heap.scrub(FIRST, 0), Err(Refusal::Stall));
+    told(rt, heap.scrub(SECOND, 0), Ok(false));
+    told(rt, heap.cross(SECOND), Ok(()));
+    told(rt, heap.datum(FIRST, 0, 0), Err(Refusal::Stale));
+    told(rt, heap.scrub(FIRST, 0), Ok(true));
+    told(rt, heap.datum(FIRST, 0, 0), Ok(7));
 }
 
 /// A load finds the moved object, and the global is healed.
-fn follow(rt: &impl Abort, heap: &mut Heap) {
-    assert_eq!(rt; heap.load_global(SECOND, 0, 0), Ok(()));
-    assert_eq!(rt; heap.trap(SECOND), Ok(Trap::Moved));
-    assert_eq!(rt; heap.store_global(FIRST, 0, 3), Ok(()));
-    assert_eq!(rt; heap.heal(SECOND), Ok(false));
-    assert_eq!(rt; heap.finish(SECOND), Ok(()));
-    assert_eq!(rt; heap.datum(SECOND, 0, 0), Ok(7));
+fn follow<H: Mutating + Stepping>(rt: &impl Abort, heap: &mut H) {
+    told(rt, heap.load_global(SECOND, 0, 0), Ok(()));
+    told(rt, heap.trap(SECOND), Ok(Trap::Moved));
+    told(rt, heap.store_global(FIRST, 0, 3), Ok(()));
+    told(rt, heap.heal(SECOND), Ok(false));
+    told(rt, heap.finish(SECOND), Ok(()));
+    told(rt, heap.datum(SECOND, 0, 0), Ok(7));
     let reply = heap.step(WORKER, &Step::Copy { page: 1, entry: 1 });
     assert_eq!(rt; reply, Ok(Answer::MovedTo { page: 2, offset: 3 }));
 }
