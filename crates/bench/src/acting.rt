@@ -2,10 +2,14 @@
 
 use crate::mixes::{LAST, LIST, Mix, OBJECTS, OTHER, WORDS, config};
 use anyhow::Result;
-use pauseless::{Actor, Answer, Book, Refusal, Step};
+use pauseless::{Actor, Answer, Book, Refusal, Reply, Step};
 use std::alloc::Global;
 
-const THREAD: Actor = Actor::Thread(0);
+/// A step of the thread. It promises nothing to the loops, whose proofs are short by that.
+#[inline(always)]
+fn act(book: &mut Book, step: Step) -> Reply {
+    book.act(Actor::Thread(0), step)
+}
 
 /// A datum is written and read so many times. Gives the sum of what was read.
 fn data(book: &mut Book, count: u32) -> Result<u64, Refusal> {
@@ -13,15 +17,15 @@ fn data(book: &mut Book, count: u32) -> Result<u64, Refusal> {
     let mut sum = 0u64;
     for turn in 0..count {
         let value = u64::from(turn);
-        book.act(
-            THREAD,
+        act(
+            book,
             Step::SetDatum {
                 object,
                 index,
                 value,
             },
         )?;
-        if let Answer::Datum(value) = book.act(THREAD, Step::Datum { object, index })? {
+        if let Answer::Datum(value) = act(book, Step::Datum { object, index })? {
             sum = sum.wrapping_add(value);
         }
     }
@@ -32,17 +36,17 @@ fn data(book: &mut Book, count: u32) -> Result<u64, Refusal> {
 fn link(book: &mut Book, count: u32) -> Result<(), Refusal> {
     let (target, layout, field) = (OTHER, 0, 0);
     for _ in 0..count {
-        book.act(THREAD, Step::New { target, layout })?;
-        book.act(
-            THREAD,
+        act(book, Step::New { target, layout })?;
+        act(
+            book,
             Step::Store {
                 object: OTHER,
                 field,
                 source: LAST,
             },
         )?;
-        book.act(
-            THREAD,
+        act(
+            book,
             Step::CopyReg {
                 target: LAST,
                 source: OTHER,
@@ -56,9 +60,9 @@ fn link(book: &mut Book, count: u32) -> Result<(), Refusal> {
 fn build(book: &mut Book, count: u32) -> Result<(), Refusal> {
     let mut left = count;
     for _ in 0..count.div_ceil(OBJECTS) {
-        book.act(THREAD, Step::Take(WORDS))?;
+        act(book, Step::Take(WORDS))?;
         link(book, left.min(OBJECTS))?;
-        book.act(THREAD, Step::GiveBack)?;
+        act(book, Step::GiveBack)?;
         left = left.saturating_sub(OBJECTS);
     }
     Ok(())
@@ -66,20 +70,20 @@ fn build(book: &mut Book, count: u32) -> Result<(), Refusal> {
 
 /// What a load that has begun does up to its end.
 fn end_load(book: &mut Book) -> Result<(), Refusal> {
-    if book.act(THREAD, Step::Trap)? != Answer::Clear {
-        book.act(THREAD, Step::Heal)?;
+    if act(book, Step::Trap)? != Answer::Clear {
+        act(book, Step::Heal)?;
     }
-    book.act(THREAD, Step::Finish)?;
+    act(book, Step::Finish)?;
     Ok(())
 }
 
 /// Whether the walk is at the list's end; then it goes back to its head.
 fn has_ended(book: &mut Book) -> Result<bool, Refusal> {
-    if book.act(THREAD, Step::IsNull(LAST))? != Answer::Truth(true) {
+    if act(book, Step::IsNull(LAST))? != Answer::Truth(true) {
         return Ok(false);
     }
-    book.act(
-        THREAD,
+    act(
+        book,
         Step::CopyReg {
             target: LAST,
             source: OTHER,
@@ -93,8 +97,8 @@ fn walk(book: &mut Book, count: u32) -> Result<u64, Refusal> {
     let (target, object, field) = (LAST, LAST, 0);
     let mut ends = 0u64;
     for _ in 0..count {
-        book.act(
-            THREAD,
+        act(
+            book,
             Step::Load {
                 target,
                 object,
@@ -113,17 +117,17 @@ fn registers(book: &mut Book, count: u32) -> Result<u64, Refusal> {
     let (source, target) = (LAST, OTHER);
     let mut found = 0u64;
     for _ in 0..count {
-        book.act(THREAD, Step::CopyReg { target, source })?;
-        let same = book.act(
-            THREAD,
+        act(book, Step::CopyReg { target, source })?;
+        let same = act(
+            book,
             Step::Same {
                 left: source,
                 right: target,
             },
         )?;
-        let null = book.act(THREAD, Step::IsNull(target))?;
+        let null = act(book, Step::IsNull(target))?;
         found = found.wrapping_add(u64::from(same != null));
-        book.act(THREAD, Step::ClearReg(target))?;
+        act(book, Step::ClearReg(target))?;
     }
     Ok(found)
 }
@@ -133,8 +137,8 @@ fn globals(book: &mut Book, count: u32) -> Result<u64, Refusal> {
     let (source, target, global) = (LAST, OTHER, 0);
     let mut loaded = 0u64;
     for _ in 0..count {
-        book.act(THREAD, Step::StoreGlobal { global, source })?;
-        book.act(THREAD, Step::LoadGlobal { target, global })?;
+        act(book, Step::StoreGlobal { global, source })?;
+        act(book, Step::LoadGlobal { target, global })?;
         end_load(book)?;
         loaded = loaded.wrapping_add(1);
     }

@@ -8,7 +8,7 @@ use std::alloc::Global;
 const THREAD: u32 = 0;
 
 /// A datum is written and read so many times. Gives the sum of what was read.
-fn data(heap: &mut Heap, count: u32) -> Result<u64, Refusal> {
+fn data(heap: &mut impl Mutating, count: u32) -> Result<u64, Refusal> {
     let mut sum = 0u64;
     for turn in 0..count {
         heap.set_datum(THREAD, LAST, 0, u64::from(turn))?;
@@ -18,7 +18,7 @@ fn data(heap: &mut Heap, count: u32) -> Result<u64, Refusal> {
 }
 
 /// So many objects are put before a list, in the buffer that is there.
-fn link(heap: &mut Heap, count: u32) -> Result<(), Refusal> {
+fn link(heap: &mut impl Mutating, count: u32) -> Result<(), Refusal> {
     for _ in 0..count {
         heap.new_object(THREAD, OTHER, 0)?;
         heap.store(THREAD, OTHER, 0, LAST)?;
@@ -28,7 +28,7 @@ fn link(heap: &mut Heap, count: u32) -> Result<(), Refusal> {
 }
 
 /// So many objects are put before a list, in buffers of a page each.
-fn build(heap: &mut Heap, count: u32) -> Result<(), Refusal> {
+fn build(heap: &mut impl Mutating, count: u32) -> Result<(), Refusal> {
     let mut left = count;
     for _ in 0..count.div_ceil(OBJECTS) {
         heap.take(THREAD, WORDS)?;
@@ -40,7 +40,7 @@ fn build(heap: &mut Heap, count: u32) -> Result<(), Refusal> {
 }
 
 /// What a load that has begun does up to its end.
-fn end_load(heap: &mut Heap) -> Result<(), Refusal> {
+fn end_load(heap: &mut impl Mutating) -> Result<(), Refusal> {
     if heap.trap(THREAD)? != Trap::Clear {
         heap.heal(THREAD)?;
     }
@@ -48,7 +48,7 @@ fn end_load(heap: &mut Heap) -> Result<(), Refusal> {
 }
 
 /// Whether the walk is at the list's end; then it goes back to its head.
-fn has_ended(heap: &mut Heap) -> Result<bool, Refusal> {
+fn has_ended(heap: &mut impl Mutating) -> Result<bool, Refusal> {
     if !heap.is_null(THREAD, LAST)? {
         return Ok(false);
     }
@@ -57,7 +57,7 @@ fn has_ended(heap: &mut Heap) -> Result<bool, Refusal> {
 }
 
 /// So many references of a list are loaded. Gives how often its end was met.
-fn walk(heap: &mut Heap, count: u32) -> Result<u64, Refusal> {
+fn walk(heap: &mut impl Mutating, count: u32) -> Result<u64, Refusal> {
     let mut ends = 0u64;
     for _ in 0..count {
         heap.load(THREAD, LAST, LAST, 0)?;
@@ -69,7 +69,7 @@ fn walk(heap: &mut Heap, count: u32) -> Result<u64, Refusal> {
 
 /// A register is copied, compared, tested and cleared so many times. Gives how often it was the
 /// same and not null.
-fn registers(heap: &mut Heap, count: u32) -> Result<u64, Refusal> {
+fn registers(heap: &mut impl Mutating, count: u32) -> Result<u64, Refusal> {
     let mut found = 0u64;
     for _ in 0..count {
         heap.copy_register(THREAD, OTHER, LAST)?;
@@ -82,7 +82,7 @@ fn registers(heap: &mut Heap, count: u32) -> Result<u64, Refusal> {
 }
 
 /// A global is stored and loaded so many times. Gives how many times it was.
-fn globals(heap: &mut Heap, count: u32) -> Result<u64, Refusal> {
+fn globals(heap: &mut impl Mutating, count: u32) -> Result<u64, Refusal> {
     let mut loaded = 0u64;
     for _ in 0..count {
         heap.store_global(THREAD, 0, LAST)?;

@@ -23,7 +23,7 @@ fn layout(size: u32) -> Layout {
 }
 
 /// Fills a page with objects, as many as it has room for.
-fn fill(heap: &mut Heap, words: u32, objects: u32) -> Result<(), Refusal> {
+fn fill(heap: &mut impl Stepping, words: u32, objects: u32) -> Result<(), Refusal> {
     let (target, layout) = (0, 0);
     heap.step(THREAD, &Step::Take(words))?;
     for _ in 0..objects {
@@ -34,7 +34,12 @@ fn fill(heap: &mut Heap, words: u32, objects: u32) -> Result<(), Refusal> {
 }
 
 /// Fills pages with objects that live: they are born while a mark runs.
-pub fn fill_live(heap: &mut Heap, words: u32, pages: u32, objects: u32) -> Result<(), Refusal> {
+pub fn fill_live(
+    heap: &mut impl Stepping,
+    words: u32,
+    pages: u32,
+    objects: u32,
+) -> Result<(), Refusal> {
     heap.step(WORKER, &Step::StartMark)?;
     heap.step(THREAD, &Step::Cross)?;
     for _ in 0..pages {
@@ -72,7 +77,7 @@ fn protected_heap(alloc: Global, size: u32, pages: u32) -> Result<Heap> {
 }
 
 /// Copies all objects of a page.
-fn copy_page(heap: &mut Heap, page: u32, objects: u32) -> Result<(), Refusal> {
+fn copy_page(heap: &mut impl Stepping, page: u32, objects: u32) -> Result<(), Refusal> {
     for entry in 0..objects {
         heap.step(WORKER, &Step::Copy { page, entry })?;
     }
@@ -80,7 +85,7 @@ fn copy_page(heap: &mut Heap, page: u32, objects: u32) -> Result<(), Refusal> {
 }
 
 /// Copies all objects of the first pages.
-fn copy_pages(heap: &mut Heap, pages: u32, objects: u32) -> Result<(), Refusal> {
+fn copy_pages(heap: &mut impl Stepping, pages: u32, objects: u32) -> Result<(), Refusal> {
     for page in 1..=pages {
         copy_page(heap, page, objects)?;
     }

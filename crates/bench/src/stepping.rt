@@ -2,10 +2,14 @@
 
 use crate::mixes::{LAST, LIST, Mix, OBJECTS, OTHER, WORDS, config};
 use anyhow::Result;
-use pauseless::{Actor, Answer, Heap, Refusal, Step, Stepping};
+use pauseless::{Actor, Answer, Heap, Refusal, Reply, Step, Stepping};
 use std::alloc::Global;
 
-const THREAD: Actor = Actor::Thread(0);
+/// A step of the thread. It promises nothing to the loops, whose proofs are short by that.
+#[inline(always)]
+fn step(heap: &mut Heap, step: &Step) -> Reply {
+    heap.step(Actor::Thread(0), step)
+}
 
 /// A datum is written and read so many times. Gives the sum of what was read.
 fn data(heap: &mut Heap, count: u32) -> Result<u64, Refusal> {
@@ -13,15 +17,15 @@ fn data(heap: &mut Heap, count: u32) -> Result<u64, Refusal> {
     let mut sum = 0u64;
     for turn in 0..count {
         let value = u64::from(turn);
-        heap.step(
-            THREAD,
+        step(
+            heap,
             &Step::SetDatum {
                 object,
                 index,
                 value,
             },
         )?;
-        if let Answer::Datum(value) = heap.step(THREAD, &Step::Datum { object, index })? {
+        if let Answer::Datum(value) = step(heap, &Step::Datum { object, index })? {
             sum = sum.wrapping_add(value);
         }
     }
@@ -32,17 +36,17 @@ fn data(heap: &mut Heap, count: u32) -> Result<u64, Refusal> {
 fn link(heap: &mut Heap, count: u32) -> Result<(), Refusal> {
     let (target, layout, field) = (OTHER, 0, 0);
     for _ in 0..count {
-        heap.step(THREAD, &Step::New { target, layout })?;
-        heap.step(
-            THREAD,
+        step(heap, &Step::New { target, layout })?;
+        step(
+            heap,
             &Step::Store {
                 object: OTHER,
                 field,
                 source: LAST,
             },
         )?;
-        heap.step(
-            THREAD,
+        step(
+            heap,
             &Step::CopyReg {
                 target: LAST,
                 source: OTHER,
@@ -56,9 +60,9 @@ fn link(heap: &mut Heap, count: u32) -> Result<(), Refusal> {
 fn build(heap: &mut Heap, count: u32) -> Result<(), Refusal> {
     let mut left = count;
     for _ in 0..count.div_ceil(OBJECTS) {
-        heap.step(THREAD, &Step::Take(WORDS))?;
+        step(heap, &Step::Take(WORDS))?;
         link(heap, left.min(OBJECTS))?;
-        heap.step(THREAD, &Step::GiveBack)?;
+        step(heap, &Step::GiveBack)?;
         left = left.saturating_sub(OBJECTS);
     }
     Ok(())
@@ -66,20 +70,20 @@ fn build(heap: &mut Heap, count: u32) -> Result<(), Refusal> {
 
 /// What a load that has begun does up to its end.
 fn end_load(heap: &mut Heap) -> Result<(), Refusal> {
-    if heap.step(THREAD, &Step::Trap)? != Answer::Clear {
-        heap.step(THREAD, &Step::Heal)?;
+    if step(heap, &Step::Trap)? != Answer::Clear {
+        step(heap, &Step::Heal)?;
     }
-    heap.step(THREAD, &Step::Finish)?;
+    step(heap, &Step::Finish)?;
     Ok(())
 }
 
 /// Whether the walk is at the list's end; then it goes back to its head.
 fn has_ended(heap: &mut Heap) -> Result<bool, Refusal> {
-    if heap.step(THREAD, &Step::IsNull(LAST))? != Answer::Truth(true) {
+    if step(heap, &Step::IsNull(LAST))? != Answer::Truth(true) {
         return Ok(false);
     }
-    heap.step(
-        THREAD,
+    step(
+        heap,
         &Step::CopyReg {
             target: LAST,
             source: OTHER,
@@ -93,8 +97,8 @@ fn walk(heap: &mut Heap, count: u32) -> Result<u64, Refusal> {
     let (target, object, field) = (LAST, LAST, 0);
     let mut ends = 0u64;
     for _ in 0..count {
-        heap.step(
-            THREAD,
+        step(
+            heap,
             &Step::Load {
                 target,
                 object,
@@ -113,17 +117,17 @@ fn registers(heap: &mut Heap, count: u32) -> Result<u64, Refusal> {
     let (source, target) = (LAST, OTHER);
     let mut found = 0u64;
     for _ in 0..count {
-        heap.step(THREAD, &Step::CopyReg { target, source })?;
-        let same = heap.step(
-            THREAD,
+        step(heap, &Step::CopyReg { target, source })?;
+        let same = step(
+            heap,
             &Step::Same {
                 left: source,
                 right: target,
             },
         )?;
-        let null = heap.step(THREAD, &Step::IsNull(target))?;
+        let null = step(heap, &Step::IsNull(target))?;
         found = found.wrapping_add(u64::from(same != null));
-        heap.step(THREAD, &Step::ClearReg(target))?;
+        step(heap, &Step::ClearReg(target))?;
     }
     Ok(found)
 }
@@ -133,8 +137,8 @@ fn globals(heap: &mut Heap, count: u32) -> Result<u64, Refusal> {
     let (source, target, global) = (LAST, OTHER, 0);
     let mut loaded = 0u64;
     for _ in 0..count {
-        heap.step(THREAD, &Step::StoreGlobal { global, source })?;
-        heap.step(THREAD, &Step::LoadGlobal { target, global })?;
+        step(heap, &Step::StoreGlobal { global, source })?;
+        step(heap, &Step::LoadGlobal { target, global })?;
         end_load(heap)?;
         loaded = loaded.wrapping_add(1);
     }
