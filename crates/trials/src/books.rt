@@ -1,6 +1,6 @@
 //! Books of the steps that a heap accepted.
 
-use crate::samples::{small, small_book};
+use crate::samples::{act, small, small_book};
 use cycle::{Actor, Answer, Book, Entry, Step, run};
 use heap::{Config, ConfigFault, NewFault, Refusal};
 use std::alloc::{AllocError, Global};
@@ -25,7 +25,7 @@ fn new(target: u32) -> Step {
 /// Does the step of each row, and compares the reply.
 fn play(rt: &impl Abort, book: &mut Book, rows: Vec<Row>) {
     for (actor, step, reply) in rows {
-        let told = book.act(actor, step);
+        let told = act(book, actor, step);
         assert_eq!(rt; told, reply);
     }
 }

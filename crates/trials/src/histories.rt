@@ -1,6 +1,6 @@
 //! Entries of histories, and a history that is filled to the highest limit.
 
-use crate::samples::small_book;
+use crate::samples::{act, small_book};
 use cycle::{Actor, Answer, Book, Entry, History, PageList, Step};
 use heap::Refusal;
 use std::alloc::{AllocError, Global};
@@ -111,10 +111,10 @@ fn entries(rt: HostRuntime) -> Result<(), Fail> {
 /// The book accepts as many steps as it may, and refuses the next.
 fn fill(rt: &impl Abort, book: &mut Book) {
     for _ in 0..1_000_000 {
-        let reply = book.act(Actor::Thread(0), Step::IsNull(1));
+        let reply = act(book, Actor::Thread(0), Step::IsNull(1));
         assert_eq!(rt; reply, Ok(Answer::Truth(true)));
     }
-    let reply = book.act(Actor::Thread(0), Step::IsNull(1));
+    let reply = act(book, Actor::Thread(0), Step::IsNull(1));
     assert_eq!(rt; reply, Err(Refusal::HistoryFull));
     assert_eq!(rt; book.history().len(), 1_000_000);
 }

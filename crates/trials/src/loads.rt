@@ -1,6 +1,6 @@
 //! Whole loads, and refusals as errors.
 
-use crate::samples::linked;
+use crate::samples::{act, linked};
 use cycle::Book;
 use model::{Actor, Answer, Refusal, Step};
 use std::alloc::Global;
@@ -12,15 +12,15 @@ const THREAD: Actor = Actor::Thread(0);
 /// An object whose reference is itself, in register 0. A refusal ends it.
 fn make(book: &mut Book) -> Result<(), Refusal> {
     let (target, layout) = (0, 0);
-    book.act(THREAD, Step::Take(16))?;
-    book.act(THREAD, Step::New { target, layout })?;
+    act(book, THREAD, Step::Take(16))?;
+    act(book, THREAD, Step::New { target, layout })?;
     let (object, field, source) = (0, 0, 0);
     let store = Step::Store {
         object,
         field,
         source,
     };
-    book.act(THREAD, store)?;
+    act(book, THREAD, store)?;
     Ok(())
 }
 

@@ -1,6 +1,6 @@
 //! Marks, as a program asks for them.
 
-use crate::samples::linked;
+use crate::samples::{act, linked};
 use cycle::Book;
 use layout::{Layout, Layouts};
 use model::{Actor, Answer, Config, Refusal, Step};
@@ -16,35 +16,35 @@ const WORKER: Actor = Actor::Worker(0);
 /// register `tail` names.
 fn push(book: &mut Book, head: u32, tail: u32) -> Result<(), Refusal> {
     let (target, layout) = (head, 0);
-    book.act(THREAD, Step::New { target, layout })?;
+    act(book, THREAD, Step::New { target, layout })?;
     let (object, field, source) = (head, 0, tail);
     let store = Step::Store {
         object,
         field,
         source,
     };
-    book.act(THREAD, store)?;
+    act(book, THREAD, store)?;
     Ok(())
 }
 
 /// A list of so many pages of 4,096 words, whose objects have two words; register 0 names its head.
 fn fill(book: &mut Book, pages: u32) -> Result<(), Refusal> {
     for _ in 0..pages {
-        book.act(THREAD, Step::Take(4096))?;
+        act(book, THREAD, Step::Take(4096))?;
         for _ in 0..1024 {
             push(book, 1, 0)?;
             push(book, 0, 1)?;
         }
-        book.act(THREAD, Step::GiveBack)?;
+        act(book, THREAD, Step::GiveBack)?;
     }
-    book.act(THREAD, Step::ClearReg(1))?;
+    act(book, THREAD, Step::ClearReg(1))?;
     Ok(())
 }
 
 /// A mark starts, and the one thread crosses its checkpoint.
 fn start(book: &mut Book) -> Result<(), Refusal> {
-    book.act(WORKER, Step::StartMark)?;
-    book.act(THREAD, Step::Cross)?;
+    act(book, WORKER, Step::StartMark)?;
+    act(book, THREAD, Step::Cross)?;
     Ok(())
 }
 
@@ -52,7 +52,7 @@ fn start(book: &mut Book) -> Result<(), Refusal> {
 fn mark(book: &mut Book, replies: &mut Vec<Result<Answer, Refusal>>) -> Result<Answer, Refusal> {
     start(book)?;
     book.drain(0, replies)?;
-    book.act(WORKER, Step::EndMark)
+    act(book, WORKER, Step::EndMark)
 }
 
 /// One thread, one worker and no globals; 80 frames of 4,096 words.
@@ -82,7 +82,7 @@ fn marks_a_list(rt: &impl Abort, book: &mut Book, replies: &mut Vec<Result<Answe
     };
     assert_eq!(rt; mark(book, replies), Ok(all));
     assert_eq!(rt; replies.len(), 301_056);
-    assert!(rt; book.act(THREAD, Step::ClearReg(0)).is_ok());
+    assert!(rt; act(book, THREAD, Step::ClearReg(0)).is_ok());
     let none = Answer::Ended {
         live: 0,
         retired: 0,
@@ -102,7 +102,7 @@ fn a_mark_of_100_000_objects(rt: HostRuntime) -> Result<(), Fail> {
 
 /// An object that refers to itself, in register 0, with a buffer of a whole page of 16 words.
 fn ring(book: &mut Book) -> Result<(), Refusal> {
-    book.act(THREAD, Step::Take(16))?;
+    act(book, THREAD, Step::Take(16))?;
     push(book, 0, 0)?;
     push(book, 0, 0)
 }
@@ -110,7 +110,7 @@ fn ring(book: &mut Book) -> Result<(), Refusal> {
 /// A drain is refused before all have crossed, and what was refused is its last reply.
 fn refuses_early(rt: &impl Abort, book: &mut Book, replies: &mut Vec<Result<Answer, Refusal>>) {
     let behind = Refusal::NotCrossed { thread: 0 };
-    assert!(rt; book.act(WORKER, Step::StartMark).is_ok());
+    assert!(rt; act(book, WORKER, Step::StartMark).is_ok());
     assert_eq!(rt; book.drain(0, replies), Err(behind));
     assert_eq!(rt; replies.as_slice(), [Err(behind)].as_slice());
 }

@@ -1,6 +1,7 @@
 //! Whole cycles: which targets objects go to, and that nothing is lost where pages are emptied again
 //! and again.
 
+use crate::samples::act;
 use cycle::Book;
 use heap::NewFault;
 use layout::{Layout, Layouts};
@@ -41,10 +42,10 @@ fn book(alloc: Global, frames: u32) -> Result<Book, NewFault> {
 
 /// A whole mark; what its drain says goes into the replies.
 fn mark(book: &mut Book, replies: &mut Vec<Reply>) -> Reply {
-    book.act(WORKER, Step::StartMark)?;
-    book.act(THREAD, Step::Cross)?;
+    act(book, WORKER, Step::StartMark)?;
+    act(book, THREAD, Step::Cross)?;
     book.drain(0, replies)?;
-    book.act(WORKER, Step::EndMark)
+    act(book, WORKER, Step::EndMark)
 }
 
 /// A mark ends with so many objects that live, and so many pages that became unused.
@@ -55,8 +56,8 @@ fn marks(rt: &impl Abort, book: &mut Book, replies: &mut Vec<Reply>, live: u64, 
 
 /// Pages are protected, and the thread crosses.
 fn protect(book: &mut Book, pages: Vec<u32>) -> Reply {
-    let answer = book.act(WORKER, Step::Protect(PageList::new(pages)))?;
-    book.act(THREAD, Step::Cross)?;
+    let answer = act(book, WORKER, Step::Protect(PageList::new(pages)))?;
+    act(book, THREAD, Step::Cross)?;
     Ok(answer)
 }
 
@@ -69,16 +70,16 @@ fn protects(rt: &impl Abort, book: &mut Book, pages: Vec<u32>, objects: u64, tar
 /// A page is released, after which so many frames are free.
 fn releases(rt: &impl Abort, book: &mut Book, page: u32, free: u64) {
     let released = Answer::Released { free };
-    assert_eq!(rt; book.act(WORKER, Step::Release(page)), Ok(released));
+    assert_eq!(rt; act(book, WORKER, Step::Release(page)), Ok(released));
 }
 
 /// A page with one object that nobody names.
 fn drop_object(book: &mut Book) -> Result<(), Refusal> {
     let (target, layout) = (0, 0);
-    book.act(THREAD, Step::Take(16))?;
-    book.act(THREAD, Step::New { target, layout })?;
-    book.act(THREAD, Step::ClearReg(0))?;
-    book.act(THREAD, Step::GiveBack)?;
+    act(book, THREAD, Step::Take(16))?;
+    act(book, THREAD, Step::New { target, layout })?;
+    act(book, THREAD, Step::ClearReg(0))?;
+    act(book, THREAD, Step::GiveBack)?;
     Ok(())
 }
 
@@ -103,23 +104,23 @@ fn a_page_without_live_objects(rt: HostRuntime) -> Result<(), Fail> {
 
 /// Objects of 3 words, on page 1, and of 3, 12 and 1 word, on page 2. The registers name them.
 fn fill_two(book: &mut Book) -> Result<(), Refusal> {
-    book.act(THREAD, Step::Take(16))?;
+    act(book, THREAD, Step::Take(16))?;
     let (target, layout) = (0, 0);
-    book.act(THREAD, Step::New { target, layout })?;
-    book.act(THREAD, Step::GiveBack)?;
-    book.act(THREAD, Step::Take(16))?;
+    act(book, THREAD, Step::New { target, layout })?;
+    act(book, THREAD, Step::GiveBack)?;
+    act(book, THREAD, Step::Take(16))?;
     for layout in 0..3 {
         let target = layout + 1;
-        book.act(THREAD, Step::New { target, layout })?;
+        act(book, THREAD, Step::New { target, layout })?;
     }
-    book.act(THREAD, Step::GiveBack)?;
+    act(book, THREAD, Step::GiveBack)?;
     Ok(())
 }
 
 /// An entry's object goes to this page and offset.
 fn copies(rt: &impl Abort, book: &mut Book, from: (u32, u32), to: (u32, u32)) {
     let (page, entry) = from;
-    let reply = book.act(WORKER, Step::Copy { page, entry });
+    let reply = act(book, WORKER, Step::Copy { page, entry });
     let (page, offset) = to;
     assert_eq!(rt; reply, Ok(Answer::MovedTo { page, offset }));
 }
@@ -178,8 +179,8 @@ fn pages_in_falling_order(rt: HostRuntime) -> Result<(), Fail> {
 /// One object of each page lives; both go into one target.
 fn joins(rt: &impl Abort, book: &mut Book, pages: Vec<u32>, replies: &mut Vec<Reply>) {
     assert_eq!(rt; fill_two(book), Ok(()));
-    assert!(rt; book.act(THREAD, Step::ClearReg(2)).is_ok());
-    assert!(rt; book.act(THREAD, Step::ClearReg(3)).is_ok());
+    assert!(rt; act(book, THREAD, Step::ClearReg(2)).is_ok());
+    assert!(rt; act(book, THREAD, Step::ClearReg(3)).is_ok());
     marks(rt, book, replies, 2, 0);
     protects(rt, book, pages, 2, 1);
     copies(rt, book, (1, 0), (3, 0));
@@ -202,17 +203,17 @@ fn two_pages_into_one(rt: HostRuntime) -> Result<(), Fail> {
 /// Five objects fill a fresh page, and register 1 names the one of this number. It says where the
 /// page begins.
 fn fill_page(book: &mut Book, number: u64) -> Reply {
-    let lent = book.act(THREAD, Step::Take(16))?;
+    let lent = act(book, THREAD, Step::Take(16))?;
     for other in 0..5 {
         let (target, layout, source) = (0, 0, 0);
-        book.act(THREAD, Step::New { target, layout })?;
+        act(book, THREAD, Step::New { target, layout })?;
         if other == number {
             let target = 1;
-            book.act(THREAD, Step::CopyReg { target, source })?;
+            act(book, THREAD, Step::CopyReg { target, source })?;
         }
     }
-    book.act(THREAD, Step::ClearReg(0))?;
-    book.act(THREAD, Step::GiveBack)?;
+    act(book, THREAD, Step::ClearReg(0))?;
+    act(book, THREAD, Step::GiveBack)?;
     Ok(lent)
 }
 
@@ -224,9 +225,9 @@ fn keep(book: &mut Book, value: u64) -> Result<(), Refusal> {
         index,
         value,
     };
-    book.act(THREAD, set)?;
-    book.act(THREAD, Step::StoreGlobal { global, source })?;
-    book.act(THREAD, Step::ClearReg(1))?;
+    act(book, THREAD, set)?;
+    act(book, THREAD, Step::StoreGlobal { global, source })?;
+    act(book, THREAD, Step::ClearReg(1))?;
     Ok(())
 }
 
@@ -234,8 +235,8 @@ fn keep(book: &mut Book, value: u64) -> Result<(), Refusal> {
 fn kept(book: &mut Book, replies: &mut Vec<Reply>) -> Reply {
     let (target, global, object, index) = (2, 0, 2, 0);
     book.whole_load(THREAD, Step::LoadGlobal { target, global }, replies)?;
-    let datum = book.act(THREAD, Step::Datum { object, index })?;
-    book.act(THREAD, Step::ClearReg(2))?;
+    let datum = act(book, THREAD, Step::Datum { object, index })?;
+    act(book, THREAD, Step::ClearReg(2))?;
     Ok(datum)
 }
 
@@ -261,7 +262,7 @@ fn fills_one(rt: &impl Abort, book: &mut Book, replies: &mut Vec<Reply>, turn: u
 fn empties_both(rt: &impl Abort, book: &mut Book, pages: Vec<u32>, old: u32, new: u32) -> u32 {
     let (page, entry) = (new, 0);
     protects(rt, book, pages, 1, 1);
-    let to = page_of(book.act(WORKER, Step::Copy { page, entry }));
+    let to = page_of(act(book, WORKER, Step::Copy { page, entry }));
     releases(rt, book, old, 1);
     releases(rt, book, new, 2);
     to

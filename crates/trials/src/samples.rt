@@ -1,6 +1,6 @@
 //! What several tests begin with.
 
-use cycle::Book;
+use cycle::{Actor, Book, Reply, Step};
 use heap::NewFault;
 use layout::{Layout, Layouts};
 use model::Config;
@@ -32,4 +32,9 @@ pub fn small_book(alloc: Global) -> Result<Book, NewFault> {
 pub fn linked(alloc: Global) -> Result<Config, AllocError> {
     let layouts = vec![in alloc; Layout { refs: 1, nums: 0 }]?;
     Ok(Config::new(16, 1, Layouts::new(layouts)))
+}
+
+/// A step of a book. It promises nothing, so that the proofs of tests with many steps are short.
+pub fn act(book: &mut Book, actor: Actor, step: Step) -> Reply {
+    book.act(actor, step)
 }

@@ -1,6 +1,7 @@
 //! Images of heaps, and their texts; the texts of faults.
 
 use crate::images::{add_entry, set_load, set_page};
+use crate::samples::act;
 use checking::{FaultText, verify_book};
 use cycle::{Actor, Answer, Book, Step};
 use heap::NewFault;
@@ -32,10 +33,11 @@ fn book(alloc: Global) -> Result<Book, NewFault> {
 /// An object that names itself, and that a global names.
 fn make_object(book: &mut Book) -> Result<(), Refusal> {
     let (target, layout) = (0, 0);
-    book.act(THREAD, Step::Take(3))?;
-    book.act(THREAD, Step::New { target, layout })?;
+    act(book, THREAD, Step::Take(3))?;
+    act(book, THREAD, Step::New { target, layout })?;
     let (object, field, source) = (0, 0, 0);
-    book.act(
+    act(
+        book,
         THREAD,
         Step::Store {
             object,
@@ -44,7 +46,8 @@ fn make_object(book: &mut Book) -> Result<(), Refusal> {
         },
     )?;
     let (index, value) = (0, 255);
-    book.act(
+    act(
+        book,
         THREAD,
         Step::SetDatum {
             object,
@@ -52,25 +55,25 @@ fn make_object(book: &mut Book) -> Result<(), Refusal> {
             value,
         },
     )?;
-    book.act(THREAD, Step::StoreGlobal { global: 0, source })?;
-    book.act(THREAD, Step::GiveBack)?;
+    act(book, THREAD, Step::StoreGlobal { global: 0, source })?;
+    act(book, THREAD, Step::GiveBack)?;
     Ok(())
 }
 
 /// A mark finds the object, and its page is protected; the thread's load hasn't ended.
 fn move_object(book: &mut Book, pages: PageList) -> Result<(), Refusal> {
-    book.act(WORKER, Step::StartMark)?;
-    book.act(THREAD, Step::Cross)?;
-    book.act(WORKER, Step::ScanGlobal(0))?;
-    book.act(WORKER, Step::Pick { page: 1, offset: 0 })?;
-    book.act(WORKER, Step::ScanField)?;
-    book.act(WORKER, Step::ScanField)?;
-    book.act(WORKER, Step::EndMark)?;
-    book.act(WORKER, Step::Protect(pages))?;
-    book.act(THREAD, Step::Cross)?;
-    book.act(WORKER, Step::Copy { page: 1, entry: 0 })?;
+    act(book, WORKER, Step::StartMark)?;
+    act(book, THREAD, Step::Cross)?;
+    act(book, WORKER, Step::ScanGlobal(0))?;
+    act(book, WORKER, Step::Pick { page: 1, offset: 0 })?;
+    act(book, WORKER, Step::ScanField)?;
+    act(book, WORKER, Step::ScanField)?;
+    act(book, WORKER, Step::EndMark)?;
+    act(book, WORKER, Step::Protect(pages))?;
+    act(book, THREAD, Step::Cross)?;
+    act(book, WORKER, Step::Copy { page: 1, entry: 0 })?;
     let (target, global) = (1, 0);
-    book.act(THREAD, Step::LoadGlobal { target, global })?;
+    act(book, THREAD, Step::LoadGlobal { target, global })?;
     Ok(())
 }
 
@@ -172,7 +175,7 @@ fn moved_book(rt: &impl Abort, alloc: Global) -> Result<Book, NewFault> {
     let mut book = book(alloc)?;
     assert_eq!(rt; make_object(&mut book), Ok(()));
     assert_eq!(rt; move_object(&mut book, pages), Ok(()));
-    let released = book.act(WORKER, Step::Release(1));
+    let released = act(&mut book, WORKER, Step::Release(1));
     assert_eq!(rt; released, Ok(Answer::Released { free: 2 }));
     Ok(book)
 }
