@@ -38,7 +38,7 @@ all: pauseless
 # on the words after '--'.
 pauseless: $(SOURCES)
 	@$(needs_toolchain)
-	@echo 'Proving the program, then building it. A first time takes some 20 minutes; $(LOG) has the rest.'
+	@echo 'Proving the program, then building it. A first time takes some 30 minutes; $(LOG) has the rest.'
 	@cd crates/report && $(RT) run -- run '$(CURDIR)/examples/first.script' \
 		> '$(CURDIR)/$(LOG)' 2>&1 || { cd '$(CURDIR)'; $(show_log); }
 	@$(INSTALL) -m 755 crates/report/out/report $@
