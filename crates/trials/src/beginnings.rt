@@ -1,6 +1,7 @@
 //! The first state of a heap, through its readers.
 
 use crate::configs::sizes;
+use crate::moves::HeldHeap;
 use crate::rows::{has_counts, has_indexed_counts};
 use heap::{Config, Heap, Thread};
 use layout::{Layout, Layouts};
@@ -111,11 +112,16 @@ fn has_first_records(rt: &impl Abort, heap: &Heap) {
     has_collector(rt, heap);
 }
 
+/// All of a new heap.
+fn is_at_first(rt: &impl Abort, held: impl HeldHeap + Drop) {
+    let heap = held.heap();
+    has_first_pages(rt, heap);
+    has_first_records(rt, heap);
+}
+
 #[test]
 fn a_new_heap(rt: HostRuntime) -> Result<(), Fail> {
     let config = mixed(rt.alloc())?;
-    let heap = Heap::new(rt.alloc(), config)?;
-    has_first_pages(&rt, &heap);
-    has_first_records(&rt, &heap);
+    is_at_first(&rt, Heap::new(rt.alloc(), config)?);
     Ok(())
 }

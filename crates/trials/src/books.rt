@@ -1,6 +1,6 @@
 //! Books of the steps that a heap accepted.
 
-use crate::samples::{act, small, small_book};
+use crate::samples::{HeldBook, act, small, small_book};
 use cycle::{Actor, Answer, Book, Entry, Step, run};
 use heap::{Config, ConfigFault, NewFault, Refusal};
 use std::alloc::{AllocError, Global};
@@ -77,7 +77,8 @@ fn is_last(rt: &impl Abort, last: &Entry) {
     assert_eq!(rt; last.answer, Answer::Lent { page: 1, offset: 4 });
 }
 
-fn filled(rt: &impl Abort, book: &mut Book, rows: Vec<Row>) {
+fn filled(rt: &impl Abort, mut held: impl HeldBook + Drop, rows: Vec<Row>) {
+    let book = held.book();
     play(rt, book, rows);
     assert_eq!(rt; book.history().len(), 6);
     assert_eq!(rt; book.heap().births(), 1);
@@ -90,8 +91,7 @@ fn filled(rt: &impl Abort, book: &mut Book, rows: Vec<Row>) {
 #[test]
 fn a_page_is_filled(rt: HostRuntime) -> Result<(), Fail> {
     let rows = page_of_objects(rt.alloc())?;
-    let mut book = small_book(rt.alloc())?;
-    filled(&rt, &mut book, rows);
+    filled(&rt, small_book(rt.alloc())?, rows);
     Ok(())
 }
 
@@ -106,7 +106,13 @@ fn parted(alloc: Global, rows: Vec<Row>) -> Result<(Vec<(Actor, Step)>, Vec<Repl
     Ok((steps, replies))
 }
 
-fn replied(rt: &impl Abort, alloc: Global, book: &mut Book, rows: Vec<Row>) -> Result<(), Fail> {
+fn replied(
+    rt: &impl Abort,
+    alloc: Global,
+    mut held: impl HeldBook + Drop,
+    rows: Vec<Row>,
+) -> Result<(), Fail> {
+    let book = held.book();
     let (steps, wanted) = parted(alloc, rows)?;
     let replies = run(alloc, book, steps)?;
     assert_eq!(rt; replies.as_slice(), wanted.as_slice());
@@ -117,8 +123,7 @@ fn replied(rt: &impl Abort, alloc: Global, book: &mut Book, rows: Vec<Row>) -> R
 #[test]
 fn a_run_replies_in_order(rt: HostRuntime) -> Result<(), Fail> {
     let rows = page_of_objects(rt.alloc())?;
-    let mut book = small_book(rt.alloc())?;
-    replied(&rt, rt.alloc(), &mut book, rows)
+    replied(&rt, rt.alloc(), small_book(rt.alloc())?, rows)
 }
 
 /// The steps of the rows that are to be accepted.
@@ -133,7 +138,8 @@ fn accepted_steps(alloc: Global, rows: Vec<Row>) -> Result<Vec<(Actor, Step)>, F
 }
 
 /// Does the steps of those rows, all of which are accepted.
-fn accepted(alloc: Global, book: &mut Book, rows: Vec<Row>) -> Result<(), Fail> {
+fn accepted(alloc: Global, mut held: impl HeldBook + Drop, rows: Vec<Row>) -> Result<(), Fail> {
+    let book = held.book();
     let steps = accepted_steps(alloc, rows)?;
     for reply in run(alloc, book, steps)? {
         reply?;
@@ -144,8 +150,7 @@ fn accepted(alloc: Global, book: &mut Book, rows: Vec<Row>) -> Result<(), Fail> 
 #[test]
 fn a_run_is_accepted(rt: HostRuntime) -> Result<(), Fail> {
     let rows = page_of_objects(rt.alloc())?;
-    let mut book = small_book(rt.alloc())?;
-    accepted(rt.alloc(), &mut book, rows)
+    accepted(rt.alloc(), small_book(rt.alloc())?, rows)
 }
 
 /// Steps of which an actor or a number names nothing, on a heap with two registers and one layout.
@@ -182,23 +187,16 @@ fn bad_steps(alloc: Global) -> Result<Vec<Row>, AllocError> {
 }
 
 /// Does the steps of the rows on a new book, which has so many entries then.
-fn plays(
-    rt: &impl Abort,
-    alloc: Global,
-    config: Config,
-    rows: Vec<Row>,
-    entries: usize,
-) -> Result<(), NewFault> {
-    let mut book = Book::new(alloc, config)?;
-    play(rt, &mut book, rows);
+fn plays(rt: &impl Abort, mut held: impl HeldBook + Drop, rows: Vec<Row>, entries: usize) {
+    let book = held.book();
+    play(rt, book, rows);
     assert_eq!(rt; book.history().len(), entries);
-    Ok(())
 }
 
 #[test]
 fn numbers_that_name_nothing(rt: HostRuntime) -> Result<(), Fail> {
     let rows = bad_steps(rt.alloc())?;
-    plays(&rt, rt.alloc(), small(rt.alloc())?, rows, 0)?;
+    plays(&rt, small_book(rt.alloc())?, rows, 0);
     Ok(())
 }
 
@@ -228,7 +226,7 @@ fn limit_rows(alloc: Global) -> Result<Vec<Row>, AllocError> {
 #[test]
 fn limits_are_kept(rt: HostRuntime) -> Result<(), Fail> {
     let rows = limit_rows(rt.alloc())?;
-    plays(&rt, rt.alloc(), limits(rt.alloc())?, rows, 3)?;
+    plays(&rt, Book::new(rt.alloc(), limits(rt.alloc())?)?, rows, 3);
     Ok(())
 }
 

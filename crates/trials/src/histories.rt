@@ -1,6 +1,6 @@
 //! Entries of histories, and a history that is filled to the highest limit.
 
-use crate::samples::{act, small_book};
+use crate::samples::{HeldBook, act, small_book};
 use cycle::{Actor, Answer, Book, Entry, History, PageList, Step};
 use heap::Refusal;
 use std::alloc::{AllocError, Global};
@@ -109,7 +109,8 @@ fn entries(rt: HostRuntime) -> Result<(), Fail> {
 }
 
 /// The book accepts as many steps as it may, and refuses the next.
-fn fill(rt: &impl Abort, book: &mut Book) {
+fn fill(rt: &impl Abort, mut held: impl HeldBook + Drop) {
+    let book = held.book();
     for _ in 0..1_000_000 {
         let reply = act(book, Actor::Thread(0), Step::IsNull(1));
         assert_eq!(rt; reply, Ok(Answer::Truth(true)));
@@ -121,7 +122,6 @@ fn fill(rt: &impl Abort, book: &mut Book) {
 
 #[test]
 fn a_million_steps(rt: HostRuntime) -> Result<(), Fail> {
-    let mut book = small_book(rt.alloc())?;
-    fill(&rt, &mut book);
+    fill(&rt, small_book(rt.alloc())?);
     Ok(())
 }

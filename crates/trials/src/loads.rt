@@ -1,6 +1,6 @@
 //! Whole loads, and refusals as errors.
 
-use crate::samples::{act, linked};
+use crate::samples::{HeldBook, act, linked};
 use cycle::Book;
 use model::{Actor, Answer, Refusal, Step};
 use std::alloc::Global;
@@ -40,7 +40,12 @@ fn load(
 }
 
 /// A load from register 1, which is null then, and one from register 0 into it.
-fn try_loads(rt: &impl Abort, book: &mut Book, replies: &mut Vec<Result<Answer, Refusal>>) {
+fn try_loads(
+    rt: &impl Abort,
+    mut held: impl HeldBook + Drop,
+    replies: &mut Vec<Result<Answer, Refusal>>,
+) {
+    let book = held.book();
     assert_eq!(rt; make(book), Ok(()));
     assert_eq!(rt; load(book, 1, replies), Err(Refusal::Null));
     assert_eq!(rt; load(book, 0, replies), Ok(()));
@@ -61,9 +66,8 @@ fn have_replied(rt: &impl Abort, replies: &[Result<Answer, Refusal>]) {
 #[test]
 fn a_whole_load(rt: HostRuntime) -> Result<(), Fail> {
     let alloc: Global = rt.alloc();
-    let mut book = Book::new(alloc, linked(alloc)?)?;
     let mut replies = Vec::new(alloc);
-    try_loads(&rt, &mut book, &mut replies);
+    try_loads(&rt, Book::new(alloc, linked(alloc)?)?, &mut replies);
     have_replied(&rt, &replies);
     Ok(())
 }

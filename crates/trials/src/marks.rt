@@ -1,6 +1,6 @@
 //! Marks, as a program asks for them.
 
-use crate::samples::{act, linked};
+use crate::samples::{HeldBook, act, linked};
 use cycle::Book;
 use layout::{Layout, Layouts};
 use model::{Actor, Answer, Config, Refusal, Step};
@@ -74,7 +74,12 @@ fn large(alloc: Global) -> Result<Config, AllocError> {
 
 /// 49 pages of 2,048 objects live; each takes one step to be picked, one for its reference, and one
 /// to end its scan. Cut off from its register, the list is garbage for the next mark.
-fn marks_a_list(rt: &impl Abort, book: &mut Book, replies: &mut Vec<Result<Answer, Refusal>>) {
+fn marks_a_list(
+    rt: &impl Abort,
+    mut held: impl HeldBook + Drop,
+    replies: &mut Vec<Result<Answer, Refusal>>,
+) {
+    let book = held.book();
     assert_eq!(rt; fill(book, 49), Ok(()));
     let all = Answer::Ended {
         live: 100_352,
@@ -94,9 +99,8 @@ fn marks_a_list(rt: &impl Abort, book: &mut Book, replies: &mut Vec<Result<Answe
 #[test]
 fn a_mark_of_100_000_objects(rt: HostRuntime) -> Result<(), Fail> {
     let alloc: Global = rt.alloc();
-    let mut book = Book::new(alloc, large(alloc)?)?;
     let mut replies = Vec::new(alloc);
-    marks_a_list(&rt, &mut book, &mut replies);
+    marks_a_list(&rt, Book::new(alloc, large(alloc)?)?, &mut replies);
     Ok(())
 }
 
@@ -108,7 +112,12 @@ fn ring(book: &mut Book) -> Result<(), Refusal> {
 }
 
 /// A drain is refused before all have crossed, and what was refused is its last reply.
-fn refuses_early(rt: &impl Abort, book: &mut Book, replies: &mut Vec<Result<Answer, Refusal>>) {
+fn refuses_early(
+    rt: &impl Abort,
+    mut held: impl HeldBook + Drop,
+    replies: &mut Vec<Result<Answer, Refusal>>,
+) {
+    let book = held.book();
     let behind = Refusal::NotCrossed { thread: 0 };
     assert!(rt; act(book, WORKER, Step::StartMark).is_ok());
     assert_eq!(rt; book.drain(0, replies), Err(behind));
@@ -118,18 +127,26 @@ fn refuses_early(rt: &impl Abort, book: &mut Book, replies: &mut Vec<Result<Answ
 #[test]
 fn a_drain_before_the_last_crossing(rt: HostRuntime) -> Result<(), Fail> {
     let alloc: Global = rt.alloc();
-    let mut book = Book::new(alloc, linked(alloc)?)?;
     let mut replies = Vec::new(alloc);
-    refuses_early(&rt, &mut book, &mut replies);
+    refuses_early(&rt, Book::new(alloc, linked(alloc)?)?, &mut replies);
+    Ok(())
+}
+
+/// A whole mark of such objects.
+fn marks_a_ring(
+    mut held: impl HeldBook + Drop,
+    replies: &mut Vec<Result<Answer, Refusal>>,
+) -> Result<(), Refusal> {
+    let book = held.book();
+    ring(book)?;
+    mark(book, replies)?;
     Ok(())
 }
 
 #[test]
 fn a_drain(rt: HostRuntime) -> Result<(), Fail> {
     let alloc: Global = rt.alloc();
-    let mut book = Book::new(alloc, linked(alloc)?)?;
     let mut replies = Vec::new(alloc);
-    ring(&mut book)?;
-    mark(&mut book, &mut replies)?;
+    marks_a_ring(Book::new(alloc, linked(alloc)?)?, &mut replies)?;
     Ok(())
 }

@@ -151,17 +151,21 @@ fn follow<H: Mutating + Stepping>(rt: &impl Abort, heap: &mut H) {
     assert_eq!(rt; reply, Ok(Answer::MovedTo { page: 2, offset: 3 }));
 }
 
+fn ask(rt: &impl Abort, mut heap: impl Mutating + Stepping + Drop, pages: PageList) {
+    make(rt, &mut heap);
+    write(rt, &mut heap);
+    compare(rt, &mut heap);
+    load(rt, &mut heap);
+    mark(rt, &mut heap);
+    scan(rt, &mut heap);
+    protect(rt, &mut heap, pages);
+    follow(rt, &mut heap);
+}
+
 #[test]
 fn threads_ask_by_calls(rt: HostRuntime) -> Result<(), Fail> {
-    let mut heap = Heap::new(rt.alloc(), config(rt.alloc())?)?;
-    make(&rt, &mut heap);
-    write(&rt, &mut heap);
-    compare(&rt, &mut heap);
-    load(&rt, &mut heap);
-    mark(&rt, &mut heap);
-    scan(&rt, &mut heap);
     let pages = vec![in rt.alloc(); 1u32]?;
-    protect(&rt, &mut heap, PageList::new(pages));
-    follow(&rt, &mut heap);
+    let heap = Heap::new(rt.alloc(), config(rt.alloc())?)?;
+    ask(&rt, heap, PageList::new(pages));
     Ok(())
 }

@@ -1,7 +1,7 @@
 //! Whole cycles: which targets objects go to, and that nothing is lost where pages are emptied again
 //! and again.
 
-use crate::samples::act;
+use crate::samples::{HeldBook, act};
 use cycle::Book;
 use heap::NewFault;
 use layout::{Layout, Layouts};
@@ -84,7 +84,13 @@ fn drop_object(book: &mut Book) -> Result<(), Refusal> {
 }
 
 /// The page has nothing to copy, so it needs no target and is released once the thread has crossed.
-fn empties(rt: &impl Abort, book: &mut Book, pages: Vec<u32>, replies: &mut Vec<Reply>) {
+fn empties(
+    rt: &impl Abort,
+    mut held: impl HeldBook + Drop,
+    pages: Vec<u32>,
+    replies: &mut Vec<Reply>,
+) {
+    let book = held.book();
     assert_eq!(rt; drop_object(book), Ok(()));
     marks(rt, book, replies, 0, 0);
     protects(rt, book, pages, 0, 0);
@@ -97,8 +103,7 @@ fn a_page_without_live_objects(rt: HostRuntime) -> Result<(), Fail> {
     let alloc: Global = rt.alloc();
     let pages = vec![in alloc; 1]?;
     let mut replies = Vec::new(alloc);
-    let mut book = book(alloc, 1)?;
-    empties(&rt, &mut book, pages, &mut replies);
+    empties(&rt, book(alloc, 1)?, pages, &mut replies);
     Ok(())
 }
 
@@ -133,7 +138,13 @@ fn fills(rt: &impl Abort, book: &mut Book, replies: &mut Vec<Reply>) {
 
 /// The object of 12 words doesn't fit behind the two of 3. So it begins the second target, and the
 /// object of one word goes behind it, though the first target has room.
-fn moves_rising(rt: &impl Abort, book: &mut Book, pages: Vec<u32>, replies: &mut Vec<Reply>) {
+fn moves_rising(
+    rt: &impl Abort,
+    mut held: impl HeldBook + Drop,
+    pages: Vec<u32>,
+    replies: &mut Vec<Reply>,
+) {
+    let book = held.book();
     fills(rt, book, replies);
     protects(rt, book, pages, 4, 2);
     copies(rt, book, (1, 0), (3, 0));
@@ -150,13 +161,18 @@ fn pages_in_rising_order(rt: HostRuntime) -> Result<(), Fail> {
     let alloc: Global = rt.alloc();
     let pages = vec![in alloc; 1, 2]?;
     let mut replies = Vec::new(alloc);
-    let mut book = book(alloc, 4)?;
-    moves_rising(&rt, &mut book, pages, &mut replies);
+    moves_rising(&rt, book(alloc, 4)?, pages, &mut replies);
     Ok(())
 }
 
 /// The objects of page 2 fill the first target, and that of page 1 goes to the second.
-fn moves_falling(rt: &impl Abort, book: &mut Book, pages: Vec<u32>, replies: &mut Vec<Reply>) {
+fn moves_falling(
+    rt: &impl Abort,
+    mut held: impl HeldBook + Drop,
+    pages: Vec<u32>,
+    replies: &mut Vec<Reply>,
+) {
+    let book = held.book();
     fills(rt, book, replies);
     protects(rt, book, pages, 4, 2);
     copies(rt, book, (2, 0), (3, 0));
@@ -171,13 +187,18 @@ fn pages_in_falling_order(rt: HostRuntime) -> Result<(), Fail> {
     let alloc: Global = rt.alloc();
     let pages = vec![in alloc; 2, 1]?;
     let mut replies = Vec::new(alloc);
-    let mut book = book(alloc, 4)?;
-    moves_falling(&rt, &mut book, pages, &mut replies);
+    moves_falling(&rt, book(alloc, 4)?, pages, &mut replies);
     Ok(())
 }
 
 /// One object of each page lives; both go into one target.
-fn joins(rt: &impl Abort, book: &mut Book, pages: Vec<u32>, replies: &mut Vec<Reply>) {
+fn joins(
+    rt: &impl Abort,
+    mut held: impl HeldBook + Drop,
+    pages: Vec<u32>,
+    replies: &mut Vec<Reply>,
+) {
+    let book = held.book();
     assert_eq!(rt; fill_two(book), Ok(()));
     assert!(rt; act(book, THREAD, Step::ClearReg(2)).is_ok());
     assert!(rt; act(book, THREAD, Step::ClearReg(3)).is_ok());
@@ -195,8 +216,7 @@ fn two_pages_into_one(rt: HostRuntime) -> Result<(), Fail> {
     let alloc: Global = rt.alloc();
     let pages = vec![in alloc; 1, 2]?;
     let mut replies = Vec::new(alloc);
-    let mut book = book(alloc, 3)?;
-    joins(&rt, &mut book, pages, &mut replies);
+    joins(&rt, book(alloc, 3)?, pages, &mut replies);
     Ok(())
 }
 
@@ -288,7 +308,12 @@ fn turns(
 }
 
 /// A hundred turns; the last one leaves one object, on one page.
-fn turns_often(rt: &impl Abort, alloc: Global, book: &mut Book) -> Result<(), AllocError> {
+fn turns_often(
+    rt: &impl Abort,
+    alloc: Global,
+    mut held: impl HeldBook + Drop,
+) -> Result<(), AllocError> {
+    let book = held.book();
     let mut replies = Vec::new(alloc);
     let mut page = fills_one(rt, book, &mut replies, 0);
     for turn in 1..101 {
@@ -301,7 +326,6 @@ fn turns_often(rt: &impl Abort, alloc: Global, book: &mut Book) -> Result<(), Al
 
 #[test]
 fn a_hundred_cycles(rt: HostRuntime) -> Result<(), Fail> {
-    let mut book = book(rt.alloc(), 3)?;
-    turns_often(&rt, rt.alloc(), &mut book)?;
+    turns_often(&rt, rt.alloc(), book(rt.alloc(), 3)?)?;
     Ok(())
 }

@@ -1,6 +1,6 @@
 //! What runs of scripts write, and what a report says of a history that no script of today has.
 
-use crate::samples::small_book;
+use crate::samples::{HeldBook, small_book};
 use cycle::{Actor, Answer, Book, History, Step};
 use script::{RunFault, by_schedule, parse, report};
 use std::alloc::Global;
@@ -61,7 +61,12 @@ fn told(alloc: Global, book: &Book, answers: &[Answer]) -> Result<Vec<u8>, RunFa
 }
 
 /// Two marks that ended, with an answer of another step between them.
-fn tells_cycles(rt: &impl Abort, alloc: Global, book: &Book) -> Result<(), Fail> {
+fn tells_cycles(
+    rt: &impl Abort,
+    alloc: Global,
+    mut held: impl HeldBook + Drop,
+) -> Result<(), Fail> {
+    let book = held.book();
     let answers = [
         Answer::Ended {
             live: 4,
@@ -82,6 +87,5 @@ fn tells_cycles(rt: &impl Abort, alloc: Global, book: &Book) -> Result<(), Fail>
 
 #[test]
 fn cycles(rt: HostRuntime) -> Result<(), Fail> {
-    let book = small_book(rt.alloc())?;
-    tells_cycles(&rt, rt.alloc(), &book)
+    tells_cycles(&rt, rt.alloc(), small_book(rt.alloc())?)
 }

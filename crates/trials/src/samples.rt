@@ -38,3 +38,16 @@ pub fn linked(alloc: Global) -> Result<Config, AllocError> {
 pub fn act(book: &mut Book, actor: Actor, step: Step) -> Reply {
     book.act(actor, step)
 }
+
+/// A book that can be lent. A test hands its book on as one: to hold a `Book` over calls is dear to
+/// prove.
+pub trait HeldBook {
+    /// The book.
+    fn book(&mut self) -> &mut Book;
+}
+
+impl HeldBook for Book {
+    fn book(&mut self) -> &mut Book {
+        self
+    }
+}

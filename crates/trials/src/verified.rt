@@ -1,7 +1,7 @@
 //! Images of heaps, and their texts; the texts of faults.
 
 use crate::images::{add_entry, set_load, set_page};
-use crate::samples::act;
+use crate::samples::{HeldBook, act};
 use checking::{FaultText, verify_book};
 use cycle::{Actor, Answer, Book, Step};
 use heap::NewFault;
@@ -93,11 +93,21 @@ fn looks(rt: &impl Abort, alloc: Global, book: &Book, wanted: &str) -> Result<()
     Ok(())
 }
 
+/// A heap with that object.
+fn looks_at_an_object(
+    rt: &impl Abort,
+    alloc: Global,
+    mut held: impl HeldBook + Drop,
+    wanted: &str,
+) -> Result<(), AllocError> {
+    let book = held.book();
+    assert_eq!(rt; make_object(book), Ok(()));
+    looks(rt, alloc, book, wanted)
+}
+
 #[test]
 fn the_image_of_a_heap(rt: HostRuntime) -> Result<(), Fail> {
     let alloc: Global = rt.alloc();
-    let mut book = book(alloc)?;
-    assert_eq!(rt; make_object(&mut book), Ok(()));
     let wanted = "image words 16 frames 3 free 1 2\n\
         layout 1 1\n\
         page 1 open frame 0 starts 0 side\n\
@@ -111,17 +121,29 @@ fn the_image_of_a_heap(rt: HostRuntime) -> Result<(), Fail> {
         frame 2 0 0 0 0 0 0 0 0 0 0 0 0 0 0 0 0\n\
         thread 0 load - registers 10 0\n\
         global 0 10\n";
-    looks(&rt, alloc, &book, wanted)?;
+    looks_at_an_object(&rt, alloc, book(alloc)?, wanted)?;
+    Ok(())
+}
+
+/// Its object moves.
+fn looks_at_a_move(
+    rt: &impl Abort,
+    alloc: Global,
+    mut held: impl HeldBook + Drop,
+    pages: PageList,
+    wanted: &str,
+) -> Result<(), Fail> {
+    let book = held.book();
+    make_object(book)?;
+    move_object(book, pages)?;
+    looks(rt, alloc, book, wanted)?;
     Ok(())
 }
 
 #[test]
 fn the_image_of_an_object_that_moves(rt: HostRuntime) -> Result<(), Fail> {
     let alloc: Global = rt.alloc();
-    let mut book = book(alloc)?;
     let pages = PageList::new(vec![in alloc; 1; 1]?);
-    make_object(&mut book)?;
-    move_object(&mut book, pages)?;
     let wanted = "image words 16 frames 3 free 2\n\
         layout 1 1\n\
         page 1 from frame 0 starts 0 side 0>32*\n\
@@ -135,8 +157,7 @@ fn the_image_of_an_object_that_moves(rt: HostRuntime) -> Result<(), Fail> {
         frame 2 0 0 0 0 0 0 0 0 0 0 0 0 0 0 0 0\n\
         thread 0 load 8000000000000010 registers 8000000000000010 0\n\
         global 0 8000000000000010\n";
-    looks(&rt, alloc, &book, wanted)?;
-    Ok(())
+    looks_at_a_move(&rt, alloc, book(alloc)?, pages, wanted)
 }
 
 /// A fault has this text, where pages have 16 words.
@@ -168,16 +189,27 @@ fn the_texts_of_faults(rt: HostRuntime) -> Result<(), Fail> {
     Ok(())
 }
 
-/// A book whose object has moved from page 1, which is released, to page 2. A register, a global and
-/// a load that hasn't ended name it by its old address.
-fn moved_book(rt: &impl Abort, alloc: Global) -> Result<Book, NewFault> {
-    let pages = PageList::new(vec![in alloc; 1; 1]?);
-    let mut book = book(alloc)?;
-    assert_eq!(rt; make_object(&mut book), Ok(()));
-    assert_eq!(rt; move_object(&mut book, pages), Ok(()));
-    let released = act(&mut book, WORKER, Step::Release(1));
+/// The object moves from page 1, which is released, to page 2. A register, a global and a load that
+/// hasn't ended name it by its old address. Gives the image then.
+fn move_off(
+    rt: &impl Abort,
+    alloc: Global,
+    mut held: impl HeldBook + Drop,
+    pages: PageList,
+) -> Result<Image, AllocError> {
+    let book = held.book();
+    assert_eq!(rt; make_object(book), Ok(()));
+    assert_eq!(rt; move_object(book, pages), Ok(()));
+    let released = act(book, WORKER, Step::Release(1));
     assert_eq!(rt; released, Ok(Answer::Released { free: 2 }));
-    Ok(book)
+    Image::of(alloc, book.heap())
+}
+
+/// The image of a book whose object has moved so.
+fn moved_image(rt: &impl Abort, alloc: Global) -> Result<Image, NewFault> {
+    let pages = PageList::new(vec![in alloc; 1; 1]?);
+    let image = move_off(rt, alloc, book(alloc)?, pages)?;
+    Ok(image)
 }
 
 /// An image has this as its first fault.
@@ -204,8 +236,7 @@ fn finds_by_entry(
 #[test]
 fn entries_that_lead_nowhere(rt: HostRuntime) -> Result<(), Fail> {
     let alloc: Global = rt.alloc();
-    let book = moved_book(&rt, alloc)?;
-    let mut image = Image::of(alloc, book.heap())?;
+    let mut image = moved_image(&rt, alloc)?;
     assert_eq!(rt; verify_image(alloc, &image), Ok(Verdict::Sound));
     let first = Fault::Root(Root::Register(0, 0));
     finds_by_entry(&rt, alloc, &mut image, (0, 32, false), first)?;
@@ -216,8 +247,7 @@ fn entries_that_lead_nowhere(rt: HostRuntime) -> Result<(), Fail> {
 #[test]
 fn a_copy_without_memory(rt: HostRuntime) -> Result<(), Fail> {
     let alloc: Global = rt.alloc();
-    let book = moved_book(&rt, alloc)?;
-    let mut image = Image::of(alloc, book.heap())?;
+    let mut image = moved_image(&rt, alloc)?;
     set_page(&mut image, 2, PageState::Open, None);
     finds(&rt, alloc, &image, Fault::Frames);
     Ok(())
@@ -226,8 +256,7 @@ fn a_copy_without_memory(rt: HostRuntime) -> Result<(), Fail> {
 #[test]
 fn a_load_that_names_nothing(rt: HostRuntime) -> Result<(), Fail> {
     let alloc: Global = rt.alloc();
-    let book = moved_book(&rt, alloc)?;
-    let mut image = Image::of(alloc, book.heap())?;
+    let mut image = moved_image(&rt, alloc)?;
     set_load(&mut image, 0, Some((1 << 63) + 48));
     finds(&rt, alloc, &image, Fault::Root(Root::Pending(0)));
     Ok(())
