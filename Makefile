@@ -1,7 +1,10 @@
 # make            builds the program and leaves it as ./pauseless
 # make try        runs examples/first.script by a build that proves nothing
 # make run        builds the program and runs examples/first.script
-# make test       the whole test command; its last line is 'N passed, M failed'
+# make test       the whole test command; its last line is 'N passed, M failed, K skipped'
+# make edits      tries all edits that must fail, or with CRATES="page heap" theirs, and writes down in
+#                 tests/refused.txt the crates of which each was refused; with CHECK=1 it tries nothing,
+#                 and says which crates aren't written down
 # make install    puts the program into PREFIX/bin
 # make bench      times the program on generated scripts, and loops over the library's calls
 # make clean      removes the program, the log and all that earlier checks kept
@@ -30,7 +33,12 @@ needs_toolchain = command -v '$(firstword $(RT))' > /dev/null || { \
 # A step failed: shows how its log ends.
 show_log = { echo 'make: this failed; the end of $(LOG):' >&2; tail -n 20 '$(LOG)' >&2; exit 1; }
 
-.PHONY: all try run test install bench clean
+.PHONY: all try run test edits install bench clean
+
+# The crates whose edits 'make edits' tries; none: all that have any. How many of them side by side; 0: as many as
+# processors and memory allow.
+CRATES =
+JOBS = 0
 
 all: pauseless
 
@@ -55,6 +63,14 @@ try:
 test:
 	@$(needs_toolchain)
 	@RT='$(RT)' INSTALL='$(INSTALL)' PYTHON='$(PYTHON)' sh tests/all.sh
+
+edits:
+	@$(needs_toolchain)
+ifdef CHECK
+	@$(PYTHON) tests/edits.py check $(CRATES)
+else
+	@RT='$(RT)' $(PYTHON) tests/edits.py try --jobs $(JOBS) $(CRATES)
+endif
 
 install: pauseless
 	$(INSTALL) -d '$(DESTDIR)$(PREFIX)/bin'

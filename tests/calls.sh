@@ -23,7 +23,7 @@ for test in rows::a_row_of_clear_bits rows::rows_of_clear_bits rows::rows_with_a
     configs::a_copy_has_the_same_values pages::takes_in_the_lowest_page \
     heaps::the_first_fault_is_told books::a_run_is_accepted marks::a_drain scripts::steps_of_orders \
     reports::runs reports::cycles protections::a_page_is_protected verified::the_image_of_an_object_that_moves; do
-    refuse_each "$test" crates/trials/out/trials_tests "$test"
+    refuse_each "$test" "$tests" "$test"
 done
 echo "$passed passed, $failed failed"
 [ "$failed" = 0 ]

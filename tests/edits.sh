@@ -1,0 +1,135 @@
+#!/bin/sh
+# Tries the trying of edits, on a repository of two small crates that is made
+# here: which crates have edits to try after a change, what is told and written
+# down of edits that are refused and of one that isn't, and what a run of the
+# proofs says of them.
+
+RT=${RT:-rt}
+PYTHON=${PYTHON:-python3}
+cd "$(dirname "$0")" || exit 1
+tools=$PWD
+. ./begin.sh
+
+# crate NAME BELOW: a crate with one function and an edit of it that must fail.
+crate() {
+    mkdir -p "crates/$1/src" "crates/$1/must-fail" || exit 1
+    echo "$1: $2" >> crates.txt
+    cat > "crates/$1/src/lib.rt" <<'END'
+// A number and the next one.
+#![tactic(auto)]
+
+ghost use Rattle.std.specs.Prelude.{◌+◌, ◌<◌, ◌≡◌};
+
+pub fn next(number: u32) -> u32
+    requires { number < 10 }
+    ensures { result ≡ number + 1 }
+{
+    let more = 1;
+    number + more
+}
+END
+    cat > "crates/$1/must-fail/two_more.edit" <<'END'
+file: src/lib.rt
+old:     let more = 1;
+new:     let more = 2;
+END
+}
+
+# is WHAT STATUS [LINE]..: the last command has to have ended so, and $kept/got to be these lines.
+is() {
+    what=$1 wanted=$2
+    shift 2
+    for line; do echo "$line"; done > "$kept/wanted"
+    if [ "$status" = "$wanted" ] && cmp -s "$kept/wanted" "$kept/got"; then
+        echo "passed: $what"
+        passed=$((passed + 1))
+    else
+        echo "failed: $what: status $status"
+        diff "$kept/wanted" "$kept/got"
+        failed=$((failed + 1))
+    fi
+}
+
+# check [CRATE]..: asks which of these crates, or of all, have edits to try.
+check() {
+    "$PYTHON" "$tools/edits.py" check "$@" > "$kept/got" 2>&1
+    status=$?
+}
+
+# told COMMAND..: keeps the command's status and the lines of its output that speak of edits and counts.
+told() {
+    "$@" > "$kept/output" 2>&1
+    status=$?
+    sed -nE -e 's/: note: .*$//' -e 's/, in [0-9]+ s$//' -e '/^rt: (must-fail |FAILED)/p' \
+        -e '/edits refused$/p' -e '/^failed: /p' -e '$p' "$kept/output" > "$kept/got"
+}
+
+mkdir -p "$kept/small/tests" && cd "$kept/small" || exit 1
+crate low ''
+crate high low
+echo 'Handles allowed: none.' > HANDLES
+book=tests/refused.txt
+
+check low
+is 'a crate without a line' 1 'low: 1 edits to try'
+told "$PYTHON" "$tools/edits.py" try --jobs 2
+sort "$kept/got" > "$kept/sorted" && mv "$kept/sorted" "$kept/got"
+is 'edits that are refused' 0 '2 passed, 0 failed' \
+    'high: 1 of 1 edits refused' \
+    'low: 1 of 1 edits refused' \
+    'rt: must-fail high/two_more.edit: refused, as it must be' \
+    'rt: must-fail low/two_more.edit: refused, as it must be'
+check
+is 'both are written down' 0
+
+cp -R . "$kept/whole"
+# changed WHAT [LINE]: after the change that was made, just this is to be tried. Then all is as it was again.
+changed() {
+    what=$1
+    shift
+    check
+    is "$what" $# "$@"
+    cd "$kept" && rm -rf small && cp -R whole small && cd small || exit 1
+}
+echo '# A letter more.' >> crates/high/must-fail/two_more.edit
+changed 'an edit that is changed' 'high: 1 edits to try'
+echo '// A letter more.' >> crates/low/src/lib.rt
+changed 'a body that is changed' 'low: 1 edits to try'
+mkdir crates/high/specs && echo '// Nothing.' > crates/high/specs/Lib.antt
+changed 'definitions that are changed' 'high: 1 edits to try'
+mkdir crates/high/proofs && echo '// Nothing.' > crates/high/proofs/Lib.antt
+changed 'a proof alone is changed'
+sed '/^low /d' "$kept/whole/$book" > "$book"
+changed 'a line that was taken out' 'low: 1 edits to try'
+cp crates/high/must-fail/two_more.edit crates/high/must-fail/two_again.edit
+changed 'a new edit' 'high: 2 edits to try'
+crate other low
+changed 'a new crate' 'other: 1 edits to try'
+echo 'low 1 none' >> "$book"
+check
+is 'a line of another form' 2 "edits: $book has a line that 'make edits' didn't write: low 1 none"
+cp "$kept/whole/$book" "$book"
+
+# An edit that is no mistake, so that the crate is proved with it.
+sed 's/= 2;/= 1 + 0;/' crates/high/must-fail/two_more.edit > crates/high/must-fail/as_it_was.edit
+told "$PYTHON" "$tools/edits.py" try --jobs 1 high
+is 'an edit that is proved' 1 \
+    'rt: must-fail high/as_it_was.edit: NOT REFUSED: the crate is still proved with this edit' \
+    'rt: must-fail high/two_more.edit: refused, as it must be' \
+    'high: 1 of 2 edits refused' \
+    "failed: high isn't written down" \
+    '0 passed, 1 failed'
+check
+is 'it is not written down' 1 'high: 2 edits to try'
+told sh "$tools/proofs.sh" "$kept/proved"
+is 'a run of the proofs tries the edits that are left' 1 \
+    'rt: must-fail high/as_it_was.edit: NOT REFUSED: the crate is still proved with this edit' \
+    'rt: must-fail high/two_more.edit: refused, as it must be' \
+    'rt: FAILED: high/as_it_was.edit' \
+    '3 passed, 1 failed, 1 skipped'
+awk '{ print $1 } END { print }' "$kept/proved.table" > "$kept/got"
+status=0
+is 'a table of what each crate took' 0 seconds high low all edits: 'edits: 2 tried, 1 stand by tests/refused.txt'
+
+echo "$passed passed, $failed failed"
+[ "$failed" = 0 ]

@@ -1,0 +1,26 @@
+#!/bin/sh
+# Proves all crates and their tests from nothing, and tries the edits that have
+# to be tried, by one 'rt ci' in a copy of the repository: tests/proofs.sh COPY,
+# at the top of the repository. COPY is a folder that isn't there yet; what was
+# proved and built stays in it. The last line is 'N passed, M failed, K skipped':
+# K edits weren't tried, as they stand by tests/refused.txt. COPY.table tells what
+# each crate took and, in its last line, how many edits were tried.
+
+RT=${RT:-rt}
+PYTHON=${PYTHON:-python3}
+tools=$(cd "$(dirname "$0")" && pwd)
+copy=$1
+
+standing=$("$PYTHON" "$tools/edits.py" copy "$copy") || {
+    echo '0 passed, 1 failed'
+    exit 1
+}
+{
+    (cd "$copy" && exec "$PYTHON" "$tools/measured.py" "$copy.table" "$RT" ci)
+    echo $? > "$copy.status"
+} | tee "$copy.output"
+counts=$(sed -n '$s/^\([0-9]*\) passed, \([0-9]*\) failed$/\1 \2/p' "$copy.output")
+[ -n "$counts" ] || counts='0 1'
+echo "edits: $(grep -c '^rt: must-fail ' "$copy.output") tried, $standing stand by tests/refused.txt" >> "$copy.table"
+echo "${counts% *} passed, ${counts#* } failed, $standing skipped"
+exit "$(cat "$copy.status")"
