@@ -89,7 +89,7 @@ class Heap:
             return operands[1] < len(self.globals)
         if name in ("storeg", "scang"):
             return operands[0] < len(self.globals)
-        if name == "pick":
+        if name in ("pick", "copy", "release"):
             return 1 <= operands[0] <= self.pages.count
         if name == "protect":
             return len(set(operands)) == len(operands) and 1 <= min(operands) <= max(operands) <= self.pages.count

@@ -69,6 +69,8 @@ fn has_bad_index(heap: &Heap, step: &Step) -> bool
         Step::Pick { page, .. } => no_page(heap, *page),
         Step::ScanGlobal(global) => no_global(heap, *global),
         Step::Protect(pages) => are_bad_pages(heap, pages.as_slice()),
+        Step::Copy { page, .. } => no_page(heap, *page),
+        Step::Release(page) => no_page(heap, *page),
         Step::CrossFor(thread) => no_thread(heap, *thread),
         _ => false,
     }

@@ -137,7 +137,11 @@ unripe =
     worker 0 (steps.Protect (9 ∷ [])) (Err refusals.BadIndex) ∷
     worker 0 (steps.Protect []) (Err refusals.BadIndex) ∷
     worker 0 (steps.Copy 1 0) (Err refusals.Phase) ∷
+    worker 0 (steps.Copy 0 0) (Err refusals.BadIndex) ∷
+    worker 0 (steps.Copy 9 0) (Err refusals.BadIndex) ∷
     worker 0 (steps.Release 1) (Err refusals.Phase) ∷
+    worker 0 (steps.Release 0) (Err refusals.BadIndex) ∷
+    worker 0 (steps.Release 9) (Err refusals.BadIndex) ∷
     thread 1 (steps.Take 16) (Ok (answers.Lent 3 0)) ∷
     worker 0 (steps.Protect (1 ∷ [])) (Err (refusals.NoFrames 1 0)) ∷
     []

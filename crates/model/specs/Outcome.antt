@@ -78,6 +78,8 @@ has_bad_index h (steps.Scrub r) = no_register h r
 has_bad_index h (steps.Pick page offset) = no_page h page
 has_bad_index h (steps.ScanGlobal global) = no_global h global
 has_bad_index h (steps.Protect pages) = are_bad_pages h pages
+has_bad_index h (steps.Copy page entry) = no_page h page
+has_bad_index h (steps.Release page) = no_page h page
 has_bad_index h (steps.CrossFor thread) = nat_le (length h.threads) thread
 has_bad_index h _ = false
 
