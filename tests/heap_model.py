@@ -38,7 +38,8 @@ def thing_of(word):
 
 
 # The commands of workers; all others are those of threads.
-OF_WORKERS = ("mark", "endmark", "pick", "scan", "scang", "crossfor", "drain", "protect", "copy", "release")
+OF_WORKERS = ("mark", "endmark", "pick", "scan", "scang", "crossfor", "drain", "protect", "copy",
+              "copyall", "release")
 
 # The phase behind each checkpoint.
 BEHIND = {"mark-crossing": "scanning", "protect-crossing": "relocating"}
@@ -89,7 +90,7 @@ class Heap:
             return operands[1] < len(self.globals)
         if name in ("storeg", "scang"):
             return operands[0] < len(self.globals)
-        if name in ("pick", "copy", "release"):
+        if name in ("pick", "copy", "copyall", "release"):
             return 1 <= operands[0] <= self.pages.count
         if name == "protect":
             return len(set(operands)) == len(operands) and 1 <= min(operands) <= max(operands) <= self.pages.count
@@ -350,6 +351,11 @@ class Heap:
         refuse_if(self.phase not in ("protect-crossing", "relocating"), "Phase")
         self.refuse_uncrossed()
         return "copied {}.{}".format(*self.pages.copy_entry(page, entry))
+
+    def do_copyall(self, worker, page):
+        refuse_if(self.phase not in ("protect-crossing", "relocating"), "Phase")
+        self.refuse_uncrossed()
+        return f"copied all {self.pages.copy_page(page)}"
 
     def do_release(self, worker, page):
         refuse_if(self.phase == "idle", "Phase")

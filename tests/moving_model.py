@@ -157,6 +157,14 @@ class Pages:
         self.copy(thing)
         return thing.place
 
+    # All things of a page are copied that weren't. How many.
+    def copy_page(self, number):
+        refuse_if(self.state(number) != "from", "BadIndex")
+        left = [thing for thing in self.used[number].live if thing.planned is not None]
+        for thing in left:
+            self.copy(thing)
+        return len(left)
+
     def refuse_uncopied(self, number):
         refuse_if(self.used[number].uncopied() > 0, f"Uncopied {number}")
 

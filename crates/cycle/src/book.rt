@@ -3,14 +3,18 @@
 ghost use Rattle.std.specs.Prelude.{◌≡◌, IfOk};
 ghost use Rattle.cycle.specs.Books.{Acts, MakesBook, act_outcome, is_full, first_book};
 ghost use Rattle.cycle.specs.Replays.{IsBook, KeepsPromises, StepPromises};
+ghost use Rattle.model.specs.declared.steps.Actor.TheVariants.{Worker};
+ghost use Rattle.model.specs.declared.steps.Step.TheVariants as steps;
 ghost use Rattle.refinement.specs.Standing.{MovesPhase};
 
-use crate::stepping::Stepping;
+use crate::stepping::{Stepping, copy_page_by};
 use entries::History;
 use heap::{Config, Heap, NewFault};
 use model::{Actor, Refusal, Reply, Step};
+use relocate::PieceGate;
 use std::alloc::Global;
 use std::marker::Model;
+use std::thread::Threads;
 
 /// A heap and the history of its accepted steps, oldest first.
 ///
@@ -123,6 +127,53 @@ impl Book {
         let answer = self.heap.step(actor, &step)?;
         self.heap.law();
         self.history.enter(actor, step, answer);
+        Ok(answer)
+    }
+
+    /// What `act` does of a worker's `CopyPage`, by halves on threads: the entries that go to one
+    /// target are cut in two, and so again, to a depth (above 4 counts as 4), and each piece is
+    /// copied on a thread of its own, which tells the gate before. It waits for the threads. Where
+    /// one can't be started, its piece is copied afterwards.
+    pub fn copy_page_by<R: Threads + Sync, G: PieceGate + Sync>(
+        &mut self,
+        rt: &R,
+        worker: u32,
+        page: u32,
+        depth: u32,
+        gate: &G,
+    ) -> Reply
+        ensures acts { Acts self.old result self.new (act_outcome self.old (Worker worker) (steps.CopyPage page)) }
+        ensures book { IsBook self.new }
+        ensures promises { StepPromises self.old (steps.CopyPage page) result self.new }
+    {
+        let reply = self.copy_and_enter(rt, worker, page, depth, gate);
+        self.law();
+        reply
+    }
+
+    /// What `copy_page_by` does.
+    #[tactic(auto, unfolding(crate::specs::Books::act_outcome))]
+    fn copy_and_enter<R: Threads + Sync, G: PieceGate + Sync>(
+        &mut self,
+        rt: &R,
+        worker: u32,
+        page: u32,
+        depth: u32,
+        gate: &G,
+    ) -> Reply
+        ensures acts { Acts self.old result self.new (act_outcome self.old (Worker worker) (steps.CopyPage page)) }
+        ensures phase { IfOk result (λ answer. MovesPhase self.old.heap (steps.CopyPage page) self.new.heap) }
+    {
+        if Book::is_full(self) {
+            return Err(Refusal::HistoryFull);
+        }
+        if self.history.reserve().is_err() {
+            return Err(Refusal::Memory);
+        }
+        let answer = copy_page_by(rt, &mut self.heap, worker, page, depth, gate)?;
+        self.heap.law();
+        self.history
+            .enter(Actor::Worker(worker), Step::CopyPage(page), answer);
         Ok(answer)
     }
 }

@@ -70,6 +70,7 @@ fn has_bad_index(heap: &Heap, step: &Step) -> bool
         Step::ScanGlobal(global) => no_global(heap, *global),
         Step::Protect(pages) => are_bad_pages(heap, pages.as_slice()),
         Step::Copy { page, .. } => no_page(heap, *page),
+        Step::CopyPage(page) => no_page(heap, *page),
         Step::Release(page) => no_page(heap, *page),
         Step::CrossFor(thread) => no_thread(heap, *thread),
         _ => false,
@@ -90,6 +91,7 @@ fn is_for_workers(step: &Step) -> bool
             | Step::EndMark
             | Step::Protect(_)
             | Step::Copy { .. }
+            | Step::CopyPage(_)
             | Step::Release(_)
             | Step::CrossFor(_)
     )

@@ -57,5 +57,6 @@ pub use entries::{Entry, EntryRef, History};
 pub use loading::three_traps;
 pub use model::{Actor, Answer, Buffer, PageList, Reply, Step, Trap};
 pub use mutating::Mutating;
+pub use relocate::PieceGate;
 pub use running::run;
 pub use stepping::Stepping;

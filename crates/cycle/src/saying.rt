@@ -1,6 +1,7 @@
 //! The answers that plain values stand for.
 
 ghost use Rattle.std.specs.Prelude.{◌≡◌};
+ghost use Rattle.model.specs.declared.steps.Answer.TheVariants as answers;
 ghost use Rattle.model.specs.Saying.{said, done, loaded, lent, trapped, healed, scrubbed};
 
 use model::{Answer, Buffer, Refusal, Reply, Trap};
@@ -62,4 +63,14 @@ pub fn scrubbed(corrected: bool) -> Answer
     } else {
         Answer::Clean
     }
+}
+
+/// The reply to a step that copies the objects of a page.
+pub fn copied_page(told: Result<u32, Refusal>) -> Reply
+    ensures { result ≡ said answers.CopiedPage told }
+{
+    let copied = told?;
+    Ok(Answer::CopiedPage {
+        copied: u64::from(copied),
+    })
 }

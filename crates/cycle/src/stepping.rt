@@ -2,15 +2,18 @@
 
 ghost use Rattle.std.specs.Prelude.{◌≡◌, false};
 ghost use Rattle.model.specs.Refusing.{Does, DoesStep};
-ghost use Rattle.model.specs.declared.steps.Actor.TheVariants.{Thread};
+ghost use Rattle.model.specs.declared.steps.Actor.TheVariants.{Thread, Worker};
+ghost use Rattle.model.specs.declared.steps.Step.TheVariants as steps;
 ghost use Rattle.model.specs.Outcome.{WorkerPasses, worker_row, outcome};
 ghost use Rattle.refinement.specs.Standing.{KeepsStanding};
 
 use crate::calls;
 use crate::gate::{thread_gate, worker_gate};
-use crate::saying::{done, healed, lent, loaded, scrubbed, trapped};
+use crate::saying::{copied_page, done, healed, lent, loaded, scrubbed, trapped};
 use heap::Heap;
 use model::{Actor, Answer, Refusal, Reply, Step};
+use relocate::PieceGate;
+use std::thread::Threads;
 
 /// What actors do to a heap, one step at a time.
 pub trait Stepping {
@@ -121,8 +124,43 @@ fn worker_row(heap: &mut Heap, worker: u32, step: &Step) -> Reply
         Step::EndMark => marker::end_mark(heap, worker),
         Step::Protect(pages) => relocate::protect(heap, worker, pages.as_slice()),
         Step::Copy { page, entry } => relocate::copy(heap, worker, *page, *entry),
+        Step::CopyPage(page) => copied_page(relocate::copy_page(heap, *page)),
         Step::Release(page) => relocate::release(heap, worker, *page),
         Step::CrossFor(thread) => checkpoint::cross_for(heap, worker, *thread),
         _ => Err(Refusal::NoActor),
     }
+}
+
+/// The step of a worker that copies the objects of a page, by halves on threads. It does what `step`
+/// does of it.
+pub(crate) fn copy_page_by<R: Threads + Sync, G: PieceGate + Sync>(
+    rt: &R,
+    heap: &mut Heap,
+    worker: u32,
+    page: u32,
+    depth: u32,
+    gate: &G,
+) -> Reply
+    ensures does { Does heap.old result heap.new (outcome heap.old (Worker worker) (steps.CopyPage page)) }
+    ensures stands { KeepsStanding heap.old (Worker worker) (steps.CopyPage page) result heap.new }
+{
+    heap.law();
+    refinement::law();
+    copy_row_by(rt, heap, worker, page, depth, gate)
+}
+
+/// The tests of the step, and its row.
+#[tactic(auto, unfolding(model::specs::Outcome::outcome, model::specs::Outcome::worker_gate))]
+fn copy_row_by<R: Threads + Sync, G: PieceGate + Sync>(
+    rt: &R,
+    heap: &mut Heap,
+    worker: u32,
+    page: u32,
+    depth: u32,
+    gate: &G,
+) -> Reply
+    ensures { Does heap.old result heap.new (outcome heap.old (Worker worker) (steps.CopyPage page)) }
+{
+    worker_gate(heap, worker, &Step::CopyPage(page))?;
+    copied_page(relocate::copy_page_by(rt, heap, page, depth, gate))
 }

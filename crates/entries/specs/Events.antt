@@ -40,6 +40,7 @@ step_in events.ScanFinished = Some steps.ScanField
 step_in (events.ScanGlobal g) = Some (steps.ScanGlobal g)
 step_in (events.EndMark live retired) = Some steps.EndMark
 step_in (events.Copy page entry to offset) = Some (steps.Copy page entry)
+step_in (events.CopyPage page copied) = Some (steps.CopyPage page)
 step_in (events.Release page free) = Some (steps.Release page)
 step_in (events.CrossFor t) = Some (steps.CrossFor t)
 step_in (events.Whole i) = None
@@ -64,6 +65,7 @@ answer_in events.ScanScanned = answers.Scanned
 answer_in events.ScanFinished = answers.Finished
 answer_in (events.EndMark live retired) = answers.Ended live retired
 answer_in (events.Copy page entry to offset) = answers.MovedTo to offset
+answer_in (events.CopyPage page copied) = answers.CopiedPage copied
 answer_in (events.Release page free) = answers.Released free
 answer_in _ = answers.Done
 

@@ -42,6 +42,7 @@ pub(crate) enum Event {
     ScanGlobal(u32),
     EndMark(u64, u64),
     Copy(u32, u32, u32, u32),
+    CopyPage(u32, u64),
     Release(u32, u64),
     CrossFor(u32),
     Whole(usize),
@@ -108,6 +109,9 @@ fn telling_event(step: &Step, answer: Answer) -> Option<Event>
         (Step::EndMark, Answer::Ended { live, retired }) => Some(Event::EndMark(live, retired)),
         (Step::Copy { page, entry }, Answer::MovedTo { page: to, offset }) => {
             Some(Event::Copy(*page, *entry, to, offset))
+        }
+        (Step::CopyPage(page), Answer::CopiedPage { copied }) => {
+            Some(Event::CopyPage(*page, copied))
         }
         (Step::Release(page), Answer::Released { free }) => Some(Event::Release(*page, free)),
         _ => None,
@@ -199,6 +203,7 @@ pub(crate) fn step_in(event: Event) -> Option<Step>
         Event::ScanGlobal(global) => Step::ScanGlobal(global),
         Event::EndMark(_, _) => Step::EndMark,
         Event::Copy(page, entry, _, _) => Step::Copy { page, entry },
+        Event::CopyPage(page, _) => Step::CopyPage(page),
         Event::Release(page, _) => Step::Release(page),
         Event::CrossFor(thread) => Step::CrossFor(thread),
         Event::Whole(_) => return None,
@@ -225,6 +230,7 @@ pub(crate) fn answer_in(event: Event) -> Answer
         Event::ScanFinished => Answer::Finished,
         Event::EndMark(live, retired) => Answer::Ended { live, retired },
         Event::Copy(_, _, page, offset) => Answer::MovedTo { page, offset },
+        Event::CopyPage(_, copied) => Answer::CopiedPage { copied },
         Event::Release(_, free) => Answer::Released { free },
         _ => Answer::Done,
     }

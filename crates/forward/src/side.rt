@@ -122,6 +122,16 @@ impl Side {
         self.entry(index)
     }
 
+    /// The number, from 0, of the entry of an offset, if there is one: found as `find` does.
+    #[tactic(auto, using(crate::proofs::Entries::few_entries))]
+    pub fn number_of(&self, offset: u32) -> Option<u32>
+        ensures { entry_of self.now offset ≡ found_at self.now result }
+    {
+        let _entries = self.len();
+        let index = self.search(offset)?;
+        Some(index as u32)
+    }
+
     /// Notes that the object of an offset is copied, if it has an entry.
     #[tactic(auto, using(crate::proofs::Copies::none_noted, crate::proofs::Copies::noted, crate::proofs::Copies::found_copied))]
     pub fn set_copied(&mut self, offset: u32)

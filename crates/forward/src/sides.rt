@@ -1,6 +1,6 @@
 //! The side arrays of all pages.
 
-ghost use Rattle.std.specs.Prelude.{◌≡◌, length, replicate, map, slice_get, slice_set, [], IfOk, not};
+ghost use Rattle.std.specs.Prelude.{◌≡◌, ◌≤◌, length, replicate, map, slice_get, slice_set, [], IfOk, not};
 ghost use Rattle.std.specs.List.{list_any};
 ghost use Rattle.std.specs.Option.{option_copied};
 ghost use Rattle.model.specs.States.{change_at};
@@ -8,7 +8,9 @@ ghost use Rattle.model.specs.Bits.{of_page};
 ghost use Rattle.model.specs.Marks.{entry_of};
 ghost use Rattle.model.specs.Cycles.{is_uncopied};
 ghost use Rattle.model.specs.Moves.{set_copied_of};
-ghost use Rattle.forward.specs.Counts.{uncopied_count};
+ghost use Rattle.model.specs.declared.limits.TheConstants.{MOST_WORDS};
+ghost use Rattle.forward.specs.Counts.{uncopied_in, uncopied_count};
+ghost use Rattle.forward.specs.Searching.{found_at};
 
 use crate::side::Side;
 use model::Forwarding;
@@ -80,6 +82,47 @@ impl Sides {
         match self.sides.get((page - 1) as usize) {
             None => None,
             Some(side) => side.entry(number as usize),
+        }
+    }
+
+    /// The number, from 0, of the entry of an offset of a page, by the page's number from 1; `None`
+    /// where there is no such entry (ours).
+    pub fn number_at(&self, page: u32, offset: u32) -> Option<u32>
+        ensures { entry_of (of_page self.now page) offset ≡ found_at (of_page self.now page) result }
+    {
+        if page == 0 {
+            return None;
+        }
+        match self.sides.get((page - 1) as usize) {
+            None => None,
+            Some(side) => side.number_of(offset),
+        }
+    }
+
+    /// How many entries a page has, by the page's number from 1: at most the words of a page.
+    pub fn count_on(&self, page: u32) -> u32
+        ensures value { result ≡ length (of_page self.now page) }
+        ensures range { result ≤ MOST_WORDS }
+    {
+        if page == 0 {
+            return 0;
+        }
+        match self.sides.get((page - 1) as usize) {
+            None => 0,
+            Some(side) => side.len() as u32,
+        }
+    }
+
+    /// How many entries of a page have still to be copied, by the page's number from 1.
+    pub fn uncopied_on(&self, page: u32) -> u32
+        ensures { result ≡ uncopied_in (of_page self.now page) }
+    {
+        if page == 0 {
+            return 0;
+        }
+        match self.sides.get((page - 1) as usize) {
+            None => 0,
+            Some(side) => side.uncopied(),
         }
     }
 

@@ -3,3 +3,4 @@ pub mod Keeping
 pub mod Marking
 pub mod Writing
 pub mod Moving
+pub mod Runs

@@ -1,3 +1,4 @@
 pub mod Views
 pub mod Making
 pub mod Relocating
+pub mod Runs

@@ -10,6 +10,7 @@ mod marks;
 pub mod references;
 mod registers;
 mod relocating;
+mod runs;
 
 ghost use Rattle.std.specs.Prelude.{◌≡◌, ◌<◌, ◌≤◌, ◌*◌, ◌+◌};
 ghost use Rattle.model.specs.Cycles.{is_lent};

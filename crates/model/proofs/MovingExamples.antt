@@ -139,6 +139,7 @@ unripe =
     worker 0 (steps.Copy 1 0) (Err refusals.Phase) ∷
     worker 0 (steps.Copy 0 0) (Err refusals.BadIndex) ∷
     worker 0 (steps.Copy 9 0) (Err refusals.BadIndex) ∷
+    worker 0 (steps.CopyPage 9) (Err refusals.BadIndex) ∷
     worker 0 (steps.Release 1) (Err refusals.Phase) ∷
     worker 0 (steps.Release 0) (Err refusals.BadIndex) ∷
     worker 0 (steps.Release 9) (Err refusals.BadIndex) ∷

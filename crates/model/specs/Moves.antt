@@ -1,7 +1,7 @@
 -- Objects are copied to where they are planned, and pages give their memory up (the paper's Relocate phase).
 use Rattle.std.specs.List.{list_any}
-use Rattle.std.specs.Prelude.{ℕ, ◌-◌, ◌*◌, ◌+◌, ◌/◌, ◌%◌, ◌==◌, ◌||◌, not, Bool, true, List, [], map, take, drop}
-use Rattle.std.specs.Prelude.{Option, Some, None, slice_get, slice_set, if◌then◌else◌, Result, Ok}
+use Rattle.std.specs.Prelude.{ℕ, ◌-◌, ◌*◌, ◌+◌, ◌/◌, ◌%◌, ◌==◌, ◌||◌, zero, suc, not, Bool, true, List, [], map, take, drop}
+use Rattle.std.specs.Prelude.{Option, Some, None, slice_get, slice_set, if◌then◌else◌, Result, Ok, Err, length, count_by}
 use Rattle.model.specs.declared.records.Forwarding.{Forwarding}
 use Rattle.model.specs.declared.records.Page.{Page}
 use Rattle.model.specs.declared.records.PageState.TheVariants.{Gone}
@@ -74,6 +74,31 @@ copy_outcome h page e = do
   f ← or_refuse (entry_on h page e) refusals.BadIndex
   _ ← refuse_if f.copied refusals.Copied
   Ok (with_copy h (page * h.store.words + f.offset) f.to, answers.MovedTo (f.to / h.store.words) (f.to % h.store.words))
+
+-- whole pages
+
+-- the heap after a step: a refused one leaves it as it was
+abbrev pub heap_after : HeapState → Outcome → HeapState
+heap_after h (Ok x) = x.0
+heap_after h (Err n) = h
+
+-- the heap after Copy of so many entries of a page, one after the other, from number e on; that of an entry whose
+-- object is copied already is refused
+abbrev pub copies_from : HeapState → ℕ → ℕ → ℕ → HeapState
+copies_from h page e zero = h
+copies_from h page e (suc k) = copies_from (heap_after h (copy_outcome h page e)) page (e + 1) k
+
+-- the heap after Copy of each entry of a page, in order
+unfoldable pub copy_page : HeapState → ℕ → HeapState
+copy_page h page = copies_from h page 0 (length (of_page h.sides page))
+
+-- the row of CopyPage
+unfoldable pub copy_page_outcome : HeapState → ℕ → Outcome
+copy_page_outcome h page = do
+  _ ← refuse_if (not (is_moving h.phase)) refusals.Phase
+  _ ← all_crossed h
+  _ ← refuse_if (not (is_from (state_at h.store page))) refusals.BadIndex
+  Ok (copy_page h page, answers.CopiedPage (count_by is_uncopied (of_page h.sides page)))
 
 -- memory is given up
 

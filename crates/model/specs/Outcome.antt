@@ -20,7 +20,7 @@ use Rattle.model.specs.Checkpoints.{cross_outcome, cross_for_outcome, park_outco
 use Rattle.model.specs.Scans.{pick_outcome, scan_field_outcome, scan_global_outcome}
 use Rattle.model.specs.Cycles.{start_mark_outcome, end_mark_outcome}
 use Rattle.model.specs.Protections.{are_bad_pages, no_page_in, protect_outcome}
-use Rattle.model.specs.Moves.{copy_outcome, release_outcome}
+use Rattle.model.specs.Moves.{copy_outcome, copy_page_outcome, release_outcome}
 use Rattle.model.specs.Traps.{trap_outcome, scrub_outcome}
 
 -- a worker does such a step; threads do all others
@@ -32,6 +32,7 @@ is_for_workers (steps.ScanGlobal global) = true
 is_for_workers steps.EndMark = true
 is_for_workers (steps.Protect pages) = true
 is_for_workers (steps.Copy page entry) = true
+is_for_workers (steps.CopyPage page) = true
 is_for_workers (steps.Release page) = true
 is_for_workers (steps.CrossFor thread) = true
 is_for_workers _ = false
@@ -79,6 +80,7 @@ has_bad_index h (steps.Pick page offset) = no_page h page
 has_bad_index h (steps.ScanGlobal global) = no_global h global
 has_bad_index h (steps.Protect pages) = are_bad_pages h pages
 has_bad_index h (steps.Copy page entry) = no_page h page
+has_bad_index h (steps.CopyPage page) = no_page h page
 has_bad_index h (steps.Release page) = no_page h page
 has_bad_index h (steps.CrossFor thread) = nat_le (length h.threads) thread
 has_bad_index h _ = false
@@ -143,6 +145,7 @@ worker_row h w (steps.ScanGlobal global) = scan_global_outcome h global
 worker_row h w steps.EndMark = end_mark_outcome h
 worker_row h w (steps.Protect pages) = protect_outcome h pages
 worker_row h w (steps.Copy page entry) = copy_outcome h page entry
+worker_row h w (steps.CopyPage page) = copy_page_outcome h page
 worker_row h w (steps.Release page) = release_outcome h page
 worker_row h w (steps.CrossFor thread) = cross_for_outcome h thread
 worker_row h w _ = Err refusals.NoActor

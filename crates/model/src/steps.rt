@@ -159,6 +159,9 @@ pub enum Step {
         page: u32,
         entry: u32,
     },
+    /// All objects of a protected page that aren't copied yet are copied, as by `Copy` of each (the
+    /// paper's Relocate phase; that it is one step is ours).
+    CopyPage(u32),
     /// A protected page gives its frame back (the paper's Relocate phase).
     Release(u32),
     /// A parked thread is crossed (the paper's checkpoints).
@@ -198,6 +201,8 @@ pub enum Answer {
     Truth(bool),
     /// An object was copied to there.
     MovedTo { page: u32, offset: u32 },
+    /// How many objects of a page were copied.
+    CopiedPage { copied: u64 },
     /// A mark ended: how many objects live, and how many pages became unused.
     Ended { live: u64, retired: u64 },
     /// How many objects go to how many pages.

@@ -11,3 +11,4 @@ pub mod Relocated
 pub mod Copied
 pub mod Protecting
 pub mod NextTargets
+pub mod Runs

@@ -1,4 +1,4 @@
-pub mod Copying
+pub mod Runs
 pub mod Ending
 pub mod Lending
 pub mod Records

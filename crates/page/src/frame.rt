@@ -1,12 +1,15 @@
 //! The memory of a page.
 
-ghost use Rattle.std.specs.Prelude.{◌≡◌, ◌≤◌, ◌<◌, ◌^◌, length, slice_get, slice_set, slice_range, replicate, take, drop, [], IfOk};
+ghost use Rattle.std.specs.Prelude.{◌≡◌, ◌+◌, ◌≤◌, ◌<◌, ◌^◌, length, slice_get, slice_set, slice_range, replicate, take, drop, [], IfOk};
 ghost use Rattle.std.specs.Borrow.{sem};
-ghost use Rattle.model.specs.Stores.{overlay};
+ghost use Rattle.model.specs.declared.limits.TheConstants.{MOST_WORDS};
 ghost use Rattle.page.specs.Lending.{LendsRun};
+ghost use Rattle.pieces.specs.Pieces.{source_of, laid_from};
 
+use pieces::{PieceGate, Source, copy_run, copy_run_by};
 use std::alloc::{AllocError, Global};
 use std::marker::Model;
+use std::thread::Threads;
 use std_alloc::vec::run_mut;
 
 /// The words of a frame. A contract sees the list of them.
@@ -25,16 +28,6 @@ impl Model for Frame {
     ghost view = { λ f. f.words.items };
 
     ghost invariant = { λ f. f.written ≡ false → f.words.items ≡ replicate (length f.words.items) 0 };
-}
-
-/// Writes words over those of a list from an offset on, as far as it goes.
-fn write_over(list: &mut Vec<u64, Global>, offset: usize, words: &[u64])
-    ensures { list.new.items ≡ overlay list.old.items offset words.now }
-{
-    let start = offset.min(list.len());
-    let count = words.len().min(list.len() - start);
-    let part = run_mut(list, start, start + count);
-    part.copy_from_slice(&words[..count]);
 }
 
 impl Frame {
@@ -103,20 +96,34 @@ impl Frame {
         run_mut(&mut self.words, start, end)
     }
 
-    /// So many words from an offset on, as far as the frame goes.
-    pub fn run(&self, offset: usize, count: usize) -> &[u64]
-        ensures { result.now ≡ take count (drop offset self.now) }
-    {
-        let start = offset.min(self.words.len());
-        let end = start + count.min(self.words.len() - start);
-        &self.words[start..end]
-    }
-
-    /// Writes words over its own from an offset on. What would go past the end is left out.
-    pub fn write_run(&mut self, offset: usize, words: &[u64])
-        ensures { self.new ≡ overlay self.old offset words.now }
+    /// Copies the objects of a run of another page to their places among the words.
+    pub(crate) fn copy_run(&mut self, source: &Source<'_>, first: usize, count: usize)
+        requires size { 0 < source.now.size }
+        requires within { first + count ≤ length source.now.side.now }
+        ensures { self.new ≡ laid_from (source_of source.now) 0 first count self.old }
     {
         self.written = true;
-        write_over(&mut self.words, offset, words);
+        copy_run(source, first, count, &mut self.words);
+    }
+
+    /// The same, by halves on threads.
+    pub(crate) fn copy_run_by<R: Threads + Sync, G: PieceGate + Sync>(
+        &mut self,
+        rt: &R,
+        gate: &G,
+        source: &Source<'_>,
+        first: usize,
+        count: usize,
+        depth: u32,
+        run: u32,
+    )
+        requires size { 0 < source.now.size }
+        requires within { first + count ≤ length source.now.side.now }
+        requires run { run ≤ MOST_WORDS }
+        requires room { length self.old ≤ MOST_WORDS }
+        ensures { self.new ≡ laid_from (source_of source.now) 0 first count self.old }
+    {
+        self.written = true;
+        copy_run_by(rt, gate, source, first, count, depth, run, &mut self.words);
     }
 }

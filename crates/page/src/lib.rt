@@ -10,4 +10,5 @@ mod store;
 pub use copies::many;
 pub use frame::Frame;
 pub use model::{Buffer, Page, PageState, Room};
+pub use pieces::PieceGate;
 pub use store::{Store, record_count};

@@ -54,6 +54,7 @@ step_with verbs.CrossFor thread b c d e = steps.CrossFor thread
 step_with verbs.Drain a b c d e = steps.ScanField
 step_with verbs.Protect page b c d others = steps.Protect (page ∷ others)
 step_with verbs.Copy page entry c d e = steps.Copy page entry
+step_with verbs.CopyAll page b c d e = steps.CopyPage page
 step_with verbs.Release page b c d e = steps.Release page
 
 -- the step of an order

@@ -58,6 +58,7 @@ row_of verbs.CrossFor = row (codes "crossfor") ThreadName Nothing Nothing Nothin
 row_of verbs.Drain = row (codes "drain") Nothing Nothing Nothing Nothing
 row_of verbs.Protect = listing (codes "protect") Number
 row_of verbs.Copy = row (codes "copy") Number Number Nothing Nothing
+row_of verbs.CopyAll = row (codes "copyall") Number Nothing Nothing Nothing
 row_of verbs.Release = row (codes "release") Number Nothing Nothing Nothing
 
 -- workers do these verbs, and threads all others
@@ -71,6 +72,7 @@ is_for_worker verbs.CrossFor = true
 is_for_worker verbs.Drain = true
 is_for_worker verbs.Protect = true
 is_for_worker verbs.Copy = true
+is_for_worker verbs.CopyAll = true
 is_for_worker verbs.Release = true
 is_for_worker other = false
 

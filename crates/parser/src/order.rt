@@ -103,6 +103,7 @@ impl Order {
             Verb::CrossFor => Step::CrossFor(first),
             Verb::Protect => protect(alloc, first, self.more.as_slice())?,
             Verb::Copy => copy(first, second),
+            Verb::CopyAll => Step::CopyPage(first),
             Verb::Release => Step::Release(first),
         };
         Ok(step)

@@ -88,12 +88,14 @@ pub enum Verb {
     Protect,
     /// `copy P e`
     Copy,
+    /// `copyall P`
+    CopyAll,
     /// `release P`
     Release,
 }
 
 /// All verbs. A word that isn't the verb that it is likely to be is compared with theirs in this order.
-const VERBS: [Verb; 32] = [
+const VERBS: [Verb; 33] = [
     Verb::Get,
     Verb::Set,
     Verb::Datum,
@@ -122,6 +124,7 @@ const VERBS: [Verb; 32] = [
     Verb::Drain,
     Verb::CrossFor,
     Verb::Copy,
+    Verb::CopyAll,
     Verb::Release,
     Verb::Protect,
     Verb::Mark,
@@ -205,6 +208,7 @@ impl Verb {
             Verb::Drain => b"drain",
             Verb::Protect => b"protect",
             Verb::Copy => b"copy",
+            Verb::CopyAll => b"copyall",
             Verb::Release => b"release",
         }
     }
@@ -217,7 +221,7 @@ impl Verb {
     {
         use Kind::{Address, Long, Nothing, Number, Register, ThreadName};
         match self {
-            Verb::Take | Verb::ScanGlobal | Verb::Release => make_kinds(
+            Verb::Take | Verb::ScanGlobal | Verb::CopyAll | Verb::Release => make_kinds(
                 Number, Nothing, Nothing, Nothing,
             ),
             Verb::New | Verb::LoadGlobal | Verb::Datum | Verb::GetGlobal => make_kinds(
@@ -254,6 +258,7 @@ impl Verb {
                 | Verb::Drain
                 | Verb::Protect
                 | Verb::Copy
+                | Verb::CopyAll
                 | Verb::Release
         )
     }
@@ -267,7 +272,8 @@ fn likely(first: u8, third: u8, length: usize) -> Verb {
             b'e' => Verb::Clear,
             b'o' if length == 5 => Verb::Cross,
             b'o' => Verb::CrossFor,
-            _ => Verb::Copy,
+            _ if length == 4 => Verb::Copy,
+            _ => Verb::CopyAll,
         },
         b'd' if third == b't' => Verb::Datum,
         b'd' => Verb::Drain,

@@ -59,6 +59,7 @@ use Rattle.refinement.proofs.Accepted.{on_truth}
 use Rattle.refinement.proofs.Checkpoints.{is_open}
 use Rattle.refinement.proofs.EndMarks.{may_end}
 use Rattle.refinement.proofs.StartMarks.{in_phase}
+use Rattle.refinement.proofs.WholePages.{copy_page_stays}
 use Rattle.refinement.proofs.MovingPhases.{Stays, Moves, protect_moves, copy_stays, gc_stays, scrub_word_stays}
 use Rattle.refinement.proofs.MovingPhases.{release_stays}
 
@@ -254,6 +255,7 @@ module _ {h : HeapState} {p p0 : PlainHeap} (k : Holds h p p0) where
   worker_moves w steps.EndMark = end_moves
   worker_moves w (steps.Protect pages) = protect_moves h pages
   worker_moves w (steps.Copy page e) = copy_stays h page e
+  worker_moves w (steps.CopyPage page) = copy_page_stays h page
   worker_moves w (steps.Release page) = release_stays h page
   worker_moves w (steps.CrossFor t) = cross_for_moves t
   worker_moves w _ = tt

@@ -31,6 +31,7 @@ use Rattle.refinement.proofs.Loads.{heal_holds, finish_holds}
 use Rattle.refinement.proofs.Traps.{trap_holds, scrub_holds}
 use Rattle.refinement.proofs.Protections.{protect_holds}
 use Rattle.refinement.proofs.Moving as moving
+use Rattle.refinement.proofs.WholePages.{copy_page_holds}
 use Rattle.refinement.proofs.Releases.{release_holds}
 
 -- the row of a thread's step
@@ -68,6 +69,7 @@ worker_holds h p p0 w (steps.ScanGlobal n) s d k g = scan_global_holds s d k w g
 worker_holds h p p0 w steps.EndMark s d k g = end_mark_holds s k w
 worker_holds h p p0 w (steps.Protect pages) s d k g = protect_holds s d k w pages
 worker_holds h p p0 w (steps.Copy page e) s d k g = moving.copy_holds s k w page e
+worker_holds h p p0 w (steps.CopyPage page) s d k g = copy_page_holds h p p0 w page s k
 worker_holds h p p0 w (steps.Release page) s d k g = release_holds s k w page
 worker_holds h p p0 w (steps.CrossFor t) s d k g = cross_for_holds s k w t (is_thread h t g.indices)
 worker_holds h p p0 w _ s d k g = tt

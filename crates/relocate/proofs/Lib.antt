@@ -5,3 +5,5 @@ pub mod Ripeness
 pub mod Settled
 pub mod Settlement
 pub mod Planning
+pub mod Runs
+pub mod PageCopies

@@ -1,7 +1,9 @@
 //! Objects are copied, by workers and by threads that meet them (the paper's Relocate phase; that a
 //! thread copies itself is ours).
 
-ghost use Rattle.std.specs.Prelude.{◌≡◌, ◌<◌, ◌≤◌, Some, IfSome};
+ghost use Rattle.std.specs.Prelude.{◌≡◌, ◌<◌, ◌≤◌, Some, IfSome, slice_get};
+ghost use Rattle.heap.specs.Runs.{with_entry};
+ghost use Rattle.model.specs.Bits.{of_page};
 ghost use Rattle.model.specs.Marks.{entry_at};
 ghost use Rattle.model.specs.Moves.{copied_first, copy_outcome, entry_on, moved_word, place_by};
 ghost use Rattle.model.specs.Phases.{is_moving};
@@ -14,15 +16,29 @@ use heap::Heap;
 use model::{Answer, Forwarding, Phase, Refusal, Reply};
 use refword::{Addr, Word};
 
+/// Copies the object of an entry of a page, by the page's number from 1 and the entry's from 0, where
+/// there is one that wasn't copied: a run of one.
+fn copy_entry(heap: &mut Heap, page: u32, entry: u32)
+    ensures { heap.new ≡ with_entry heap.old page (slice_get (of_page heap.old.sides page) entry) }
+{
+    let Some(found) = heap.sides().entry_on(page, entry) else {
+        return;
+    };
+    if !found.copied {
+        let target = heap.store().page_of(found.to);
+        heap.copy_run(page, target, entry, 1);
+    }
+}
+
 /// Copies the object at an address, where it has a place to go and wasn't copied.
-#[tactic(auto, unfolding(model::specs::Moves::copied_first))]
+#[tactic(auto, using(crate::proofs::Runs::none_first, crate::proofs::Runs::entry_first))]
 fn copy_first(heap: &mut Heap, address: Addr)
     ensures { heap.new ≡ copied_first heap.old address }
 {
-    if let Some(entry) = heap.entry_at(address) {
-        if !entry.copied {
-            heap.copy_object(address, entry.to);
-        }
+    let page = heap.store().page_of(address);
+    let offset = heap.store().offset_of(address);
+    if let Some(entry) = heap.sides().number_at(page, offset) {
+        copy_entry(heap, page, entry);
     }
 }
 
@@ -66,7 +82,7 @@ fn entry_on(heap: &Heap, page: u32, entry: u32) -> Option<Forwarding>
 }
 
 /// Whether pages are protected, and no mark runs.
-fn is_moving(phase: Phase) -> bool
+pub(crate) fn is_moving(phase: Phase) -> bool
     ensures { result ≡ is_moving phase }
 {
     matches!(phase, Phase::ProtectCrossing | Phase::Relocating)
@@ -79,7 +95,7 @@ fn is_moving(phase: Phase) -> bool
 /// Refused where no pages are protected, or a mark has begun since (`Phase`), a thread hasn't
 /// crossed (`NotCrossed`), the page isn't being emptied or has no such entry (`BadIndex`), or the
 /// object is copied already (`Copied`).
-#[tactic(auto, unfolding(model::specs::Moves::copy_outcome))]
+#[tactic(auto, unfolding(model::specs::Moves::copy_outcome), using(crate::proofs::Runs::entry_copied))]
 pub fn copy(heap: &mut Heap, worker: u32, page: u32, entry: u32) -> Reply
     requires { WorkerPasses heap.old worker (steps.Copy page entry) }
     ensures { Does heap.old result heap.new (copy_outcome heap.old page entry) }
@@ -98,7 +114,6 @@ pub fn copy(heap: &mut Heap, worker: u32, page: u32, entry: u32) -> Reply
         page: heap.store().page_of(found.to),
         offset: heap.store().offset_of(found.to),
     };
-    let address = heap.address_on(page, found.offset);
-    heap.copy_object(address, found.to);
+    copy_entry(heap, page, entry);
     Ok(answer)
 }

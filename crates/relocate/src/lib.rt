@@ -12,7 +12,10 @@ mod releasing;
 mod ripe;
 mod settling;
 mod targets;
+mod whole;
 
 pub use copying::{copy, follow};
+pub use page::PieceGate;
 pub use protecting::protect;
 pub use releasing::release;
+pub use whole::{copy_page, copy_page_by};

@@ -40,6 +40,7 @@ answer_text (answers.Datum v) = codes "datum " ++ decimal v
 answer_text (answers.Truth true) = codes "true"
 answer_text (answers.Truth false) = codes "false"
 answer_text (answers.MovedTo p o) = codes "copied " ++ decimal p ++ codes "." ++ decimal o
+answer_text (answers.CopiedPage n) = codes "copied all " ++ decimal n
 answer_text (answers.Ended n m) = codes "ended live " ++ decimal n ++ codes " retired " ++ decimal m
 answer_text (answers.Protected n m) = codes "protected objects " ++ decimal n ++ codes " targets " ++ decimal m
 answer_text (answers.Released n) = codes "released free " ++ decimal n

@@ -66,6 +66,7 @@ impl AnswerParts {
                 ".",
                 u64::from(offset),
             ),
+            Answer::CopiedPage { copied } => One("copied all ", copied),
             Answer::Ended { live, retired } => Two("ended live ", live, " retired ", retired),
             Answer::Protected { objects, targets } => {
                 Two("protected objects ", objects, " targets ", targets)

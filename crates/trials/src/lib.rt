@@ -11,6 +11,7 @@ mod books;
 #[cfg(test)]
 mod configs;
 #[cfg(test)]
+mod halving;
 mod heaps;
 #[cfg(test)]
 mod histories;

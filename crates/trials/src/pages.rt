@@ -1,7 +1,13 @@
 //! A store of pages, and where its buffers are.
 
-use model::{Buffer, PageState, Room};
+ghost use Rattle.std.specs.Prelude.{◌≡◌};
+
+use forward::Side;
+use layout::{Layout, Layouts};
+use model::{Buffer, Forwarding, PageState, Room};
 use page::Store;
+use refword::Addr;
+use std::alloc::Global;
 use std::process::Abort;
 use std::test::Fail;
 
@@ -186,24 +192,48 @@ fn counts(rt: &impl Abort, store: &mut Store) -> Result<(), Room> {
     Ok(())
 }
 
-/// Words are copied between pages, as far as both go, and nowhere else.
-fn copies(rt: &impl Abort, store: &mut Store) {
-    store.copy_words(16 + 2, 2 * 16 + 1, 3);
-    store.copy_words(16 + 14, 2 * 16 + 8, 5);
-    store.copy_words(16, 2 * 16 + 13, 9);
-    store.copy_words(16, 16 + 4, 2);
-    store.copy_words(3 * 16, 2 * 16, 4);
-    store.copy_words(16, 3 * 16, 4);
+fn address(number: u64) -> Result<Addr, Fail> {
+    Ok(Addr::new(number).ok_or("no address")?)
+}
+
+fn entry(offset: u32, to: Addr) -> Forwarding
+    ensures { result.offset ≡ offset }
+{
+    Forwarding {
+        offset,
+        to,
+        copied: false,
+    }
+}
+
+/// Objects that go to page 2: the first past the end of it, the last from past the end of its own.
+fn three(alloc: Global) -> Result<Side, Fail> {
+    let first = address(2 * 16 + 14)?;
+    let second = address(2 * 16 + 1)?;
+    let third = address(2 * 16 + 8)?;
+    let entries = vec![in alloc; entry(0, first), entry(2, second), entry(14, third)]?;
+    Ok(Side::new(entries))
+}
+
+/// Objects of three words are copied between pages, as far as both go, and nowhere else.
+fn copies(rt: &impl Abort, store: &mut Store, side: &Side, layouts: &Layouts) {
+    assert!(rt; side.len() == 3);
+    store.copy_entries(1, 2, side, layouts, 0, 3);
+    store.copy_entries(1, 1, side, layouts, 0, 3);
+    store.copy_entries(3, 2, side, layouts, 0, 3);
+    store.copy_entries(1, 3, side, layouts, 0, 3);
     let source = [1, 2, 3, 4, 5, 6, 7, 8, 9, 10, 11, 12, 13, 14, 15, 16];
     assert_eq!(rt; store.words(1), Some(source.as_slice()));
-    let target = [0, 3, 4, 5, 0, 0, 0, 0, 15, 16, 0, 0, 0, 1, 2, 3];
+    let target = [0, 3, 4, 5, 0, 0, 0, 0, 15, 16, 0, 0, 0, 0, 1, 2];
     assert_eq!(rt; store.words(2), Some(target.as_slice()));
 }
 
 #[test]
-fn words_are_copied_between_pages(rt: HostRuntime) -> Result<(), Fail> {
+fn objects_are_copied_between_pages(rt: HostRuntime) -> Result<(), Fail> {
     let mut store = Store::new(rt.alloc(), 16, 2, 8)?;
     counts(&rt, &mut store)?;
-    copies(&rt, &mut store);
+    let side = three(rt.alloc())?;
+    let layouts = Layouts::new(vec![in rt.alloc(); Layout { refs: 0, nums: 2 }]?);
+    copies(&rt, &mut store, &side, &layouts);
     Ok(())
 }

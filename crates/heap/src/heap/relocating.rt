@@ -6,7 +6,7 @@
 
 ghost use Rattle.std.specs.Prelude.{◌≡◌, ◌-◌, ◌≤◌, false, slice_set};
 ghost use Rattle.model.specs.Holding.{AreRising};
-ghost use Rattle.model.specs.Moves.{with_copy, with_released};
+ghost use Rattle.model.specs.Moves.{with_released};
 ghost use Rattle.model.specs.Owning.{Each};
 ghost use Rattle.model.specs.Plans.{object_words};
 ghost use Rattle.model.specs.Protections.{has_twice};
@@ -16,7 +16,6 @@ ghost use Rattle.model.specs.declared.records.Phase.TheVariants.{Idle};
 ghost use Rattle.heap.specs.Relocating.{OpensTarget, start_protection};
 
 use crate::heap::Heap;
-use crate::heap::marks::put_bit;
 use forward::Side;
 use model::{Buffer, Phase, Room};
 use refword::Addr;
@@ -67,19 +66,6 @@ impl Heap {
         self.store.protect(pages);
         self.threads.uncross_all();
         self.phase = Phase::ProtectCrossing;
-    }
-
-    /// A raw edit: copies an object to an address on another page, if both pages have memory, and
-    /// notes in its page's side array that it is copied (the paper's Relocate phase).
-    #[tactic(auto, unfolding(model::specs::Moves::with_copy))]
-    pub fn copy_object(&mut self, address: Addr, to: Addr)
-        ensures { self.new ≡ with_copy self.old address to }
-    {
-        let words = self.object_words(address);
-        let index = self.store.page_of(address).saturating_sub(1) as usize;
-        self.sides.set_copied(index, self.store.offset_of(address));
-        put_bit(&mut self.starts, &self.store, to, true);
-        self.store.copy_words(address.number(), to.number(), words);
     }
 
     /// A raw edit: a page that is being emptied gives its memory up.

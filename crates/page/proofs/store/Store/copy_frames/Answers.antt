@@ -1,8 +1,8 @@
 use Rattle.std.proofs.Common.{subst, sym}
 use Rattle.model.specs.Owning.{IsStore}
 use Rattle.page.specs.Views.{store_of}
-use Rattle.page.proofs.Copied.{run_keeps}
-use Rattle.page.proofs.store.Store.copy_run.Goals as goal
+use Rattle.page.proofs.Runs.{run_keeps}
+use Rattle.page.proofs.store.Store.copy_frames.Goals as goal
 
 pub invariant_of-self : goal.invariant_of-self
 invariant_of-self c =
@@ -10,7 +10,8 @@ invariant_of-self c =
     record {
       size = c.self.invariant.size;
       store = subst (λ fs. IsStore (record s { frames = fs })) (sym c.copy_between.ensures)
-          (run_keeps s c.args.source c.args.offset c.args.target c.args.at c.args.count c.self.invariant.store);
+          (run_keeps s c.args.source c.args.target s.words c.args.side.now c.args.layouts.now c.args.first c.args.count
+          c.self.invariant.store);
       free = c.self.invariant.free;
       rooms = c.self.invariant.rooms;
       unused = c.self.invariant.unused;

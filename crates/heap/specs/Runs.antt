@@ -1,0 +1,49 @@
+-- Runs: entries of a page's side array, one behind the other, whose objects are copied.
+use Rattle.std.specs.Prelude.{◌≡◌, ℕ, zero, suc, ◌+◌, ◌-◌, ◌*◌, ◌/◌, ◌<◌, Bool, true, List, map, Option, Some, None, slice_get}
+use Rattle.std.specs.Prelude.{if◌then◌else◌}
+use Rattle.model.specs.declared.records.Forwarding.{Forwarding}
+use Rattle.model.specs.States.{HeapState, change_at}
+use Rattle.model.specs.Bits.{of_page, with_bit}
+use Rattle.model.specs.Moves.{copied_by, set_copied_of}
+
+-- the heap after the object of an entry of page n is copied, where there is one that wasn't
+abbrev pub with_entry : HeapState → ℕ → Option Forwarding → HeapState
+with_entry h n None = h
+with_entry h n (Some f) = copied_by h (n * h.store.words + f.offset) (Some f)
+
+-- the same of k entries from number e on
+abbrev pub with_entries : HeapState → ℕ → ℕ → ℕ → HeapState
+with_entries h n e zero = h
+with_entries h n e (suc k) = with_entries (with_entry h n (slice_get (of_page h.sides n) e)) n (e + 1) k
+
+-- k entries of a side array, from number e on, go to one target
+abbrev pub GoTo : ℕ → ℕ → List Forwarding → ℕ → ℕ → Type 0
+GoTo words target side e k =
+    (i : ℕ) (f : Forwarding) → i < k → slice_get side (e + i) ≡ Some f → f.to / words ≡ target
+
+-- what is noted of objects that are copied: where they start, and that they are
+pub record Notes : Type 0 where
+  pub starts : List (List Bool)
+  pub sides : List (List Forwarding)
+
+abbrev pub notes : List (List Bool) → List (List Forwarding) → Notes
+notes starts sides = record { starts = starts; sides = sides }
+
+-- the bits of starts after the object of an entry is copied, where there is one that wasn't
+abbrev pub noted_starts : ℕ → Option Forwarding → List (List Bool) → List (List Bool)
+noted_starts words None starts = starts
+noted_starts words (Some f) starts = if f.copied then starts else with_bit starts words f.to true
+
+-- the side arrays after it, where the entry is one of page n
+abbrev pub noted_sides : ℕ → Option Forwarding → List (List Forwarding) → List (List Forwarding)
+noted_sides n None sides = sides
+noted_sides n (Some f) sides = if f.copied then sides else change_at sides (n - 1) (map (set_copied_of f.offset))
+
+-- what is noted then, of an entry of page n
+abbrev pub noted_by : ℕ → ℕ → Option Forwarding → Notes → Notes
+noted_by words n o z = notes (noted_starts words o z.starts) (noted_sides n o z.sides)
+
+-- the same of k entries from number e on
+abbrev pub noted_from : ℕ → ℕ → ℕ → ℕ → Notes → Notes
+noted_from words n e zero z = z
+noted_from words n e (suc k) z = noted_from words n (e + 1) k (noted_by words n (slice_get (of_page z.sides n) e) z)

@@ -1,0 +1,132 @@
+//! Runs of entries of a page whose objects are copied (the paper's Relocate phase; that a run is
+//! copied at once is ours).
+
+ghost use Rattle.std.specs.Prelude.{◌≡◌, ◌+◌, ◌<◌, ◌≤◌, ◌^◌, length, slice_get};
+ghost use Rattle.model.specs.Bits.{of_page};
+ghost use Rattle.model.specs.declared.limits.TheConstants.{MOST_WORDS};
+ghost use Rattle.heap.specs.Runs.{with_entries, GoTo, notes, noted_starts, noted_sides, noted_from};
+
+use crate::heap::Heap;
+use crate::heap::marks::put_bit;
+use forward::Sides;
+use markbits::Rows;
+use page::{PieceGate, Store};
+use std::thread::Threads;
+
+/// Notes that the object of an entry of a page is copied, where there is one that wasn't.
+fn note_copy(starts: &mut Rows, sides: &mut Sides, store: &Store, page: u32, entry: u32)
+    ensures starts { starts.new ≡ noted_starts store.now.words (slice_get (of_page sides.old page) entry) starts.old }
+    ensures sides { sides.new ≡ noted_sides page (slice_get (of_page sides.old page) entry) sides.old }
+{
+    let Some(found) = sides.entry_on(page, entry) else {
+        return;
+    };
+    if found.copied {
+        return;
+    }
+    put_bit(starts, store, found.to, true);
+    sides.set_copied(page.saturating_sub(1) as usize, found.offset);
+}
+
+/// The same of so many entries from a number on.
+#[tactic(auto, using(crate::proofs::Runs::noted_all))]
+fn note_copies(
+    starts: &mut Rows,
+    sides: &mut Sides,
+    store: &Store,
+    page: u32,
+    first: u32,
+    count: u32,
+)
+    requires { first + count < 2 ^ 32 }
+    ensures { notes starts.new sides.new ≡ noted_from store.now.words page first count (notes starts.old sides.old) }
+{
+    for index in 0..count {
+        note_copy(starts, sides, store, page, first + index);
+    }
+}
+
+impl Heap {
+    /// A raw edit: copies the objects of a run, so many entries of a page from a number on, which go
+    /// to one target, and notes that they are copied (the paper's Relocate phase). Those that were
+    /// copied before aren't written. It takes no memory.
+    pub fn copy_run(&mut self, page: u32, target: u32, first: u32, count: u32)
+        requires within { first + count ≤ length (of_page self.old.sides page) }
+        requires together { GoTo self.old.store.words target (of_page self.old.sides page) first count }
+        ensures { self.new ≡ with_entries self.old page first count }
+    {
+        if page == 0 {
+            return;
+        }
+        let Some(side) = self.sides.get((page - 1) as usize) else {
+            return;
+        };
+        self.store.law();
+        let _entries = side.len();
+        self.store.copy_entries(
+            page,
+            target,
+            side,
+            &self.config.layouts,
+            first as usize,
+            count as usize,
+        );
+        note_copies(
+            &mut self.starts,
+            &mut self.sides,
+            &self.store,
+            page,
+            first,
+            count,
+        );
+    }
+
+    /// The same, by halves on threads: the run is cut to a depth, above 4 counts as 4, and the gate
+    /// is told of each piece before it is copied. Runs of a page count from 0. It waits for the
+    /// threads, and takes no memory: where one can't be started, its piece is copied afterwards.
+    pub fn copy_run_by<R: Threads + Sync, G: PieceGate + Sync>(
+        &mut self,
+        rt: &R,
+        gate: &G,
+        page: u32,
+        target: u32,
+        first: u32,
+        count: u32,
+        depth: u32,
+        run: u32,
+    )
+        requires within { first + count ≤ length (of_page self.old.sides page) }
+        requires together { GoTo self.old.store.words target (of_page self.old.sides page) first count }
+        requires run { run ≤ MOST_WORDS }
+        ensures { self.new ≡ with_entries self.old page first count }
+    {
+        if page == 0 {
+            return;
+        }
+        let Some(side) = self.sides.get((page - 1) as usize) else {
+            return;
+        };
+        self.store.law();
+        let _entries = side.len();
+        self.store.copy_entries_by(
+            rt,
+            gate,
+            page,
+            target,
+            side,
+            &self.config.layouts,
+            first as usize,
+            count as usize,
+            depth,
+            run,
+        );
+        note_copies(
+            &mut self.starts,
+            &mut self.sides,
+            &self.store,
+            page,
+            first,
+            count,
+        );
+    }
+}

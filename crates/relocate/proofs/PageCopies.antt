@@ -1,0 +1,127 @@
+-- The copies of a whole page: what they come to, and when they are refused.
+use Rattle.std.proofs.Common.{◌≡◌, ℕ, zero, suc, ◌+◌, ◌*◌, ◌/◌, ◌%◌, Bool, true, false, cond, not, length, count_by, Option, Some, None}
+use Rattle.std.proofs.Common.{refl, sym, ◌∙◌, ap}
+use Rattle.std.specs.List.{slice_get}
+use Rattle.std.specs.Prelude.{Result, Ok, Err}
+use Rattle.model.specs.declared.records.Forwarding.{Forwarding}
+use Rattle.model.specs.declared.steps.Answer.{Answer}
+use Rattle.model.specs.declared.steps.Answer.TheVariants as answers
+use Rattle.model.specs.declared.steps.Refusal.{Refusal}
+use Rattle.model.specs.declared.steps.Refusal.TheVariants as refusals
+use Rattle.model.specs.Bits.{of_page}
+use Rattle.model.specs.Checkpoints.{all_crossed}
+use Rattle.model.specs.Cycles.{is_uncopied}
+use Rattle.model.specs.Moves.{with_copy, with_copied_words, entry_on, copy_outcome, heap_after, copies_from, copy_page}
+use Rattle.model.specs.Moves.{copy_page_outcome}
+use Rattle.model.specs.Phases.{is_moving}
+use Rattle.model.specs.Refusing.{◌>>=◌, or_refuse, refuse_if, Outcome}
+use Rattle.model.specs.States.{HeapState}
+use Rattle.model.specs.Stores.{state_at, is_from, with_words, page_at}
+use Rattle.heap.specs.Runs.{with_entry, with_entries}
+use Rattle.relocate.specs.Runs.{may_copy_page}
+
+-- a page's objects may be copied
+record MayCopy (h : HeapState) (n : ℕ) : Type 0 where
+  moving : is_moving h.phase ≡ true
+  crossed : all_crossed h ≡ Ok tt
+  emptied : is_from (state_at h.store n) ≡ true
+
+may_copy : (h : HeapState) (n : ℕ) → may_copy_page h n ≡ Ok tt → MayCopy h n
+may_copy h n e = by_tests (is_moving h.phase) (all_crossed h) (is_from (state_at h.store n)) refl refl refl e
+  where
+    by_tests : (a : Bool) (r : Result Unit Refusal) (b : Bool) → is_moving h.phase ≡ a → all_crossed h ≡ r
+        → is_from (state_at h.store n) ≡ b
+        → (refuse_if (not a) refusals.Phase >>= (λ u. r >>= (λ v. refuse_if (not b) refusals.BadIndex))) ≡ Ok tt
+        → MayCopy h n
+    by_tests false r b x y z k = absurd (cc)
+    by_tests true (Err m) b x y z k = absurd (cc)
+    by_tests true (Ok tt) false x y z k = absurd (cc)
+    by_tests true (Ok tt) true x y z k = record { moving = x; crossed = y; emptied = z }
+
+-- Copy of an entry, there
+copied_one : (h : HeapState) (n e : ℕ) → MayCopy h n
+    → heap_after h (copy_outcome h n e) ≡ with_entry h n (slice_get (of_page h.sides n) e)
+unfolding copy_outcome entry_on
+copied_one h n e m = by_tests (is_moving h.phase) (all_crossed h) (is_from (state_at h.store n)) m.moving m.crossed m.emptied
+  where
+    row : Option Forwarding → Outcome
+    row o = or_refuse o refusals.BadIndex >>= (λ f. refuse_if f.copied refusals.Copied
+        >>= (λ u. Ok (with_copy h (n * h.store.words + f.offset) f.to, answer f)))
+      where
+        answer : Forwarding → Answer
+        answer f = answers.MovedTo (f.to / h.store.words) (f.to % h.store.words)
+
+    by_entry : (o : Option Forwarding) → heap_after h (row o) ≡ with_entry h n o
+    by_entry None = refl
+    by_entry (Some f) = by_copied f.copied
+      where
+        by_copied : (b : Bool) → heap_after h (refuse_if b refusals.Copied
+            >>= (λ u. Ok (
+              with_copy h (n * h.store.words + f.offset) f.to,
+              answers.MovedTo (f.to / h.store.words) (f.to % h.store.words),
+            )))
+            ≡ cond b h (with_copy h (n * h.store.words + f.offset) f.to)
+        by_copied true = refl
+        by_copied false = refl
+
+    by_tests : (a : Bool) (r : Result Unit Refusal) (b : Bool) → a ≡ true → r ≡ Ok tt → b ≡ true
+        → heap_after h (refuse_if (not a) refusals.Phase >>= (λ u. r
+        >>= (λ v. row (cond b (slice_get (of_page h.sides n) e) None))))
+        ≡ with_entry h n (slice_get (of_page h.sides n) e)
+    by_tests true (Ok tt) true x y z = by_entry (slice_get (of_page h.sides n) e)
+    by_tests false r b x y z = absurd (cc)
+    by_tests true (Err k) b x y z = absurd (cc)
+    by_tests true (Ok tt) false x y z = absurd (cc)
+
+-- and then as before
+still : (h : HeapState) (n : ℕ) (o : Option Forwarding) → MayCopy h n → MayCopy (with_entry h n o) n
+unfolding with_copy with_copied_words with_words state_at page_at all_crossed
+still h n None m = m
+still h n (Some f) m = by_copied f.copied
+  where
+    by_copied : (b : Bool) → MayCopy (cond b h (with_copy h (n * h.store.words + f.offset) f.to)) n
+    by_copied true = m
+    by_copied false = record { moving = m.moving; crossed = m.crossed; emptied = m.emptied }
+
+copies_are : (h : HeapState) (n e k : ℕ) → MayCopy h n → copies_from h n e k ≡ with_entries h n e k
+copies_are h n e zero m = refl
+copies_are h n e (suc k) m =
+    let o : Option Forwarding = slice_get (of_page h.sides n) e in
+    ap (λ g. copies_from g n (e + 1) k) (copied_one h n e m) ∙ copies_are (with_entry h n o) n (e + 1) k (still h n o m)
+
+-- the outcome is the tests, and then the copies
+
+abbrev told : HeapState → ℕ → Outcome
+told h n = Ok (copy_page h n, answers.CopiedPage (count_by is_uncopied (of_page h.sides n)))
+
+abbrev first_then : Result Unit Refusal → Outcome → Outcome
+first_then r o = r >>= (λ u. o)
+
+abbrev both_of : Result Unit Refusal → Result Unit Refusal → Result Unit Refusal
+both_of r q = r >>= (λ u. q)
+
+by_parts : (h : HeapState) (n : ℕ) → copy_page_outcome h n ≡ first_then (may_copy_page h n) (told h n)
+unfolding copy_page_outcome
+by_parts h n = by_tests (refuse_if (not (is_moving h.phase)) refusals.Phase) (all_crossed h)
+    (refuse_if (not (is_from (state_at h.store n))) refusals.BadIndex)
+  where
+    by_tests : (a b c : Result Unit Refusal) → first_then a (first_then b (first_then c (told h n)))
+        ≡ first_then (both_of a (both_of b c)) (told h n)
+    by_tests (Err k) b c = refl
+    by_tests (Ok u) (Err k) c = refl
+    by_tests (Ok u) (Ok v) (Err k) = refl
+    by_tests (Ok u) (Ok v) (Ok w) = refl
+
+pub refused : (h : HeapState) (n : ℕ) (k : Refusal) → may_copy_page h n ≡ Err k → copy_page_outcome h n ≡ Err k
+refused h n k e = by_parts h n ∙ ap (λ r. first_then r (told h n)) e
+
+pub accepted : (h g : HeapState) (n count copied : ℕ) → may_copy_page h n ≡ Ok tt → count ≡ length (of_page h.sides n)
+    → g ≡ with_entries h n 0 count → copied ≡ count_by is_uncopied (of_page h.sides n)
+    → copy_page_outcome h n ≡ Ok (g, answers.CopiedPage copied)
+unfolding copy_page
+accepted h g n count copied e all is many = by_parts h n ∙ ap (λ r. first_then r (told h n)) e
+    ∙ (λ i. Ok (
+      (copies_are h n 0 (length (of_page h.sides n)) (may_copy h n e)
+          ∙ ap (λ k. with_entries h n 0 k) (sym all) ∙ sym is) i,
+      answers.CopiedPage (sym many i),
+    ))

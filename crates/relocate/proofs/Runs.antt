@@ -1,0 +1,207 @@
+-- Runs of entries that go to one target, and entries by their addresses.
+use Rattle.std.proofs.Common.{◌≡◌, ℕ, zero, suc, ◌+◌, ◌*◌, ◌/◌, ◌%◌, ◌<◌, ◌≤◌, Bool, true, false, cond, nat_eq, List, [], ◌∷◌}
+use Rattle.std.proofs.Common.{length, map, Option, Some, None, refl, sym, ◌∙◌, ap, subst, arith, div-add-mod', ◌-◌, get_or}
+use Rattle.std.specs.List.{slice_get}
+use Rattle.std.specs.Option.{IsSome}
+use Rattle.std.proofs.lemmas.Bool.{eqb-true}
+use Rattle.std.proofs.lemmas.Bool.Decides.{nat_tests}
+use Rattle.std.proofs.lemmas.Option.{same_Some, slice_get_within}
+use Rattle.model.specs.declared.records.Forwarding.{Forwarding}
+use Rattle.model.specs.States.{HeapState, change_at, change_found}
+use Rattle.model.specs.Bits.{of_page}
+use Rattle.model.specs.Marks.{entry_of, entry_at}
+use Rattle.model.specs.Moves.{with_copy, copied_by, copied_first, set_copied_of, entry_on}
+use Rattle.model.specs.Stores.{is_from, state_at}
+use Rattle.model.proofs.Lists.{get_within}
+use Rattle.forward.specs.Searching.{found_at}
+use Rattle.heap.specs.Runs.{with_entry, with_entries, GoTo}
+use Rattle.relocate.specs.Runs.{goes_to, IsRun}
+
+-- an entry that is there goes somewhere
+pub entry_goes : (h : HeapState) (n e end : ℕ) (o : Option ℕ) → e < end → end ≤ length (of_page h.sides n)
+    → o ≡ goes_to h.store.words (slice_get (of_page h.sides n) e) → IsSome o
+entry_goes h n e end o a b is =
+    let (f, at) = get_within (of_page h.sides n) e (omega (arith, a, b)) in
+    subst IsSome (sym (is ∙ ap (goes_to h.store.words) at)) refl
+
+goes_there : (words target : ℕ) (o : Option Forwarding) (f : Forwarding) → goes_to words o ≡ Some target → o ≡ Some f
+    → f.to / words ≡ target
+goes_there words target o f a b = same_Some _ _ (sym (ap (goes_to words) b) ∙ a)
+
+-- a run begins with one entry
+pub run_begins : (h : HeapState) (n e end target : ℕ) → e < end
+    → goes_to h.store.words (slice_get (of_page h.sides n) e) ≡ Some target → IsRun h n e end target 1
+run_begins h n e end target a here = record {
+  some = omega arith;
+  within = omega (arith, a);
+  together = λ i f l at.
+      let same : e + i ≡ e = omega (arith, l) in
+      goes_there h.store.words target (slice_get (of_page h.sides n) e) f here
+      (sym (ap (slice_get (of_page h.sides n)) same) ∙ at);
+}
+
+-- and another one joins it
+pub run_more : (h : HeapState) (n e end target count : ℕ) → IsRun h n e end target count → count < end - e
+    → goes_to h.store.words (slice_get (of_page h.sides n) (e + count)) ≡ Some target
+    → IsRun h n e end target (count + 1)
+run_more h n e end target count r l here = record {
+  some = omega arith;
+  within = omega (arith, l, r.within, r.some);
+  together = λ i f m at. by_test i f m at (nat_eq i count) refl;
+}
+  where
+    side : List Forwarding
+    side = of_page h.sides n
+
+    by_test : (i : ℕ) (f : Forwarding) → i < count + 1 → slice_get side (e + i) ≡ Some f → (b : Bool)
+        → nat_eq i count ≡ b → f.to / h.store.words ≡ target
+    by_test i f m at true z =
+        goes_there h.store.words target (slice_get side (e + count)) f here
+        (sym (ap (λ j. slice_get side (e + j)) (eqb-true i count z)) ∙ at)
+    by_test i f m at false z = r.together i f (grind (arith, nat_tests, m, z)) at
+
+-- one entry is a run
+pub one_goes : (h : HeapState) (n e target : ℕ) (f : Forwarding) → slice_get (of_page h.sides n) e ≡ Some f
+    → target ≡ f.to / h.store.words → GoTo h.store.words target (of_page h.sides n) e 1
+one_goes h n e target f at is i g l there =
+    let same : e + i ≡ e = omega (arith, l) in
+    ap (λ (x : Forwarding). x.to / h.store.words)
+    (same_Some _ _ (sym there ∙ ap (slice_get (of_page h.sides n)) same ∙ at)) ∙ sym is
+
+pub one_within : (h : HeapState) (n e : ℕ) (f : Forwarding) → slice_get (of_page h.sides n) e ≡ Some f
+    → e + 1 ≤ length (of_page h.sides n)
+one_within h n e f at = omega (arith, slice_get_within (of_page h.sides n) e f at)
+
+-- entries by their offsets
+
+offset_of : (fs : List Forwarding) (o : ℕ) (f : Forwarding) → entry_of fs o ≡ Some f → f.offset ≡ o
+offset_of [] o f e = absurd (cc)
+offset_of (x ∷ fs) o f e = by_test (λ k. offset_of fs o f k) (nat_eq x.offset o) refl e
+  where
+    by_test : (entry_of fs o ≡ Some f → f.offset ≡ o) → (b : Bool) → nat_eq x.offset o ≡ b
+        → cond b (Some x) (entry_of fs o) ≡ Some f → f.offset ≡ o
+    by_test rest true z k = sym (ap (λ (y : Forwarding). y.offset) (same_Some _ _ k)) ∙ eqb-true x.offset o z
+    by_test rest false z k = rest k
+
+pub none_first : (h : HeapState) (a : ℕ)
+    → entry_of (of_page h.sides (a / h.store.words)) (a % h.store.words)
+    ≡ found_at (of_page h.sides (a / h.store.words)) None → h ≡ copied_first h a
+unfolding copied_first entry_at
+none_first h a e = sym (ap (copied_by h a) e)
+
+pub entry_first : (h : HeapState) (a i : ℕ)
+    → entry_of (of_page h.sides (a / h.store.words)) (a % h.store.words)
+    ≡ found_at (of_page h.sides (a / h.store.words)) (Some i)
+    → with_entry h (a / h.store.words) (slice_get (of_page h.sides (a / h.store.words)) i) ≡ copied_first h a
+unfolding copied_first entry_at
+entry_first h a i e = by_entry (slice_get (of_page h.sides (a / h.store.words)) i) e
+  where
+    by_entry : (o : Option Forwarding) → entry_of (of_page h.sides (a / h.store.words)) (a % h.store.words) ≡ o
+        → with_entry h (a / h.store.words) o
+        ≡ copied_by h a (entry_of (of_page h.sides (a / h.store.words)) (a % h.store.words))
+    by_entry None z = sym (ap (copied_by h a) z)
+    by_entry (Some f) z =
+        let at = offset_of (of_page h.sides (a / h.store.words)) (a % h.store.words) f z in
+        ap (λ o. copied_by h (a / h.store.words * h.store.words + o) (Some f)) at
+        ∙ ap (λ m. copied_by h m (Some f)) (div-add-mod' a h.store.words)
+        ∙ sym (ap (copied_by h a) z)
+
+-- one that wasn't copied
+pub entry_copied : (h : HeapState) (n e : ℕ) (f : Forwarding) → entry_on h n e ≡ Some f → f.copied ≡ false
+    → with_copy h (n * h.store.words + f.offset) f.to ≡ with_entry h n (slice_get (of_page h.sides n) e)
+unfolding entry_on
+entry_copied h n e f at fresh = by_from (is_from (state_at h.store n)) at
+  where
+    by_from : (b : Bool) → cond b (slice_get (of_page h.sides n) e) None ≡ Some f
+        → with_copy h (n * h.store.words + f.offset) f.to ≡ with_entry h n (slice_get (of_page h.sides n) e)
+    by_from true z =
+        sym (ap (with_entry h n) z
+        ∙ ap (λ b. cond b h (with_copy h (n * h.store.words + f.offset) f.to)) fresh)
+    by_from false z = absurd (cc)
+
+-- the entries of a page stay as many
+
+length_map : (o : ℕ) (fs : List Forwarding) → length (map (set_copied_of o) fs) ≡ length fs
+length_map o [] = refl
+length_map o (f ∷ fs) = ap suc (length_map o fs)
+
+length_changed : (sides : List (List Forwarding)) (i m o : ℕ)
+    → length (of_page (change_at sides i (map (set_copied_of o))) m) ≡ length (of_page sides m)
+length_changed sides i zero o = refl
+length_changed sides i (suc m) o = at_place sides i m
+  where
+    at_place : (xs : List (List Forwarding)) (i m : ℕ)
+        → length (get_or (change_at xs i (map (set_copied_of o))) m []) ≡ length (get_or xs m [])
+    at_place [] i m = refl
+    at_place (x ∷ xs) zero zero = length_map o x
+    at_place (x ∷ xs) zero (suc m) = refl
+    at_place (x ∷ xs) (suc i) m = by_found (slice_get xs i) m (λ j. at_place xs i j)
+      where
+        by_found : (q : Option (List Forwarding)) (m : ℕ)
+            → ((j : ℕ) → length (get_or (change_found xs i q (map (set_copied_of o))) j []) ≡ length (get_or xs j []))
+            → length (get_or (change_found (x ∷ xs) (suc i) q (map (set_copied_of o))) m [])
+            ≡ length (get_or (x ∷ xs) m [])
+        by_found None m k = refl
+        by_found (Some y) zero k = refl
+        by_found (Some y) (suc m) k = k m
+
+length_entry : (h : HeapState) (n : ℕ) (o : Option Forwarding) (m : ℕ)
+    → length (of_page (with_entry h n o).sides m) ≡ length (of_page h.sides m)
+unfolding with_copy
+length_entry h n None m = refl
+length_entry h n (Some f) m = by_copied f.copied
+  where
+    a : ℕ
+    a = n * h.store.words + f.offset
+
+    by_copied : (b : Bool) → length (of_page (cond b h (with_copy h a f.to)).sides m) ≡ length (of_page h.sides m)
+    by_copied true = refl
+    by_copied false = length_changed h.sides (a / h.store.words - 1) m (a % h.store.words)
+
+pub length_entries : (h : HeapState) (n e k m : ℕ)
+    → length (of_page (with_entries h n e k).sides m) ≡ length (of_page h.sides m)
+length_entries h n e zero m = refl
+length_entries h n e (suc k) m =
+    length_entries (with_entry h n (slice_get (of_page h.sides n) e)) n (e + 1) k m
+    ∙ length_entry h n (slice_get (of_page h.sides n) e) m
+
+-- so many entries, and then others
+pub entries_on : (h : HeapState) (n e j k : ℕ)
+    → with_entries h n e (j + k) ≡ with_entries (with_entries h n e j) n (e + j) k
+entries_on h n e zero k =
+    let z : zero + k ≡ k = omega arith in
+    let y : e ≡ e + zero = omega arith in
+    ap (λ m. with_entries h n e m) z ∙ ap (λ m. with_entries h n m k) y
+entries_on h n e (suc j) k =
+    let z : suc j + k ≡ suc (j + k) = omega arith in
+    let y : (e + 1) + j ≡ e + suc j = omega arith in
+    let g : HeapState = with_entry h n (slice_get (of_page h.sides n) e) in
+    ap (λ m. with_entries h n e m) z ∙ entries_on g n (e + 1) j k ∙ ap (λ m. with_entries (with_entries g n (e + 1) j) n m k) y
+
+-- a loop over runs
+pub record IsDone (h g : HeapState) (n first count : ℕ) : Type 0 where
+  pub done : with_entries h n 0 count ≡ with_entries g n first (count - first)
+  pub many : length (of_page g.sides n) ≡ count
+  pub within : first ≤ count
+
+pub run_done : (h g m : HeapState) (n first next count target more : ℕ) → IsDone h g n first count
+    → IsRun g n first count target more → m ≡ with_entries g n first more → next ≡ first + more
+    → IsDone h m n next count
+run_done h g m n first next count target more d r is to = record {
+  done =
+      let parts : count - first ≡ more + (count - next) = omega (arith, d.within, r.within, to) in
+      d.done ∙ ap (λ k. with_entries g n first k) parts ∙ entries_on g n first more (count - next)
+      ∙ (λ i. with_entries (sym is i) n (sym to i) (count - next));
+  many = ap (λ (x : HeapState). length (of_page x.sides n)) is ∙ length_entries g n first more n ∙ d.many;
+  within = omega (arith, r.within, to);
+}
+
+pub all_done : (h g : HeapState) (n first count : ℕ) → IsDone h g n first count → count ≤ first
+    → g ≡ with_entries h n 0 count
+all_done h g n first count d l =
+    let none : count - first ≡ 0 = omega (arith, l) in sym (d.done ∙ ap (λ k. with_entries g n first k) none)
+
+pub none_done : (h : HeapState) (n count : ℕ) → count ≡ length (of_page h.sides n) → IsDone h h n 0 count
+none_done h n count is =
+    let all : count ≡ count - 0 = omega arith in
+    record { done = ap (λ k. with_entries h n 0 k) all; many = sym is; within = omega arith }
