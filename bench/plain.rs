@@ -77,7 +77,7 @@ fn clear_bits(bits: &mut [u64], start: usize, count: usize) {
 /// The reference that 64 bits in memory are; what is no word counts as null.
 fn read_reference(bits: u64) -> u64 {
     let address = bits & !NMT;
-    if address == 0 || address >= 1 << 28 { 0 } else { bits }
+    if address == 0 || address >= 1 << 40 { 0 } else { bits }
 }
 
 /// The heap. `words` is the memory of all frames; `starts` and `mark` have a bit for each address.

@@ -17,8 +17,8 @@ fn layout(size: u32) -> Layout {
     let fields = size.saturating_sub(1).min(510);
     let nums = fields.min(255);
     Layout {
-        refs: (fields - nums) as u8,
-        nums: nums as u8,
+        refs: (fields - nums) as u16,
+        nums: nums as u16,
     }
 }
 

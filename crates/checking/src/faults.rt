@@ -9,7 +9,7 @@ use verify::{Fault, Root};
 pub struct FaultText {
     /// The fault.
     pub fault: Fault,
-    /// The words of a page: 16 to 4,096.
+    /// The words of a page: 16 to 32,768.
     pub words: u32,
 }
 

@@ -51,11 +51,10 @@ pub fn next_drain(heap: &Heap, worker: u32) -> Option<Step>
     if let Some(global) = next_global(heap) {
         return Some(Step::ScanGlobal(global as u32));
     }
-    let address = next_todo(heap)?.number();
-    let words = heap.store().page_words() as u64;
+    let address = next_todo(heap)?;
     Some(Step::Pick {
-        page: (address / words) as u32,
-        offset: (address % words) as u32,
+        page: heap.store().page_of(address) as u32,
+        offset: heap.store().offset_of(address),
     })
 }
 

@@ -59,7 +59,7 @@ impl Sides {
 
     /// The entry of an offset of a page, by the page's number from 1: its side array has the index
     /// below. Where there is no such side array, there is none.
-    pub fn entry_at(&self, page: u32, offset: u32) -> Option<Forwarding>
+    pub fn entry_at(&self, page: u64, offset: u32) -> Option<Forwarding>
         ensures { result ≡ entry_of (of_page self.now page) offset }
     {
         if page == 0 {
@@ -76,6 +76,13 @@ impl Sides {
     pub fn entry_on(&self, page: u32, number: u32) -> Option<Forwarding>
         ensures { result ≡ slice_get (of_page self.now page) number }
     {
+        self.entry_numbered(u64::from(page), number)
+    }
+
+    /// The same of a page's number that may be greater than any page's.
+    pub fn entry_numbered(&self, page: u64, number: u32) -> Option<Forwarding>
+        ensures { result ≡ slice_get (of_page self.now page) number }
+    {
         if page == 0 {
             return None;
         }
@@ -87,7 +94,7 @@ impl Sides {
 
     /// The number, from 0, of the entry of an offset of a page, by the page's number from 1; `None`
     /// where there is no such entry (ours).
-    pub fn number_at(&self, page: u32, offset: u32) -> Option<u32>
+    pub fn number_at(&self, page: u64, offset: u32) -> Option<u32>
         ensures { entry_of (of_page self.now page) offset ≡ found_at (of_page self.now page) result }
     {
         if page == 0 {

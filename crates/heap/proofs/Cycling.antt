@@ -19,7 +19,8 @@ use Rattle.model.specs.States.{HeapState, ThreadState}
 use Rattle.model.specs.Threads.{set_crossed_of}
 use Rattle.model.specs.Bits.{blank_row, blank_all}
 use Rattle.model.specs.Cycles.{is_lent, is_buffer_on, set_todo_of}
-use Rattle.model.specs.Holding.{IsHeap, FillsIn, AreRising, AreRowsFor, AreSidesFor}
+use Rattle.model.specs.Holding.{IsHeap, FillsIn, AreRising, AreRowsFor, AreSidesFor, GoesToPage}
+use Rattle.model.proofs.Tables.{none_goes}
 use Rattle.model.proofs.Lists.{each_replicate}
 use Rattle.page.proofs.Ended.{ended_sized, ended_lies, ended_unprotected}
 use Rattle.threads.proofs.Looping.{length_mapped}
@@ -56,6 +57,7 @@ sides_emptied : (c : Config) (sides : List (List Forwarding)) → AreSidesFor c 
 sides_emptied c sides k = record {
   pages = length-replicate (length sides) [] ∙ k.pages;
   rising = each_replicate (AreRising c.words 0) (length sides) [] tt;
+  places = each_replicate (λ side. Each side (GoesToPage c)) (length sides) [] (none_goes c);
 }
 
 pub ended_keeps : (h : HeapState) (s : StoreState) (live mark : List (List Bool)) (sides : List (List Forwarding))

@@ -12,7 +12,7 @@ use Rattle.model.specs.Protections.{with_from_pages}
 use Rattle.std.proofs.lemmas.Bool.{true≢false}
 use Rattle.page.specs.Relocating.{NoneGone}
 use Rattle.model.specs.Owning.{Each, LiesIn, AreSized, NoneProtected}
-use Rattle.model.specs.Holding.{IsHeap, FillsIn, AreRising, AreRowsFor, AreSidesFor}
+use Rattle.model.specs.Holding.{IsHeap, FillsIn, AreRising, AreRowsFor, AreSidesFor, GoesToPage}
 use Rattle.model.specs.States.{HeapState, ThreadState, change_at}
 use Rattle.model.specs.Threads.{set_crossed_of}
 use Rattle.model.specs.Bits.{with_bit}
@@ -50,10 +50,12 @@ sides_keep h sides i k = record {
 
 -- one is
 pub side_keeps : (h : HeapState) (sides : List (List Forwarding)) (i : ℕ) (side : List Forwarding) → IsHeap h
-    → AreRising h.config.words 0 side → sides ≡ set h.sides i side → IsHeap (record h { sides = sides })
-side_keeps h sides i side k r e = sides_keep h sides k (subst (AreSidesFor h.config) (sym e) (record {
+    → AreRising h.config.words 0 side → Each side (GoesToPage h.config) → sides ≡ set h.sides i side
+    → IsHeap (record h { sides = sides })
+side_keeps h sides i side k r g e = sides_keep h sides k (subst (AreSidesFor h.config) (sym e) (record {
   pages = length-set h.sides i side ∙ k.sides.pages;
   rising = each_set (AreRising h.config.words 0) h.sides i side k.sides.rising r;
+  places = each_set (λ fs. Each fs (GoesToPage h.config)) h.sides i side k.sides.places g;
 }))
 
 -- an entry that is noted as copied stays where it is
@@ -67,6 +69,8 @@ sides_noted c sides i o k = record {
   pages = length_changed sides i (map (set_copied_of o)) ∙ k.pages;
   rising = each_changed (AreRising c.words 0) sides i (map (set_copied_of o)) k.rising
       (λ fs r. noted_rises c.words 0 o fs r);
+  places = each_changed (λ fs. Each fs (GoesToPage c)) sides i (map (set_copied_of o)) k.places
+      (λ fs g. each_mapped (GoesToPage c) (GoesToPage c) (set_copied_of o) fs (λ f z. z) g);
 }
 
 -- where no page is protected, none is gone

@@ -1,24 +1,24 @@
 //! Layouts, and the table of a heap's layouts.
 
-ghost use Rattle.std.specs.Prelude.{◌≡◌, ◌==◌, ◌<◌, length, slice_get};
+ghost use Rattle.std.specs.Prelude.{◌≡◌, ◌==◌, ◌<◌, ◌^◌, length, slice_get};
 ghost use Rattle.layout.specs.Objects.{size_of};
 
 use std::marker::Model;
 
-/// How many reference words and data words an object has, 0 to 255 each (ours).
+/// How many reference words and data words an object has: in a heap 0 to 1,023 each (ours).
 #[derive(Clone, Copy, Debug, PartialEq, Eq)]
 pub struct Layout {
     /// The number of reference words.
-    pub refs: u8,
+    pub refs: u16,
     /// The number of data words.
-    pub nums: u8,
+    pub nums: u16,
 }
 
 impl Layout {
-    /// The words of an object, its header among them: 1 to 511.
+    /// The words of an object, its header among them: in a heap 1 to 2,047.
     pub fn size(&self) -> u32
         ensures value { result ≡ size_of self.now }
-        ensures range { result < 512 }
+        ensures range { result < 2 ^ 17 }
     {
         1 + u32::from(self.refs) + u32::from(self.nums)
     }

@@ -42,8 +42,8 @@ fn settle(busy: &mut IndexedRow, rows: &Rows, index: usize)
 }
 
 impl IndexedRows {
-    /// So many rows of so many bits, all clear: in a heap at most 8,192 rows, of 16 to 4,096 bits.
-    /// Fails only by memory.
+    /// So many rows of so many bits, all clear: in a heap at most 8,192 rows, of 16 to 32,768
+    /// bits. Fails only by memory.
     #[tactic(auto, using(crate::proofs::Busy::none_busy))]
     pub fn new(alloc: Global, count: u32, words: u32) -> Result<IndexedRows, AllocError>
         ensures { IfOk result (λ r. r ≡ replicate count (replicate words false)) }
@@ -62,7 +62,7 @@ impl IndexedRows {
 
     /// Whether the bit of an offset of a page is set, by the page's number from 1: its row has the
     /// index below. Where there is no such row or bit, none is.
-    pub fn bit_on(&self, page: u32, offset: u32) -> bool
+    pub fn bit_on(&self, page: u64, offset: u32) -> bool
         ensures { result ≡ bit_on self.now page offset }
     {
         self.rows.bit_on(page, offset)

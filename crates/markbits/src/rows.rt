@@ -36,7 +36,7 @@ impl Model for Row {
 }
 
 impl Row {
-    /// So many bits, all clear: in a heap 16 to 4,096, the words of a page. Fails only by memory.
+    /// So many bits, all clear: in a heap 16 to 32,768, the words of a page. Fails only by memory.
     pub fn new(alloc: Global, words: u32) -> Result<Row, AllocError>
         ensures { IfOk result (λ r. r ≡ replicate words false) }
     {
@@ -165,8 +165,8 @@ impl Model for Rows {
 }
 
 impl Rows {
-    /// So many rows of so many bits, all clear: in a heap at most 8,192 rows, of 16 to 4,096 bits.
-    /// Fails only by memory.
+    /// So many rows of so many bits, all clear: in a heap at most 8,192 rows, of 16 to 32,768
+    /// bits. Fails only by memory.
     pub fn new(alloc: Global, count: u32, words: u32) -> Result<Rows, AllocError>
         ensures { IfOk result (λ r. r ≡ replicate count (replicate words false)) }
     {
@@ -186,7 +186,7 @@ impl Rows {
 
     /// Whether the bit of an offset of a page is set, by the page's number from 1: its row has the
     /// index below. Where there is no such row or bit, none is.
-    pub fn bit_on(&self, page: u32, offset: u32) -> bool
+    pub fn bit_on(&self, page: u64, offset: u32) -> bool
         ensures { result ≡ bit_on self.now page offset }
     {
         if page == 0 {

@@ -1,5 +1,5 @@
 -- The least object that is still to be scanned is found page by page.
-use Rattle.std.proofs.Common.{◌≡◌, ◌≢◌, ◌⊎◌, inl, inr, ℕ, zero, suc, ◌+◌, ◌-◌, ◌*◌, ◌%◌, ◌<◌, ◌≤◌, ◌&&◌, not, Bool}
+use Rattle.std.proofs.Common.{◌≡◌, ◌≢◌, ◌⊎◌, inl, inr, ℕ, zero, suc, ◌+◌, ◌-◌, ◌*◌, ◌/◌, ◌%◌, ◌<◌, ◌≤◌, ◌&&◌, not, Bool}
 use Rattle.std.proofs.Common.{true}
 use Rattle.std.specs.Prelude.{slice_index_or, ◌==◌}
 use Rattle.std.proofs.Common.{false, List, [], ◌∷◌, map, get_or, count_by, length, Option, Some, None, refl, sym}
@@ -8,11 +8,13 @@ use Rattle.std.proofs.Common.{unwrap_or, subst}
 use Rattle.std.specs.List.{find, range_with_len, slice_get}
 use Rattle.std.proofs.lemmas.Option.{unwrap_or-slice_get}
 use Rattle.std.proofs.lemmas.List.{get_or_past, length-map}
+use Rattle.model.specs.declared.limits.TheConstants.{MOST_PAGES}
 use Rattle.model.specs.Stores.{record_count}
 use Rattle.model.specs.Owning.{IsStore}
 use Rattle.model.specs.Holding.{IsHeap}
 use Rattle.model.proofs.Lists.{get_within, none_counted}
 use Rattle.std.proofs.lemmas.Nat.{div-mul-add}
+use Rattle.std.proofs.lemmas.Bool.Decides.{nat_tests}
 use Rattle.std.proofs.lemmas.Bool.{cases_lt, cases_eq, eqb-true, not-false, true≢false}
 use Rattle.std.proofs.Math.Nat.{mul-add-mod_self_right, mod-eq_of_lt, mul-le-mul_right}
 use Rattle.model.specs.States.{HeapState}
@@ -217,6 +219,16 @@ found_on h from i k d before busy first =
       omega (arith, first.within, size),
       next_is h (i + 1) k (omega arith) (omega (arith, there)) size skipped first,
     )
+
+-- its page may have a number
+pub on_page : (h : HeapState) (from i k a : ℕ) → IsHeap h → IsFirstFrom (map has_bits h.todo) from i
+    → k < h.store.words → a ≡ (i + 1) * h.store.words + k → a / h.store.words ≤ MOST_PAGES
+on_page h from i k a d busy within is =
+    let e : a / h.store.words ≡ i + 1 = ap (λ n. n / h.store.words) is ∙ div-mul-add (i + 1) h.store.words k within in
+    omega (arith, e, busy_there h.todo i busy.here, d.todo.pages, few h.config.frames h.config.pages d.config.pages_high)
+  where
+    few : (frames count : ℕ) → count ≤ MOST_PAGES → record_count frames count ≤ MOST_PAGES
+    few frames count k = grind (arith, nat_tests)
 
 -- none is found on it
 pub none_found_on : (h : HeapState) (from i : ℕ) → NoneBefore h (from + 1) → IsFirstFrom (map has_bits h.todo) from i

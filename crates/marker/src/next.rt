@@ -1,6 +1,7 @@
 //! What is left to be scanned (the paper's Mark phase; that the least object comes first is ours).
 
-ghost use Rattle.std.specs.Prelude.{◌≡◌, ◌<◌, ◌≤◌, length};
+ghost use Rattle.std.specs.Prelude.{◌≡◌, ◌<◌, ◌≤◌, ◌/◌, length, IfSome};
+ghost use Rattle.model.specs.declared.limits.TheConstants.{MOST_PAGES};
 ghost use Rattle.model.specs.Bits.{of_page};
 ghost use Rattle.model.specs.Scans.{next_todo};
 ghost use Rattle.marker.specs.Free.{IsNextFree};
@@ -43,7 +44,8 @@ fn next_on(heap: &Heap, page: u32) -> Option<u32>
 /// The least address of an object that is still to be scanned and that no worker has, if there is
 /// one. It looks only at pages that have an object to be scanned, and in these only at such objects.
 pub fn next_todo(heap: &Heap) -> Option<Addr>
-    ensures { result ≡ next_todo heap.now }
+    ensures first { result ≡ next_todo heap.now }
+    ensures page { IfSome result (λ a. a / heap.now.store.words ≤ MOST_PAGES) }
 {
     heap.law();
     let mut from = 0;

@@ -148,7 +148,7 @@ pub fn pick(heap: &mut Heap, worker: u32, page: u32, offset: u32) -> Reply
     ensures { Does heap.old result heap.new (pick_outcome heap.old worker page offset) }
 {
     may_scan(heap)?;
-    if offset >= heap.store().page_words() || !heap.todo().bit_on(page, offset) {
+    if offset >= heap.store().page_words() || !heap.todo().bit_on(u64::from(page), offset) {
         return Err(Refusal::NotTodo);
     }
     let object = heap.address_on(page, offset);

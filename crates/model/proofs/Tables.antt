@@ -11,7 +11,8 @@ use Rattle.model.specs.States.{change_at, change_found}
 use Rattle.model.specs.Buffers.{opened_rows}
 use Rattle.model.specs.Bits.{blank_row, put_bit}
 use Rattle.model.specs.First.{blank_rows, no_sides}
-use Rattle.model.specs.Holding.{AreRows, AreRowsFor, AreRising, AreSidesFor}
+use Rattle.model.specs.Holding.{AreRows, AreRowsFor, AreRising, AreSidesFor, GoesToPage}
+use Rattle.model.specs.Owning.{Each}
 use Rattle.model.proofs.Lists.{each_changed, each_replicate}
 
 pub length_changed : {X : Type 0} (xs : List X) (i : ℕ) (f : X → X) → length (change_at xs i f) ≡ length xs
@@ -53,8 +54,13 @@ first_rows c = record {
       (length-replicate c.words false);
 }
 
+-- no entry goes anywhere where there is none
+pub none_goes : (c : Config) → Each [] (GoesToPage c)
+none_goes c i f e = absurd (cc)
+
 pub first_sides : (c : Config) → AreSidesFor c (no_sides c)
 first_sides c = record {
   pages = length-replicate (record_count c.frames c.pages) [];
   rising = each_replicate (AreRising c.words 0) (record_count c.frames c.pages) [] tt;
+  places = each_replicate (λ side. Each side (GoesToPage c)) (record_count c.frames c.pages) [] (none_goes c);
 }

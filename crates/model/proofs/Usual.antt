@@ -11,7 +11,7 @@ use Rattle.model.specs.Configs.{first_fault, usual_config, is_page_size, is_outs
 
 -- pages are in range where frames are
 pages_in_range : (frames : ℕ) → is_outside frames 1 4096 ≡ false
-    → is_outside (min (2 * frames) 65535) frames 65535 ≡ false
+    → is_outside (min (2 * frames) 1048575) frames 1048575 ≡ false
 pages_in_range frames h = grind (arith, nat_tests)
 
 chosen : (a b c d : Bool) → (b ≡ false → d ≡ false) → IfSome (if a then Some faults.Words else
@@ -28,7 +28,7 @@ usual_in_range : (words frames : ℕ) (layouts : List Layout)
 unfolding first_fault usual_config
 usual_in_range words frames layouts = chosen (not (is_page_size words)) (is_outside frames 1 4096)
     (is_outside (length layouts) 1 64 || not (list_all (fits_page words) layouts))
-    (is_outside (min (2 * frames) 65535) frames 65535) (pages_in_range frames)
+    (is_outside (min (2 * frames) 1048575) frames 1048575) (pages_in_range frames)
 
 pub rest_in_range : (words frames : ℕ) (layouts : List Layout) (c : Config) → c ≡ usual_config words frames layouts
     → IfSome (first_fault c) IsOfCaller

@@ -1,29 +1,30 @@
 -- The configurations that a heap may be made with.
-use Rattle.std.specs.Prelude.{◌≡◌, ◌⊎◌, ℕ, ◌*◌, ◌≤◌, min, List, ◌==◌, ◌||◌, not, Bool, true, length, Option, Some}
+use Rattle.std.specs.Prelude.{◌≡◌, ◌⊎◌, ℕ, ◌*◌, ◌≤◌, min, List, ◌==◌, ◌||◌, ◌&&◌, not, Bool, true, length, Option, Some}
 use Rattle.std.specs.Prelude.{None, nat_le, nat_lt, if◌then◌else◌}
 use Rattle.std.specs.List.{list_all}
 use Rattle.layout.specs.declared.shape.Layout.{Layout}
 use Rattle.layout.specs.Objects.{size_of}
 use Rattle.model.specs.declared.config.Config.{Config}
 use Rattle.model.specs.declared.limits.TheConstants.{MOST_WORDS, MOST_FRAMES, MOST_PAGES, MOST_THREADS, MOST_WORKERS}
-use Rattle.model.specs.declared.limits.TheConstants.{MOST_REGISTERS}
+use Rattle.model.specs.declared.limits.TheConstants.{MOST_REGISTERS, MOST_FIELDS}
 use Rattle.model.specs.declared.limits.TheConstants.{MOST_GLOBALS, MOST_LAYOUTS, MOST_BIRTHS, MOST_HISTORY}
 use Rattle.model.specs.declared.config.ConfigFault.{ConfigFault}
 use Rattle.model.specs.declared.config.ConfigFault.TheVariants as faults
 
--- a power of two from 16 to 4096
+-- a power of two from 16 to 32768
 abbrev pub is_page_size : ℕ → Bool
 is_page_size n =
     (n == 16) || (n == 32) || (n == 64) || (n == 128) || (n == 256)
     || (n == 512) || (n == 1024) || (n == 2048) || (n == 4096)
+    || (n == 8192) || (n == 16384) || (n == 32768)
 
 -- from low to high
 abbrev pub is_outside : ℕ → ℕ → ℕ → Bool
 is_outside n low high = nat_lt n low || nat_lt high n
 
--- an object of the layout has room in a page
+-- the layout has no more references and data than an object may have, and an object of it has room in a page
 abbrev pub fits_page : ℕ → Layout → Bool
-fits_page words l = nat_le (size_of l) words
+fits_page words l = nat_le l.refs MOST_FIELDS && nat_le l.nums MOST_FIELDS && nat_le (size_of l) words
 
 -- the first field that is out of its range
 unfoldable pub first_fault : Config → Option ConfigFault

@@ -1,5 +1,5 @@
 -- What the code of a heap keeps at all times.
-use Rattle.std.specs.Prelude.{◌≡◌, ℕ, ◌+◌, ◌<◌, ◌≤◌, Bool, List, [], ◌∷◌, length, IfSome}
+use Rattle.std.specs.Prelude.{◌≡◌, ℕ, ◌+◌, ◌*◌, ◌<◌, ◌≤◌, Bool, List, [], ◌∷◌, length, IfSome}
 use Rattle.model.specs.declared.config.Config.{Config}
 use Rattle.model.specs.declared.records.Forwarding.{Forwarding}
 use Rattle.model.specs.Configs.{IsRanged}
@@ -40,9 +40,15 @@ pub record AreSides (count size : ℕ) (sides : List (List Forwarding)) : Type 0
 abbrev pub AreRowsFor : Config → List (List Bool) → Type 0
 AreRowsFor c rows = AreRows (record_count c.frames c.pages) c.words rows
 
--- each page record of a configuration has a side array
-abbrev pub AreSidesFor : Config → List (List Forwarding) → Type 0
-AreSidesFor c sides = AreSides (record_count c.frames c.pages) c.words sides
+-- an entry's object goes to a page that has a number
+abbrev pub GoesToPage : Config → Forwarding → Type 0
+GoesToPage c f = f.to < (c.pages + 1) * c.words
+
+-- each page record of a configuration has a side array, whose entries rise by their offsets, and go to pages
+pub record AreSidesFor (c : Config) (sides : List (List Forwarding)) : Type 0 where
+  pub pages : length sides ≡ record_count c.frames c.pages
+  pub rising : Each sides (AreRising c.words 0)
+  pub places : Each sides (λ side. Each side (GoesToPage c))
 
 -- what holds of every heap, beside what holds of its store
 pub record IsHeap (h : HeapState) : Type 0 where

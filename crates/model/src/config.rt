@@ -5,7 +5,7 @@ ghost use Rattle.std.specs.List.{list_all};
 ghost use Rattle.model.specs.Configs.{is_page_size, fits_page, first_fault, usual_config, IsOfCaller, IsRanged};
 
 use crate::limits::{
-    MOST_BIRTHS, MOST_FRAMES, MOST_GLOBALS, MOST_HISTORY, MOST_LAYOUTS, MOST_PAGES, MOST_REGISTERS,
+    MOST_BIRTHS, MOST_FIELDS, MOST_FRAMES, MOST_GLOBALS, MOST_HISTORY, MOST_LAYOUTS, MOST_PAGES, MOST_REGISTERS,
     MOST_THREADS, MOST_WORKERS,
 };
 use layout::{Layout, Layouts};
@@ -15,11 +15,11 @@ use thiserror::Error;
 /// The sizes and limits of a heap. Each field says its range; the limits are ours.
 #[derive(Debug, Drop)]
 pub struct Config {
-    /// The words of a page: 16 to 4,096, a power of two.
+    /// The words of a page: 16 to 32,768, a power of two.
     pub words: u32,
     /// The frames, each the memory of one page: 1 to 4,096.
     pub frames: u32,
-    /// The page numbers: 1 to 65,535, and at least as many as frames.
+    /// The page numbers: 1 to 1,048,575, and at least as many as frames.
     pub pages: u32,
     /// The mutator threads: 1 to 64.
     pub threads: u32,
@@ -29,7 +29,8 @@ pub struct Config {
     pub registers: u32,
     /// The global roots: 0 to 64.
     pub globals: u32,
-    /// The layouts: 1 to 64, each of a size of at most the words of a page.
+    /// The layouts: 1 to 64, each of at most 1,023 reference words and 1,023 data words, and of a
+    /// size of at most the words of a page.
     pub layouts: Layouts,
     /// How many objects may be born: 1 to 2^32.
     pub births: u64,
@@ -78,7 +79,7 @@ impl Config {
     ///
     /// | Field | Value |
     /// |---|---|
-    /// | `pages` | twice as many as frames, since no more are ever in use at once; 65,535 at most |
+    /// | `pages` | twice as many as frames, since no more are ever in use at once; 1,048,575 at most |
     /// | `threads`, `workers` | 1 of each |
     /// | `registers`, `globals` | 16 of each thread, and 64: as many as there may be |
     /// | `births`, `history` | 2^32, and 1,000,000: as many as there may be |
@@ -169,11 +170,20 @@ impl Config {
 fn is_page_size(words: u32) -> bool
     ensures { result ≡ is_page_size words }
 {
-    matches!(words, 16 | 32 | 64 | 128 | 256 | 512 | 1024 | 2048 | 4096)
+    matches!(
+        words,
+        16 | 32 | 64 | 128 | 256 | 512 | 1024 | 2048 | 4096 | 8192 | 16384 | 32768
+    )
+}
+
+fn fits_page(words: u32, layout: &Layout) -> bool
+    ensures { result ≡ fits_page words layout.now }
+{
+    layout.refs <= MOST_FIELDS && layout.nums <= MOST_FIELDS && layout.size() <= words
 }
 
 fn all_fit(layouts: &[Layout], words: u32) -> bool
     ensures { result ≡ list_all (fits_page words) layouts.now }
 {
-    layouts.iter().all(|layout| layout.size() <= words)
+    layouts.iter().all(|layout| fits_page(words, layout))
 }

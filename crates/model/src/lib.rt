@@ -12,8 +12,8 @@ mod steps;
 
 pub use config::{Config, ConfigFault};
 pub use limits::{
-    MOST_BIRTHS, MOST_FRAMES, MOST_GLOBALS, MOST_HISTORY, MOST_LAYOUTS, MOST_PAGES, MOST_REGISTERS,
-    MOST_THREADS, MOST_WORDS, MOST_WORKERS,
+    MOST_BIRTHS, MOST_FIELDS, MOST_FRAMES, MOST_GLOBALS, MOST_HISTORY, MOST_LAYOUTS, MOST_PAGES,
+    MOST_REGISTERS, MOST_THREADS, MOST_WORDS, MOST_WORKERS,
 };
 pub use records::{Barrier, Buffer, Forwarding, Global, Page, PageState, Phase, Place, Room, Scan};
 pub use steps::{Actor, Answer, PageList, Refusal, Reply, Step, Trap};

@@ -1,7 +1,7 @@
 -- Buffers lie in open pages, whatever is done to the store.
-use Rattle.std.proofs.Common.{◌≡◌, ◌≢◌, ◌⊎◌, inl, inr, ℕ, zero, suc, ◌+◌, ◌-◌, ◌*◌, ◌/◌, ◌^◌, ◌<◌, ◌≤◌, true, false}
-use Rattle.std.proofs.Common.{List, []}
-use Rattle.std.proofs.Common.{◌∷◌, length, position, Option, Some, None, set, replicate, refl, sym, ◌∙◌, ap, subst}
+use Rattle.std.proofs.Common.{◌≡◌, ◌≢◌, ◌⊎◌, inl, inr, ℕ, ◌+◌, ◌-◌, ◌*◌, ◌/◌, ◌<◌, ◌≤◌, true, false}
+use Rattle.std.proofs.Common.{List}
+use Rattle.std.proofs.Common.{length, position, Option, Some, None, set, replicate, refl, sym, ◌∙◌, ap, subst}
 use Rattle.std.proofs.Common.{arith, rules}
 use Rattle.std.specs.List.{slice_get}
 use Rattle.std.proofs.Math.ListN.{length-set}
@@ -19,7 +19,7 @@ use Rattle.model.specs.declared.records.Room.TheVariants.{NoFrames, NoPages}
 use Rattle.model.specs.declared.records.Buffer.{Buffer}
 use Rattle.model.specs.Stores.{StoreState, is_open, is_unused, is_protected, state_in, open_fresh, give_words}
 use Rattle.model.specs.Stores.{buffer_of}
-use Rattle.model.specs.Stores.{Takes, with_words, with_word, fresh_page, frame_in, page_at, take_buffer}
+use Rattle.model.specs.Stores.{Takes, with_words, with_word, fresh_page, take_buffer}
 use Rattle.model.specs.Stores.{page_with_room, free_frame, unused_page, record_count, take_fresh, take_at}
 use Rattle.model.specs.Protections.{take_target}
 use Rattle.model.specs.Owning.{IsStore, LiesIn, AreSized, TakesWell, NoneProtected}
@@ -235,15 +235,5 @@ buffer_address s b h l room =
     let within = slice_get_within s.pages (b.page - 1) p at in
     let next : b.next < s.words = omega (arith, l.end, room) in
     let low : b.page * 1 ≤ b.page * s.words = mul-le-mul_left b.page h.sized.words_low in
-    let high = mul-add-lt b.page s.words b.next 65536 (omega (arith, within, records_few s h)) next in
+    let high = mul-add-lt b.page s.words b.next 1048576 (omega (arith, within, records_few s h)) next in
     record { above = omega (arith, low, page); below = omega (arith, high, h.sized.words) }
-
--- no page has a number past 32 bits
-pub far_frame : (s : StoreState) (n : ℕ) → IsStore s → 2 ^ 32 ≤ n → frame_in (page_at s n) ≡ None
-far_frame s n h low = ap frame_in (page_at_record s n (λ e. absurd (omega (arith, e, low)))
-    ∙ past s.pages (n - 1) (omega (arith, low, records_few s h)))
-  where
-    past : (ps : List Page) (i : ℕ) → length ps ≤ i → slice_get ps i ≡ None
-    past [] i k = refl
-    past (p ∷ ps) zero k = absurd (omega (arith, k))
-    past (p ∷ ps) (suc i) k = past ps i (omega (arith, k))

@@ -30,6 +30,17 @@ impl Model for Frame {
     ghost invariant = { λ f. f.written ≡ false → f.words.items ≡ replicate (length f.words.items) 0 };
 }
 
+/// So many frames of so many words, all 0. Fails only by memory.
+pub(crate) fn blank_frames(alloc: Global, count: u32, words: u32) -> Result<Vec<Frame, Global>, AllocError>
+    ensures { IfOk result (λ v. v.items ≡ replicate count (replicate words 0)) }
+{
+    let mut frames = Vec::with_capacity(alloc, count as usize)?;
+    for _frame in 0..count {
+        frames.push(Frame::new(alloc, words)?)?;
+    }
+    Ok(frames)
+}
+
 impl Frame {
     /// A frame of so many words, all 0. Fails only by memory.
     pub fn new(alloc: Global, words: u32) -> Result<Frame, AllocError>

@@ -19,11 +19,11 @@ impl Model for PageSize {
 
     ghost view = { λ p. 2 ^ p.shift };
 
-    ghost invariant = { λ p. p.shift ≤ 12 };
+    ghost invariant = { λ p. p.shift ≤ 15 };
 }
 
 impl PageSize {
-    /// The size of so many words: 16 to 4,096, a power of two.
+    /// The size of so many words: 16 to 32,768, a power of two.
     pub fn of(words: u32) -> PageSize
         requires { is_page_size words ≡ true }
         ensures { result ≡ words }
@@ -37,7 +37,10 @@ impl PageSize {
             512 => 9,
             1024 => 10,
             2048 => 11,
-            _ => 12,
+            4096 => 12,
+            8192 => 13,
+            16384 => 14,
+            _ => 15,
         };
         PageSize { shift }
     }

@@ -14,7 +14,7 @@ ghost use Rattle.page.specs.Lending.{LendsPart};
 ghost use Rattle.page.specs.Records.{is_unused_in};
 
 use crate::copies::many;
-use crate::frame::Frame;
+use crate::frame::{Frame, blank_frames};
 use crate::index::Tournament;
 use crate::size::PageSize;
 use model::{Buffer, Page, PageState, Room};
@@ -56,16 +56,6 @@ impl Model for Store {
     ghost invariant = { IsStoreInside };
 }
 
-fn blank_frames(alloc: Global, count: u32, words: u32) -> Result<Vec<Frame, Global>, AllocError>
-    ensures { IfOk result (λ v. v.items ≡ replicate count (replicate words 0)) }
-{
-    let mut frames = Vec::with_capacity(alloc, count as usize)?;
-    for _frame in 0..count {
-        frames.push(Frame::new(alloc, words)?)?;
-    }
-    Ok(frames)
-}
-
 /// How many pages of a store have records, of so many frames and page numbers: no more are ever
 /// in use at once (ours). There are at most 4,096 frames.
 pub fn record_count(frames: u32, pages: u32) -> u32
@@ -81,8 +71,8 @@ pub fn record_count(frames: u32, pages: u32) -> u32
 
 impl Store {
     /// A store of so many frames and page numbers: all pages unused, all frames free. A page has
-    /// 16 to 4,096 words, a power of two, and there are at most 4,096 frames and 65,535 pages. Fails
-    /// only by memory.
+    /// 16 to 32,768 words, a power of two, and there are at most 4,096 frames and 1,048,575 pages.
+    /// Fails only by memory.
     #[tactic(auto, unfolding(model::specs::Stores::first_store))]
     pub fn new(alloc: Global, words: u32, frames: u32, pages: u32) -> Result<Store, AllocError>
         requires page_size { is_page_size words ≡ true }
@@ -119,7 +109,7 @@ impl Store {
         let _ = &self.words;
     }
 
-    /// The words of a page: 1 to 4,096.
+    /// The words of a page: 1 to 32,768.
     pub fn page_words(&self) -> u32
         ensures value { result ≡ self.now.words }
         ensures positive { 0 < result }
@@ -128,7 +118,7 @@ impl Store {
         self.words
     }
 
-    /// The number of page numbers: pages count from 1 to it. At most 65,535.
+    /// The number of page numbers: pages count from 1 to it. At most 1,048,575.
     pub fn page_count(&self) -> u32
         ensures value { result ≡ self.now.count }
         ensures range { result ≤ MOST_PAGES }
@@ -178,13 +168,21 @@ impl Store {
         self.frames.len() - self.free as usize
     }
 
-    /// The record of a page by its number, if it has one: none for 0, nor past the records.
+    /// The record of a page by a number that may be greater than any page's.
     #[inline(always)]
     #[tactic(auto, unfolding(model::specs::Stores::page_at))]
-    pub fn page(&self, number: u32) -> Option<Page>
+    fn record(&self, number: u64) -> Option<Page>
         ensures { result ≡ page_at self.now number }
     {
         self.pages.get((number as usize).wrapping_sub(1)).copied()
+    }
+
+    /// The record of a page by its number, if it has one: none for 0, nor past the records.
+    #[inline(always)]
+    pub fn page(&self, number: u32) -> Option<Page>
+        ensures { result ≡ page_at self.now number }
+    {
+        self.record(u64::from(number))
     }
 
     /// The frame of a page, if it has memory.
@@ -192,31 +190,54 @@ impl Store {
     fn frame(&self, number: u32) -> Option<u32>
         ensures { result ≡ frame_in (page_at self.now number) }
     {
-        match self.page(number) {
+        self.recorded_frame(u64::from(number))
+    }
+
+    /// The same, by a number that may be greater than any page's.
+    #[inline(always)]
+    fn recorded_frame(&self, number: u64) -> Option<u32>
+        ensures { result ≡ frame_in (page_at self.now number) }
+    {
+        match self.record(number) {
             None => None,
             Some(page) => page.frame,
         }
     }
 
-    /// How a page is used; unused where there is no such page.
+    /// How a page is used, by a number that may be greater than any page's.
     #[inline(always)]
     #[tactic(auto, unfolding(model::specs::Stores::state_at))]
-    pub fn state(&self, number: u32) -> PageState
+    fn recorded_state(&self, number: u64) -> PageState
         ensures { result ≡ state_at self.now number }
     {
-        match self.page(number) {
+        match self.record(number) {
             None => PageState::Unused,
             Some(page) => page.state,
         }
     }
 
-    /// The page of an address, which there need not be: no address is so high that its page has no
-    /// number.
+    /// How a page is used; unused where there is no such page.
     #[inline(always)]
-    pub fn page_of(&self, address: Addr) -> u32
+    pub fn state(&self, number: u32) -> PageState
+        ensures { result ≡ state_at self.now number }
+    {
+        self.recorded_state(u64::from(number))
+    }
+
+    /// The page of an address, which there need not be.
+    #[inline(always)]
+    pub fn page_of(&self, address: Addr) -> u64
         ensures { result ≡ address / self.now.words }
     {
-        self.size.page_of(address.number()) as u32
+        self.size.page_of(address.number())
+    }
+
+    /// How the page of an address is used; unused where there is no such page.
+    #[inline(always)]
+    pub fn state_behind(&self, address: Addr) -> PageState
+        ensures { result ≡ state_at self.now (address / self.now.words) }
+    {
+        self.recorded_state(self.page_of(address))
     }
 
     /// The offset of an address in its page: below the words of a page.
@@ -228,15 +249,11 @@ impl Store {
     }
 
     /// The frame and the offset behind an address, if its page has memory.
-    #[tactic(auto, unfolding(model::specs::Stores::spot_of), using(crate::proofs::Lying::far_frame))]
+    #[tactic(auto, unfolding(model::specs::Stores::spot_of))]
     fn spot(&self, address: u64) -> Option<(u32, usize)>
         ensures { result ≡ spot_of self.now address }
     {
-        let page = self.size.page_of(address);
-        if page > u64::from(u32::MAX) {
-            return None;
-        }
-        let frame = self.frame(page as u32)?;
+        let frame = self.recorded_frame(self.size.page_of(address))?;
         Some((frame, self.size.offset_of(address) as usize))
     }
 
@@ -264,23 +281,23 @@ impl Store {
     pub fn first_word(&self, address: Addr) -> Option<u64>
         ensures { result ≡ word_at self.now address }
     {
-        let frame = self.frame(self.page_of(address))?;
+        let frame = self.recorded_frame(self.page_of(address))?;
         self.word_in(frame, self.offset_of(address) as usize)
     }
 
-    /// The word less than 512 words behind an address, if it is on a page that has memory. Where
+    /// The word less than 2^17 words behind an address, if it is on a page that has memory. Where
     /// that is the page of the address, no other is looked up.
     #[inline(always)]
     #[tactic(auto, unfolding(model::specs::Stores::word_at), using(crate::proofs::Behind::spot_behind))]
     pub fn word_behind(&self, address: Addr, ahead: u64) -> Option<u64>
-        requires { ahead < 512 }
+        requires { ahead < 2 ^ 17 }
         ensures { result ≡ word_at self.now (address + ahead) }
     {
         let offset = self.size.offset_of(address.number()) + ahead;
         if offset >= u64::from(self.words) {
             return self.word(address.number() + ahead);
         }
-        let frame = self.frame(self.page_of(address))?;
+        let frame = self.recorded_frame(self.page_of(address))?;
         self.word_in(frame, offset as usize)
     }
 
@@ -315,18 +332,18 @@ impl Store {
         }
     }
 
-    /// Writes the word less than 512 words behind an address, if it is on a page that has memory.
+    /// Writes the word less than 2^17 words behind an address, if it is on a page that has memory.
     /// Where that is the page of the address, no other is looked up.
     #[inline(always)]
     #[tactic(auto, unfolding(model::specs::Stores::with_word, model::specs::Stores::with_words, model::specs::Stores::spot_of), using(crate::proofs::Behind::spot_behind))]
     pub fn set_word_behind(&mut self, address: Addr, ahead: u64, value: u64)
-        requires { ahead < 512 }
+        requires { ahead < 2 ^ 17 }
         ensures { self.new ≡ with_word self.old (address + ahead) value }
     {
         let offset = self.size.offset_of(address.number()) + ahead;
         if offset >= u64::from(self.words) {
             self.set_word(address.number() + ahead, value);
-        } else if let Some(frame) = self.frame(self.page_of(address)) {
+        } else if let Some(frame) = self.recorded_frame(self.page_of(address)) {
             self.set_word_in(frame, offset as usize, value);
         }
     }

@@ -260,7 +260,7 @@ module _ (n : ℕ) (line other : List ℕ) (k : AreAlike n line other) where
   unfolding page_size_at
   page_size_alike at =
       then_alike line (λ (x : ℕ). x) (λ (x : ℕ × ℕ). x.1) n at _ _ _ _ (fixed_alike at (codes "words"))
-      (λ after. number_then after 16 4096
+      (λ after. number_then after 16 32768
       (λ (x : ℕ × ℕ). cond (not (is_page_size x.0)) (Err (flaw after kinds.NumberOutOfRange)) (Ok x))
       (λ w x e number. judge_size after w x e number (not (is_page_size x.0))))
 
@@ -315,24 +315,24 @@ module _ (n : ℕ) (line other : List ℕ) (k : AreAlike n line other) where
 
   -- ---- a layout line
 
-  nums_alike : (words refs at : ℕ) → AlikeToEnd at (number_at line at 0 255 >>= (λ nums.
+  nums_alike : (words refs at : ℕ) → AlikeToEnd at (number_at line at 0 1023 >>= (λ nums.
       cond (nat_lt words (1 + refs + nums.0)) (Err (flaw at kinds.LayoutTooLarge)) (layout_end line refs nums)))
-      (number_at other at 0 255 >>= (λ nums.
+      (number_at other at 0 1023 >>= (λ nums.
       cond (nat_lt words (1 + refs + nums.0)) (Err (flaw at kinds.LayoutTooLarge)) (layout_end other refs nums)))
   nums_alike words refs at =
       let test = λ (x : ℕ × ℕ). nat_lt words (1 + refs + x.0) in
       let f = flaw at kinds.LayoutTooLarge in
-      let checked = λ (l : List ℕ). number_at l at 0 255 >>= (λ (x : ℕ × ℕ). cond (test x) (Err f) (Ok x)) in
+      let checked = λ (l : List ℕ). number_at l at 0 1023 >>= (λ (x : ℕ × ℕ). cond (test x) (Err f) (Ok x)) in
       let both = last_alike at (checked line) (checked other) (layout_end line refs) (layout_end other refs)
-      (number_then at 0 255 (λ (x : ℕ × ℕ). cond (test x) (Err f) (Ok x))
+      (number_then at 0 1023 (λ (x : ℕ × ℕ). cond (test x) (Err f) (Ok x))
       (λ w x e number. judge_room at w x e number (test x))) (λ nums. end_alike (layout_of refs nums.0) nums.1) in
-      subst (λ (r : Result Layout Flaw). AlikeToEnd at (number_at line at 0 255
+      subst (λ (r : Result Layout Flaw). AlikeToEnd at (number_at line at 0 1023
       >>= (λ nums. cond (test nums) (Err f) (layout_end line refs nums))) r)
-      (test_first (number_at other at 0 255) test f (layout_end other refs))
+      (test_first (number_at other at 0 1023) test f (layout_end other refs))
       (subst (λ (r : Result Layout Flaw). AlikeToEnd at r (checked other >>= layout_end other refs))
-      (test_first (number_at line at 0 255) test f (layout_end line refs)) both)
+      (test_first (number_at line at 0 1023) test f (layout_end line refs)) both)
 
   pub layout_alike : (sizes : Sizes) (at : ℕ) → AlikeToEnd at (layout_in sizes line at) (layout_in sizes other at)
   unfolding layout_in
   layout_alike sizes at =
-      last_alike at _ _ _ _ (number_alike at 0 255) (λ refs. nums_alike sizes.words refs.0 refs.1)
+      last_alike at _ _ _ _ (number_alike at 0 1023) (λ refs. nums_alike sizes.words refs.0 refs.1)

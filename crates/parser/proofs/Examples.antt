@@ -37,7 +37,7 @@ unfolding script_in lines_in line_in heap_line first_word word_at heap_in sizes_
 no_words = refl
 
 -- a number with a leading zero
-no_number : number_at (codes "words 016") 6 16 4096 ≡ Err (flaw 6 kinds.NumberExpected)
+no_number : number_at (codes "words 016") 6 16 32768 ≡ Err (flaw 6 kinds.NumberExpected)
 unfolding number_at word_or word_at is_number
 no_number = refl
 

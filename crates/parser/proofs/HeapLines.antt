@@ -93,12 +93,12 @@ size_breaks line at f h = elim (bind_err (fixed_at line at (codes "words") kinds
   | inr a ↦
       let first = fixed_ok line at (codes "words") kinds.UnknownWord a.0 a.1.0 in
       later line at a.0 f (codes "words" ∷ []) (decimal 16 ∷ []) first (here line a.0 f (decimal 16 ∷ [])
-      (elim (bind_err (number_at line a.0 16 4096) _ f a.1.1) [
-        | inl e ↦ number_break line a.0 16 4096 f e
+      (elim (bind_err (number_at line a.0 16 32768) _ f a.1.1) [
+        | inl e ↦ number_break line a.0 16 32768 f e
         | inr n ↦
             elim (one_of (not (is_page_size n.0.0)) _ _ (Err f) n.1.1) [
               | inl wrong ↦
-                  at_place line a.0 f (number_within line a.0 16 4096 n.0 n.1.0) (ap (λ (x : Flaw). x.column)
+                  at_place line a.0 f (number_within line a.0 16 32768 n.0 n.1.0) (ap (λ (x : Flaw). x.column)
                   (sym (same_flaw {A = ℕ × ℕ} (flaw a.0 kinds.NumberOutOfRange) f wrong.1)))
               | inr right ↦ absurd (no_err _ f right.1)
             ]
@@ -109,8 +109,8 @@ page_size_ok : (line : List ℕ) (at : ℕ) (v : ℕ × ℕ) → page_size_at li
 unfolding page_size_at
 page_size_ok line at v h =
     let a = bind_ok (fixed_at line at (codes "words") kinds.UnknownWord) _ v h in
-    let b = bind_ok (number_at line a.0 16 4096) _ v a.2 in
-    let n = number_ok line a.0 16 4096 b.0 (lit< tt) b.1 in
+    let b = bind_ok (number_at line a.0 16 32768) _ v a.2 in
+    let n = number_ok line a.0 16 32768 b.0 (lit< tt) b.1 in
     let g = not_refused (not (is_page_size b.0.0)) _ _ v b.2 in
     subst (λ (x : ℕ × ℕ). IsReadAt IsPageSize line at x) (same_result b.0 v g.1)
     (record {
@@ -127,7 +127,7 @@ page_size_again line at n ws rest is may h =
     let range = page_size_range n is.size in
     let a = fixed_again line at (codes "words") kinds.UnknownWord (decimal n ∷ rest)
     (h ∙ ap (λ (t : List (List ℕ)). t ++ rest) is.words_are) in
-    let b = number_again line a.0 16 4096 n rest (omega (arith, range.1)) range.0 range.1 a.2 in
+    let b = number_again line a.0 16 32768 n rest (omega (arith, range.1)) range.0 range.1 a.2 in
     (b.0, rw (a.1, b.1, is.size) refl, b.2)
 
 page_size_reader : IsReader page_size_at IsPageSize Any
@@ -417,12 +417,12 @@ pub layout_ok : (sizes : Sizes) (line : List ℕ) (at : ℕ) (l : Layout) → la
     → IsLayoutAt sizes.words line at l
 unfolding layout_in
 layout_ok sizes line at l h =
-    let r = bind_ok (number_at line at 0 255) _ l h in
-    let n = bind_ok (number_at line r.0.1 0 255) _ l r.2 in
+    let r = bind_ok (number_at line at 0 1023) _ l h in
+    let n = bind_ok (number_at line r.0.1 0 1023) _ l r.2 in
     let g = not_refused (nat_lt sizes.words (1 + r.0.0 + n.0.0)) _ _ l n.2 in
     let e = bind_ok (end_at line n.0.1) _ l g.1 in
-    let refs = number_ok line at 0 255 r.0 (lit< tt) r.1 in
-    let nums = number_ok line r.0.1 0 255 n.0 (lit< tt) n.1 in
+    let refs = number_ok line at 0 1023 r.0 (lit< tt) r.1 in
+    let nums = number_ok line r.0.1 0 1023 n.0 (lit< tt) n.1 in
     let last = end_ok line n.0.1 e.0 e.1 in
     subst (λ (x : Layout). IsLayoutAt sizes.words line at x) (same_result _ l e.2) (record {
       spelled = refs.spelled ∙ ap (λ (t : List (List ℕ)). decimal r.0.0 ∷ t)
@@ -438,8 +438,8 @@ layout_again sizes line at l h =
     let refs = h.is.refs in
     let nums = h.is.nums in
     let r =
-    number_again line at 0 255 l.refs (decimal l.nums ∷ []) (omega arith) (omega arith) (omega arith) h.spelled in
-    let n = number_again line r.0 0 255 l.nums [] (omega arith) (omega arith) (omega arith) r.2 in
+    number_again line at 0 1023 l.refs (decimal l.nums ∷ []) (omega arith) (omega arith) (omega arith) h.spelled in
+    let n = number_again line r.0 0 1023 l.nums [] (omega arith) (omega arith) (omega arith) r.2 in
     let room : nat_lt sizes.words (1 + l.refs + l.nums) ≡ false = le-ltb sizes.words (1 + l.refs + l.nums) h.room in
     let e = end_again line n.0 n.2 in
     rw (r.1, n.1, room, e) refl

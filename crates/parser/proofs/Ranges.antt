@@ -39,7 +39,7 @@ pub config_in_range : (s : Sizes) (ls : List Layout) → IsSizes s → AreLayout
 unfolding first_fault
 config_in_range s ls r l =
     let frames = inside s.frames 1 4096 r.frames in
-    let pages = inside s.pages s.frames 65535 r.pages in
+    let pages = inside s.pages s.frames 1048575 r.pages in
     let threads = inside s.threads 1 64 r.threads in
     let workers = inside s.workers 1 16 r.workers in
     let registers = inside s.registers 1 16 r.registers in
@@ -59,7 +59,7 @@ unfolding first_fault
 config_tells c h =
     let w = no_fault (not (is_page_size c.words)) _ _ h in
     let f = no_fault (is_outside c.frames 1 4096) _ _ w.1 in
-    let p = no_fault (is_outside c.pages c.frames 65535) _ _ f.1 in
+    let p = no_fault (is_outside c.pages c.frames 1048575) _ _ f.1 in
     let t = no_fault (is_outside c.threads 1 64) _ _ p.1 in
     let k = no_fault (is_outside c.workers 1 16) _ _ t.1 in
     let r = no_fault (is_outside c.registers 1 16) _ _ k.1 in
@@ -73,7 +73,7 @@ config_tells c h =
       sizes = record {
         words = not-false (is_page_size c.words) w.0;
         frames = within c.frames 1 4096 f.0;
-        pages = within c.pages c.frames 65535 p.0;
+        pages = within c.pages c.frames 1048575 p.0;
         threads = within c.threads 1 64 t.0;
         workers = within c.workers 1 16 k.0;
         registers = within c.registers 1 16 r.0;

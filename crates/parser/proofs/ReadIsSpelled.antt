@@ -155,10 +155,10 @@ add_layout heap ls l said line parts o body none no_block is h =
       map-append layout_line_of ls (l ∷ []),
     ) refl
 
-room_more : (words : ℕ) (ls : List Layout) (l : Layout) → list_all (fits_page words) ls ≡ true
+room_more : (words : ℕ) (ls : List Layout) (l : Layout) → list_all (fits_page words) ls ≡ true → IsLayout l
     → 1 + l.refs + l.nums ≤ words → list_all (fits_page words) (ls ++ l ∷ []) ≡ true
-room_more words ls l h room =
-    let fits : fits_page words l ≡ true = grind (arith, nat_tests) in
+room_more words ls l h is room =
+    let fits : fits_page words l ≡ true = grind (arith, nat_tests, is.refs, is.nums) in
     list_all-append (fits_page words) ls (l ∷ []) ∙ (rw (h, fits) refl)
 
 pub some_layouts : (ls : List Layout) → (length ls == 0) ≡ false → 1 ≤ length ls
@@ -192,7 +192,7 @@ module _ (said : List (List ℕ)) (r : ReadSoFar) (b : IsBehind said r) (line : 
         started = λ _. omega (arith, length-append r.layouts (l.0 ∷ []));
         range = b.range;
         layouts = all_push IsLayout r.layouts l.0 b.layouts layout.is;
-        room = room_more b.sizes.words r.layouts l.0 b.room layout.room;
+        room = room_more b.sizes.words r.layouts l.0 b.room layout.is layout.room;
         few = omega (arith, length-append r.layouts (l.0 ∷ []));
         commands = b.commands;
         body = b.body;

@@ -9,6 +9,7 @@ use Rattle.parser.specs.declared.fault.Flaw.{Flaw}
 use Rattle.parser.specs.declared.heading.Sizes.{Sizes}
 use Rattle.model.specs.declared.limits.TheConstants.{MOST_WORDS, MOST_FRAMES, MOST_PAGES, MOST_THREADS}
 use Rattle.model.specs.declared.limits.TheConstants.{MOST_WORKERS, MOST_REGISTERS, MOST_GLOBALS, MOST_BIRTHS, MOST_HISTORY}
+use Rattle.model.specs.declared.limits.TheConstants.{MOST_FIELDS}
 use Rattle.parser.specs.Words.{◌>>=◌, flaw, word_at, fixed_at, number_at, end_at}
 
 -- the configuration of sizes, with layouts
@@ -104,8 +105,8 @@ heap_in line at = do
 -- a layout, from the place behind the line's first word on
 unfoldable pub layout_in : Sizes → List ℕ → ℕ → Result Layout Flaw
 layout_in sizes line at = do
-  refs ← number_at line at 0 255
-  nums ← number_at line refs.1 0 255
+  refs ← number_at line at 0 MOST_FIELDS
+  nums ← number_at line refs.1 0 MOST_FIELDS
   if nat_lt sizes.words (1 + refs.0 + nums.0) then Err (flaw refs.1 kinds.LayoutTooLarge) else (do
     _ ← end_at line nums.1
     Ok (record { refs = refs.0; nums = nums.0 }))

@@ -12,7 +12,7 @@ use Rattle.parser.specs.declared.order.Command.{Command}
 use Rattle.parser.specs.declared.verbs.Kind.{Kind}
 use Rattle.parser.specs.declared.verbs.Kind.TheVariants.{Nothing, Register, Number, ThreadName, Long, Address}
 use Rattle.parser.specs.declared.verbs.Kinds.{Kinds}
-use Rattle.model.specs.declared.limits.TheConstants.{MOST_BIRTHS, MOST_HISTORY}
+use Rattle.model.specs.declared.limits.TheConstants.{MOST_BIRTHS, MOST_HISTORY, MOST_FIELDS}
 use Rattle.parser.specs.declared.reading.TheConstants.{MOST_COMMANDS, MOST_TURNS}
 use Rattle.parser.specs.Verbs.{row_of}
 use Rattle.parser.specs.Words.{page_in, offset_in}
@@ -133,10 +133,10 @@ pub record Spells (bytes : List ℕ) (script : ScriptValue) : Type 0 where
   pub commands_are : script.commands ≡ flat_map part_commands parts
   pub said : filter says_something lines ≡ heap ∷ map layout_line_of script.config.layouts ++ flat_map part_lines parts
 
--- the numbers of a layout fit
+-- the numbers of a layout are no greater than they may be
 pub record IsLayout (l : Layout) : Type 0 where
-  pub refs : l.refs < 2 ^ 8
-  pub nums : l.nums < 2 ^ 8
+  pub refs : l.refs ≤ MOST_FIELDS
+  pub nums : l.nums ≤ MOST_FIELDS
 
 -- an actor is there
 abbrev pub IsActor : Config → Actor → Type 0

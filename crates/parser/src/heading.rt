@@ -9,18 +9,18 @@ use crate::fault::{FaultKind, Flaw};
 use crate::words::{end_at, fixed_at, number_at, word_at};
 use layout::{Layout, Layouts};
 use model::{
-    Config, MOST_BIRTHS, MOST_FRAMES, MOST_GLOBALS, MOST_HISTORY, MOST_PAGES, MOST_REGISTERS,
-    MOST_THREADS, MOST_WORDS, MOST_WORKERS,
+    Config, MOST_BIRTHS, MOST_FIELDS, MOST_FRAMES, MOST_GLOBALS, MOST_HISTORY, MOST_PAGES,
+    MOST_REGISTERS, MOST_THREADS, MOST_WORDS, MOST_WORKERS,
 };
 
 /// The numbers of a heap line, those that are left out among them.
 #[derive(Clone, Copy, Debug, PartialEq, Eq)]
 pub struct Sizes {
-    /// The words of a page: 16 to 4,096, a power of two.
+    /// The words of a page: 16 to 32,768, a power of two.
     pub words: u32,
     /// The frames: 1 to 4,096.
     pub frames: u32,
-    /// The pages: as many as frames to 65,535.
+    /// The pages: as many as frames to 1,048,575.
     pub pages: u32,
     /// The threads: 1 to 64.
     pub threads: u32,
@@ -59,7 +59,10 @@ impl Sizes {
 fn is_page_size(words: u64) -> bool
     ensures { result ≡ is_page_size words }
 {
-    matches!(words, 16 | 32 | 64 | 128 | 256 | 512 | 1024 | 2048 | 4096)
+    matches!(
+        words,
+        16 | 32 | 64 | 128 | 256 | 512 | 1024 | 2048 | 4096 | 8192 | 16384 | 32768
+    )
 }
 
 /// The number behind a name that has to stand at a place.
@@ -174,8 +177,8 @@ pub fn heap_in(line: &[u8], at: usize) -> Result<Sizes, Flaw>
 pub fn layout_in(sizes: &Sizes, line: &[u8], at: usize) -> Result<Layout, Flaw>
     ensures { result ≡ layout_in sizes.now line.now at }
 {
-    let (refs, after) = number_at(line, at, 0, 255)?;
-    let (nums, end) = number_at(line, after, 0, 255)?;
+    let (refs, after) = number_at(line, at, 0, MOST_FIELDS as u64)?;
+    let (nums, end) = number_at(line, after, 0, MOST_FIELDS as u64)?;
     if 1 + refs + nums > sizes.words as u64 {
         return Err(Flaw {
             column: after + 1,
@@ -184,7 +187,7 @@ pub fn layout_in(sizes: &Sizes, line: &[u8], at: usize) -> Result<Layout, Flaw>
     }
     end_at(line, end)?;
     Ok(Layout {
-        refs: refs as u8,
-        nums: nums as u8,
+        refs: refs as u16,
+        nums: nums as u16,
     })
 }

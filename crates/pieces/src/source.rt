@@ -1,6 +1,6 @@
 //! The page that objects are copied from.
 
-ghost use Rattle.std.specs.Prelude.{◌≡◌, ◌≤◌, take, drop};
+ghost use Rattle.std.specs.Prelude.{◌≡◌, ◌<◌, ◌^◌, take, drop};
 ghost use Rattle.pieces.specs.Pieces.{source_of, size_at};
 
 use forward::Side;
@@ -32,7 +32,7 @@ impl Source<'_> {
     /// How many words the object at an offset has. One that can't be read counts as its header alone.
     pub(crate) fn size_at(&self, offset: u32) -> usize
         ensures value { result ≡ size_at (source_of self.now) offset }
-        ensures range { result ≤ 511 }
+        ensures range { result < 2 ^ 17 }
     {
         let Some(header) = self.words.get(offset as usize) else {
             return 1;

@@ -57,7 +57,7 @@ object_address h a q s e =
     let few = records_few h.store s in
     let whole = div-add-mod' a w in
     let above : a / w * 1 ≤ a / w * w = mul-le-mul_left (a / w) s.sized.words_low in
-    let high = mul-add-lt (a / w) w (a % w) 65536 (omega (arith, page, low, few)) offset in
+    let high = mul-add-lt (a / w) w (a % w) 1048576 (omega (arith, page, low, few)) offset in
     record { above = omega (arith, above, page, whole); below = omega (arith, high, whole, s.sized.words) }
 
 -- an entry, as the laws speak of it

@@ -91,7 +91,7 @@ open_address s n h e = by_page (page_at s (n / s.words)) refl e
         let offset = mod-lt n h.sized.words_low in
         let whole = div-add-mod' n s.words in
         let above : n / s.words * 1 ≤ n / s.words * s.words = mul-le-mul_left (n / s.words) h.sized.words_low in
-        let high = mul-add-lt (n / s.words) s.words (n % s.words) 65536 (omega (arith, one, low, few)) offset in
+        let high = mul-add-lt (n / s.words) s.words (n % s.words) 1048576 (omega (arith, one, low, few)) offset in
         record { above = omega (arith, above, one, whole); below = omega (arith, high, whole, h.sized.words) }
 
 -- an entry of the model that is one of the laws

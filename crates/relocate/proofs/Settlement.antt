@@ -1,13 +1,18 @@
 -- Entries get their places one after another.
-use Rattle.std.proofs.Common.{◌≡◌, ℕ, zero, suc, ◌+◌, ◌<◌, ◌≤◌, List, [], ◌∷◌, ◌++◌, length, take, drop}
+use Rattle.std.proofs.Common.{◌≡◌, ℕ, zero, suc, ◌+◌, ◌*◌, ◌<◌, ◌≤◌, List, [], ◌∷◌, ◌++◌, length, take, drop}
 use Rattle.std.proofs.Common.{Option, Some, None}
-use Rattle.std.proofs.Common.{refl, sym, ◌∙◌, ap, arith}
+use Rattle.std.proofs.Common.{refl, sym, ◌∙◌, ap, subst, arith}
+use Rattle.std.specs.Prelude.{get_or}
+use Rattle.std.proofs.Math.Nat.{mul_comm}
+use Rattle.std.proofs.lemmas.Nat.{mul-add-lt}
 use Rattle.std.specs.List.{slice_get}
-use Rattle.std.proofs.lemmas.Option.{same_Some}
+use Rattle.std.proofs.lemmas.Option.{same_Some, get_or_from_slice_get}
 use Rattle.model.specs.declared.records.Forwarding.{Forwarding}
-use Rattle.model.specs.Holding.{AreRising}
+use Rattle.model.specs.Holding.{AreRising, GoesToPage, IsHeap}
+use Rattle.model.specs.Owning.{Each}
 use Rattle.model.specs.Plans.{address_in}
-use Rattle.model.specs.States.{change_at, change_found}
+use Rattle.model.specs.States.{HeapState, change_at, change_found}
+use Rattle.model.proofs.Lists.{get_within}
 use Rattle.forward.specs.Settling.{set_place_of}
 use Rattle.relocate.specs.Drafts.{with_places}
 
@@ -84,3 +89,36 @@ pub same_there : {X : Type 0} (xs ys : List X) (i : ℕ) (x : X) → drop i xs �
     → slice_get ys i ≡ Some x
 same_there xs ys i x e at = sym (get_dropped ys i 0 i (omega arith)) ∙ sym (ap (λ zs. slice_get zs 0) e)
     ∙ get_dropped xs i 0 i (omega arith) ∙ at
+
+-- what each element has, each has of those from a number on
+pub each_dropped : {X : Type 0} (P : X → Type 0) (xs : List X) (a : ℕ) → Each xs P → Each (drop a xs) P
+each_dropped P xs a h i x e = h (a + i) x (sym (get_dropped xs a i (a + i) refl) ∙ e)
+
+-- a place in a target is on a page that has a number
+place_goes : (w count : ℕ) (ts : List ℕ) (p : ℕ × ℕ) → p.0 < length ts → Each ts (λ n. n ≤ count) → p.1 < w
+    → address_in w ts p < (count + 1) * w
+place_goes w count ts p there few low =
+    let (n, e) = get_within ts p.0 there in
+    let is : get_or ts p.0 0 ≡ n = get_or_from_slice_get ts p.0 n 0 e in
+    subst (λ m. address_in w ts p < m) (mul_comm w (count + 1))
+    (mul-add-lt (get_or ts p.0 0) w p.1 (count + 1) (omega (arith, is, few p.0 n e)) low)
+
+-- so are the places of entries
+all_go : (w count : ℕ) (ts : List ℕ) (ps : List (ℕ × ℕ)) (fs : List Forwarding) → length fs ≤ length ps
+    → Each ts (λ n. n ≤ count) → Each ps (λ p. p.0 < length ts) → Each ps (λ p. p.1 < w)
+    → Each (with_places w ts ps fs) (λ f. f.to < (count + 1) * w)
+all_go w count ts ps [] l few counted within i f e = absurd (cc)
+all_go w count ts [] (x ∷ fs) l few counted within i f e = absurd (omega (arith, l))
+all_go w count ts (p ∷ ps) (x ∷ fs) l few counted within zero f e =
+    subst (λ (y : Forwarding). y.to < (count + 1) * w) (same_Some (record x { to = address_in w ts p }) f e)
+    (place_goes w count ts p (counted 0 p refl) few (within 0 p refl))
+all_go w count ts (p ∷ ps) (x ∷ fs) l few counted within (suc i) f e =
+    all_go w count ts ps fs (omega (arith, l)) few (λ j. counted (suc j)) (λ j. within (suc j)) i f e
+
+pub settled_go : (h : HeapState) (ts : List ℕ) (ps : List (ℕ × ℕ)) (fs : List Forwarding) → IsHeap h
+    → length fs ≤ length ps → Each ts (λ n. n ≤ h.store.count) → Each ps (λ p. p.0 < length ts)
+    → Each ps (λ p. p.1 < h.store.words) → Each (with_places h.store.words ts ps fs) (GoesToPage h.config)
+settled_go h ts ps fs k l few counted within i f e =
+    subst (λ n. f.to < (n + 1) * h.config.words) k.sizes.pages
+    (subst (λ w. f.to < (h.store.count + 1) * w) k.sizes.words
+    (all_go h.store.words h.store.count ts ps fs l few counted within i f e))

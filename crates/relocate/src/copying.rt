@@ -1,9 +1,10 @@
 //! Objects are copied, by workers and by threads that meet them (the paper's Relocate phase; that a
 //! thread copies itself is ours).
 
-ghost use Rattle.std.specs.Prelude.{◌≡◌, ◌<◌, ◌≤◌, Some, IfSome, slice_get};
+ghost use Rattle.std.specs.Prelude.{◌≡◌, ◌<◌, ◌≤◌, ◌/◌, Some, IfSome, slice_get};
 ghost use Rattle.heap.specs.Runs.{with_entry};
 ghost use Rattle.model.specs.Bits.{of_page};
+ghost use Rattle.model.specs.declared.limits.TheConstants.{MOST_PAGES};
 ghost use Rattle.model.specs.Marks.{entry_at};
 ghost use Rattle.model.specs.Moves.{copied_first, copy_outcome, entry_on, moved_word, place_by};
 ghost use Rattle.model.specs.Phases.{is_moving};
@@ -18,10 +19,10 @@ use refword::{Addr, Word};
 
 /// Copies the object of an entry of a page, by the page's number from 1 and the entry's from 0, where
 /// there is one that wasn't copied: a run of one.
-fn copy_entry(heap: &mut Heap, page: u32, entry: u32)
+fn copy_entry(heap: &mut Heap, page: u64, entry: u32)
     ensures { heap.new ≡ with_entry heap.old page (slice_get (of_page heap.old.sides page) entry) }
 {
-    let Some(found) = heap.sides().entry_on(page, entry) else {
+    let Some(found) = heap.sides().entry_numbered(page, entry) else {
         return;
     };
     if !found.copied {
@@ -72,6 +73,7 @@ fn entry_on(heap: &Heap, page: u32, entry: u32) -> Option<Forwarding>
     ensures low { IfSome result (λ f. 0 < page) }
     ensures high { IfSome result (λ f. page ≤ heap.now.store.count) }
     ensures within { IfSome result (λ f. f.offset < heap.now.store.words) }
+    ensures paged { IfSome result (λ f. f.to / heap.now.store.words ≤ MOST_PAGES) }
 {
     heap.law();
     if is_emptied(heap, page) {
@@ -111,9 +113,9 @@ pub fn copy(heap: &mut Heap, worker: u32, page: u32, entry: u32) -> Reply
         return Err(Refusal::Copied);
     }
     let answer = Answer::MovedTo {
-        page: heap.store().page_of(found.to),
+        page: heap.store().page_of(found.to) as u32,
         offset: heap.store().offset_of(found.to),
     };
-    copy_entry(heap, page, entry);
+    copy_entry(heap, u64::from(page), entry);
     Ok(answer)
 }

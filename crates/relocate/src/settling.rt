@@ -69,6 +69,7 @@ fn settle_page(
     ensures heap { heap.new ≡ record heap.old { sides = slice_set heap.old.sides (page - 1) (with_places heap.old.store.words targets.now (drop first plan.now) side) } }
     ensures next { result ≡ first + length side }
 {
+    heap.law();
     let mut side = side;
     let count = side.len();
     let _ = plan.len();

@@ -21,22 +21,22 @@ use std::thread::Threads;
 /// A run of entries: the target of all of them, and how many there are.
 #[derive(Clone, Copy)]
 struct Run {
-    target: u32,
+    target: u64,
     count: u32,
 }
 
 /// The target that the object of an entry goes to, if there is such an entry.
-fn target_of(heap: &Heap, page: u32, entry: u32) -> Option<u32>
+fn target_of(heap: &Heap, page: u64, entry: u32) -> Option<u64>
     ensures { result ≡ goes_to heap.now.store.words (slice_get (of_page heap.now.sides page) entry) }
 {
-    match heap.sides().entry_on(page, entry) {
+    match heap.sides().entry_numbered(page, entry) {
         None => None,
         Some(found) => Some(heap.store().page_of(found.to)),
     }
 }
 
 /// Whether the object of an entry goes to a target.
-fn is_going_to(heap: &Heap, page: u32, entry: u32, target: u32) -> bool
+fn is_going_to(heap: &Heap, page: u64, entry: u32, target: u64) -> bool
     ensures { result ≡ true → goes_to heap.now.store.words (slice_get (of_page heap.now.sides page) entry) ≡ Some target }
 {
     match target_of(heap, page, entry) {
@@ -48,7 +48,7 @@ fn is_going_to(heap: &Heap, page: u32, entry: u32, target: u32) -> bool
 /// How many entries of a page, from a number on and below another, go to a target, one behind the
 /// other. The first one does.
 #[tactic(auto, using(crate::proofs::Runs::run_begins, crate::proofs::Runs::run_more))]
-fn run_length(heap: &Heap, page: u32, first: u32, end: u32, target: u32) -> u32
+fn run_length(heap: &Heap, page: u64, first: u32, end: u32, target: u64) -> u32
     requires some { first < end }
     requires here { goes_to heap.now.store.words (slice_get (of_page heap.now.sides page) first) ≡ Some target }
     ensures { IsRun heap.now page first end target result }
@@ -65,7 +65,7 @@ fn run_length(heap: &Heap, page: u32, first: u32, end: u32, target: u32) -> u32
 
 /// The run that begins with an entry of a page.
 #[tactic(auto, using(crate::proofs::Runs::entry_goes))]
-fn run_at(heap: &Heap, page: u32, first: u32, end: u32) -> Run
+fn run_at(heap: &Heap, page: u64, first: u32, end: u32) -> Run
     requires some { first < end }
     requires within { end ≤ length (of_page heap.now.sides page) }
     ensures { IsRun heap.now page first end result.target result.count }
@@ -76,7 +76,7 @@ fn run_at(heap: &Heap, page: u32, first: u32, end: u32) -> Run
 }
 
 /// Copies the objects of all entries of a page.
-fn copy_runs(heap: &mut Heap, page: u32, count: u32)
+fn copy_runs(heap: &mut Heap, page: u64, count: u32)
     requires { count ≡ length (of_page heap.old.sides page) }
     ensures { heap.new ≡ with_entries heap.old page 0 count }
 {
@@ -93,7 +93,7 @@ fn copy_runs_by<R: Threads + Sync, G: PieceGate + Sync>(
     rt: &R,
     gate: &G,
     heap: &mut Heap,
-    page: u32,
+    page: u64,
     count: u32,
     depth: u32,
 )
@@ -141,7 +141,7 @@ pub fn copy_page(heap: &mut Heap, page: u32) -> Result<u32, Refusal>
     may_copy_page(heap, page)?;
     let copied = heap.sides().uncopied_on(page);
     let count = heap.sides().count_on(page);
-    copy_runs(heap, page, count);
+    copy_runs(heap, u64::from(page), count);
     Ok(copied)
 }
 
@@ -166,6 +166,6 @@ pub fn copy_page_by<R: Threads + Sync, G: PieceGate + Sync>(
     }
     let copied = heap.sides().uncopied_on(page);
     let count = heap.sides().count_on(page);
-    copy_runs_by(rt, gate, heap, page, count, depth);
+    copy_runs_by(rt, gate, heap, u64::from(page), count, depth);
     Ok(copied)
 }

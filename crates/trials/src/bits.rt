@@ -53,7 +53,7 @@ fn go_along(rt: &impl Abort, row: &mut Row, flags: &mut [bool]) {
 
 #[test]
 fn rows_go_along_with_flags(rt: HostRuntime) -> Result<(), Fail> {
-    for size in [16u32, 32, 64, 128, 256, 512, 1024, 2048, 4096] {
+    for size in [16u32, 32, 64, 128, 256, 512, 1024, 2048, 4096, 32768] {
         let mut row = Row::new(rt.alloc(), size)?;
         let mut flags = vec![in rt.alloc(); false; size as usize]?;
         go_along(&rt, &mut row, &mut flags);

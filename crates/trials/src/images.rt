@@ -245,7 +245,7 @@ fn faults_in_turn(rt: &impl Abort, alloc: Global, image: &mut Image) {
     has_fault(rt, alloc, image, Fault::Root(Root::Pending(1)));
     set_load(image, 0, Some(1 << 63));
     has_fault(rt, alloc, image, Fault::Root(Root::Pending(0)));
-    set_register(image, 1, 1, 1 << 28);
+    set_register(image, 1, 1, 1 << 40);
     has_fault(rt, alloc, image, Fault::Root(Root::Register(1, 1)));
     set_register(image, 1, 0, 17);
     has_fault(rt, alloc, image, Fault::Root(Root::Register(1, 0)));

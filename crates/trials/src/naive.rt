@@ -54,7 +54,7 @@ fn leads(image: &Image, value: u64) -> Option<Option<u64>> {
         return Some(None);
     }
     let address = value & !(1 << 63);
-    if address == 0 || address >= 1 << 28 {
+    if address == 0 || address >= 1 << 40 {
         return None;
     }
     let to = resolve(image, address);
@@ -108,7 +108,7 @@ fn none_from(image: &Image, count: u32) -> bool {
 
 fn has_frames(image: &Image) -> bool {
     let words = image.words;
-    let sized = words.is_power_of_two() && words >= 16 && words <= 4096;
+    let sized = words.is_power_of_two() && words >= 16 && words <= 32768;
     let filled = image
         .frames
         .iter()

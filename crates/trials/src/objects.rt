@@ -26,10 +26,10 @@ fn has_two(rt: &impl Abort, table: &Layouts, second: Layout) {
 fn a_table_of_two(rt: HostRuntime) -> Result<(), Fail> {
     let small = Layout { refs: 0, nums: 0 };
     let large = Layout {
-        refs: 255,
-        nums: 255,
+        refs: 1023,
+        nums: 1023,
     };
-    assert_eq!(rt; (small.size(), large.size()), (1, 511));
+    assert_eq!(rt; (small.size(), large.size()), (1, 2047));
     let table = Layouts::new(vec![in rt.alloc(); small, large]?);
     has_two(&rt, &table, large);
     assert_eq!(rt; table.into_vec().len(), 2);

@@ -172,7 +172,7 @@ const PAGES: [u32; 6] = [0, 1, 2, 3, 4, u32::MAX];
 
 /// Where the object at offset 9 of each of these pages goes, if it is to go.
 fn ninths(sides: &Sides) -> [Option<u64>; 6] {
-    PAGES.map(|page| Some(sides.entry_at(page, 9)?.to.number()))
+    PAGES.map(|page| Some(sides.entry_at(u64::from(page), 9)?.to.number()))
 }
 
 /// The offset of the fourth entry of each of these pages, if it has so many.

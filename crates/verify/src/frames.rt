@@ -39,11 +39,14 @@ impl PageImage {
     }
 }
 
-/// Whether pages may have so many words: a power of two from 16 to 4096.
+/// Whether pages may have so many words: a power of two from 16 to 32768.
 fn is_page_size(words: u32) -> bool
     ensures { result ≡ is_page_size words }
 {
-    matches!(words, 16 | 32 | 64 | 128 | 256 | 512 | 1024 | 2048 | 4096)
+    matches!(
+        words,
+        16 | 32 | 64 | 128 | 256 | 512 | 1024 | 2048 | 4096 | 8192 | 16384 | 32768
+    )
 }
 
 /// Whether all frames have so many words.

@@ -44,7 +44,7 @@ impl Model for Words {
 /// The image of a heap (ours). No list has to be as long as another one says.
 #[derive(Debug, Drop)]
 pub struct Image {
-    /// The words of a page: in a sound image a power of two from 16 to 4096.
+    /// The words of a page: in a sound image a power of two from 16 to 32768.
     pub words: u32,
     /// How many frames there are to be.
     pub frame_count: u32,

@@ -2,6 +2,7 @@
 
 ghost use Rattle.std.specs.Prelude.{◌≡◌, ◌<◌, ◌≤◌, ◌%◌, ◌^◌, ℕ, false, None, get_or, slice_get, option_map};
 ghost use Rattle.std.specs.Option.{option_copied};
+ghost use Rattle.model.specs.declared.limits.TheConstants.{MOST_WORDS};
 ghost use Rattle.verify.specs.Images.{page_at, word_at, starts_on, object_in, object_at, field};
 ghost use Rattle.verify.specs.Walks.{space};
 
@@ -15,7 +16,7 @@ pub(crate) struct Object {
     /// Its birth number.
     pub(crate) birth: u32,
     /// How many reference fields it has.
-    pub(crate) refs: u8,
+    pub(crate) refs: u16,
 }
 
 impl Words {
@@ -145,12 +146,12 @@ impl Image {
         Some(object.birth)
     }
 
-    /// A number, at most 2^28, below which the addresses of all objects are.
+    /// A number, at most 2^40, below which the addresses of all objects are.
     pub(crate) fn space(&self) -> u64
         requires sized { 0 < self.now.words }
-        requires page { self.now.words ≤ 4096 }
+        requires page { self.now.words ≤ MOST_WORDS }
         ensures value { result ≡ space self.now }
-        ensures range { result ≤ 2 ^ 28 }
+        ensures range { result ≤ 2 ^ 40 }
     {
         let pages = self.pages.len() as u64;
         if pages >= Addr::LIMIT {

@@ -1,6 +1,7 @@
 //! The walk along references that finds which objects are reached.
 
 ghost use Rattle.std.specs.Prelude.{◌≡◌, ◌<◌, ◌≤◌, ◌++◌, ◌∷◌, ℕ, [], length, IfOk, MatchBool, MatchOption};
+ghost use Rattle.model.specs.declared.limits.TheConstants.{MOST_WORDS};
 ghost use Rattle.verify.specs.Images.{object_at};
 ghost use Rattle.verify.specs.Walks.{IsWalk, IsWalkAt, Keeps, spot_at, first_spot, is_unseen, with_visit};
 ghost use Rattle.verify.specs.Walks.{looks_left, space};
@@ -45,7 +46,7 @@ impl Walk {
     /// A walk that has come nowhere. Fails only by memory.
     pub(crate) fn new(alloc: Global, image: &Image) -> Result<Walk, AllocError>
         requires sized { 0 < image.now.words }
-        requires page { image.now.words ≤ 4096 }
+        requires page { image.now.words ≤ MOST_WORDS }
         ensures { IfOk result (IsWalk image.now) }
     {
         let spots = spots_of(alloc, image)?;
@@ -137,7 +138,7 @@ fn first_spot(image: &Image, address: u64) -> Spot
 /// What stands at each address before a walk. Fails only by memory.
 fn spots_of(alloc: Global, image: &Image) -> Result<Vec<Spot>, AllocError>
     requires sized { 0 < image.now.words }
-    requires page { image.now.words ≤ 4096 }
+    requires page { image.now.words ≤ MOST_WORDS }
     ensures len { IfOk result (λ spots. length spots.items ≡ space image.now) }
     ensures each { IfOk result (λ spots. (a : ℕ) → a < space image.now
         → spot_at spots.items a ≡ first_spot (object_at image.now a)) }

@@ -1,6 +1,6 @@
 //! Data words of objects.
 
-ghost use Rattle.std.specs.Prelude.{◌≡◌, ◌+◌, ◌<◌, IfSome};
+ghost use Rattle.std.specs.Prelude.{◌≡◌, ◌+◌, ◌<◌, ◌^◌, IfSome};
 ghost use Rattle.std.specs.Option.{option_map};
 ghost use Rattle.model.specs.Stores.{with_word};
 ghost use Rattle.model.specs.Data.{layout_at, datum_at, datum_outcome, set_datum_outcome};
@@ -32,7 +32,7 @@ impl Heap {
     #[tactic(auto, unfolding(model::specs::Data::datum_at))]
     fn datum_behind(&self, address: Addr, index: u32) -> Option<u64>
         ensures value { option_map (λ k. address + k) result ≡ datum_at self.now address index }
-        ensures near { IfSome result (λ k. k < 512) }
+        ensures near { IfSome result (λ k. k < 2 ^ 17) }
     {
         let layout = self.layout_at(address)?;
         if index >= u32::from(layout.nums) {
@@ -48,10 +48,10 @@ impl Heap {
         self.store.set_word(address, value);
     }
 
-    /// Writes the word less than 512 words behind an address, if its page has memory.
+    /// Writes the word less than 2^17 words behind an address, if its page has memory.
     #[inline(always)]
     pub(crate) fn set_word_behind(&mut self, address: Addr, ahead: u64, value: u64)
-        requires { ahead < 512 }
+        requires { ahead < 2 ^ 17 }
         ensures { self.new ≡ record self.old { store = with_word self.old.store (address + ahead) value } }
     {
         self.store.set_word_behind(address, ahead, value);

@@ -1,6 +1,6 @@
 //! References of objects, and globals.
 
-ghost use Rattle.std.specs.Prelude.{◌≡◌, ◌+◌, ◌<◌, IfSome};
+ghost use Rattle.std.specs.Prelude.{◌≡◌, ◌+◌, ◌<◌, ◌^◌, IfSome};
 ghost use Rattle.std.specs.Option.{option_map};
 ghost use Rattle.model.specs.References.{read_reference, global_of, field_at, store_outcome, store_global_outcome};
 ghost use Rattle.model.specs.Refusing.{Does};
@@ -31,8 +31,8 @@ impl Heap {
     #[tactic(auto, unfolding(model::specs::References::field_at))]
     pub fn field_behind(&self, address: Addr, index: u32) -> Option<u64>
         ensures value { option_map (λ k. address + k) result ≡ field_at self.now address index }
-        ensures few { IfSome result (λ _. index < 256) }
-        ensures near { IfSome result (λ k. k < 512) }
+        ensures few { IfSome result (λ _. index < 2 ^ 16) }
+        ensures near { IfSome result (λ k. k < 2 ^ 17) }
     {
         let layout = self.layout_at(address)?;
         if index >= u32::from(layout.refs) {
@@ -45,7 +45,7 @@ impl Heap {
     /// none where the object has no such reference.
     pub fn field_at(&self, address: Addr, index: u32) -> Option<u64>
         ensures value { result ≡ field_at self.now address index }
-        ensures few { IfSome result (λ _. index < 256) }
+        ensures few { IfSome result (λ _. index < 2 ^ 16) }
     {
         let ahead = self.field_behind(address, index)?;
         Some(address.number() + ahead)

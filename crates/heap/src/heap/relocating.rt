@@ -4,8 +4,8 @@
 //! They are for the crate that does rows of moving: each does what it says and tests nothing, so
 //! who uses the heap asks for steps instead. Pages count from 1.
 
-ghost use Rattle.std.specs.Prelude.{◌≡◌, ◌-◌, ◌≤◌, false, slice_set};
-ghost use Rattle.model.specs.Holding.{AreRising};
+ghost use Rattle.std.specs.Prelude.{◌≡◌, ◌-◌, ◌<◌, ◌^◌, false, slice_set};
+ghost use Rattle.model.specs.Holding.{AreRising, GoesToPage};
 ghost use Rattle.model.specs.Moves.{with_released};
 ghost use Rattle.model.specs.Owning.{Each};
 ghost use Rattle.model.specs.Plans.{object_words};
@@ -21,12 +21,12 @@ use model::{Buffer, Phase, Room};
 use refword::Addr;
 
 impl Heap {
-    /// How many words the object at an address has: 1 to 511. One that can't be read counts as its
+    /// How many words the object at an address has: 1 to 2,047. One that can't be read counts as its
     /// header alone (ours).
     #[tactic(auto, unfolding(model::specs::Plans::object_words))]
     pub fn object_words(&self, address: Addr) -> u32
         ensures value { result ≡ object_words self.now address }
-        ensures range { result ≤ 511 }
+        ensures range { result < 2 ^ 17 }
     {
         match self.layout_at(address) {
             None => 1,
@@ -46,9 +46,9 @@ impl Heap {
     }
 
     /// A raw edit: gives a page another side array, if it has a record.
-    #[tactic(auto, using(crate::proofs::Moving::side_keeps))]
     pub fn set_side(&mut self, page: u32, side: Side)
-        requires { AreRising self.old.config.words 0 side }
+        requires rising { AreRising self.old.config.words 0 side }
+        requires places { Each side (GoesToPage self.old.config) }
         ensures { self.new ≡ record self.old { sides = slice_set self.old.sides (page - 1) side } }
     {
         self.sides.put(page.saturating_sub(1) as usize, side);

@@ -14,11 +14,11 @@ use page::{PieceGate, Store};
 use std::thread::Threads;
 
 /// Notes that the object of an entry of a page is copied, where there is one that wasn't.
-fn note_copy(starts: &mut Rows, sides: &mut Sides, store: &Store, page: u32, entry: u32)
+fn note_copy(starts: &mut Rows, sides: &mut Sides, store: &Store, page: u64, entry: u32)
     ensures starts { starts.new ≡ noted_starts store.now.words (slice_get (of_page sides.old page) entry) starts.old }
     ensures sides { sides.new ≡ noted_sides page (slice_get (of_page sides.old page) entry) sides.old }
 {
-    let Some(found) = sides.entry_on(page, entry) else {
+    let Some(found) = sides.entry_numbered(page, entry) else {
         return;
     };
     if found.copied {
@@ -34,7 +34,7 @@ fn note_copies(
     starts: &mut Rows,
     sides: &mut Sides,
     store: &Store,
-    page: u32,
+    page: u64,
     first: u32,
     count: u32,
 )
@@ -50,7 +50,7 @@ impl Heap {
     /// A raw edit: copies the objects of a run, so many entries of a page from a number on, which go
     /// to one target, and notes that they are copied (the paper's Relocate phase). Those that were
     /// copied before aren't written. It takes no memory.
-    pub fn copy_run(&mut self, page: u32, target: u32, first: u32, count: u32)
+    pub fn copy_run(&mut self, page: u64, target: u64, first: u32, count: u32)
         requires within { first + count ≤ length (of_page self.old.sides page) }
         requires together { GoTo self.old.store.words target (of_page self.old.sides page) first count }
         ensures { self.new ≡ with_entries self.old page first count }
@@ -88,8 +88,8 @@ impl Heap {
         &mut self,
         rt: &R,
         gate: &G,
-        page: u32,
-        target: u32,
+        page: u64,
+        target: u64,
         first: u32,
         count: u32,
         depth: u32,

@@ -98,8 +98,8 @@ impl Store {
     #[tactic(auto, using(crate::proofs::Runs::run_nowhere, crate::proofs::Runs::run_of_nothing, crate::proofs::Runs::run_on_one, crate::proofs::Runs::run_apart))]
     pub fn copy_entries(
         &mut self,
-        page: u32,
-        target: u32,
+        page: u64,
+        target: u64,
         side: &Side,
         layouts: &Layouts,
         first: usize,
@@ -109,10 +109,10 @@ impl Store {
         ensures { self.new ≡ with_run self.old page target side.now layouts.now first count }
     {
         self.law();
-        let Some(source) = self.frame(page) else {
+        let Some(source) = self.recorded_frame(page) else {
             return;
         };
-        let Some(to) = self.frame(target) else {
+        let Some(to) = self.recorded_frame(target) else {
             return;
         };
         if source != to {
@@ -153,8 +153,8 @@ impl Store {
         &mut self,
         rt: &R,
         gate: &G,
-        page: u32,
-        target: u32,
+        page: u64,
+        target: u64,
         side: &Side,
         layouts: &Layouts,
         first: usize,
@@ -167,10 +167,10 @@ impl Store {
         ensures { self.new ≡ with_run self.old page target side.now layouts.now first count }
     {
         self.law();
-        let Some(source) = self.frame(page) else {
+        let Some(source) = self.recorded_frame(page) else {
             return;
         };
-        let Some(to) = self.frame(target) else {
+        let Some(to) = self.recorded_frame(target) else {
             return;
         };
         if source != to {

@@ -1,5 +1,5 @@
 use Rattle.std.proofs.Common.{◌≡◌, replicate}
-use Rattle.page.proofs.store.blank_frames.Given as goal
+use Rattle.page.proofs.frame.blank_frames.Given as goal
 
 abbrev pub invariant-loop-frame : goal.invariant-loop-frame
 invariant-loop-frame l = l.frames.items ≡ replicate l._frame (replicate l.words 0)
