@@ -15,7 +15,7 @@ use Rattle.model.specs.Marks.{entry_of}
 use Rattle.model.specs.Cycles.{is_uncopied}
 use Rattle.model.specs.Moves.{set_copied_of}
 use Rattle.model.proofs.Lists.{count_set, as_number, get_read}
-use Rattle.forward.specs.Counts.{uncopied_in, IsSide}
+use Rattle.forward.specs.Counts.{uncopied_in}
 use Rattle.model.proofs.Plans.{rising_within}
 use Rattle.forward.proofs.Entries.{no_more}
 
@@ -107,37 +107,6 @@ entry_has o (x ∷ fs) f e = elim (cases_eq x.offset o) [
 ]
 
 -- counts
-
--- an entry that was sought by its offset, and read: noted as copied, or found so
-module _ (o i left : ℕ) (fs now : List Forwarding) (f : Forwarding) (side : IsSide fs left) (view : fs ≡ now)
-    (sought : entry_of now o ≡ slice_get now i) (within : i < length now) (read : f ≡ get_or fs i f) where
-  there : slice_get fs i ≡ Some f
-  there = get_read fs i f (subst (λ xs. i < length xs) (sym view) within) read
-
-  here : f.offset ≡ o
-  here = entry_has o fs f
-      (ap (λ xs. entry_of xs o) view ∙ sought ∙ ap (λ xs. slice_get xs i) (sym view) ∙ there)
-
-  pub noted : set fs i (copied_one f) ≡ map (set_copied_of o) now
-  noted = one_noted MOST_WORDS 0 o i fs f side.rising there here ∙ ap (map (set_copied_of o)) view
-
-  pub found_copied : f.copied ≡ true → set fs i f ≡ map (set_copied_of o) now
-  found_copied c = ap (set fs i) (sym (copied_already f c)) ∙ noted
-
-  pub still_side : f.copied ≡ false → IsSide (set fs i (copied_one f)) (left - 1)
-  still_side c = record {
-    rising = subst (AreRising MOST_WORDS 0) (sym (one_noted MOST_WORDS 0 o i fs f side.rising there here))
-        (still_rising MOST_WORDS 0 o fs side.rising);
-    counted =
-        let fewer = count_set is_uncopied fs i f (copied_one f) there in
-        let was : as_number (is_uncopied f) ≡ 1 = ap (λ b. as_number (not b)) c in
-        omega (arith, side.counted, fewer, was);
-  }
-
--- no more than a page has words
-pub few_left : (fs : List Forwarding) (left : ℕ) → IsSide fs left → left ≤ MOST_WORDS
-few_left fs left side =
-    omega (arith, side.counted, count_by-le-length is_uncopied fs, no_more MOST_WORDS 0 fs (omega arith) side.rising)
 
 -- nothing is left where each entry is copied
 pub none_left : (fs : List Forwarding) → (uncopied_in fs == 0) ≡ not (list_any is_uncopied fs)

@@ -44,7 +44,7 @@ few_entries fs r = omega (arith, no_more MOST_WORDS 0 fs (omega arith) r)
 
 -- what is found
 
-entry_none : (fs : List Forwarding) (o : ℕ) → Each fs (λ f. f.offset ≢ o) → entry_of fs o ≡ None
+pub entry_none : (fs : List Forwarding) (o : ℕ) → Each fs (λ f. f.offset ≢ o) → entry_of fs o ≡ None
 entry_none [] o h = refl
 entry_none (f ∷ fs) o h = by_test (f.offset == o) (ne_eqb f.offset o (h zero f refl))
     (entry_none fs o (λ i. h (suc i)))
@@ -53,7 +53,7 @@ entry_none (f ∷ fs) o h = by_test (f.offset == o) (ne_eqb f.offset o (h zero f
     by_test true e k = absurd (cc)
     by_test false e k = k
 
-entry_here : (w low : ℕ) (fs : List Forwarding) (o i : ℕ) (f : Forwarding) → AreRising w low fs
+pub entry_here : (w low : ℕ) (fs : List Forwarding) (o i : ℕ) (f : Forwarding) → AreRising w low fs
     → slice_get fs i ≡ Some f → f.offset ≡ o → entry_of fs o ≡ Some f
 entry_here w low [] o i f r e k = absurd (cc)
 entry_here w low (x ∷ fs) o zero f r e k =
@@ -68,37 +68,3 @@ entry_here w low (x ∷ fs) o (suc i) f r e k =
 pub found_here : (fs : List Forwarding) (o i : ℕ) (f : Forwarding) → AreRising MOST_WORDS 0 fs
     → Some f ≡ slice_get fs i → f.offset ≡ o → entry_of fs o ≡ slice_get fs i
 found_here fs o i f r e k = entry_here MOST_WORDS 0 fs o i f r (sym e) k ∙ e
-
--- what a binary search finds
-ranks : (a b o : ℕ) → a ≤ b → ordering_index (nat_cmp a o) ≤ ordering_index (nat_cmp b o)
-ranks a b o l = grind (arith, nat_tests)
-
-module _ (w low : ℕ) (fs : List Forwarding) (rising : AreRising w low fs) (o : ℕ) where
-  blank : Forwarding
-  blank = record { offset = 0; to = 0; copied = false }
-
-  comparisons_rise : IsNonDecreasingBy (λ (f : Forwarding). ordering_index (nat_cmp f.offset o)) fs
-  comparisons_rise = IsNonDecreasingBy-from_default (λ (f : Forwarding). ordering_index (nat_cmp f.offset o)) fs blank
-      (λ i j le within. ranks (get_or fs i blank).offset (get_or fs j blank).offset o (elim (cases_lt i j) [
-        | inl l ↦ (let k = ascends w low fs i j (get_or fs i blank) (get_or fs j blank) rising l
-            (slice_get-get_or fs i blank (omega (arith, le, within))) (slice_get-get_or fs j blank within) in
-            omega (arith, k))
-        | inr l ↦ (let same : i ≡ j = omega (arith, le, l) in
-            subst (λ k. (get_or fs i blank).offset ≤ (get_or fs k blank).offset) same (omega arith))
-      ]))
-
-  pub searched : (r : Result ℕ ℕ) → IsSearchInRange r (length fs)
-      → IsBinarySearchResult (λ (f : Forwarding). nat_cmp f.offset o) fs r → entry_of fs o ≡ found_at fs (result_ok r)
-  searched (Ok i) within equal =
-      let there = slice_get-get_or fs i blank within in
-      entry_here w low fs o i (get_or fs i blank) rising there (ranked _ o _ (sym (equal blank))) ∙ sym there
-  searched (Err i) within parted = entry_none fs o (λ j f e same.
-      let here : (get_or fs j blank).offset ≡ o =
-      ap (λ (z : Forwarding). z.offset) (get_or_from_slice_get fs j f blank e) ∙ same in
-      let parts = parted comparisons_rise in
-      elim (cases_lt j i) [
-        | inl l ↦ (let low : (get_or fs j blank).offset < o = ranked _ o _ (sym (parts.0 j blank (omega arith) l)) in
-            absurd (omega (arith, low, here)))
-        | inr l ↦ (let high : o < (get_or fs j blank).offset =
-            ranked _ o _ (sym (parts.1 j blank l (slice_get_within fs j f e))) in absurd (omega (arith, high, here)))
-      ])

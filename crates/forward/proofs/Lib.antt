@@ -1,4 +1,6 @@
 pub mod Entries
+pub mod Ranked
+pub mod Edited
 pub mod Copies
 pub mod Places
 pub mod Totals

@@ -15,11 +15,6 @@ uncopied_in side = count_by is_uncopied side
 abbrev pub uncopied_count : List (List Forwarding) → ℕ
 uncopied_count sides = sum_by uncopied_in sides
 
--- a side array's offsets rise within a page, and this many of its entries have still to be copied
-pub record IsSide (side : List Forwarding) (left : ℕ) : Type 0 where
-  pub rising : AreRising MOST_WORDS 0 side
-  pub counted : left ≡ uncopied_in side
-
 -- this many entries of all side arrays have still to be copied, and of none more than a page has words
 pub record AreCounted (sides : List (List Forwarding)) (left : ℕ) : Type 0 where
   pub counted : left ≡ uncopied_count sides

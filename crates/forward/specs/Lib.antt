@@ -1,3 +1,4 @@
 pub mod Counts
+pub mod Ranked
 pub mod Searching
 pub mod Settling

@@ -3,3 +3,4 @@ pub mod RowWords
 pub mod ManyRows
 pub mod Busy
 pub mod Blocks
+pub mod Ranks

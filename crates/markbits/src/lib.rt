@@ -4,8 +4,10 @@
 
 mod indexed;
 mod indexed_row;
+mod ranked_row;
 mod rows;
 
 pub use indexed::IndexedRows;
 pub use indexed_row::IndexedRow;
+pub use ranked_row::RankedRow;
 pub use rows::{Row, Rows};

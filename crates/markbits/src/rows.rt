@@ -1,6 +1,6 @@
 //! Rows of bits, one bit for each word of a page.
 
-ghost use Rattle.std.specs.Prelude.{◌≡◌, ℕ, ◌<◌, ◌≤◌, ◌^◌, length, replicate, take, slice_get, slice_index_or, Some, map, false, IfOk, count_by};
+ghost use Rattle.std.specs.Prelude.{◌≡◌, ℕ, ◌-◌, ◌*◌, ◌/◌, ◌<◌, ◌≤◌, ◌^◌, length, replicate, take, slice_get, slice_index_or, Some, map, false, [], IfOk, count_by};
 ghost use Rattle.std.specs.Int.{div_ceil};
 ghost use Rattle.std.specs.Option.{option_copied};
 ghost use Rattle.model.specs.States.{change_at};
@@ -9,6 +9,7 @@ ghost use Rattle.markbits.specs.Words.{bit_of, IsNextPlace};
 ghost use Rattle.std.specs.Borrow.{sem};
 ghost use Rattle.markbits.specs.Lending.{LendsRow};
 ghost use Rattle.markbits.specs.Blocks.{IsNextInBlock};
+ghost use Rattle.markbits.specs.Ranks.{rank_of};
 
 use std::alloc::{AllocError, Global};
 use std::marker::Model;
@@ -44,6 +45,29 @@ impl Row {
             words: vec![in alloc; 0u64; (words as usize).div_ceil(64)]?,
             len: words,
             total: 0,
+        })
+    }
+
+    /// A row of no bits. It takes no memory.
+    #[tactic(auto, unfolding(crate::specs::Words::bits_of))]
+    pub fn empty(alloc: Global) -> Row
+        ensures { result ≡ [] }
+    {
+        Row {
+            words: Vec::new(alloc),
+            len: 0,
+            total: 0,
+        }
+    }
+
+    /// A second row of the same bits. Fails only by memory.
+    pub fn copy(&self, alloc: Global) -> Result<Row, AllocError>
+        ensures { IfOk result (λ r. r ≡ self.now) }
+    {
+        Ok(Row {
+            words: Vec::from_slice(alloc, &self.words)?,
+            len: self.len,
+            total: self.total,
         })
     }
 
@@ -137,6 +161,37 @@ impl Row {
         }
         let part = self.words[offset / 64] & ((1u64 << (offset % 64)) - 1);
         below + part.count_ones() as usize
+    }
+
+    /// The number of bits, set or not.
+    #[tactic(auto, using(crate::proofs::RowWords::row_length))]
+    pub fn len(&self) -> usize
+        ensures value { result ≡ length self.now }
+        ensures range { result < 2 ^ 32 }
+    {
+        self.len as usize
+    }
+
+    /// How many bits are set below an offset in the row, by how many are below the offset's word.
+    pub(crate) fn rank_within(&self, offset: usize, below: u32) -> u32
+        requires within { offset < length self.now }
+        requires below { below ≡ rank_of self.now (64 * (offset / 64)) }
+        ensures { result ≡ rank_of self.now offset }
+    {
+        let mask = (1u64 << (offset % 64)) - 1;
+        let part = self.words[offset / 64] & mask;
+        below + part.count_ones()
+    }
+
+    /// How many bits are set below the word of an index that isn't the first, by how many are below the
+    /// word before it.
+    pub(crate) fn rank_word(&self, index: usize, below: u32) -> u32
+        requires low { 0 < index }
+        requires there { 64 * index ≤ length self.now }
+        requires below { below ≡ rank_of self.now (64 * (index - 1)) }
+        ensures { result ≡ rank_of self.now (64 * index) }
+    {
+        below + self.words[index - 1].count_ones()
     }
 
     /// The row as words: its bit `i` is bit `i % 64` of word `i / 64`, and the other bits of the

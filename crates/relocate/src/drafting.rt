@@ -5,41 +5,37 @@ ghost use Rattle.std.specs.Prelude.{◌≡◌, ◌<◌, ◌≤◌, ◌++◌, len
 ghost use Rattle.model.specs.Plans.{offsets_from};
 ghost use Rattle.model.specs.Owning.{Each};
 ghost use Rattle.std.specs.List.{flat_map};
-ghost use Rattle.relocate.specs.Drafts.{draft_of, draft_entry, draft_size, draft_sizes};
+ghost use Rattle.relocate.specs.Drafts.{address_of, draft_of, draft_size, draft_sizes};
 
 use forward::Side;
 use heap::{Heap, Row};
-use model::Forwarding;
+use refword::Addr;
 use std::alloc::{AllocError, Global};
 
-/// An entry for each live object of a page, by the page's number from 1 and its row of live bits.
-/// Each goes to where it is, until places are known. Their sizes are put behind others.
-fn draft_side(
+/// A place for each live object of a page, by the page's number from 1 and its row of live bits: where
+/// it is, until others are known. Their sizes are put behind others.
+fn draft_places(
     alloc: Global,
     heap: &Heap,
     page: u32,
     row: &Row,
     sizes: &mut Vec<u32>,
-) -> Result<Vec<Forwarding>, AllocError>
+) -> Result<Vec<Addr>, AllocError>
     requires low { 0 < page }
     requires high { page ≤ heap.now.store.count }
     requires size { length row.now ≡ heap.now.store.words }
-    ensures entries { IfOk result (λ v. v.items ≡ map (draft_entry heap.now page) (offsets_from 0 row.now)) }
+    ensures places { IfOk result (λ v. v.items ≡ map (address_of heap.now page) (offsets_from 0 row.now)) }
     ensures sizes { OnOk result (sizes.new.items ≡ sizes.old.items ++ map (draft_size heap.now page) (offsets_from 0 row.now)) }
 {
-    let mut entries = Vec::with_capacity(alloc, row.count())?;
+    let mut places = Vec::with_capacity(alloc, row.count())?;
     let mut from = 0;
     while let Some(offset) = row.next_from(from) {
         let to = heap.address_on(page, offset);
-        entries.push(Forwarding {
-            offset,
-            to,
-            copied: false,
-        })?;
+        places.push(to)?;
         sizes.push(heap.object_words(to))?;
         from = offset as usize + 1;
     }
-    Ok(entries)
+    Ok(places)
 }
 
 /// The same of a page by its number from 1. One without a record has no live objects.
@@ -59,8 +55,10 @@ fn draft_page(
     match heap.live().get((page - 1) as usize) {
         None => Ok(Side::empty(alloc)),
         Some(row) => {
-            let entries = draft_side(alloc, heap, page, row, sizes)?;
-            Ok(Side::new(entries))
+            let places = draft_places(alloc, heap, page, row, sizes)?;
+            let live = row.copy(alloc)?;
+            let side = Side::new(alloc, live, places)?;
+            Ok(side)
         }
     }
 }

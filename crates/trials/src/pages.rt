@@ -1,10 +1,9 @@
 //! A store of pages, and where its buffers are.
 
-ghost use Rattle.std.specs.Prelude.{◌≡◌};
-
 use forward::Side;
+use heap::Row;
 use layout::{Layout, Layouts};
-use model::{Buffer, Forwarding, PageState, Room};
+use model::{Buffer, PageState, Room};
 use page::Store;
 use refword::Addr;
 use std::alloc::Global;
@@ -196,23 +195,21 @@ fn address(number: u64) -> Result<Addr, Fail> {
     Ok(Addr::new(number).ok_or("no address")?)
 }
 
-fn entry(offset: u32, to: Addr) -> Forwarding
-    ensures { result.offset ≡ offset }
-{
-    Forwarding {
-        offset,
-        to,
-        copied: false,
-    }
-}
-
 /// Objects that go to page 2: the first past the end of it, the last from past the end of its own.
 fn three(alloc: Global) -> Result<Side, Fail> {
     let first = address(2 * 16 + 14)?;
     let second = address(2 * 16 + 1)?;
     let third = address(2 * 16 + 8)?;
-    let entries = vec![in alloc; entry(0, first), entry(2, second), entry(14, third)]?;
-    Ok(Side::new(entries))
+    let mut live = Row::new(alloc, 16)?;
+    for offset in [0, 2, 14] {
+        live.put(offset, true);
+    }
+    let places = vec![in alloc; first, second, third]?;
+    if live.len() > 16 || live.count() != places.len() {
+        return Err("another row".into());
+    }
+    let side = Side::new(alloc, live, places)?;
+    Ok(side)
 }
 
 /// Objects of three words are copied between pages, as far as both go, and nowhere else.

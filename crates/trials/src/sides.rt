@@ -4,7 +4,7 @@ ghost use Rattle.std.specs.Prelude.{◌≡◌, ◌<◌};
 
 use crate::bits::scatter;
 use forward::{Plan, Side, Sides};
-use model::Forwarding;
+use heap::Row;
 use refword::Addr;
 use std::alloc::{AllocError, Global};
 use std::process::Abort;
@@ -90,26 +90,22 @@ fn plans_beside_a_loop(rt: HostRuntime) -> Result<(), Fail> {
     Ok(())
 }
 
-/// An object that goes to an address.
-fn entry(offset: u32, to: Addr, copied: bool) -> Forwarding
-    ensures { result.offset ≡ offset }
-{
-    Forwarding { offset, to, copied }
-}
-
 const OFFSETS: [u32; 5] = [0, 3, 4, 9, 15];
 
 /// A side array of objects at these offsets, of which the one at 4 is copied.
 fn five(alloc: Global, to: u64) -> Result<Side, Fail> {
     let to = Addr::new(to).ok_or("no address")?;
-    let entries = vec![in alloc;
-        entry(0, to, false),
-        entry(3, to, false),
-        entry(4, to, true),
-        entry(9, to, false),
-        entry(15, to, false),
-    ]?;
-    Ok(Side::new(entries))
+    let mut live = Row::new(alloc, 16)?;
+    for offset in OFFSETS {
+        live.put(offset as usize, true);
+    }
+    let places = vec![in alloc; to; OFFSETS.len()]?;
+    if live.len() > 16 || live.count() != places.len() {
+        return Err("another row".into());
+    }
+    let mut side = Side::new(alloc, live, places)?;
+    side.set_copied(4);
+    Ok(side)
 }
 
 /// What is found at offsets, and between and behind them.

@@ -129,7 +129,7 @@ fn side(alloc: Global, heap: &Heap, number: u32) -> Result<Vec<Forwarding>, Allo
 {
     match heap.sides().get((number - 1) as usize) {
         None => Ok(Vec::new(alloc)),
-        Some(side) => Vec::from_slice(alloc, side.entries()),
+        Some(side) => side.entries(alloc),
     }
 }
 

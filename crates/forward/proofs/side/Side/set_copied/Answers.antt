@@ -1,7 +1,22 @@
-use Rattle.forward.proofs.Copies.{still_side}
+use Rattle.std.proofs.Common.{◌≡◌, ◌∙◌, sym, ap, subst, set, true, map, None}
+use Rattle.model.specs.Marks.{entry_of}
+use Rattle.model.specs.Moves.{set_copied_of}
+use Rattle.forward.specs.Ranked.{entries_of}
+use Rattle.forward.proofs.Copies.{none_noted}
+use Rattle.forward.proofs.Edited.{noted}
+use Rattle.forward.proofs.Ranked.{none_ranked}
 use Rattle.forward.proofs.side.Side.set_copied.Goals as goal
 
-pub invariant_of-self : goal.invariant_of-self
-invariant_of-self c =
-    still_side _ c.in-Some.index _ _ _ _ c.self.invariant c.self.view_is c.in-Some.ensures.entry
-    c.in-Some.ensures.range c.index_mut-entry.ensures.value c.if-not-entry.true
+pub returns-then-test : goal.returns-then-test
+returns-then-test c =
+    ap (entries_of c.self.inside.live c.self.inside.places.items)
+    (c.put.ensures ∙ ap (λ i. set c.self.inside.copied i true) c.rank-index.ensures)
+    ∙ noted c.self.inside.live c.self.inside.places.items c.self.inside.copied c.self.invariant c.args.offset
+    (sym c.test.ensures ∙ c.if-test.true)
+    ∙ ap (map (set_copied_of c.args.offset)) c.self.view_is
+
+pub returns-else-test : goal.returns-else-test
+returns-else-test c = none_noted c.args.offset c.args.self.now
+    (subst (λ s. entry_of s c.args.offset ≡ None) c.self.view_is
+    (none_ranked c.self.inside.live c.self.inside.places.items c.self.inside.copied c.self.invariant c.args.offset
+    (sym c.test.ensures ∙ c.if-test.false)))

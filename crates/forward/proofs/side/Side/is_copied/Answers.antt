@@ -1,0 +1,14 @@
+use Rattle.std.proofs.Common.{◌∙◌, ap, arith}
+use Rattle.forward.specs.Counts.{uncopied_in}
+use Rattle.forward.proofs.Copies.{none_left}
+use Rattle.forward.proofs.Edited.{left_of, same_test}
+use Rattle.forward.proofs.side.Side.is_copied.Goals as goal
+
+pub returns : goal.returns
+returns c = same_test c.len.result c.count.result (uncopied_in c.args.self.now) (omega (
+  arith,
+  left_of c.self.inside.live c.self.inside.places.items c.self.inside.copied c.self.invariant,
+  ap uncopied_in c.self.view_is,
+  c.len.ensures,
+  c.count.ensures.value,
+)) ∙ none_left c.args.self.now

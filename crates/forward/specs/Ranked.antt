@@ -1,0 +1,29 @@
+-- The entries of a side array, as a row of their offsets, their places in order, and a row of which are copied.
+use Rattle.std.specs.Prelude.{◌≡◌, ℕ, ◌≤◌, Bool, false, List, map, length, count_by, get_or, slice_index_or, is_some}
+use Rattle.std.specs.List.{range_with_len}
+use Rattle.model.specs.declared.limits.TheConstants.{MOST_WORDS}
+use Rattle.model.specs.declared.records.Forwarding.{Forwarding}
+use Rattle.model.specs.Marks.{entry_of}
+use Rattle.model.specs.Plans.{offsets_from}
+
+-- the entry of a number
+abbrev pub numbered_entry : List Bool → List ℕ → List Bool → ℕ → Forwarding
+numbered_entry live places copied k = record {
+  offset = get_or (offsets_from 0 live) k 0;
+  to = get_or places k 0;
+  copied = get_or copied k false;
+}
+
+-- the entries: one for each set bit of the row
+unfoldable pub entries_of : List Bool → List ℕ → List Bool → List Forwarding
+entries_of live places copied = map (numbered_entry live places copied) (range_with_len 0 (length places))
+
+-- there is a place and a flag for each set bit of a row that is no longer than a page
+pub record AreEntries (live : List Bool) (places : List ℕ) (copied : List Bool) : Type 0 where
+  pub short : length live ≤ MOST_WORDS
+  pub many : length places ≡ count_by (λ b. b) live
+  pub flags : length copied ≡ length places
+
+-- a bit is set exactly where an entry has its offset
+abbrev pub IsLiveOf : List Bool → List Forwarding → Type 0
+IsLiveOf live side = (o : ℕ) → slice_index_or live o false ≡ is_some (entry_of side o)

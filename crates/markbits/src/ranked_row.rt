@@ -1,0 +1,149 @@
+//! A row in which set bits are counted from one number and one word.
+
+ghost use Rattle.std.specs.Prelude.{◌≡◌, ◌+◌, ◌-◌, ◌*◌, ◌<◌, ◌≤◌, length, slice_index_or, [], IfOk, false};
+ghost use Rattle.markbits.specs.Ranks.{IsPlaceOf, IsRanked, rank_of};
+
+use crate::rows::Row;
+use std::alloc::{AllocError, Global};
+use std::marker::Model;
+
+/// A row of bits that stay, with the number of bits that are set before each of its words. A
+/// contract sees the list of the bits.
+#[derive(Debug, Drop)]
+pub struct RankedRow {
+    row: Row,
+    /// Number `i` is how many bits are set below place `64 * i`.
+    before: Vec<u32>,
+}
+
+impl Model for RankedRow {
+    ghost use Rattle.std.specs.Prelude.{List, Bool};
+    ghost use Rattle.markbits.specs.Ranks.{IsRanked};
+
+    ghost Value = { List Bool };
+
+    ghost view = { λ r. r.row };
+
+    ghost invariant = { λ r. IsRanked r.row r.before.items };
+}
+
+/// How many bits of a row are set before the word of an index, by how many are before the word before
+/// it, if there is one.
+fn rank_at(row: &Row, index: usize, last: u32) -> u32
+    requires there { 64 * index ≤ length row.now }
+    requires last { 0 < index → last ≡ rank_of row.now (64 * (index - 1)) }
+    ensures { result ≡ rank_of row.now (64 * index) }
+{
+    if index == 0 {
+        0
+    } else {
+        row.rank_word(index, last)
+    }
+}
+
+/// How many bits are set before each word of a row.
+fn ranks(alloc: Global, row: &Row) -> Result<Vec<u32>, AllocError>
+    ensures { IfOk result (λ v. IsRanked row.now v.items) }
+{
+    let count = row.len().div_ceil(64);
+    let mut before = Vec::with_capacity(alloc, count)?;
+    let mut last = 0;
+    for index in 0..count {
+        last = rank_at(row, index, last);
+        before.push(last)?;
+    }
+    Ok(before)
+}
+
+impl RankedRow {
+    /// A row whose bits stay as they are. Fails only by memory.
+    pub fn new(alloc: Global, row: Row) -> Result<RankedRow, AllocError>
+        ensures { IfOk result (λ r. r ≡ row) }
+    {
+        let before = ranks(alloc, &row)?;
+        Ok(RankedRow { row, before })
+    }
+
+    /// A row of no bits. It takes no memory.
+    pub fn empty(alloc: Global) -> RankedRow
+        ensures { result ≡ [] }
+    {
+        RankedRow {
+            row: Row::empty(alloc),
+            before: Vec::new(alloc),
+        }
+    }
+
+    /// The row.
+    pub fn row(&self) -> &Row
+        ensures { result.now ≡ self.now }
+    {
+        &self.row
+    }
+
+    /// Whether a bit is set; past the end of the row none is.
+    pub fn test(&self, offset: usize) -> bool
+        ensures { result ≡ slice_index_or self.now offset false }
+    {
+        self.row.test(offset)
+    }
+
+    /// How many bits are set below an offset; all of them from the row's end on. It looks at one
+    /// number and one word.
+    pub fn rank(&self, offset: usize) -> usize
+        ensures { result ≡ rank_of self.now offset }
+    {
+        if offset >= self.row.len() {
+            return self.row.rank(offset);
+        }
+        self.row.rank_within(offset, self.before[offset / 64]) as usize
+    }
+
+    /// A place from which the set bit of a number is sought, and how many set bits from there on are
+    /// passed over: the head of the last word before which no more are set.
+    fn start(&self, number: usize) -> (usize, usize)
+        ensures { rank_of self.now result.0 + result.1 ≡ number }
+    {
+        let mut low = 0;
+        let mut high = self.before.len();
+        while low + 1 < high {
+            let middle = low + (high - low) / 2;
+            if self.before[middle] as usize <= number {
+                low = middle;
+            } else {
+                high = middle;
+            }
+        }
+        self.start_at(low, number)
+    }
+
+    /// The head of the word of an index, where no more bits are set before it; else that of the row.
+    fn start_at(&self, index: usize, number: usize) -> (usize, usize)
+        ensures { rank_of self.now result.0 + result.1 ≡ number }
+    {
+        let _ = self.row.len();
+        if index >= self.before.len() {
+            return (0, number);
+        }
+        let below = self.before[index] as usize;
+        if below > number {
+            return (0, number);
+        }
+        (64 * index, number - below)
+    }
+
+    /// The place of the set bit of a number, from 0, if so many are set.
+    pub fn place(&self, number: usize) -> Option<u32>
+        ensures { IsPlaceOf self.now number result }
+    {
+        let (mut from, mut left) = self.start(number);
+        while let Some(place) = self.row.next_from(from) {
+            if left == 0 {
+                return Some(place);
+            }
+            left -= 1;
+            from = place as usize + 1;
+        }
+        None
+    }
+}
