@@ -162,21 +162,25 @@ class Heap:
     def is_due(self, thread, word):
         return self.obstacle(thread, word) is not None or self.is_unmarked(thread, word)
 
-    # The word that marking leaves; its object is marked.
+    # The word that marking leaves; its object is marked, and copied first where it wasn't.
     def mark_word(self, word):
         if word is None:
             return None
         thing = word.thing
+        self.copy_first(thing)
         if not thing.marked:
             thing.marked = True
             self.todo_things[thing.place] = thing
         return Word(thing, self.nmt, thing.place)
 
+    def copy_first(self, thing):
+        if thing.planned is not None:
+            self.pages.copy(thing)
+
     # The word that a thread has instead of one that it may not use; its object is copied where it wasn't.
     def moved_word(self, word):
         refuse_if(self.phase == "protect-crossing", "Stall")
-        if word.thing.planned is not None:
-            self.pages.copy(word.thing)
+        self.copy_first(word.thing)
         return word._replace(place=word.thing.place)
 
     def do_trap(self, thread):
@@ -276,8 +280,6 @@ class Heap:
 
     def do_mark(self, worker):
         refuse_if(self.phase not in ("idle", "relocating"), "Phase")
-        for number in sorted(self.pages.used):
-            self.pages.refuse_uncopied(number)
         self.nmt = 1 - self.nmt
         self.todo_globals = [True] * len(self.globals)
         self.open_checkpoint("mark-crossing")
@@ -348,19 +350,21 @@ class Heap:
         return f"protected objects {objects} targets {targets}"
 
     def do_copy(self, worker, page, entry):
-        refuse_if(self.phase not in ("protect-crossing", "relocating"), "Phase")
-        self.refuse_uncrossed()
+        self.refuse_moving()
         return "copied {}.{}".format(*self.pages.copy_entry(page, entry))
 
     def do_copyall(self, worker, page):
-        refuse_if(self.phase not in ("protect-crossing", "relocating"), "Phase")
-        self.refuse_uncrossed()
+        self.refuse_moving()
         return f"copied all {self.pages.copy_page(page)}"
 
-    def do_release(self, worker, page):
+    # Nothing moves while the collector is idle, or while threads cross the checkpoint of protected pages.
+    def refuse_moving(self):
         refuse_if(self.phase == "idle", "Phase")
         if self.phase == "protect-crossing":
             self.refuse_uncrossed()
+
+    def do_release(self, worker, page):
+        self.refuse_moving()
         return f"released free {self.pages.release(page)}"
 
     # The lowest object that is todo and that no worker has; None where there is none.

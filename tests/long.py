@@ -286,7 +286,7 @@ class Fragmenting:
             self.say(self.any_thread(), "scrub", self.numbers.below(4))
         self.say(self.any_worker(), "copy", number, entry)
         if self.numbers.below(8) == 0:
-            self.say(self.any_worker(), *self.numbers.one_of([("mark",), ("release", number)]))
+            self.say(self.any_worker(), "release", number)
 
     def move(self):
         """All pages are emptied, and each gives its frame back early or late; one at times only as the next mark

@@ -20,8 +20,8 @@ use model::{Answer, Phase, Refusal, Reply};
 use refword::Addr;
 use relocate::follow;
 
-/// Marks the word in a register. Threads and registers count from 0.
-#[tactic(auto, unfolding(model::specs::Checkpoints::with_marked_register))]
+/// Marks the word in a register; its object is copied first where it wasn't. Threads and registers count from 0.
+#[tactic(auto, unfolding(model::specs::Checkpoints::with_marked_register, model::specs::Checkpoints::with_marked_word))]
 fn mark_register(heap: &mut Heap, thread: u32, register: u32)
     ensures { heap.new ≡ with_marked_register heap.old thread register }
 {

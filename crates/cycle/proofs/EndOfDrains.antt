@@ -5,6 +5,7 @@ use Rattle.std.specs.Prelude.{Result, Ok, Err, position, is_some, if◌then◌el
 use Rattle.std.specs.Prelude.{slice_get}
 use Rattle.std.proofs.lemmas.Bool.{leb-false}
 use Rattle.model.specs.declared.config.Config.{Config}
+use Rattle.model.specs.declared.records.Forwarding.{Forwarding}
 use Rattle.model.specs.declared.records.Global.{Global}
 use Rattle.model.specs.declared.records.Scan.{Scan}
 use Rattle.model.specs.declared.steps.Actor.{Actor}
@@ -15,14 +16,16 @@ use Rattle.model.specs.declared.steps.Answer.{Answer}
 use Rattle.model.specs.declared.steps.Answer.TheVariants as answers
 use Rattle.model.specs.declared.steps.Refusal.{Refusal}
 use Rattle.model.specs.declared.steps.Refusal.TheVariants as refusals
-use Rattle.model.specs.States.{HeapState}
+use Rattle.model.specs.States.{HeapState, Reference}
 use Rattle.model.specs.Refusing.{◌>>=◌, or_refuse, Outcome}
-use Rattle.model.specs.References.{field_at}
+use Rattle.model.specs.References.{field_at, global_of}
 use Rattle.model.specs.Bits.{bit_on}
 use Rattle.model.specs.Scans.{is_todo_in, first_field, is_taken}
-use Rattle.model.specs.Marks.{with_mark}
-use Rattle.model.specs.Scans.{scan_of, with_scan, may_scan, pick_outcome, with_marked_place, with_scan_end, scan_next}
-use Rattle.model.specs.Scans.{scan_field_outcome, with_marked_global, scan_global_outcome, next_todo, pick_step}
+use Rattle.model.specs.Marks.{entry_at, with_mark}
+use Rattle.model.specs.Moves.{with_copy, copied_by, copied_first, copied_for}
+use Rattle.model.specs.Scans.{scan_of, with_scan, may_scan, pick_outcome, with_marked_place, mark_place, with_scan_end}
+use Rattle.model.specs.Scans.{scan_next, scan_field_outcome, with_marked_global, mark_global, scan_global_outcome}
+use Rattle.model.specs.Scans.{next_todo, pick_step}
 use Rattle.model.specs.Scans.{global_step_or, next_drain}
 use Rattle.model.specs.Outcome.{outcome, worker_gate, worker_row}
 use Rattle.entries.specs.declared.entry.Entry.{Entry}
@@ -48,10 +51,24 @@ test_keeps : (c : Config) (b : Bool) (p q : Outcome) → Keeps c p → Keeps c q
 test_keeps c true p q h k = h
 test_keeps c false p q h k = k
 
+-- an object that is copied leaves the configuration
+copy_keeps : (h : HeapState) (v : Reference) → (copied_for h v).config ≡ h.config
+unfolding copied_for copied_first with_copy
+copy_keeps h None = refl
+copy_keeps h (Some w) = by_entry (entry_at h w.0)
+  where
+    by_entry : (o : Option Forwarding) → (copied_by h w.0 o).config ≡ h.config
+    by_entry None = refl
+    by_entry (Some f) = by_copied f.copied
+      where
+        by_copied : (b : Bool) → (if b then h else with_copy h w.0 f.to).config ≡ h.config
+        by_copied true = refl
+        by_copied false = refl
+
 next_keeps : (h : HeapState) (w : ℕ) (s : Scan) (o : Option ℕ) → Keeps h.config (scan_next h w s o)
-unfolding with_scan with_scan_end with_marked_place with_mark
+unfolding with_scan with_scan_end mark_place with_marked_place with_mark
 next_keeps h w s None = refl
-next_keeps h w s (Some place) = refl
+next_keeps h w s (Some place) = copy_keeps h _
 
 field_keeps : (h : HeapState) (w : ℕ) → Keeps h.config (scan_field_outcome h w)
 unfolding scan_field_outcome
@@ -59,10 +76,10 @@ field_keeps h w = bind_keeps h.config (may_scan h) _ (λ u. bind_keeps h.config
     (or_refuse (scan_of h w) refusals.NotTodo) _ (λ s. next_keeps h w s (field_at h s.object s.next)))
 
 global_keeps : (h : HeapState) (g : ℕ) → Keeps h.config (scan_global_outcome h g)
-unfolding scan_global_outcome with_marked_global with_mark
+unfolding scan_global_outcome mark_global with_marked_global with_mark
 global_keeps h g = bind_keeps h.config (may_scan h) _ (λ u.
-    test_keeps h.config (is_todo_in (slice_get h.globals g)) (Ok (with_marked_global h g, answers.Done))
-    (Err refusals.NotTodo) refl tt)
+    test_keeps h.config (is_todo_in (slice_get h.globals g)) (Ok (mark_global h g, answers.Done))
+    (Err refusals.NotTodo) (copy_keeps h (global_of h g)) tt)
 
 pick_keeps : (h : HeapState) (w page offset : ℕ) → Keeps h.config (pick_outcome h w page offset)
 unfolding pick_outcome with_scan

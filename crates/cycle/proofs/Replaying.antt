@@ -98,7 +98,8 @@ keeps_standing old new actor step (Ok a) does s d holds find move p p0 k =
     let is = step_accepted old new step a (outcome old actor step) does in
     record {
       stands = holds old p p0 actor step new a s d k is;
-      finds = find old p p0 actor step new a s d k is;
+      finds = (find old p p0 actor step new a s d k is).0;
+      leaves = (find old p p0 actor step new a s d k is).1;
       phase = move old p p0 actor step new a s d k is;
     }
 keeps_standing old new actor step (Err e) does s d holds find move p p0 k = tt

@@ -21,7 +21,7 @@ use Rattle.model.specs.States.{HeapState, ThreadState, Reference, change_at, cha
 use Rattle.model.specs.Threads.{set_barrier_of, barrier_of, has_crossed}
 use Rattle.model.specs.Marks.{entry_at, with_mark, marked_word}
 use Rattle.model.specs.Loads.{barrier_of_thread, with_barrier, set_now_of, gc_trap_due, nmt_trap_due, nmt_trap}
-use Rattle.model.specs.Moves.{with_copy, copied_by, copied_first, moved_word}
+use Rattle.model.specs.Moves.{with_copy, copied_by, copied_first, copied_for, moved_word}
 use Rattle.model.specs.Traps.{gc_trap, trap_outcome}
 use Rattle.model.specs.Plain.{PlainHeap}
 use Rattle.model.specs.Refusing.{◌>>=◌, or_refuse, Outcome}
@@ -55,13 +55,34 @@ barrier_there threads t b c e = by_thread (slice_get threads t) refl e
     by_thread None f k = absurd cc
     by_thread (Some x) f k = ap barrier_of (get_set_same threads t x (set_barrier_of (Some c) x) f)
 
+-- an object that is copied leaves the threads
+first_threads : (h : HeapState) (a : ℕ) → (copied_first h a).threads ≡ h.threads
+unfolding copied_first with_copy
+first_threads h a = by_entry (entry_at h a)
+  where
+    by_entry : (o : Option Forwarding) → (copied_by h a o).threads ≡ h.threads
+    by_entry None = refl
+    by_entry (Some f) = by_copied f.copied
+      where
+        by_copied : (b : Bool) → (if b then h else with_copy h a f.to).threads ≡ h.threads
+        by_copied true = refl
+        by_copied false = refl
+
+for_threads : (h : HeapState) (v : Reference) → (copied_for h v).threads ≡ h.threads
+unfolding copied_for
+for_threads h None = refl
+for_threads h (Some w) = first_threads h w.0
+
+-- the heap after the word of a barrier is marked where its object is now
+abbrev marked_now : HeapState → ℕ → Barrier → HeapState
+marked_now h t b = with_barrier (with_mark h b.now) t (set_now_of (marked_word h b.now) b)
+
 -- the heap behind an NMT trap
 abbrev marked_heap : HeapState → ℕ → Barrier → HeapState
-marked_heap h t b = with_barrier (with_mark h b.now) t (set_now_of (marked_word h b.now) b)
+marked_heap h t b = marked_now (copied_for h b.now) t b
 
 -- no NMT trap is due for a word that is marked
-never_due : (h : HeapState) (t : ℕ) (b : Barrier)
-    → nmt_trap_due (marked_heap h t b) t (marked_word h b.now) ≡ false
+never_due : (h : HeapState) (t : ℕ) (b : Barrier) → nmt_trap_due (marked_now h t b) t (marked_word h b.now) ≡ false
 unfolding with_barrier with_mark marked_word
 never_due h t b = by_word b.now
   where
@@ -70,10 +91,10 @@ never_due h t b = by_word b.now
     clean true false = refl
     clean false n = refl
 
-    by_word : (v : Reference) → nmt_trap_due (marked_heap h t b) t (marked_word h v) ≡ false
+    by_word : (v : Reference) → nmt_trap_due (marked_now h t b) t (marked_word h v) ≡ false
     by_word None = refl
-    by_word (Some w) = clean (may_nmt_trap (marked_heap h t b).phase (has_crossed (slice_get
-        (marked_heap h t b).threads t)))
+    by_word (Some w) = clean (may_nmt_trap (marked_now h t b).phase (has_crossed (slice_get
+        (marked_now h t b).threads t)))
         h.nmt
 
 -- a trap where no GC trap is due is an NMT trap, or clear
@@ -110,9 +131,12 @@ clear_behind : (h : HeapState) (p p0 : PlainHeap) (t : ℕ) (b : Barrier) → Ho
     → trap_outcome (marked_heap h t b) t ≡ Ok y → y.1 ≡ answers.Clear
 unfolding with_barrier with_mark
 clear_behind h p p0 t b k first free due y f =
-    let c : Barrier = set_now_of (marked_word h b.now) b in
-    clear_by (marked_heap h t b) t c y (never_due h t b)
-    (unguarded (marked_heap h t b) t c y (barrier_there h.threads t b c first) (marked_free k t b c free due) f)
+    let g = copied_for h b.now in
+    let c : Barrier = set_now_of (marked_word g b.now) b in
+    let there : barrier_of (slice_get g.threads t) ≡ Some b =
+    ap (λ ts. barrier_of (slice_get ts t)) (for_threads h b.now) ∙ first in
+    clear_by (marked_heap h t b) t c y (never_due g t b)
+    (unguarded (marked_heap h t b) t c y (barrier_there g.threads t b c there) (marked_free k t b c free due) f)
 
 -- a trap is clear, or marks and the next one is clear
 abbrev ClearNext : Actor → HeapState × Answer → Type 0
@@ -142,19 +166,6 @@ nmt_soon h p p0 t b x k first free e = by_due (nmt_trap_due h t b.now) refl e
               (thread_row (marked_heap h t b) t steps.Trap) y f),
         ))
     by_due false due z = inl (sym (ap (λ (x : HeapState × Answer). x.1) (same_outcome (h, answers.Clear) x z)))
-
--- an object that is copied leaves the threads
-first_threads : (h : HeapState) (a : ℕ) → (copied_first h a).threads ≡ h.threads
-unfolding copied_first with_copy
-first_threads h a = by_entry (entry_at h a)
-  where
-    by_entry : (o : Option Forwarding) → (copied_by h a o).threads ≡ h.threads
-    by_entry None = refl
-    by_entry (Some f) = by_copied f.copied
-      where
-        by_copied : (b : Bool) → (if b then h else with_copy h a f.to).threads ≡ h.threads
-        by_copied true = refl
-        by_copied false = refl
 
 thread_there : (h : HeapState) (t : ℕ) (b : Barrier) → barrier_of_thread h t ≡ Some b
     → (x : ThreadState) × (slice_get h.threads t ≡ Some x)

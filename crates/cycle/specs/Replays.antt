@@ -10,7 +10,7 @@ use Rattle.model.specs.Plain.{PlainHeap, plain_start, plain_step, plain_answer}
 use Rattle.laws.specs.Promises.{StandsForPlain, UsableHasMemory}
 use Rattle.refinement.specs.Worlds.{world_of}
 use Rattle.refinement.specs.PlainHeaps.{births_of}
-use Rattle.refinement.specs.Standing.{Holds, AnswersPlain, Finds, MovesPhase, kept_at_mark}
+use Rattle.refinement.specs.Standing.{Holds, AnswersPlain, Finds, Leaves, MovesPhase, kept_at_mark}
 use Rattle.entries.specs.declared.entry.Entry.{Entry}
 use Rattle.cycle.specs.Books.{BookState, Reply, Acts, act_outcome}
 
@@ -69,10 +69,11 @@ pub record KeepsPromises (b : BookState) : Type 0 where
   pub usable : UsableHasMemory (world_of b.heap)
   pub marks : LastFinds b
 
--- what a step with this reply promises: what its book does, and where it is accepted, that it has moved the phase as
--- it may
+-- what a step with this reply promises: what its book does, and where it is accepted, that a mark that it has ended has
+-- left nothing behind that can be reached, and that it has moved the phase as it may
 pub record StepPromises (old : BookState) (step : Step) (reply : Reply) (new : BookState) : Type 0 where
   pub book : KeepsPromises new
+  pub leaves : IfOk reply (λ answer. Leaves old.heap (replayed old).now step)
   pub phase : IfOk reply (λ answer. MovesPhase old.heap step new.heap)
 
 -- one reply for each step, in order, each step done on the book that the one before left, with what it promises

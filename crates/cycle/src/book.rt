@@ -2,10 +2,10 @@
 
 ghost use Rattle.std.specs.Prelude.{◌≡◌, IfOk};
 ghost use Rattle.cycle.specs.Books.{Acts, MakesBook, act_outcome, is_full, first_book};
-ghost use Rattle.cycle.specs.Replays.{IsBook, KeepsPromises, StepPromises};
+ghost use Rattle.cycle.specs.Replays.{IsBook, KeepsPromises, StepPromises, replayed};
 ghost use Rattle.model.specs.declared.steps.Actor.TheVariants.{Worker};
 ghost use Rattle.model.specs.declared.steps.Step.TheVariants as steps;
-ghost use Rattle.refinement.specs.Standing.{MovesPhase};
+ghost use Rattle.refinement.specs.Standing.{Leaves, MovesPhase};
 
 use crate::stepping::{Stepping, copy_page_by};
 use entries::History;
@@ -100,7 +100,8 @@ impl Book {
     /// any cause leaves heap and history as they were.
     ///
     /// It promises what each book does (`law`). So where it has ended a mark, all that can be
-    /// reached is live, and what is live could be reached as that mark began, or is born since. The
+    /// reached is live, and what is live could be reached as that mark began, or is born since; and
+    /// what wasn't copied from a protected page by then can't be reached. The
     /// phase moves as the collector's cycle has it (the paper's phases), and in no other way.
     pub fn act(&mut self, actor: Actor, step: Step) -> Reply
         ensures acts { Acts self.old result self.new (act_outcome self.old actor step) }
@@ -116,6 +117,7 @@ impl Book {
     #[tactic(auto, unfolding(crate::specs::Books::act_outcome))]
     fn step_and_enter(&mut self, actor: Actor, step: Step) -> Reply
         ensures acts { Acts self.old result self.new (act_outcome self.old actor step) }
+        ensures leaves { IfOk result (λ answer. Leaves self.old.heap (replayed self.old).now step) }
         ensures phase { IfOk result (λ answer. MovesPhase self.old.heap step self.new.heap) }
     {
         if self.is_full() {
@@ -162,6 +164,7 @@ impl Book {
         gate: &G,
     ) -> Reply
         ensures acts { Acts self.old result self.new (act_outcome self.old (Worker worker) (steps.CopyPage page)) }
+        ensures leaves { IfOk result (λ answer. Leaves self.old.heap (replayed self.old).now (steps.CopyPage page)) }
         ensures phase { IfOk result (λ answer. MovesPhase self.old.heap (steps.CopyPage page) self.new.heap) }
     {
         if Book::is_full(self) {

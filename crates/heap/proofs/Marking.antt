@@ -5,8 +5,6 @@ use Rattle.std.proofs.Common.{refl}
 use Rattle.std.proofs.Common.{◌∙◌, sym, ap, subst}
 use Rattle.std.specs.Prelude.{if◌then◌else◌}
 use Rattle.model.specs.declared.config.Config.{Config}
-use Rattle.forward.specs.Counts.{uncopied_count}
-use Rattle.forward.proofs.Totals.{all_copied}
 use Rattle.model.specs.declared.records.Phase.{Phase}
 use Rattle.model.specs.declared.records.Phase.TheVariants.{Idle, MarkCrossing, Scanning, ProtectCrossing, Relocating}
 use Rattle.model.specs.Checkpoints.{phase_behind}
@@ -16,33 +14,6 @@ use Rattle.model.proofs.Tables.{rows_put}
 use Rattle.model.specs.Bits.{of_page, with_bit}
 use Rattle.std.specs.List.{list_any}
 use Rattle.model.specs.Stores.{state_at, is_from}
-use Rattle.model.specs.Cycles.{is_uncopied, has_uncopied, uncopied_from}
-
--- without entries that have still to be copied, no page has an object that isn't copied
-pub none_uncopied : (h : HeapState) (n k : ℕ) → uncopied_count h.sides ≡ 0 → uncopied_from h n k ≡ None
-unfolding has_uncopied
-none_uncopied h n zero e = refl
-none_uncopied h n (suc k) e =
-    let none : list_any is_uncopied (of_page h.sides n) ≡ false = all_copied h.sides n e in
-    let same : has_uncopied h n ≡ false =
-    ap (λ b. is_from (state_at h.store n) && b) none ∙ and_none (is_from (state_at h.store n)) in
-    rw same (none_uncopied h (n + 1) k e)
-  where
-    and_none : (b : Bool) → b && false ≡ false
-    and_none true = refl
-    and_none false = refl
-
--- the first of some pages has one
-pub found_uncopied : (h : HeapState) (n k : ℕ) → 0 < k → has_uncopied h n ≡ true → uncopied_from h n k ≡ Some n
-found_uncopied h n zero l e = absurd (omega (arith, l))
-found_uncopied h n (suc k) l e = rw e refl
-
--- it has none, so one of the others is the first
-pub passed_over : (h : HeapState) (n k m : ℕ) → k ≡ m + 1 → has_uncopied h n ≡ false
-    → uncopied_from h n k ≡ uncopied_from h (n + 1) m
-passed_over h n zero m l e = absurd (omega (arith, l))
-passed_over h n (suc k) m l e =
-    let same : k ≡ m = omega (arith, l) in rw (e, same) refl
 
 -- rows of marks are put in the place of others, as many and as long
 pub marks_keep : (h : HeapState) (live mark todo : List (List Bool)) → IsHeap h → AreRowsFor h.config live

@@ -22,7 +22,8 @@ pub record MayCopy (w : AddressHeap) (a n : ℕ) (o : HeapObject) : Type 0 where
 
 module _ (w : AddressHeap) (p p0 : BirthHeap) (i : Invariant w p p0) (a n : ℕ) (o : HeapObject)
     (m : MayCopy w a n o) where
-  word : (v : Word) (x : Option ℕ) → names w v ≡ Some x → names (copy_object a n o w) v ≡ Some x
+  -- what a word names is named still
+  pub word : (v : Word) (x : Option ℕ) → names w v ≡ Some x → names (copy_object a n o w) v ≡ Some x
   word Null x e = e
   word (To y b) x e = there y b x e
     where
@@ -42,7 +43,8 @@ module _ (w : AddressHeap) (p p0 : BirthHeap) (i : Invariant w p p0) (a n : ℕ)
   good : (v : Word) (x : Option ℕ) → StandsFor w v x → StandsFor (copy_object a n o w) v x
   good v x g = record { names = word v x g.names; fits = g.fits }
 
-  marked : (x : ℕ) → w.marked x ≡ true → (copy_object a n o w).object_at x ≡ w.object_at x
+  -- a marked object stays where it is
+  pub marked : (x : ℕ) → w.marked x ≡ true → (copy_object a n o w).object_at x ≡ w.object_at x
   marked x e = let q = (i.marks.object x e).1 in grind (arith, i.objects.planned_free a n m.entry)
 
   kept : (b : ℕ) → IsKept (copy_object a n o w) p b → IsKept w p b
@@ -210,9 +212,6 @@ module _ (w : AddressHeap) (p p0 : BirthHeap) (i : Invariant w p p0) (a n : ℕ)
   uncopied : (x y : ℕ) → w.phase ≡ ProtectCrossing → (copy_object a n o w).side_entry x ≡ Copied y → ⊥
   uncopied x y e = absurd (m.phase e)
 
-  all_copied : (x y : ℕ) → is_marking w.phase ≡ true → (copy_object a n o w).side_entry x ≡ Planned y → ⊥
-  all_copied x y e f = grind (arith, i.phases.all_copied)
-
   since : is_marking w.phase ≡ true → (b : ℕ) → IsKept (copy_object a n o w) p b
       → IsReached p0.refs (IsRoot p0) b ⊎ (p0.births ≤ b)
   since e b k = i.since e b (kept b k)
@@ -238,7 +237,6 @@ module _ (w : AddressHeap) (p p0 : BirthHeap) (i : Invariant w p p0) (a n : ℕ)
     scanned,
     passed,
     uncopied,
-    all_copied,
     since,
     i,
   )

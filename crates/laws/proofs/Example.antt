@@ -31,7 +31,6 @@ mark_can_end = record {
   run = Then start plain_first plain_first marking plain_first plain_first scanning plain_first plain_first
       (StartMark no_thread (record {
         phase = inl refl;
-        copied = λ a n e. cc;
         waits = (0, refl);
         no_thread = λ t r e. refl;
       }))

@@ -19,6 +19,6 @@ pub mod Workers
 pub mod Parking
 pub mod Runs
 pub mod First
-pub mod MarkByCopy
+pub mod CopyWord
 pub mod Promises
 pub mod Example

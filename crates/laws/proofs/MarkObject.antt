@@ -103,7 +103,6 @@ module _ (w : AddressHeap) (p p0 : BirthHeap) (i : Invariant w p p0) (a : ℕ) (
       idle = i.phases.idle;
       none_gone = i.phases.none_gone;
       uncopied = i.phases.uncopied;
-      all_copied = i.phases.all_copied;
       all_todo = λ x f. put_both (λ x b c. b ≡ true → c ≡ true) w.marked w.todo a true true (λ _. refl)
           (λ x _. i.phases.all_todo x f) x;
       globals_todo = i.phases.globals_todo;

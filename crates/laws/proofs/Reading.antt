@@ -12,9 +12,11 @@ use Rattle.laws.specs.AddressHeap.{resolve_by, names, birth_of, SideEntry, NoEnt
 use Rattle.laws.specs.BirthHeap.{BirthHeap, ref, InRegister, InGlobal, Start}
 use Rattle.laws.specs.Invariant.{IsKept, IsClean, StandsFor, Invariant}
 use Rattle.laws.specs.Transitions.{IsUsable}
-use Rattle.laws.specs.Edits.{mark_word, marked_word, marked_after}
-use Rattle.laws.proofs.Basics.{put_all, put_same, current_there, marked_here}
+use Rattle.laws.specs.Edits.{set_mark, clean_word, mark_word, marked_word, marked_after, copy_object}
+use Rattle.laws.proofs.Basics.{put_same, current_there, marked_here}
 use Rattle.laws.proofs.MarkObject.{mark_keeps}
+use Rattle.laws.proofs.CopyObject.{copy_object_keeps, kept_back, word}
+use Rattle.laws.proofs.CopyWord.{IsSettled, by_copy, may_copy}
 
 -- what a word that isn't null names
 pub record NamedObject (w : AddressHeap) (a : ℕ) (x : Option ℕ) : Type 0 where
@@ -78,16 +80,17 @@ at w p p0 i a o h k =
       refs = λ j. subst (λ q. StandsFor w (field q j) (ref p o.birth j)) f (s.refs j);
     }
 
--- a kept object is on no protected page while a mark runs
-pub kept_unprotected : (w : AddressHeap) (p p0 : BirthHeap) → Invariant w p p0 → is_marking w.phase ≡ true
-    → (a : ℕ) (o : HeapObject) → current w a ≡ Some o → IsKept w p o.birth → is_protected (w.page_state a) ≡ false
-kept_unprotected w p p0 i m a o h k = go (w.page_state a) refl
+-- a kept object that isn't to be copied is on no protected page
+pub kept_unprotected : (w : AddressHeap) (p p0 : BirthHeap) → Invariant w p p0 → (a : ℕ) (o : HeapObject)
+    → current w a ≡ Some o → IsKept w p o.birth → ((n : ℕ) → w.side_entry a ≢ Planned n)
+    → is_protected (w.page_state a) ≡ false
+kept_unprotected w p p0 i a o h k f = go (w.page_state a) refl
   where
     go : (k : PageState) → w.page_state a ≡ k → is_protected k ≡ false
     go Unused e = refl
     go Open e = refl
     go Closed e = refl
-    go From e = let n = (at w p p0 i a o h k).entry e in absurd (i.phases.all_copied a n.0 m n.1)
+    go From e = let n = (at w p p0 i a o h k).entry e in absurd (f n.0 n.1)
     go Gone e = let z = i.objects.with_memory a o (current_there w a o h) in let y = ap has_memory e in cc
 
 -- in a scan every register is clean
@@ -95,40 +98,41 @@ pub clean_register : (w : AddressHeap) (p p0 : BirthHeap) → Invariant w p p0 �
     → IsClean w (w.register t r)
 clean_register w p p0 i e t r = i.marks.registers t r (ap is_marking e) (i.phases.crossed (ap is_crossing e) t)
 
-pub mark_good : (w : AddressHeap) (u v : Word) (x : Option ℕ) → StandsFor w v x → StandsFor (mark_word u w) v x
-mark_good w u v x g = record {
-  names = g.names;
-  fits = record { outside = g.fits.outside; inside = λ y e h. more u y (g.fits.inside y e h) };
-}
+-- no object has still to be copied where an address resolves to
+settled_there : (w : AddressHeap) (p p0 : BirthHeap) → Invariant w p p0 → (a : ℕ) (b : Bool) → IsSettled w (To a b)
+    → (n : ℕ) → w.side_entry (resolve w a) ≢ Planned n
+settled_there w p p0 i a b h = go (w.side_entry a) refl
   where
-    more : (u : Word) (y : ℕ) → w.marked y ≡ true → marked_after u w y ≡ true
-    more Null y e = e
-    more (To a n) y e =
-        put_all (λ y b. w.marked y ≡ true → b ≡ true) w.marked (resolve w a) true (λ _. refl) (λ y _ e. e) y e
+    go : (f : SideEntry) → w.side_entry a ≡ f → (n : ℕ) → w.side_entry (resolve_by f a) ≢ Planned n
+    go (Copied m) e n k = let x = i.objects.copied_open a m e in let y = i.objects.planned_from m n k in cc
+    go NoEntry e n k = h n k
+    go (Planned m) e n k = h n k
 
--- a word is marked
-pub record MarkedWord (w : AddressHeap) (p p0 : BirthHeap) (v : Word) (x : Option ℕ) : Type 0 where
-  pub inv : Invariant (mark_word v w) p p0
-  pub good : StandsFor (mark_word v w) (marked_word w v) x
-  pub clean : IsClean w (marked_word w v)
+-- a word is marked where its object is now, in a heap in which that isn't to be copied
+pub record MarkedNow (w : AddressHeap) (p p0 : BirthHeap) (v : Word) (x : Option ℕ) : Type 0 where
+  pub inv : Invariant (set_mark v w) p p0
+  pub good : StandsFor (set_mark v w) (clean_word w v) x
+  pub clean : IsClean w (clean_word w v)
 
-pub mark_word_keeps : (w : AddressHeap) (p p0 : BirthHeap) → Invariant w p p0 → is_marking w.phase ≡ true
-    → (v : Word) (x : Option ℕ) → names w v ≡ Some x → ((b : ℕ) → x ≡ Some b → IsKept w p b) → MarkedWord w p p0 v x
-mark_word_keeps w p p0 i m Null x e k = record {
+set_mark_keeps : (w : AddressHeap) (p p0 : BirthHeap) → Invariant w p p0 → is_marking w.phase ≡ true
+    → (v : Word) (x : Option ℕ) → names w v ≡ Some x → ((b : ℕ) → x ≡ Some b → IsKept w p b) → IsSettled w v
+    → MarkedNow w p p0 v x
+set_mark_keeps w p p0 i m Null x e k f = record {
   inv = i;
   good = record { names = e; fits = record { outside = λ _ a n h. cc; inside = λ a _ h. cc } };
   clean = λ a n h. cc;
 }
-mark_word_keeps w p p0 i m (To a n) x e k =
+set_mark_keeps w p p0 i m (To a n) x e k f =
     let d = named w a n x e in
-    let j : Invariant (mark_word (To a n) w) p p0 = mark_keeps w p p0 i (resolve w a) d.object (record {
+    let j : Invariant (set_mark (To a n) w) p p0 = mark_keeps w p p0 i (resolve w a) d.object (record {
       running = m;
       here = d.here;
       kept = k d.object.birth d.birth;
-      page = kept_unprotected w p p0 i m (resolve w a) d.object d.here (k d.object.birth d.birth);
+      page = kept_unprotected w p p0 i (resolve w a) d.object d.here (k d.object.birth d.birth)
+          (settled_there w p p0 i a n f);
     }) in
     let r : resolve w (resolve w a) ≡ resolve w a =
-    marked_here (mark_word (To a n) w) p p0 j (resolve w a) (put_same w.marked (resolve w a) true) in
+    marked_here (set_mark (To a n) w) p p0 j (resolve w a) (put_same w.marked (resolve w a) true) in
     record {
       inv = j;
       good = record {
@@ -141,6 +145,27 @@ mark_word_keeps w p p0 i m (To a n) x e k =
       };
       clean = λ y b h. (let z = h in cc);
     }
+
+-- a word is marked, its object copied first where it wasn't
+pub record MarkedWord (w : AddressHeap) (p p0 : BirthHeap) (v : Word) (x : Option ℕ) : Type 0 where
+  pub inv : Invariant (mark_word v w) p p0
+  pub good : StandsFor (mark_word v w) (marked_word w v) x
+  pub clean : IsClean w (marked_word w v)
+
+pub mark_word_keeps : (w : AddressHeap) (p p0 : BirthHeap) → Invariant w p p0 → is_marking w.phase ≡ true
+    → (v : Word) (x : Option ℕ) → names w v ≡ Some x → ((b : ℕ) → x ≡ Some b → IsKept w p b) → MarkedWord w p p0 v x
+mark_word_keeps w p p0 i m v x e k = (let r = by_copy w p p0 i v (λ u. MarkedNow u p p0 v x)
+    (λ f. set_mark_keeps w p p0 i m v x e k f) copied in
+    record { inv = r.inv; good = r.good; clean = r.clean })
+  where
+    copied : (a n : ℕ) (b : Bool) (o : HeapObject) → v ≡ To a b → w.side_entry a ≡ Planned n → w.object_at a ≡ Some o
+        → MarkedNow (copy_object a n o w) p p0 v x
+    copied a n b o is f h =
+        let c = may_copy w p p0 i m v a n o f h in
+        let u = copy_object a n o w in
+        set_mark_keeps u p p0 (copy_object_keeps w p p0 i a n o c) m v x (word w p p0 i a n o c v x e)
+        (λ d q. kept_back w p p0 i a n o c d (k d q))
+        (subst (IsSettled u) (sym is) (λ l z. (let y = put_same w.side_entry a (Copied n) in cc)))
 
 -- an element after another was set
 pub set_at : {A : Type 0} (l : List A) (i j : ℕ) (v d : A) → i < length l

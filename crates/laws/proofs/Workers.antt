@@ -11,11 +11,12 @@ use Rattle.laws.specs.AddressHeap.{field, current, resolve, Planned, WorkerScan}
 use Rattle.laws.specs.BirthHeap.{BirthHeap, ref, Start, Next}
 use Rattle.laws.specs.Invariant.{IsKept, IsClean, Invariant}
 use Rattle.laws.specs.Edits.{set_object, set_global, end_global_scan, set_scan, end_scan}
-use Rattle.laws.specs.Edits.{mark_word, todo_after, marked_word, copy_object, cross_checkpoint}
+use Rattle.laws.specs.Edits.{mark_word, todo_after, marked_word, clean_word, copy_word, copy_object, cross_checkpoint}
 use Rattle.laws.specs.Effects.{with_field, mark_register, mark_registers, scan_field}
 use Rattle.laws.proofs.Basics.{put_id, put_at_id, put_all, put_same, put_other, marked_current}
 use Rattle.laws.proofs.Reading.{at, mark_word_keeps, global_kept, register_kept, set_at}
 use Rattle.laws.proofs.CopyObject.{copy_object_keeps}
+use Rattle.laws.proofs.CopyWord.{copied_stays}
 use Rattle.laws.proofs.Globals.{set_global_keeps, end_global_scan_keeps}
 use Rattle.laws.proofs.Mutators.{write_field, set_register_keeps}
 use Rattle.laws.proofs.Scans.{set_scan_keeps, end_scan_keeps}
@@ -62,11 +63,15 @@ scan_field_keeps w p p0 i k s o e f h l =
     let x = at w p p0 i a o c g in
     let r = mark_word_keeps w p p0 i (ap is_marking e) v (ref p b j) (x.refs j).names (λ d. Next b d j g) in
     let w1 = mark_word v w in
+    let t1 : w1.todo a ≡ true = still_todo v (copy_word v w) a (i.marks.scanning k s f) in
+    let m1 : w1.marked a ≡ true = r.inv.marks.todo a t1 in
+    let h1 : w1.object_at a ≡ Some o = copied_stays w p p0 i (ap is_marking e) v a m ∙ h in
+    let c1 : current w1 a ≡ Some o = marked_current w1 p p0 r.inv a m1 ∙ h1 in
     let g1 : IsKept w1 p b = Start b (inr (record {
       address = a;
       object = o;
-      is_marked = r.inv.marks.todo a (still_todo v w a (i.marks.scanning k s f));
-      here = h;
+      is_marked = m1;
+      here = h1;
       birth = refl;
     })) in
     let u : Invariant (set_object a (with_field o j v') w1) p p0 =
@@ -76,12 +81,12 @@ scan_field_keeps w p p0 i k s o e f h l =
       refs = put p.refs b (set (p.refs b) j (ref p b j));
       data_words = y;
     }) p0) (put_id p.data_words b (p.data_words b) refl)
-    (write_field w1 p p0 r.inv a o j v' (ref p b j) c g1 l r.good (λ d. Next b d j g1) (λ _. r.clean))) in
+    (write_field w1 p p0 r.inv a o j v' (ref p b j) c1 g1 l r.good (λ d. Next b d j g1) (λ _. r.clean))) in
     set_scan_keeps (set_object a (with_field o j v') w1) p p0 u k (record { address = a; next = j + 1 }) (record {
       phase = e;
-      todo = still_todo v w a (i.marks.scanning k s f);
+      todo = t1;
       passed = λ q n y z. subst (λ q. IsClean w (field q n))
-          (let t = put_same w.object_at a (Some (with_field o j v')) in let t' : with_field o j v' ≡ q = cc in t')
+          (let t = put_same w1.object_at a (Some (with_field o j v')) in let t' : with_field o j v' ≡ q = cc in t')
           (below n z (set_at o.refs j n v' Null l) r.clean);
       alone = λ n z y q t. y (i.marks.alone n k z s q f t);
     })
@@ -151,7 +156,7 @@ pub record CrossedBelow (w : AddressHeap) (p p0 : BirthHeap) (t n : ℕ) (w' : A
   pub clean : (r : ℕ) → r < n → IsClean w' (w'.register t r)
   pub rest : (r : ℕ) → n ≤ r → w'.register t r ≡ w.register t r
 
-marked_clean : (w : AddressHeap) (v : Word) → IsClean w (marked_word w v)
+marked_clean : (w : AddressHeap) (v : Word) → IsClean w (clean_word w v)
 marked_clean w Null a n e = cc
 marked_clean w (To y b) a n e = let z = e in cc
 
@@ -186,7 +191,7 @@ mark_registers_keeps w p p0 i t m e (suc n) =
         → IsClean u (put_at u.register t n (marked_word u v) t r)
     clean u v h r l =
         subst (IsClean u) (sym (ap (λ f. f r) (put_same u.register t (put (u.register t) n (marked_word u v)))))
-        (put_all (λ r y. r < suc n → IsClean u y) (u.register t) n (marked_word u v) (λ _. marked_clean u v)
+        (put_all (λ r y. r < suc n → IsClean u y) (u.register t) n (marked_word u v) (λ _. marked_clean (copy_word v u) v)
         (λ r x l. h r (omega arith)) r l)
 
 -- Cross at the mark checkpoint: of n registers, and the phase f after it

@@ -6,8 +6,8 @@ use Rattle.model.specs.declared.records.PageState.{PageState}
 use Rattle.model.specs.declared.records.PageState.TheVariants.{Unused, Open, Closed, Gone}
 use Rattle.model.specs.Stores.{is_protected}
 use Rattle.model.specs.Phases.{is_marking, is_mark_crossing}
-use Rattle.laws.specs.AddressHeap.{AddressHeap, HeapObject, Word, Null, To, SideEntry, NoEntry, Copied, OpenBarrier}
-use Rattle.laws.specs.AddressHeap.{WorkerScan, put, put_at, resolve}
+use Rattle.laws.specs.AddressHeap.{AddressHeap, HeapObject, Word, Null, To, SideEntry, NoEntry, Planned, Copied}
+use Rattle.laws.specs.AddressHeap.{OpenBarrier, WorkerScan, put, put_at, resolve}
 use Rattle.laws.specs.BirthHeap.{BirthHeap}
 
 -- a page's state after a mark: an open page without a lent buffer closes (ours), and a protected page is unused again
@@ -34,6 +34,31 @@ end_mark lent w = record w {
 abbrev pub copy_object : ℕ → ℕ → HeapObject → AddressHeap → AddressHeap
 copy_object a n o w = record w { object_at = put w.object_at n (Some o); side_entry = put w.side_entry a (Copied n) }
 
+-- the objects after one is copied to where its side entry plans it, if it does
+abbrev pub objects_by : SideEntry → Option HeapObject → (ℕ → Option HeapObject) → ℕ → Option HeapObject
+objects_by (Planned n) o f = put f n o
+objects_by _ o f = f
+
+-- the side entries after the object at a is copied to where its entry plans it, if it does
+abbrev pub entries_by : SideEntry → ℕ → (ℕ → SideEntry) → ℕ → SideEntry
+entries_by (Planned n) a f = put f a (Copied n)
+entries_by _ a f = f
+
+-- the objects after that of a word is copied
+abbrev pub objects_after : Word → AddressHeap → ℕ → Option HeapObject
+objects_after Null w = w.object_at
+objects_after (To a n) w = objects_by (w.side_entry a) (w.object_at a) w.object_at
+
+-- the side entries after the object of a word is copied
+abbrev pub entries_after : Word → AddressHeap → ℕ → SideEntry
+entries_after Null w = w.side_entry
+entries_after (To a n) w = entries_by (w.side_entry a) a w.side_entry
+
+-- the object that a word names is copied, where it is planned and wasn't (that a mark copies what it meets on a
+-- protected page is ours)
+abbrev pub copy_word : Word → AddressHeap → AddressHeap
+copy_word v w = record w { object_at = objects_after v w; side_entry = entries_after v w }
+
 -- the mark bits after the object that a word names is marked
 abbrev pub marked_after : Word → AddressHeap → ℕ → Bool
 marked_after Null w = w.marked
@@ -44,14 +69,22 @@ abbrev pub todo_after : Word → AddressHeap → ℕ → Bool
 todo_after Null w = w.todo
 todo_after (To a n) w = put w.todo (resolve w a) (cond (w.marked (resolve w a)) (w.todo (resolve w a)) true)
 
--- the object that a word names is marked (the paper's Mark phase)
+-- the object that a word names is marked where it is now
+abbrev pub set_mark : Word → AddressHeap → AddressHeap
+set_mark v w = record w { marked = marked_after v w; todo = todo_after v w }
+
+-- a clean word that names the object where it is now
+abbrev pub clean_word : AddressHeap → Word → Word
+clean_word w Null = Null
+clean_word w (To a n) = To (resolve w a) w.nmt
+
+-- the object that a word names is marked (the paper's Mark phase): its copy, which is made first where it wasn't (ours)
 abbrev pub mark_word : Word → AddressHeap → AddressHeap
-mark_word v w = record w { marked = marked_after v w; todo = todo_after v w }
+mark_word v w = set_mark v (copy_word v w)
 
 -- the word that marking leaves: it names the object where it is now, and is clean (the paper's Remap phase)
 abbrev pub marked_word : AddressHeap → Word → Word
-marked_word w Null = Null
-marked_word w (To a n) = To (resolve w a) w.nmt
+marked_word w v = clean_word (copy_word v w) v
 
 -- thread t's load ends: register r becomes v, and its barrier is closed (the paper's read barrier)
 abbrev pub end_load : ℕ → ℕ → Word → AddressHeap → AddressHeap

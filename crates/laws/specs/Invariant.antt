@@ -144,8 +144,6 @@ SoundPhases w = record {
   -- nothing is released before all have crossed
   none_gone : (a : ℕ) → w.phase ≡ ProtectCrossing → w.page_state a ≢ Gone;
   uncopied : (a n : ℕ) → w.phase ≡ ProtectCrossing → w.side_entry a ≢ Copied n;  -- and nothing is copied
-  -- a mark begins when all is copied
-  all_copied : (a n : ℕ) → is_marking w.phase ≡ true → w.side_entry a ≢ Planned n;
   -- nothing is scanned before all have crossed
   all_todo : (a : ℕ) → w.phase ≡ MarkCrossing → w.marked a ≡ true → w.todo a ≡ true;
   globals_todo : (g : ℕ) → w.phase ≡ MarkCrossing → w.is_global g ≡ true → w.global_todo g ≡ true;

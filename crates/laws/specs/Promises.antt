@@ -1,7 +1,7 @@
 -- What is promised of every heap that transitions lead to: what `law` ensures.
 use Rattle.std.specs.Prelude.{◌≡◌, ◌⊎◌, ◌≤◌, ◌↔◌, ℕ, Bool, true, false, Option, Some, None, length}
 use Rattle.model.specs.Stores.{has_memory}
-use Rattle.laws.specs.AddressHeap.{AddressHeap, Null, To, HeapObject, OpenBarrier, field, current, names}
+use Rattle.laws.specs.AddressHeap.{AddressHeap, Null, To, HeapObject, Planned, OpenBarrier, field, current, names}
 use Rattle.laws.specs.BirthHeap.{BirthHeap, ref, IsReachable}
 use Rattle.laws.specs.Invariant.{Invariant}
 use Rattle.laws.specs.Edits.{end_mark}
@@ -105,6 +105,16 @@ abbrev pub MarksEndLive : Type 0
 MarksEndLive =
     (w : AddressHeap) (p p0 : BirthHeap) → Invariant w p p0 → MayEndMark w → (lent : ℕ → Bool)
     → ReachableIsLive (end_mark lent w) p × LiveWasReachable (end_mark lent w) p0
+
+-- an object that is still to be copied can't be reached
+abbrev pub PlannedIsUnreachable : AddressHeap → BirthHeap → Type 0
+PlannedIsUnreachable w p =
+    (a n : ℕ) (o : HeapObject) → w.side_entry a ≡ Planned n → w.object_at a ≡ Some o → IsReachable p o.birth → ⊥
+
+-- of a heap with the invariant, in which a mark may end: what no mark has copied by then can't be reached
+abbrev pub MarksLeaveUnreachable : Type 0
+MarksLeaveUnreachable =
+    (w : AddressHeap) (p p0 : BirthHeap) → Invariant w p p0 → MayEndMark w → PlannedIsUnreachable w p
 
 -- a mark can end: from the first heap without globals, transitions lead to where one may
 pub record MarksCanEnd : Type 0 where

@@ -49,10 +49,9 @@ pub record MayEndMark (w : AddressHeap) : Type 0 where
   pub globals : (g : ℕ) → w.global_todo g ≡ false
   pub barriers : (t : ℕ) → w.barrier t ≡ None
 
--- a mark may start: no mark runs, and every planned object is copied; c is true of the numbers that are no thread's
+-- a mark may start: no mark runs, and no page is being protected; c is true of the numbers that are no thread's
 pub record MayStartMark (w : AddressHeap) (c : ℕ → Bool) : Type 0 where
   pub phase : (w.phase ≡ Idle) ⊎ (w.phase ≡ Relocating)
-  pub copied : (a n : ℕ) → w.side_entry a ≢ Planned n
   pub waits : (t : ℕ) × (c t ≡ false)
   pub no_thread : (t r : ℕ) → c t ≡ true → w.register t r ≡ Null
 

@@ -25,7 +25,7 @@
 //! transitions, or that a mark ever ends.
 #![tactic(auto)]
 
-ghost use Rattle.laws.specs.Promises.{RunsKeepInvariant, RunsStandForPlain, RunsAnswerPlain, MarksEndLive, MarksCanEnd};
+ghost use Rattle.laws.specs.Promises.{RunsKeepInvariant, RunsStandForPlain, RunsAnswerPlain, MarksEndLive, MarksLeaveUnreachable, MarksCanEnd};
 
 /// The laws. A run is a list of transitions of any threads and workers, in any order. A heap
 /// *stands for* a plain heap where
@@ -45,6 +45,8 @@ pub fn law()
     // where a mark ends in a heap with the invariant, so after any such run, all that can be reached
     // is live, and what is live could be reached when the mark began, or is born since
     ensures ended { MarksEndLive }
+    // and what is still to be copied from a protected page when a mark ends can't be reached
+    ensures left { MarksLeaveUnreachable }
     // and marks can end: shown by one run, of a heap without globals, in which nothing is born
     ensures ends { MarksCanEnd }
 {}

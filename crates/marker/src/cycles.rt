@@ -26,8 +26,8 @@ fn may_start_mark(phase: Phase) -> bool
 /// checkpoint, and all globals have still to be marked (the paper's Mark phase). Workers count from
 /// 0.
 ///
-/// Refused where a mark runs or pages are being protected (`Phase`), and where an object of a
-/// protected page isn't copied (`Uncopied`, with the least such page).
+/// Refused where a mark runs or pages are being protected (`Phase`). Objects of protected pages that
+/// aren't copied by then are copied where the mark meets them (ours).
 #[tactic(auto, unfolding(model::specs::Cycles::start_mark_outcome))]
 pub fn start_mark(heap: &mut Heap, worker: u32) -> Reply
     requires { WorkerPasses heap.old worker steps.StartMark }
@@ -35,9 +35,6 @@ pub fn start_mark(heap: &mut Heap, worker: u32) -> Reply
 {
     if !may_start_mark(heap.phase()) {
         return Err(Refusal::Phase);
-    }
-    if let Some(page) = heap.first_uncopied() {
-        return Err(Refusal::Uncopied { page });
     }
     heap.start_mark();
     Ok(Answer::Done)

@@ -7,7 +7,7 @@ ghost use Rattle.std.specs.Option.{option_copied};
 ghost use Rattle.model.specs.References.{field_at};
 ghost use Rattle.model.specs.Refusing.{Does};
 ghost use Rattle.model.specs.Outcome.{WorkerPasses};
-ghost use Rattle.model.specs.Scans.{scan_of, is_scan_of, is_taken, reference_in, with_marked_place, with_marked_global, is_todo_in, scan_next, pick_outcome, scan_field_outcome, scan_global_outcome};
+ghost use Rattle.model.specs.Scans.{scan_of, is_scan_of, is_taken, reference_in, mark_place, mark_global, is_todo_in, scan_next, pick_outcome, scan_field_outcome, scan_global_outcome};
 ghost use Rattle.model.specs.Stores.{word_at};
 ghost use Rattle.model.specs.declared.steps.Step.TheVariants as steps;
 
@@ -55,9 +55,9 @@ fn reference_at(heap: &Heap, place: u64) -> Word
 }
 
 /// Marks the word at a place in memory, and writes it back.
-#[tactic(auto, unfolding(model::specs::Scans::with_marked_place, model::specs::Marks::with_mark))]
+#[tactic(auto, unfolding(model::specs::Scans::mark_place, model::specs::Scans::with_marked_place, model::specs::Marks::with_mark))]
 fn mark_place(heap: &mut Heap, place: u64)
-    ensures { heap.new ≡ with_marked_place heap.old place (reference_in (word_at heap.old.store place)) }
+    ensures { heap.new ≡ mark_place heap.old place (reference_in (word_at heap.old.store place)) }
 {
     let word = reference_at(heap, place);
     let marked = mark(heap, word);
@@ -110,9 +110,9 @@ fn is_todo(heap: &Heap, number: u32) -> bool
 }
 
 /// Marks a global, and writes it back.
-#[tactic(auto, unfolding(model::specs::Scans::with_marked_global, model::specs::Marks::with_mark))]
+#[tactic(auto, unfolding(model::specs::Scans::mark_global, model::specs::Scans::with_marked_global, model::specs::Marks::with_mark))]
 fn mark_global(heap: &mut Heap, number: u32)
-    ensures { heap.new ≡ with_marked_global heap.old number }
+    ensures { heap.new ≡ mark_global heap.old number }
 {
     let word = heap.global(number);
     let marked = mark(heap, word);

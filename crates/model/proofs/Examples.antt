@@ -23,15 +23,16 @@ use Rattle.model.specs.References.{field_at, global_of, with_global, store_outco
 use Rattle.model.specs.Buffers.{with_buffer, lend_buffer, take_outcome, give_back_outcome}
 use Rattle.model.specs.Births.{place_object, new_outcome}
 use Rattle.model.specs.Marks.{entry_at, resolve, with_mark, marked_word}
+use Rattle.model.specs.Moves.{copied_first, copied_for}
 use Rattle.model.specs.Loads.{with_barrier, with_loaded, load_outcome, load_global_outcome, trap_due}
 use Rattle.model.specs.Loads.{heal_place, heal_outcome, end_load, finish_outcome}
 use Rattle.model.specs.Checkpoints.{with_parked, first_behind, all_crossed, with_crossed}
-use Rattle.model.specs.Checkpoints.{with_marked_register, cross_thread, may_cross, cross_outcome}
+use Rattle.model.specs.Checkpoints.{with_marked_word, with_marked_register, cross_thread, may_cross, cross_outcome}
 use Rattle.model.specs.Checkpoints.{cross_for_outcome, park_outcome, unpark_outcome}
 use Rattle.model.specs.Scans.{with_scan, is_taken, may_scan, pick_outcome, with_marked_place, with_scan_end}
-use Rattle.model.specs.Scans.{scan_field_outcome, with_marked_global, scan_global_outcome, is_free_todo}
-use Rattle.model.specs.Scans.{next_todo, next_drain}
-use Rattle.model.specs.Cycles.{has_uncopied, start_mark, start_mark_outcome, has_todo, first_pending}
+use Rattle.model.specs.Scans.{mark_place, scan_field_outcome, with_marked_global, mark_global, scan_global_outcome}
+use Rattle.model.specs.Scans.{is_free_todo, next_todo, next_drain}
+use Rattle.model.specs.Cycles.{start_mark, start_mark_outcome, has_todo, first_pending}
 use Rattle.model.specs.Cycles.{is_lent, end_mark, retired_count, end_mark_outcome}
 use Rattle.model.specs.Traps.{trap_outcome, scrub_outcome}
 use Rattle.model.specs.First.{first_heap}
@@ -241,11 +242,11 @@ unfolding page_at state_at spot_of word_at with_words with_word words_at page_wi
     datum_outcome set_datum_outcome field_at global_of with_global store_outcome store_global_outcome with_buffer
     lend_buffer take_outcome give_back_outcome place_object new_outcome entry_at resolve with_mark marked_word
     with_barrier with_loaded load_outcome load_global_outcome trap_due trap_outcome heal_place heal_outcome end_load
-    finish_outcome with_parked first_behind all_crossed with_crossed with_marked_register cross_thread may_cross
-    cross_outcome cross_for_outcome scrub_outcome park_outcome unpark_outcome with_scan is_taken may_scan
-    pick_outcome with_marked_place with_scan_end scan_field_outcome with_marked_global scan_global_outcome
-    is_free_todo next_todo next_drain has_uncopied start_mark start_mark_outcome has_todo first_pending is_lent
-    end_mark retired_count end_mark_outcome first_heap no_register no_global no_page thread_gate worker_gate outcome
-    replies reply_of heap_after config thread worker bits_dont_count old_into_new known_to_a_barrier each_refusal
-    what_dies
+    finish_outcome with_parked first_behind all_crossed with_crossed with_marked_word with_marked_register
+    cross_thread may_cross cross_outcome cross_for_outcome scrub_outcome park_outcome unpark_outcome with_scan
+    is_taken may_scan pick_outcome with_marked_place mark_place with_scan_end scan_field_outcome with_marked_global
+    mark_global scan_global_outcome is_free_todo next_todo next_drain start_mark start_mark_outcome has_todo
+    first_pending is_lent end_mark retired_count end_mark_outcome first_heap no_register no_global no_page thread_gate
+    worker_gate outcome copied_first copied_for replies reply_of heap_after config thread worker bits_dont_count
+    old_into_new known_to_a_barrier each_refusal what_dies
 examples_compute = (refl, refl, refl, refl, refl)

@@ -9,3 +9,4 @@ pub mod OfPages
 pub mod Plans
 mod Examples
 mod MovingExamples
+mod RollingExamples

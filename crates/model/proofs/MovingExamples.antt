@@ -18,12 +18,12 @@ use Rattle.model.specs.Marks.{entry_at, resolve, with_mark, marked_word}
 use Rattle.model.specs.Loads.{with_barrier, with_loaded, load_outcome, load_global_outcome, trap_due}
 use Rattle.model.specs.Loads.{heal_place, heal_outcome, end_load, finish_outcome}
 use Rattle.model.specs.Checkpoints.{with_parked, first_behind, all_crossed, with_crossed}
-use Rattle.model.specs.Checkpoints.{with_marked_register, cross_thread, may_cross, cross_outcome}
+use Rattle.model.specs.Checkpoints.{with_marked_word, with_marked_register, cross_thread, may_cross, cross_outcome}
 use Rattle.model.specs.Checkpoints.{cross_for_outcome, park_outcome, unpark_outcome}
 use Rattle.model.specs.Scans.{with_scan, is_taken, may_scan, pick_outcome, with_marked_place, with_scan_end}
-use Rattle.model.specs.Scans.{scan_field_outcome, with_marked_global, scan_global_outcome, is_free_todo}
-use Rattle.model.specs.Scans.{next_todo, next_drain}
-use Rattle.model.specs.Cycles.{has_uncopied, start_mark, start_mark_outcome, has_todo, first_pending}
+use Rattle.model.specs.Scans.{mark_place, scan_field_outcome, with_marked_global, mark_global, scan_global_outcome}
+use Rattle.model.specs.Scans.{is_free_todo, next_todo, next_drain}
+use Rattle.model.specs.Cycles.{start_mark, start_mark_outcome, has_todo, first_pending}
 use Rattle.model.specs.Cycles.{is_lent, end_mark, retired_count, end_mark_outcome}
 use Rattle.model.specs.Traps.{trap_outcome, scrub_outcome}
 use Rattle.model.specs.First.{first_heap}
@@ -31,12 +31,12 @@ use Rattle.model.specs.Outcome.{no_register, no_global, no_page, thread_gate, wo
 use Rattle.model.specs.Plans.{live_offsets, live_objects, object_words, plan_of, moves_of, side_of}
 use Rattle.model.specs.Protections.{take_target, with_target, with_protected, protect, ripe, free_count, unused_count}
 use Rattle.model.specs.Protections.{room_for, protect_outcome}
-use Rattle.model.specs.Moves.{with_copied_words, with_copy, copied_first, moved_word, entry_on, copy_outcome}
-use Rattle.model.specs.Moves.{with_released, crossed_if_protecting, release_outcome}
+use Rattle.model.specs.Moves.{with_copied_words, with_copy, copied_first, copied_for, moved_word, with_released}
+use Rattle.model.specs.Emptying.{entry_on, copy_outcome, crossed_if_protecting, release_outcome}
 use Rattle.model.proofs.Examples.{Line, thread, worker, heap_after, reply_of, replies, config}
 
 -- Page 1 is closed, and has one live object with a datum of 5, which a global and a register of each thread name.
-closed_page : List Line
+unfoldable pub closed_page : List Line
 closed_page =
     thread 0 (steps.Take 16) (Ok (answers.Lent 1 0)) ∷
     thread 0 (steps.New 0 0) (Ok (answers.Birth 0)) ∷
@@ -173,7 +173,7 @@ emptied_at_once =
     []
 
 -- the heap of this configuration has these replies
-abbrev Computes : List Line → Type 0
+abbrev pub Computes : List Line → Type 0
 Computes lines = replies (first_heap config) lines ≡ map (λ (l : Line). l.reply) lines
 
 moves_compute : Computes (closed_page ++ scrubbed) × Computes (closed_page ++ released)
@@ -184,14 +184,14 @@ unfolding page_at state_at spot_of word_at with_words with_word words_at page_wi
     datum_outcome set_datum_outcome field_at global_of with_global store_outcome store_global_outcome with_buffer
     lend_buffer take_outcome give_back_outcome place_object new_outcome entry_at resolve with_mark marked_word
     with_barrier with_loaded load_outcome load_global_outcome trap_due trap_outcome heal_place heal_outcome end_load
-    finish_outcome with_parked first_behind all_crossed with_crossed with_marked_register cross_thread may_cross
-    cross_outcome cross_for_outcome scrub_outcome park_outcome unpark_outcome with_scan is_taken may_scan
-    pick_outcome with_marked_place with_scan_end scan_field_outcome with_marked_global scan_global_outcome
-    is_free_todo next_todo next_drain has_uncopied start_mark start_mark_outcome has_todo first_pending is_lent
-    end_mark retired_count end_mark_outcome first_heap no_register no_global no_page thread_gate worker_gate outcome
-    live_offsets live_objects object_words plan_of moves_of side_of take_target with_target with_protected protect
-    ripe free_count unused_count room_for protect_outcome with_copied_words with_copy copied_first
-    moved_word entry_on copy_outcome with_released crossed_if_protecting release_outcome
-    replies reply_of heap_after config thread worker closed_page scrubbed
-    released copied_by_a_thread unripe emptied_at_once
+    finish_outcome with_parked first_behind all_crossed with_crossed with_marked_word with_marked_register
+    cross_thread may_cross cross_outcome cross_for_outcome scrub_outcome park_outcome unpark_outcome with_scan
+    is_taken may_scan pick_outcome with_marked_place mark_place with_scan_end scan_field_outcome with_marked_global
+    mark_global scan_global_outcome is_free_todo next_todo next_drain start_mark start_mark_outcome has_todo
+    first_pending is_lent end_mark retired_count end_mark_outcome first_heap no_register no_global no_page thread_gate
+    worker_gate outcome live_offsets live_objects object_words plan_of moves_of side_of take_target with_target
+    with_protected protect ripe free_count unused_count room_for protect_outcome with_copied_words with_copy
+    copied_first copied_for moved_word entry_on copy_outcome with_released crossed_if_protecting release_outcome
+    replies reply_of heap_after config thread worker closed_page scrubbed released copied_by_a_thread unripe
+    emptied_at_once
 moves_compute = (refl, refl, refl, refl, refl)

@@ -8,10 +8,11 @@ use Rattle.model.specs.declared.steps.Refusal.{Refusal}
 use Rattle.model.specs.declared.steps.Refusal.TheVariants as refusals
 use Rattle.model.specs.Phases.{is_crossing, is_mark_crossing}
 use Rattle.model.specs.Refusing.{◌>>=◌, Outcome}
-use Rattle.model.specs.States.{ThreadState, HeapState, change_at}
+use Rattle.model.specs.States.{ThreadState, Reference, HeapState, change_at}
 use Rattle.model.specs.Threads.{set_parked_of, set_crossed_of, is_parked_in, has_crossed}
 use Rattle.model.specs.Registers.{register_of, with_register}
 use Rattle.model.specs.Marks.{with_mark, marked_word}
+use Rattle.model.specs.Moves.{copied_for}
 
 -- the heap with a thread parked or running
 unfoldable pub with_parked : HeapState → ℕ → Bool → HeapState
@@ -44,10 +45,13 @@ with_crossed h t = record h {
       then phase_behind h.phase else h.phase;
 }
 
--- the heap after the word in a register is marked
+-- the heap after a word is marked where its object is now, and put into a register
+unfoldable pub with_marked_word : HeapState → ℕ → ℕ → Reference → HeapState
+with_marked_word h t r v = with_register (with_mark h v) t r (marked_word h v)
+
+-- the heap after the word in a register is marked; its object is copied first where it wasn't (ours)
 unfoldable pub with_marked_register : HeapState → ℕ → ℕ → HeapState
-with_marked_register h t r =
-    with_register (with_mark h (register_of h t r)) t r (marked_word h (register_of h t r))
+with_marked_register h t r = with_marked_word (copied_for h (register_of h t r)) t r (register_of h t r)
 
 -- the same of each register below n
 abbrev pub with_marked_registers : HeapState → ℕ → ℕ → HeapState

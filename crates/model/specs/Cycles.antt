@@ -1,6 +1,6 @@
 -- A mark starts and ends (the paper's Mark phase).
 use Rattle.std.specs.List.{list_any}
-use Rattle.std.specs.Prelude.{ℕ, ◌+◌, ◌==◌, ◌&&◌, ◌||◌, zero, suc, not, Bool, true, false, List, [], map, replicate}
+use Rattle.std.specs.Prelude.{ℕ, ◌==◌, ◌||◌, not, Bool, true, false, List, [], map, replicate}
 use Rattle.std.specs.Prelude.{length, count_by, position, Option, Some, None, is_some, if◌then◌else◌, Result, Ok, Err}
 use Rattle.model.specs.declared.records.Buffer.{Buffer}
 use Rattle.model.specs.declared.records.Forwarding.{Forwarding}
@@ -11,11 +11,11 @@ use Rattle.model.specs.declared.steps.Answer.TheVariants as answers
 use Rattle.model.specs.declared.steps.Refusal.{Refusal}
 use Rattle.model.specs.declared.steps.Refusal.TheVariants as refusals
 use Rattle.model.specs.Phases.{may_start_mark}
-use Rattle.model.specs.Stores.{state_at, is_protected, is_from, store_after_mark}
+use Rattle.model.specs.Stores.{is_protected, store_after_mark}
 use Rattle.model.specs.Refusing.{◌>>=◌, refuse_if, Outcome}
 use Rattle.model.specs.States.{ThreadState, HeapState}
 use Rattle.model.specs.Threads.{set_crossed_of}
-use Rattle.model.specs.Bits.{of_page, blank_all, bit_count}
+use Rattle.model.specs.Bits.{blank_all, bit_count}
 use Rattle.model.specs.Scans.{may_scan}
 
 -- a mark starts
@@ -23,20 +23,6 @@ use Rattle.model.specs.Scans.{may_scan}
 -- an entry's object has still to be copied
 abbrev pub is_uncopied : Forwarding → Bool
 is_uncopied f = not f.copied
-
--- the page is being emptied, and has an object that isn't copied
-unfoldable pub has_uncopied : HeapState → ℕ → Bool
-has_uncopied h n = is_from (state_at h.store n) && list_any is_uncopied (of_page h.sides n)
-
--- the least of k pages from number n on that has an object that isn't copied
-abbrev pub uncopied_from : HeapState → ℕ → ℕ → Option ℕ
-uncopied_from h n zero = None
-uncopied_from h n (suc k) = if has_uncopied h n then Some n else uncopied_from h (n + 1) k
-
--- no page has an object that isn't copied, or the one that has is the refusal
-abbrev pub none_uncopied : Option ℕ → Result Unit Refusal
-none_uncopied None = Ok tt
-none_uncopied (Some n) = Err (refusals.Uncopied n)
 
 -- a global that has still to be marked
 abbrev pub set_todo_of : Global → Global
@@ -53,10 +39,7 @@ start_mark h = record h {
 
 -- the row of StartMark
 unfoldable pub start_mark_outcome : HeapState → Outcome
-start_mark_outcome h =
-    if not (may_start_mark h.phase) then Err refusals.Phase else (do
-      _ ← none_uncopied (uncopied_from h 1 (length h.store.pages))
-      Ok (start_mark h, answers.Done))
+start_mark_outcome h = if may_start_mark h.phase then Ok (start_mark h, answers.Done) else Err refusals.Phase
 
 -- a mark ends
 

@@ -15,13 +15,14 @@ pub mod References
 pub mod Buffers
 pub mod Births
 pub mod Marks
+pub mod Plans
+pub mod Moves
 pub mod Loads
 pub mod Checkpoints
 pub mod Scans
 pub mod Cycles
-pub mod Plans
 pub mod Protections
-pub mod Moves
+pub mod Emptying
 pub mod Traps
 pub mod Outcome
 pub mod Plain

@@ -16,6 +16,7 @@ use Rattle.model.specs.States.{Reference, HeapState, change_at}
 use Rattle.model.specs.Threads.{set_barrier_of, barrier_of, set_loaded_of, has_crossed}
 use Rattle.model.specs.Registers.{let_through, usable}
 use Rattle.model.specs.Marks.{with_mark, marked_word}
+use Rattle.model.specs.Moves.{copied_for}
 use Rattle.model.specs.References.{global_of, read_reference, field_address, with_place, field_at}
 
 -- the heap with another barrier of a thread
@@ -71,11 +72,15 @@ trap_due h t w = gc_trap_due h t w || nmt_trap_due h t w
 abbrev pub set_now_of : Reference → Barrier → Barrier
 set_now_of w b = record b { now = w }
 
--- an NMT trap: the word is marked, where it is due (the paper's read barrier)
+-- an NMT trap: the word is marked, where it is due (the paper's read barrier); its object is copied first where it
+-- wasn't (ours)
 abbrev pub nmt_trap : HeapState → ℕ → Barrier → Outcome
 nmt_trap h t b =
     if nmt_trap_due h t b.now
-    then Ok (with_barrier (with_mark h b.now) t (set_now_of (marked_word h b.now) b), answers.Marked)
+    then Ok (
+      with_barrier (with_mark (copied_for h b.now) b.now) t (set_now_of (marked_word (copied_for h b.now) b.now) b),
+      answers.Marked,
+    )
     else Ok (h, answers.Clear)
 
 -- the bits at the place of a load

@@ -20,7 +20,7 @@ use Rattle.model.specs.Checkpoints.{cross_outcome, cross_for_outcome, park_outco
 use Rattle.model.specs.Scans.{pick_outcome, scan_field_outcome, scan_global_outcome}
 use Rattle.model.specs.Cycles.{start_mark_outcome, end_mark_outcome}
 use Rattle.model.specs.Protections.{are_bad_pages, no_page_in, protect_outcome}
-use Rattle.model.specs.Moves.{copy_outcome, copy_page_outcome, release_outcome}
+use Rattle.model.specs.Emptying.{copy_outcome, copy_page_outcome, release_outcome}
 use Rattle.model.specs.Traps.{trap_outcome, scrub_outcome}
 
 -- a worker does such a step; threads do all others

@@ -47,9 +47,3 @@ is_idle _ = false
 abbrev pub is_protect_crossing : Phase → Bool
 is_protect_crossing ProtectCrossing = true
 is_protect_crossing _ = false
-
--- pages are protected, and no mark runs (the paper's Relocate phase)
-abbrev pub is_moving : Phase → Bool
-is_moving ProtectCrossing = true
-is_moving Relocating = true
-is_moving _ = false

@@ -17,6 +17,7 @@ use Rattle.model.specs.States.{Reference, HeapState, flat, change_at}
 use Rattle.model.specs.Bits.{bit_on, bit_at, with_bit}
 use Rattle.model.specs.References.{read_reference, field_at, global_of}
 use Rattle.model.specs.Marks.{with_mark, marked_word}
+use Rattle.model.specs.Moves.{copied_for}
 use Rattle.model.specs.Checkpoints.{all_crossed}
 
 -- what is scanned
@@ -65,10 +66,15 @@ abbrev pub reference_in : Option ℕ → Reference
 reference_in None = None
 reference_in (Some bits) = read_reference bits
 
--- the heap after the word at a place in memory is marked, and written back
+-- the heap after a word is marked where its object is now, and written back to a place in memory
 unfoldable pub with_marked_place : HeapState → ℕ → Reference → HeapState
 with_marked_place h place v =
     record (with_mark h v) { store = with_word h.store place (bits_of (marked_word h v)) }
+
+-- the heap after the word at a place in memory is marked, and written back; its object is copied first where it wasn't
+-- (ours)
+unfoldable pub mark_place : HeapState → ℕ → Reference → HeapState
+mark_place h place v = with_marked_place (copied_for h v) place v
 
 -- the heap after a worker has scanned its object
 unfoldable pub with_scan_end : HeapState → ℕ → Scan → HeapState
@@ -78,7 +84,7 @@ with_scan_end h w s = record (with_scan h w None) { todo = with_bit h.todo h.sto
 abbrev pub scan_next : HeapState → ℕ → Scan → Option ℕ → Outcome
 scan_next h w s None = Ok (with_scan_end h w s, answers.Finished)
 scan_next h w s (Some place) = Ok (
-  with_scan (with_marked_place h place (reference_in (word_at h.store place))) w (Some (next_field s)),
+  with_scan (mark_place h place (reference_in (word_at h.store place))) w (Some (next_field s)),
   answers.Scanned,
 )
 
@@ -100,17 +106,20 @@ is_todo_in (Some g) = g.todo
 abbrev pub set_marked_of : Reference → Global → Global
 set_marked_of w g = record g { word = w; todo = false }
 
--- the heap after a global is marked, and written back
-unfoldable pub with_marked_global : HeapState → ℕ → HeapState
-with_marked_global h g = record (with_mark h (global_of h g)) {
-  globals = change_at h.globals g (set_marked_of (marked_word h (global_of h g)));
-}
+-- the heap after a word is marked where its object is now, and put into a global, which is marked
+unfoldable pub with_marked_global : HeapState → ℕ → Reference → HeapState
+with_marked_global h g v =
+    record (with_mark h v) { globals = change_at h.globals g (set_marked_of (marked_word h v)) }
+
+-- the heap after a global is marked, and written back; its object is copied first where it wasn't (ours)
+unfoldable pub mark_global : HeapState → ℕ → HeapState
+mark_global h g = with_marked_global (copied_for h (global_of h g)) g (global_of h g)
 
 -- the row of ScanGlobal
 unfoldable pub scan_global_outcome : HeapState → ℕ → Outcome
 scan_global_outcome h g = do
   _ ← may_scan h
-  if is_todo_in (slice_get h.globals g) then Ok (with_marked_global h g, answers.Done) else Err refusals.NotTodo
+  if is_todo_in (slice_get h.globals g) then Ok (mark_global h g, answers.Done) else Err refusals.NotTodo
 
 -- what is left
 

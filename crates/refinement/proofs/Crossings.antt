@@ -14,13 +14,16 @@ use Rattle.model.specs.States.{HeapState, ThreadState, flat, change_at}
 use Rattle.model.specs.Threads.{register_in, set_crossed_of, buffer_in, has_crossed, is_parked_in}
 use Rattle.model.specs.Registers.{register_of, with_register}
 use Rattle.model.specs.Marks.{with_mark, marked_word}
+use Rattle.model.specs.Moves.{copied_for}
 use Rattle.model.specs.Checkpoints.{first_behind, phase_behind, with_crossed}
-use Rattle.model.specs.Checkpoints.{with_marked_register, with_marked_registers, marked_at_crossing, cross_thread}
+use Rattle.model.specs.Checkpoints.{with_marked_word, with_marked_register, with_marked_registers, marked_at_crossing, cross_thread}
 use Rattle.model.specs.Plain.{PlainHeap}
 use Rattle.model.proofs.Lists.{get_within, each_changed, position_none, position_passes, position_finds}
 use Rattle.model.proofs.Tables.{length_changed}
-use Rattle.laws.specs.AddressHeap.{AddressHeap, Null, names, put}
+use Rattle.laws.specs.AddressHeap.{AddressHeap, Null, put}
 use Rattle.laws.specs.Edits.{mark_word, cross_checkpoint}
+use Rattle.laws.specs.BirthHeap.{BirthHeap}
+use Rattle.laws.specs.Invariant.{Invariant}
 use Rattle.laws.specs.Effects.{set_register, mark_register, mark_registers}
 use Rattle.laws.specs.Transitions.{IsPhaseAfter, CrossMark, CrossProtect}
 use Rattle.laws.proofs.Basics.{put_other, put_same}
@@ -32,28 +35,27 @@ use Rattle.refinement.specs.Roots.{HoldsWords}
 use Rattle.refinement.specs.Standing.{Holds}
 use Rattle.refinement.proofs.Carrying.{Carries, and_then, becomes, moved, same_carries, step_by, stays}
 use Rattle.refinement.proofs.Changes.{kept_of, read_changed}
-use Rattle.refinement.proofs.Marks.{leads_to, marked_same, marked_is_word, mark_carries}
+use Rattle.refinement.proofs.Copies.{marks_first}
 use Rattle.refinement.proofs.Records.{records_of, records_carry}
 use Rattle.refinement.proofs.Threads.{register_carries}
 
 -- the word in a register is marked
-register_marked : (g : HeapState) (t n : ℕ) (x : ThreadState) → IsStore g.store → IsLaid g
-    → slice_get g.threads t ≡ Some x → n < g.config.registers → (y : Option ℕ)
-    → names (world_of g) (as_word (register_of g t n)) ≡ Some y
-    → Carries g (with_marked_register g t n) (mark_register t n)
-unfolding with_marked_register with_mark
-register_marked g t n x s l at low y e =
+register_marked : {g : HeapState} {b b0 : BirthHeap} (t n : ℕ) (x : ThreadState) → IsStore g.store → IsLaid g
+    → Invariant (world_of g) b b0 → is_marking g.phase ≡ true → slice_get g.threads t ≡ Some x
+    → n < g.config.registers
+    → Carries g (with_marked_register g t n) (mark_register t n) × IsStore (with_marked_register g t n).store
+unfolding with_marked_register with_marked_word with_mark with_register
+register_marked {g} t n x s l i phase at low =
     let v = register_of g t n in
-    let leads = leads_to g v y e in
-    let c = mark_carries g s l v leads in
-    becomes (and_then c
-    (register_carries (with_mark g v) t x at n (marked_word g v) (c.laid l) (marked_is_word g v s leads) low))
-    (mark_register t n) (ap (λ u. set_register t n u (mark_word (as_word v) (world_of g))) (marked_same g v))
-
-store_stays : (h : HeapState) (t n : ℕ) → (with_marked_registers h t n).store ≡ h.store
-unfolding with_marked_register with_register with_mark
-store_stays h t zero = refl
-store_stays h t (suc n) = store_stays h t n
+    let m = marks_first s l i phase v _ (i.words.registers t n).names in
+    let c = copied_for g v in
+    let there : slice_get c.threads t ≡ Some x = ap (λ ts. slice_get ts t) m.copied.threads ∙ at in
+    let within : n < c.config.registers =
+    subst (λ (z : Config). n < z.registers) (sym m.copied.carries.size.config) low in (
+      becomes (and_then m.carries (register_carries (with_mark c v) t x there n (marked_word c v) (m.carries.laid l)
+          m.word within)) (mark_register t n) (ap (λ u. set_register t n u (mark_word (as_word v) (world_of g))) m.same),
+      m.copied.store,
+    )
 
 module _ {h : HeapState} {p p0 : PlainHeap} (s : IsStore h.store) (k : Holds h p p0) (t : ℕ)
     (low : t < length h.threads) (m : is_marking h.phase ≡ true) (b : (world_of h).barrier t ≡ None) where
@@ -61,16 +63,18 @@ module _ {h : HeapState} {p p0 : PlainHeap} (s : IsStore h.store) (k : Holds h p
   below : (n : ℕ) → CrossedBelow (world_of h) (births_of p) (births_of p0) t n (mark_registers t n (world_of h))
   below n = mark_registers_keeps (world_of h) (births_of p) (births_of p0) k.invariant t m b n
 
-  registers_marked : (n : ℕ) → n ≤ h.config.registers → Carries h (with_marked_registers h t n) (mark_registers t n)
-  registers_marked zero most = same_carries h
+  registers_marked : (n : ℕ) → n ≤ h.config.registers
+      → Carries h (with_marked_registers h t n) (mark_registers t n) × IsStore (with_marked_registers h t n).store
+  registers_marked zero most = (same_carries h, s)
   registers_marked (suc n) most =
       let g = with_marked_registers h t n in
-      let c = registers_marked n (omega (arith, most)) in
+      let (c, kept) = registers_marked n (omega (arith, most)) in
       let i = moved _ _ _ _ (births_of p0) c.world refl (below n).inv in
       let (x, at) = get_within g.threads t (omega (arith, low, c.size.threads)) in
       let registers : g.config.registers ≡ h.config.registers = ap (λ (z : Config). z.registers) c.size.config in
-      and_then c (register_marked g t n x (subst IsStore (sym (store_stays h t n)) s) (c.laid k.laid) at
-      (omega (arith, most, registers)) _ (i.words.registers t n).names)
+      let phase : g.phase ≡ h.phase = ap (λ (w : AddressHeap). w.phase) c.world ∙ (below n).phase in
+      let next = register_marked t n x kept (c.laid k.laid) i (ap is_marking phase ∙ m) at
+      (omega (arith, most, registers)) in (and_then c next.0, next.1)
 
 -- the phase after a thread crosses
 abbrev pub phase_after : HeapState → ℕ → Phase
@@ -177,7 +181,7 @@ module _ {h : HeapState} {p p0 : PlainHeap} (s : IsStore h.store) (k : Holds h p
       let m = ap is_marking e in
       let low = slice_get_within h.threads t x at in
       let g = with_marked_registers h t n in
-      let c = registers_marked s k t low m b n (omega (arith, all)) in
+      let (c, kept) = registers_marked s k t low m b n (omega (arith, all)) in
       let u = below s k t low m b n in
       let (y, there) = get_within g.threads t (omega (arith, low, c.size.threads)) in
       let phase : g.phase ≡ MarkCrossing = ap (λ (w : AddressHeap). w.phase) c.world ∙ u.phase ∙ e in

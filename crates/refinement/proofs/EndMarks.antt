@@ -37,8 +37,8 @@ use Rattle.page.proofs.Keeping.{page_at_record, page_at_zero}
 use Rattle.laws.specs.Edits.{state_after_mark}
 use Rattle.laws.specs.Edits as edits
 use Rattle.laws.specs.AddressHeap.{HeapObject, NoEntry, Planned}
-use Rattle.laws.specs.Promises.{ReachableIsLive, LiveWasReachable}
-use Rattle.laws.proofs.Promises.{reachable_is_live, live_was_reachable}
+use Rattle.laws.specs.Promises.{ReachableIsLive, LiveWasReachable, PlannedIsUnreachable}
+use Rattle.laws.proofs.Promises.{reachable_is_live, live_was_reachable, planned_unreachable}
 use Rattle.laws.specs.Transitions.{MayEndMark, EndMark}
 use Rattle.refinement.specs.Worlds.{world_of, object_at, object_in, entry_at, as_barrier, barrier_in, todo_in}
 use Rattle.refinement.specs.PlainHeaps.{births_of}
@@ -426,15 +426,18 @@ module _ {h : HeapState} {p p0 : PlainHeap} (s : IsStore h.store) (k : Holds h p
       subst (λ g. StepHolds h p p0 (Worker w) steps.EndMark g z.1) (sym may.1)
       (row_by k c (stays h p) (EndMark _ may.0) tt))
 
-  -- and has found what lives
-  pub ended_finds : OnAccepted (λ (z : HeapState × Answer). FindsLive z.0 p p0) (end_mark_outcome h)
+  -- and has found what lives, and leaves nothing behind that can be reached
+  pub ended_finds : OnAccepted (λ (z : HeapState × Answer). FindsLive z.0 p p0
+      × PlannedIsUnreachable (world_of h) (births_of p)) (end_mark_outcome h)
   ended_finds = on_accepted (end_mark_outcome h) _ _ (may_end h) (λ z may.
       let w = world_of h in
       let after = ended_world s k may.0 in
-      let lent : ℕ → Bool = λ a. is_lent h.threads (a / h.store.words) in
-      subst (λ g. FindsLive g p p0) (sym may.1) (record {
-        reachable = subst (λ v. ReachableIsLive v (births_of p)) (sym after)
-            (reachable_is_live w (births_of p) (births_of p0) k.invariant may.0 lent);
-        live = subst (λ v. LiveWasReachable v (births_of p0)) (sym after)
-            (live_was_reachable w (births_of p) (births_of p0) k.invariant may.0 lent);
-      }))
+      let lent : ℕ → Bool = λ a. is_lent h.threads (a / h.store.words) in (
+        subst (λ g. FindsLive g p p0) (sym may.1) (record {
+          reachable = subst (λ v. ReachableIsLive v (births_of p)) (sym after)
+              (reachable_is_live w (births_of p) (births_of p0) k.invariant may.0 lent);
+          live = subst (λ v. LiveWasReachable v (births_of p0)) (sym after)
+              (live_was_reachable w (births_of p) (births_of p0) k.invariant may.0 lent);
+        }),
+        planned_unreachable w (births_of p) (births_of p0) k.invariant may.0,
+      ))

@@ -57,10 +57,12 @@ use Rattle.refinement.specs.Roots.{IsLoad}
 use Rattle.model.specs.declared.records.Phase.{Phase}
 use Rattle.model.specs.declared.records.Phase.TheVariants.{Idle, MarkCrossing, Scanning, ProtectCrossing, Relocating}
 use Rattle.model.specs.Phases.{is_marking, may_nmt_trap, same_bit}
+use Rattle.model.specs.declared.config.Config.{Config}
 use Rattle.model.specs.Marks.{with_mark, marked_word}
+use Rattle.model.specs.Moves.{copied_for}
 use Rattle.laws.specs.Edits.{mark_word}
 use Rattle.laws.specs.Edits as edits
-use Rattle.refinement.proofs.Marks.{leads_to, marked_same, marked_is_word, mark_carries}
+use Rattle.refinement.proofs.Copies.{marks_first}
 use Rattle.refinement.proofs.Naming.{on_named, on_field}
 use Rattle.refinement.proofs.References.{less_is}
 
@@ -195,17 +197,21 @@ module _ {h : HeapState} {p p0 : PlainHeap} (s : IsStore h.store) (d : IsHeap h)
 
     -- the word is marked
     now_marked : nmt_trap_due h t b.now ≡ true → StepHolds h p p0 (Thread t) steps.Trap
-        (with_barrier (with_mark h b.now) t (set_now_of (marked_word h b.now) b)) answers.Marked
+        (with_barrier (with_mark (copied_for h b.now) b.now) t (set_now_of (marked_word (copied_for h b.now) b.now) b))
+        answers.Marked
     unfolding plain_step plain_answer with_mark
     now_marked due =
-        let leads = leads_to h b.now _ opened.barrier.now.names in
-        let word = marked_is_word h b.now s leads in
-        row_by k (becomes (and_then (mark_carries h s k.laid b.now leads)
-        (barrier_carries (with_mark h b.now) t x at (set_now_of (marked_word h b.now) b)
-        (record { target = load.target; raw = load.raw; now = word })))
+        let m = marks_first s k.laid k.invariant (marks_run h t b.now due) b.now _ opened.barrier.now.names in
+        let g = copied_for h b.now in
+        let there : slice_get g.threads t ≡ Some x = ap (λ ts. slice_get ts t) m.copied.threads ∙ at in
+        let target : b.target < g.config.registers =
+        subst (λ (z : Config). b.target < z.registers) (sym m.copied.carries.size.config) load.target in
+        row_by k (becomes (and_then m.carries
+        (barrier_carries (with_mark g b.now) t x there (set_now_of (marked_word g b.now) b)
+        (record { target = target; raw = load.raw; now = m.word })))
         (λ w. set_barrier t (record (as_barrier b) { now = edits.marked_word w (as_word b.now) })
         (mark_word (as_word b.now) w)) (ap (λ v. set_barrier t (record (as_barrier b) { now = v })
-        (mark_word (as_word b.now) (world_of h))) (marked_same h b.now)))
+        (mark_word (as_word b.now) (world_of h))) m.same))
         (stays h p) (TrapMarked t (as_barrier b) in_world (marks_run h t b.now due)) tt
 
     -- an NMT trap, where it is due
@@ -214,7 +220,11 @@ module _ {h : HeapState} {p p0 : PlainHeap} (s : IsStore h.store) (d : IsHeap h)
     nmt_holds = by_due (nmt_trap_due h t b.now) refl
       where
         by_due : (c : Bool) → nmt_trap_due h t b.now ≡ c → RowHolds h p p0 (Thread t) steps.Trap (cond c
-            (Ok (with_barrier (with_mark h b.now) t (set_now_of (marked_word h b.now) b), answers.Marked))
+            (Ok (
+              with_barrier (with_mark (copied_for h b.now) b.now) t
+                  (set_now_of (marked_word (copied_for h b.now) b.now) b),
+              answers.Marked,
+            ))
             (Ok (h, answers.Clear)))
         by_due true e = now_marked e
         by_due false e = read_by k tt

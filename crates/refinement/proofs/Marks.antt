@@ -20,7 +20,7 @@ use Rattle.model.proofs.Tables.{rows_put}
 use Rattle.page.proofs.Lying.{records_few}
 use Rattle.laws.specs.AddressHeap.{HeapObject, SideEntry, NoEntry, put, resolve_by, names}
 use Rattle.laws.specs.AddressHeap as laws
-use Rattle.laws.specs.Edits.{mark_word}
+use Rattle.laws.specs.Edits.{set_mark}
 use Rattle.laws.specs.Edits as edits
 use Rattle.laws.proofs.Basics.{put_id, current_there}
 use Rattle.laws.proofs.Reading.{named}
@@ -106,7 +106,7 @@ leads_to h (Some w) x e =
 
 -- the word that marking leaves
 pub marked_same : (h : HeapState) (v : Reference)
-    → as_word (marked_word h v) ≡ edits.marked_word (world_of h) (as_word v)
+    → as_word (marked_word h v) ≡ edits.clean_word (world_of h) (as_word v)
 unfolding marked_word
 marked_same h None = refl
 marked_same h (Some w) = ap (λ a. laws.To a h.nmt) (sym (resolve_same h w.0))
@@ -157,7 +157,7 @@ module _ (h : HeapState) (s : IsStore h.store) (l : IsLaid h) where
           (bit_at h.todo h.store.words (resolve h w.0)) refl))
       by_mark false e = bit_with h.todo l.todo (resolve h w.0) n.0 n.1 true x
 
-  mark_world : (v : Reference) → LeadsTo h v → world_of (with_mark h v) ≡ mark_word (as_word v) (world_of h)
+  mark_world : (v : Reference) → LeadsTo h v → world_of (with_mark h v) ≡ set_mark (as_word v) (world_of h)
   unfolding with_mark register_of
   mark_world v n = λ z. record (world_of h) { marked = fun_ext (marks v n) z; todo = fun_ext (todos v n) z }
 
@@ -174,10 +174,10 @@ module _ (h : HeapState) (s : IsStore h.store) (l : IsLaid h) where
       by_mark false = rows_with h h.todo (resolve h w.0) true l.todo
 
   -- the object of a word is marked
-  pub mark_carries : (v : Reference) → LeadsTo h v → Carries h (with_mark h v) (mark_word (as_word v))
+  pub mark_carries : (v : Reference) → LeadsTo h v → Carries h (with_mark h v) (set_mark (as_word v))
   unfolding with_mark
   mark_carries v n = records_carry h (record (records_of h) { mark = mark_after h v; todo = todo_after h v })
-      (mark_word (as_word v))
+      (set_mark (as_word v))
       (record {
         mark = λ z. mark_rows v;
         todo = λ z. todo_rows v;

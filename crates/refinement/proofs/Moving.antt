@@ -16,13 +16,13 @@ use Rattle.model.specs.declared.records.Forwarding.{Forwarding}
 use Rattle.model.specs.declared.records.Page.{Page}
 use Rattle.model.specs.declared.records.PageState.TheVariants.{Open}
 use Rattle.model.specs.declared.records.Phase.{Phase}
-use Rattle.model.specs.declared.records.Phase.TheVariants.{Idle, MarkCrossing, Scanning, ProtectCrossing, Relocating}
+use Rattle.model.specs.declared.records.Phase.TheVariants.{ProtectCrossing}
 use Rattle.model.specs.declared.steps.Actor.TheVariants.{Thread, Worker}
 use Rattle.model.specs.declared.steps.Step.TheVariants as steps
 use Rattle.model.specs.declared.steps.Answer.TheVariants as answers
 use Rattle.model.specs.declared.steps.Refusal.TheVariants as refusals
-use Rattle.model.specs.Phases.{is_crossing, is_moving, is_protect_crossing}
-use Rattle.model.specs.Stores.{StoreState, page_at, state_at, state_in, is_from, is_protected, with_words}
+use Rattle.model.specs.Phases.{is_idle, is_crossing, is_protect_crossing}
+use Rattle.model.specs.Stores.{StoreState, page_at, state_at, state_in, is_from, is_protected}
 use Rattle.model.specs.Owning.{IsStore}
 use Rattle.model.specs.Holding.{IsHeap, AreRising}
 use Rattle.model.specs.States.{HeapState, ThreadState, Reference}
@@ -33,14 +33,13 @@ use Rattle.model.specs.Registers.{register_of, with_register, let_through, held_
 use Rattle.model.specs.Loads.{barrier_of_thread, with_barrier, set_now_of, is_refused, gc_trap_due}
 use Rattle.model.specs.Checkpoints.{first_behind, none_behind, all_crossed}
 use Rattle.model.specs.Plain.{PlainHeap, plain_step, plain_answer}
-use Rattle.model.specs.Moves.{with_copied_words, with_copy, copied_by, copied_first, place_by, moved_word, entry_on}
-use Rattle.model.specs.Moves.{copy_outcome}
+use Rattle.model.specs.Moves.{with_copy, copied_by, copied_first, place_by, moved_word}
+use Rattle.model.specs.Emptying.{crossed_if_protecting, entry_on, copy_outcome}
 use Rattle.model.specs.Traps.{gc_trap, scrub_word}
 use Rattle.model.proofs.Plans.{rising_within}
-use Rattle.model.proofs.Memory.{page_there, frames_stay}
+use Rattle.model.proofs.Memory.{page_there}
 use Rattle.page.proofs.Lying.{records_few}
 use Rattle.laws.specs.AddressHeap.{HeapObject, To, Planned, Copied, names}
-use Rattle.laws.specs.Edits.{copy_object}
 use Rattle.laws.specs.Invariant.{IsKept}
 use Rattle.laws.specs.Transitions.{Copy, TrapMoved, TrapCopied, ScrubMoved, ScrubCopied}
 use Rattle.laws.proofs.Barriers as barriers
@@ -51,14 +50,13 @@ use Rattle.refinement.specs.Worlds as worlds
 use Rattle.refinement.specs.PlainHeaps.{births_of}
 use Rattle.refinement.specs.Standing.{Holds, StepHolds}
 use Rattle.refinement.specs.Roots.{IsLoad}
-use Rattle.refinement.proofs.Accepted.{OnAccepted, on_has, on_some, on_test, on_unless}
-use Rattle.refinement.proofs.Carrying.{Carries, RowHolds, alike, and_then, row_by, read_by, stays}
+use Rattle.refinement.proofs.Accepted.{OnAccepted, on_accepted, on_has, on_some, on_test, on_unless}
+use Rattle.refinement.proofs.Carrying.{RowHolds, and_then, row_by, read_by, stays}
 use Rattle.refinement.proofs.Changes.{list_of, list_read}
 use Rattle.refinement.proofs.Crossings.{none_is_behind}
-use Rattle.refinement.proofs.Marks.{as_entry, entry_same}
 use Rattle.refinement.proofs.Threads.{barrier_carries, register_carries}
 use Rattle.refinement.proofs.Loads.{load, in_world, opened}
-use Rattle.refinement.proofs.Copying.{copy_world, copy_laid}
+use Rattle.refinement.proofs.Copies.{planned_entry, copied_entry, same_entry, copy_carries}
 
 -- the entry of a number
 
@@ -94,35 +92,10 @@ open_address s n h e = by_page (page_at s (n / s.words)) refl e
         let high = mul-add-lt (n / s.words) s.words (n % s.words) 1048576 (omega (arith, one, low, few)) offset in
         record { above = omega (arith, above, one, whole); below = omega (arith, high, whole, h.sized.words) }
 
--- an entry of the model that is one of the laws
-planned_entry : (o : Option Forwarding) (m : ℕ) → as_entry o ≡ Planned m
-    → (f : Forwarding) × (o ≡ Some f) × (f.copied ≡ false) × (f.to ≡ m)
-planned_entry None m e = absurd (cc)
-planned_entry (Some f) m e = by_copied f.copied refl e
-  where
-    by_copied : (b : Bool) → f.copied ≡ b → worlds.entry_of b f.to ≡ Planned m
-        → (g : Forwarding) × (Some f ≡ Some g) × (g.copied ≡ false) × (g.to ≡ m)
-    by_copied false k z = (f, refl, k, cc)
-    by_copied true k z = absurd (cc)
-
-pub copied_entry : (o : Option Forwarding) (m : ℕ) → as_entry o ≡ Copied m
-    → (f : Forwarding) × (o ≡ Some f) × (f.copied ≡ true) × (f.to ≡ m)
-copied_entry None m e = absurd (cc)
-copied_entry (Some f) m e = by_copied f.copied refl e
-  where
-    by_copied : (b : Bool) → f.copied ≡ b → worlds.entry_of b f.to ≡ Copied m
-        → (g : Forwarding) × (Some f ≡ Some g) × (g.copied ≡ true) × (g.to ≡ m)
-    by_copied true k z = (f, refl, k, cc)
-    by_copied false k z = absurd (cc)
-
 -- phases
 
-moving_is : (f : Phase) → not (is_moving f) ≡ false → (f ≡ ProtectCrossing) ⊎ (f ≡ Relocating)
-moving_is ProtectCrossing e = inl refl
-moving_is Relocating e = inr refl
-moving_is Idle e = absurd (cc)
-moving_is MarkCrossing e = absurd (cc)
-moving_is Scanning e = absurd (cc)
+protecting_is : (f : Phase) → f ≡ ProtectCrossing → is_protect_crossing f ≡ true
+protecting_is f e = ap is_protect_crossing e
 
 not_protecting : (f : Phase) → is_protect_crossing f ≡ false → f ≢ ProtectCrossing
 not_protecting f e k = true≢false (sym (ap is_protect_crossing k) ∙ e)
@@ -138,24 +111,7 @@ held_protected h t a e = by_test (is_protected (state_at h.store (a / h.store.wo
     by_test true k = refl
     by_test false k = absurd (cc)
 
--- an entry of the model is that of the heap by addresses
-pub same_entry : (h : HeapState) (a : ℕ) → (world_of h).side_entry a ≡ as_entry (entry_at h a)
-unfolding entry_at
-same_entry h a = entry_same (of_page h.sides (a / h.store.words)) (a % h.store.words)
-
 module _ {h : HeapState} {p p0 : PlainHeap} (s : IsStore h.store) (k : Holds h p p0) where
-  -- an object is copied
-  copy_carries : (a n : ℕ) (q : HeapObject) → (world_of h).side_entry a ≡ Planned n → object_at h a ≡ Some q
-      → Carries h (with_copy h a n) (copy_object a n q)
-  unfolding with_copy with_copied_words with_words
-  copy_carries a n q plan here = record {
-    size = alike h (with_copy h a n) refl refl (frames_stay h.store _ _) refl refl refl refl;
-    laid = λ z. copy_laid h s k.laid k.invariant.objects a n q here plan;
-    given = λ z. z;
-    words = λ z. record { threads = z.threads; globals = z.globals };
-    world = copy_world h s k.laid k.invariant.objects a n q here plan;
-  }
-
   pub crossed : OnAccepted (λ (u : Unit {0}). (t : ℕ) → (world_of h).crossed t ≡ true) (all_crossed h)
   unfolding all_crossed
   crossed = by_found (first_behind h.threads) refl
@@ -165,10 +121,22 @@ module _ {h : HeapState} {p p0 : PlainHeap} (s : IsStore h.store) (k : Holds h p
       by_found (Some t) e = tt
       by_found None e = none_is_behind h.threads e
 
-  -- where all have crossed, no checkpoint is open
-  pub closed_checkpoint : ((t : ℕ) → (world_of h).crossed t ≡ true) → h.phase ≢ ProtectCrossing
+  -- where pages are being protected, all have crossed
+  pub all_where_protecting : OnAccepted
+      (λ (u : Unit {0}). h.phase ≡ ProtectCrossing → (t : ℕ) → (world_of h).crossed t ≡ true) (crossed_if_protecting h)
+  unfolding crossed_if_protecting
+  all_where_protecting = by_phase (is_protect_crossing h.phase) refl
+    where
+      by_phase : (b : Bool) → is_protect_crossing h.phase ≡ b
+          → OnAccepted (λ (u : Unit {0}). h.phase ≡ ProtectCrossing → (t : ℕ) → (world_of h).crossed t ≡ true)
+          (cond b (all_crossed h) (Ok tt))
+      by_phase true f = on_accepted (all_crossed h) _ _ crossed (λ u all g. all)
+      by_phase false f = λ g. absurd (true≢false (sym (protecting_is h.phase g) ∙ f))
+
+  -- so they aren't being protected any more
+  closed_checkpoint : (h.phase ≡ ProtectCrossing → (t : ℕ) → (world_of h).crossed t ≡ true) → h.phase ≢ ProtectCrossing
   closed_checkpoint all e =
-      let (t, waits) = k.invariant.phases.waits (ap is_crossing e) in true≢false (sym (all t) ∙ waits)
+      let (t, waits) = k.invariant.phases.waits (ap is_crossing e) in true≢false (sym (all e t) ∙ waits)
 
   entry_known : (page e : ℕ) (f : Forwarding) → entry_on h page e ≡ Some f → slice_get (of_page h.sides page) e ≡ Some f
   unfolding entry_on
@@ -187,11 +155,11 @@ module _ {h : HeapState} {p p0 : PlainHeap} (s : IsStore h.store) (k : Holds h p
       by_list None e = tt
       by_list (Some fs) e = k.laid.sides.rising i fs e
 
-  -- a worker copies an object, once all have crossed
+  -- a worker copies an object, once no page is being protected
   pub copy_holds : (w page e : ℕ) → RowHolds h p p0 (Worker w) (steps.Copy page e) (copy_outcome h page e)
   unfolding copy_outcome plain_step plain_answer
-  copy_holds w page e = on_unless (not (is_moving h.phase)) _ _ _ (λ moving.
-      on_has (all_crossed h) _ _ _ crossed (λ u all.
+  copy_holds w page e = on_unless (is_idle h.phase) _ _ _ (λ busy.
+      on_has (crossed_if_protecting h) _ _ _ all_where_protecting (λ u all.
       on_some (entry_on h page e) _ _ _ (λ f found.
       on_unless f.copied _ _ _ (λ fresh.
       let at = entry_known page e f found in
@@ -202,7 +170,7 @@ module _ {h : HeapState} {p p0 : PlainHeap} (s : IsStore h.store) (k : Holds h p
       ∙ entry_numbered h.store.words 0 (of_page h.sides page) e f (rising page) at
       ∙ ap (λ b. worlds.entry_of b f.to) fresh in
       let (q, here) = k.invariant.objects.planned_object (page * h.store.words + f.offset) f.to plan in
-      row_by k (copy_carries (page * h.store.words + f.offset) f.to q plan here) (stays h p)
+      row_by k (copy_carries s k.laid k.invariant.objects (page * h.store.words + f.offset) f.to q plan here) (stays h p)
       (Copy (page * h.store.words + f.offset) f.to q (closed_checkpoint all) plan here) tt))))
 
   -- where the object at an address is, once it is copied
@@ -282,7 +250,7 @@ module _ {h : HeapState} {p p0 : PlainHeap} (s : IsStore h.store) (k : Holds h p
                   (TrapMoved t (as_barrier b) a z.place bit (in_world s d k t x at b first) word copied) tt)
               | inr (q, plan, here, same) ↦ subst (λ g. StepHolds h p p0 (Thread t) steps.Trap
                   (with_barrier g t (set_now_of (Some (z.place, bit)) b)) answers.Moved) (sym same)
-                  (row_by k (and_then (copy_carries a z.place q plan here)
+                  (row_by k (and_then (copy_carries s k.laid k.invariant.objects a z.place q plan here)
                   (barrier_carries (with_copy h a z.place) t x at (set_now_of (Some (z.place, bit)) b)
                   (loads z.place bit z.is_address))) (stays h p)
                   (TrapCopied t (as_barrier b) a z.place bit q (in_world s d k t x at b first) word plan here
@@ -316,9 +284,9 @@ module _ {h : HeapState} {p p0 : PlainHeap} (s : IsStore h.store) (k : Holds h p
                   (ScrubMoved t r a z.place bit closed word copied) tt)
               | inr (q, plan, here, same) ↦ subst (λ g. StepHolds h p p0 (Thread t) (steps.Scrub r)
                   (with_register g t r (Some (z.place, bit))) answers.Moved) (sym same)
-                  (row_by k (and_then (copy_carries a z.place q plan here)
+                  (row_by k (and_then (copy_carries s k.laid k.invariant.objects a z.place q plan here)
                   (register_carries (with_copy h a z.place) t x at r (Some (z.place, bit))
-                  ((copy_carries a z.place q plan here).laid k.laid) z.is_address low)) (stays h p)
+                  ((copy_carries s k.laid k.invariant.objects a z.place q plan here).laid k.laid) z.is_address low)) (stays h p)
                   (ScrubCopied t r a z.place bit q closed word plan here (not_protecting h.phase phase)) tt)
             ])
 

@@ -7,7 +7,7 @@ use Rattle.model.specs.declared.records.Forwarding.{Forwarding}
 use Rattle.model.specs.declared.steps.Step.TheVariants as steps
 use Rattle.model.specs.declared.steps.Answer.TheVariants as answers
 use Rattle.model.specs.declared.steps.Refusal.TheVariants as refusals
-use Rattle.model.specs.Phases.{is_idle, is_moving, is_protect_crossing}
+use Rattle.model.specs.Phases.{is_idle, is_protect_crossing}
 use Rattle.model.specs.Stores.{state_at, is_from}
 use Rattle.model.specs.Refusing.{refuse_if}
 use Rattle.model.specs.States.{HeapState, Reference}
@@ -15,14 +15,12 @@ use Rattle.model.specs.Bits.{of_page}
 use Rattle.model.specs.Registers.{let_through, with_register}
 use Rattle.model.specs.Loads.{with_barrier, is_refused}
 use Rattle.model.specs.Marks.{entry_at}
-use Rattle.model.specs.Checkpoints.{all_crossed}
 use Rattle.model.specs.Cycles.{is_uncopied}
 use Rattle.model.specs.Plans.{plan_of, target_count}
 use Rattle.model.specs.Protections.{with_protected, protect}
 use Rattle.model.specs.Protections.{all_ripe, room_for, protect_outcome}
-use Rattle.model.specs.Moves.{with_copy, copied_by, copied_first, entry_on, copy_outcome}
-use Rattle.model.specs.Moves.{moved_word}
-use Rattle.model.specs.Moves.{crossed_if_protecting, release_outcome}
+use Rattle.model.specs.Moves.{with_copy, copied_by, copied_first, copied_for, moved_word}
+use Rattle.model.specs.Emptying.{crossed_if_protecting, entry_on, copy_outcome, release_outcome}
 use Rattle.model.specs.Traps.{gc_trap, scrub_word}
 use Rattle.model.specs.Refusing.{Outcome}
 use Rattle.refinement.specs.Standing.{MovesPhase}
@@ -59,9 +57,15 @@ first_stays h a = by_entry (entry_at h a)
         by_copied true n = refl
         by_copied false n = refl
 
+-- and so is the object of a word
+pub copied_for_stays : (h : HeapState) (v : Reference) → (copied_for h v).phase ≡ h.phase
+unfolding copied_for
+copied_for_stays h None = refl
+copied_for_stays h (Some w) = first_stays h w.0
+
 pub copy_stays : (h : HeapState) (page e : ℕ) → Stays h (copy_outcome h page e)
 unfolding copy_outcome with_copy
-copy_stays h page e = on_unless (not (is_moving h.phase)) _ _ _ (λ u. on_bind (all_crossed h) _ _ (λ v f.
+copy_stays h page e = on_unless (is_idle h.phase) _ _ _ (λ u. on_bind (crossed_if_protecting h) _ _ (λ v f.
     on_some (entry_on h page e) _ _ _ (λ w g. on_unless w.copied _ _ _ (λ x. refl))))
 
 -- a GC trap

@@ -1,9 +1,8 @@
 -- The phase moves as the collector's cycle has it.
 use Rattle.std.proofs.Common.{◌≡◌, inl, inr, ℕ, zero, suc, ◌-◌, ◌&&◌, ◌||◌, Bool, true, false, cond, not}
 use Rattle.std.proofs.Common.{nat_le, nat_lt}
-use Rattle.std.proofs.Common.{is_some, is_none, Option, Some, None, length, ◌+◌, ◌*◌, refl, sym, ap, subst}
+use Rattle.std.proofs.Common.{is_some, is_none, Option, Some, None, ◌+◌, ◌*◌, refl, sym, ◌∙◌, ap, subst}
 use Rattle.std.specs.List.{slice_get}
-use Rattle.std.proofs.lemmas.Bool.{not-false}
 use Rattle.std.specs.Prelude.{Result, Ok, Err}
 use Rattle.layout.specs.Objects.{size_of}
 use Rattle.model.specs.declared.records.Barrier.{Barrier}
@@ -30,7 +29,7 @@ use Rattle.model.specs.Threads.{set_crossed_of, is_parked_in}
 use Rattle.model.specs.Registers.{register_of, usable, usable_or_null, with_register, same_outcome, is_null_outcome}
 use Rattle.model.specs.Registers.{copy_register_outcome, clear_register_outcome}
 use Rattle.model.specs.Data.{datum_at, datum_outcome, set_datum_outcome}
-use Rattle.model.specs.References.{field_at, with_global, with_place, store_outcome, store_global_outcome}
+use Rattle.model.specs.References.{field_at, global_of, with_global, with_place, store_outcome, store_global_outcome}
 use Rattle.model.specs.Buffers.{buffer_of_thread, with_buffer, lend_buffer, take_result, take_outcome}
 use Rattle.model.specs.Buffers.{give_back_outcome}
 use Rattle.model.specs.Births.{place_object, new_outcome}
@@ -40,11 +39,13 @@ use Rattle.model.specs.Loads.{gc_trap_due, nmt_trap_due, trap_due, bits_at, are_
 use Rattle.model.specs.Loads.{set_healed}
 use Rattle.model.specs.Loads.{heal_place, heal_outcome, may_finish, end_load, finish_outcome}
 use Rattle.model.specs.Checkpoints.{with_parked, first_behind, phase_behind, with_crossed, with_marked_register}
+use Rattle.model.specs.Checkpoints.{with_marked_word}
+use Rattle.model.specs.Moves.{copied_for}
 use Rattle.model.specs.Checkpoints.{with_marked_registers, marked_at_crossing, cross_thread, may_cross, cross_outcome}
 use Rattle.model.specs.Checkpoints.{cross_for_outcome, park_outcome, unpark_outcome}
 use Rattle.model.specs.Scans.{scan_of, with_scan, is_taken, may_scan, with_marked_place, with_scan_end, scan_next}
-use Rattle.model.specs.Scans.{is_todo_in, with_marked_global, pick_outcome, scan_field_outcome, scan_global_outcome}
-use Rattle.model.specs.Cycles.{none_uncopied, uncopied_from, start_mark, start_mark_outcome, end_mark, end_mark_outcome}
+use Rattle.model.specs.Scans.{mark_place, is_todo_in, with_marked_global, mark_global, pick_outcome, scan_field_outcome, scan_global_outcome}
+use Rattle.model.specs.Cycles.{start_mark, start_mark_outcome, end_mark, end_mark_outcome}
 use Rattle.model.specs.Traps.{trap_outcome, scrub_outcome}
 use Rattle.model.specs.Outcome.{outcome, thread_gate, thread_row, worker_gate, worker_row}
 use Rattle.model.specs.Bits.{bit_on}
@@ -61,7 +62,7 @@ use Rattle.refinement.proofs.EndMarks.{may_end}
 use Rattle.refinement.proofs.StartMarks.{in_phase}
 use Rattle.refinement.proofs.WholePages.{copy_page_stays}
 use Rattle.refinement.proofs.MovingPhases.{Stays, Moves, protect_moves, copy_stays, gc_stays, scrub_word_stays}
-use Rattle.refinement.proofs.MovingPhases.{release_stays}
+use Rattle.refinement.proofs.MovingPhases.{release_stays, copied_for_stays}
 
 module _ (h : HeapState) (t : ℕ) where
   take_stays : (n : ℕ) → Stays h (take_outcome h t n)
@@ -99,9 +100,13 @@ module _ (h : HeapState) (t : ℕ) where
       (λ f. gc_stays h t b b.now) (λ f. by_due b (nmt_trap_due h t b.now)))
     where
       by_due : (b : Barrier) (c : Bool) → Stays h (cond c
-          (Ok (with_barrier (with_mark h b.now) t (record b { now = marked_word h b.now }), answers.Marked))
+          (Ok (
+            with_barrier (with_mark (copied_for h b.now) b.now) t
+                (record b { now = marked_word (copied_for h b.now) b.now }),
+            answers.Marked,
+          ))
           (Ok (h, answers.Clear)))
-      by_due b true = refl
+      by_due b true = copied_for_stays h b.now
       by_due b false = refl
 
   heal_stays : Stays h (heal_outcome h t)
@@ -156,9 +161,9 @@ module _ (h : HeapState) (t : ℕ) where
 
   -- registers that are marked leave the phase
   marked_stays : (n : ℕ) → (with_marked_registers h t n).phase ≡ h.phase
-  unfolding with_marked_register with_register with_mark
+  unfolding with_marked_register with_marked_word with_register with_mark
   marked_stays zero = refl
-  marked_stays (suc n) = marked_stays n
+  marked_stays (suc n) = copied_for_stays (with_marked_registers h t n) _ ∙ marked_stays n
 
   -- a crossing
   crossed_into : is_crossing h.phase ≡ true
@@ -213,9 +218,7 @@ thread_moves h t _ = tt
 module _ {h : HeapState} {p p0 : PlainHeap} (k : Holds h p p0) where
   start_moves : Moves h steps.StartMark (start_mark_outcome h)
   unfolding start_mark_outcome start_mark
-  start_moves = on_test (not (may_start_mark h.phase)) _ _ _ (λ e.
-      on_bind (none_uncopied (uncopied_from h 1 (length h.store.pages))) _ _ (λ u f.
-      (in_phase h.phase (not-false (may_start_mark h.phase) e), refl)))
+  start_moves = on_truth (may_start_mark h.phase) _ _ _ (λ e. (in_phase h.phase e, refl))
 
   end_moves : Moves h steps.EndMark (end_mark_outcome h)
   unfolding end_mark
@@ -231,17 +234,18 @@ module _ {h : HeapState} {p p0 : PlainHeap} (k : Holds h p p0) where
       on_test (is_some (scan_of h w) || is_taken h (page * h.store.words + offset)) _ _ _ (λ g. refl)))
 
   scan_moves : (w : ℕ) → Stays h (scan_field_outcome h w)
-  unfolding scan_field_outcome with_scan_end with_marked_place with_mark with_scan
+  unfolding scan_field_outcome with_scan_end mark_place with_marked_place with_mark with_scan
   scan_moves w = on_bind (may_scan h) _ _ (λ u e. on_some (scan_of h w) _ _ _ (λ c f.
       by_place c (field_at h c.object c.next)))
     where
       by_place : (c : Scan) (o : Option ℕ) → Stays h (scan_next h w c o)
       by_place c None = refl
-      by_place c (Some n) = refl
+      by_place c (Some n) = copied_for_stays h _
 
   global_moves : (g : ℕ) → Stays h (scan_global_outcome h g)
-  unfolding scan_global_outcome with_marked_global with_mark
-  global_moves g = on_bind (may_scan h) _ _ (λ u e. on_truth (is_todo_in (slice_get h.globals g)) _ _ _ (λ f. refl))
+  unfolding scan_global_outcome mark_global with_marked_global with_mark
+  global_moves g = on_bind (may_scan h) _ _ (λ u e. on_truth (is_todo_in (slice_get h.globals g)) _ _ _ (λ f.
+      copied_for_stays h (global_of h g)))
 
   cross_for_moves : (t : ℕ) → Moves h (steps.CrossFor t) (cross_for_outcome h t)
   unfolding cross_for_outcome

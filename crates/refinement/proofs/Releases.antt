@@ -5,7 +5,6 @@ use Rattle.std.proofs.Common.{subst, arith, eq-eqb, ne_eqb}
 use mathlib.Core.Path.{fun_ext}
 use Rattle.std.specs.List.{slice_get, list_any}
 use Rattle.std.specs.Option.{option_map}
-use Rattle.std.specs.Prelude.{Ok}
 use Rattle.std.proofs.lemmas.Bool.{cases_eq, eqb-true, false≢true, true≢false}
 use Rattle.std.proofs.lemmas.Option.{none-some}
 use Rattle.model.specs.declared.records.Page.{Page}
@@ -15,16 +14,16 @@ use Rattle.model.specs.declared.records.Phase.{Phase}
 use Rattle.model.specs.declared.records.Phase.TheVariants.{Idle, ProtectCrossing}
 use Rattle.model.specs.declared.steps.Actor.TheVariants.{Worker}
 use Rattle.model.specs.declared.steps.Step.TheVariants as steps
-use Rattle.model.specs.Phases.{is_idle, is_protect_crossing}
+use Rattle.model.specs.Phases.{is_idle}
 use Rattle.model.specs.Stores.{StoreState, page_at, state_at, state_in, frame_in, words_at, has_memory, is_from}
 use Rattle.model.specs.Owning.{Each, IsStore}
 use Rattle.model.specs.States.{HeapState, change_found}
 use Rattle.model.specs.Registers.{register_of}
 use Rattle.model.specs.Bits.{of_page, bit_at}
-use Rattle.model.specs.Checkpoints.{all_crossed}
 use Rattle.model.specs.Cycles.{is_uncopied}
 use Rattle.model.specs.Plain.{PlainHeap, plain_step, plain_answer}
-use Rattle.model.specs.Moves.{set_gone_of, with_released, crossed_if_protecting, release_outcome}
+use Rattle.model.specs.Moves.{set_gone_of, with_released}
+use Rattle.model.specs.Emptying.{crossed_if_protecting, release_outcome}
 use Rattle.model.proofs.Memory.{page_there, words_in}
 use Rattle.model.proofs.Lists.{each_set}
 use Rattle.model.proofs.Tables.{length_changed}
@@ -37,12 +36,12 @@ use Rattle.refinement.specs.Worlds as worlds
 use Rattle.refinement.specs.Claims.{IsLaid, AreRowsOf, Claim, OfObject, OfBuffer, OfPlan, OfEnd, Extent, extent}
 use Rattle.refinement.specs.Claims.{object_size, sized_extent, planned_extent, end_extent, HasGiven}
 use Rattle.refinement.specs.Standing.{Holds}
-use Rattle.refinement.proofs.Accepted.{OnAccepted, on_has, on_accepted, on_unless}
+use Rattle.refinement.proofs.Accepted.{on_has, on_unless}
 use Rattle.refinement.proofs.Carrying.{Carries, RowHolds, alike, row_by, stays}
 use Rattle.refinement.proofs.Claims.{shrunk_apart}
 use Rattle.refinement.proofs.Granted.{page_set}
 use Rattle.refinement.proofs.StartMarks.{planned_uncopied}
-use Rattle.refinement.proofs.Moving.{crossed}
+use Rattle.refinement.proofs.Moving.{all_where_protecting}
 
 is_from_is : (f : PageState) → not (is_from f) ≡ false → f ≡ From
 is_from_is From e = refl
@@ -53,9 +52,6 @@ is_from_is Gone e = absurd (cc)
 
 not_idle : (f : Phase) → is_idle f ≡ false → f ≢ Idle
 not_idle f e k = true≢false (sym (ap is_idle k) ∙ e)
-
-protecting_is : (f : Phase) → f ≡ ProtectCrossing → is_protect_crossing f ≡ true
-protecting_is f e = ap is_protect_crossing e
 
 -- the record of a page that is being emptied
 pub record IsEmptying (s : StoreState) (n : ℕ) : Type 0 where
@@ -260,22 +256,11 @@ module _ {h : HeapState} {p p0 : PlainHeap} (s : IsStore h.store) (k : Holds h p
   }
 
 module _ {h : HeapState} {p p0 : PlainHeap} (s : IsStore h.store) (k : Holds h p p0) where
-  all_where_protecting : OnAccepted
-      (λ (u : Unit {0}). h.phase ≡ ProtectCrossing → (t : ℕ) → (world_of h).crossed t ≡ true) (crossed_if_protecting h)
-  unfolding crossed_if_protecting
-  all_where_protecting = by_phase (is_protect_crossing h.phase) refl
-    where
-      by_phase : (b : Bool) → is_protect_crossing h.phase ≡ b
-          → OnAccepted (λ (u : Unit {0}). h.phase ≡ ProtectCrossing → (t : ℕ) → (world_of h).crossed t ≡ true)
-          (cond b (all_crossed h) (Ok tt))
-      by_phase true f = on_accepted (all_crossed h) _ _ (crossed s k) (λ u all g. all)
-      by_phase false f = λ g. absurd (true≢false (sym (protecting_is h.phase g) ∙ f))
-
   -- a page gives its memory up
   pub release_holds : (w n : ℕ) → RowHolds h p p0 (Worker w) (steps.Release n) (release_outcome h n)
   unfolding release_outcome plain_step plain_answer
   release_holds w n = on_unless (is_idle h.phase) _ _ _ (λ busy.
-      on_has (crossed_if_protecting h) _ _ _ all_where_protecting (λ u all.
+      on_has (crossed_if_protecting h) _ _ _ (all_where_protecting s k) (λ u all.
       on_unless (not (is_from (state_at h.store n))) _ _ _ (λ from.
       on_unless (list_any is_uncopied (of_page h.sides n)) _ _ _ (λ copied.
       let e = emptying h.store n (is_from_is (state_at h.store n) from) in

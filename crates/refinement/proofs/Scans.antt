@@ -1,6 +1,6 @@
 -- Workers scan: objects are picked, and fields and globals are marked and written back.
 use Rattle.std.proofs.Common.{◌≡◌, ◌≢◌, inr, ℕ, ◌+◌, ◌*◌, ◌%◌, ◌<◌, ◌&&◌, ◌||◌, true, false, not}
-use Rattle.std.proofs.Common.{nat_lt, length, set, Option, Some, None, refl, sym, ◌∙◌, ap, ap₂, subst, arith, is_some}
+use Rattle.std.proofs.Common.{nat_lt, length, set, List, Option, Some, None, refl, sym, ◌∙◌, ap, ap₂, subst, arith, is_some}
 use mathlib.Core.Path.{fun_ext}
 use Rattle.std.specs.List.{slice_get}
 use Rattle.std.specs.Option.{option_map}
@@ -22,21 +22,23 @@ use Rattle.model.specs.Registers.{register_of}
 use Rattle.model.specs.References.{read_reference, field_at, global_of}
 use Rattle.model.specs.Bits.{bit_at, bit_on, with_bit}
 use Rattle.model.specs.Marks.{with_mark, marked_word}
+use Rattle.model.specs.Moves.{copied_for}
 use Rattle.model.specs.Checkpoints.{first_behind, none_behind, all_crossed}
 use Rattle.model.specs.Scans.{scan_of, with_scan, first_field, next_field, is_scan_of, is_taken, may_scan, pick_outcome}
-use Rattle.model.specs.Scans.{reference_in, with_marked_place, with_scan_end, scan_next, scan_field_outcome}
-use Rattle.model.specs.Scans.{is_todo_in, set_marked_of, with_marked_global, scan_global_outcome}
+use Rattle.model.specs.Scans.{reference_in, with_marked_place, mark_place, with_scan_end, scan_next, scan_field_outcome}
+use Rattle.model.specs.Scans.{is_todo_in, set_marked_of, with_marked_global, mark_global, scan_global_outcome}
 use Rattle.model.specs.Plain.{PlainHeap, plain_step, plain_answer}
 use Rattle.model.proofs.Lists.{get_within, get_set_same, get_set_other, each_changed, none_passes}
 use Rattle.model.proofs.Tables.{length_changed}
 use Rattle.laws.specs.AddressHeap.{AddressHeap, HeapObject, Word, WorkerScan, put, field, current, names}
-use Rattle.laws.specs.BirthHeap.{ref, Start}
-use Rattle.laws.specs.Invariant.{IsKept}
+use Rattle.laws.specs.BirthHeap.{BirthHeap, ref, Start}
+use Rattle.laws.specs.Invariant.{IsKept, Invariant}
 use Rattle.laws.specs.Edits.{mark_word, set_object, set_scan, end_scan, set_global, end_global_scan}
 use Rattle.laws.specs.Edits as edits
 use Rattle.laws.specs.Effects.{with_field, scan_field}
 use Rattle.laws.specs.Transitions.{IsScanning, Pick, ScanField, ScanEnd, ScanGlobal}
 use Rattle.laws.proofs.Basics.{put_all, marked_current}
+use Rattle.laws.proofs.CopyWord.{copied_stays}
 use Rattle.laws.proofs.Reading.{at}
 use Rattle.refinement.specs.Worlds.{world_of, object_at, as_word, as_scan, scan_in, global_in, todo_in, word_in_memory}
 use Rattle.refinement.specs.PlainHeaps.{births_of}
@@ -46,7 +48,8 @@ use Rattle.refinement.proofs.Accepted.{OnAccepted, on_has, on_some, on_test, on_
 use Rattle.refinement.proofs.Carrying.{Carries, RowHolds, and_then, becomes, row_by, stays}
 use Rattle.refinement.proofs.Changes.{read_changed}
 use Rattle.refinement.proofs.Records.{records_of, records_carry}
-use Rattle.refinement.proofs.Marks.{LeadsTo, leads_to, marked_same, marked_is_word, mark_carries, bit_with, rows_with}
+use Rattle.refinement.proofs.Marks.{bit_with, rows_with}
+use Rattle.refinement.proofs.Copies.{marks_first}
 use Rattle.refinement.proofs.Crossings.{none_is_behind}
 use Rattle.refinement.proofs.Written.{field_carries, word_there}
 use Rattle.refinement.proofs.Loads.{field_is, read_named, global_same}
@@ -119,20 +122,20 @@ written_global h g w x at word = records_carry h (record (records_of h) {
   global_todo = fun_ext (read_changed todo_in h.globals g (set_marked_of w) x false at refl) z;
 })
 
--- a global of this word is marked
-global_marked : {h : HeapState} → IsStore h.store → IsLaid h → (g : ℕ) → g < length h.globals
-    → LeadsTo h (global_of h g) → Carries h (with_marked_global h g) (λ w. end_global_scan g
-    (set_global g (edits.marked_word w (w.global g)) (mark_word (w.global g) w)))
-unfolding with_marked_global with_mark
-global_marked {h = h} s l g low leads =
+-- a global is marked
+global_marked : {h : HeapState} {b b0 : BirthHeap} → IsStore h.store → IsLaid h → Invariant (world_of h) b b0
+    → is_marking h.phase ≡ true → (g : ℕ) → g < length h.globals → Carries h (mark_global h g)
+    (λ w. end_global_scan g (set_global g (edits.marked_word w (w.global g)) (mark_word (w.global g) w)))
+unfolding mark_global with_marked_global with_mark
+global_marked {h} s l i runs g low =
     let v = global_of h g in
-    let m = mark_carries h s l v leads in
-    let word = marked_is_word h v s leads in
-    let f = set_marked_of (marked_word h v) in
-    let (x, at) = get_within h.globals g low in
     let same = global_is h g in
-    becomes (and_then m (written_global (with_mark h v) g (marked_word h v) x at word)) _
-    (ap (λ y. end_global_scan g (set_global g y (mark_word (as_word v) (world_of h)))) (marked_same h v)
+    let m = marks_first s l i runs v _ (ap (names (world_of h)) (sym same) ∙ (i.words.globals g).names) in
+    let c = copied_for h v in
+    let (x, at) = get_within h.globals g low in
+    let there : slice_get c.globals g ≡ Some x = ap (λ gs. slice_get gs g) m.copied.globals ∙ at in
+    becomes (and_then m.carries (written_global (with_mark c v) g (marked_word c v) x there m.word)) _
+    (ap (λ y. end_global_scan g (set_global g y (mark_word (as_word v) (world_of h)))) m.same
     ∙ ap (λ y. end_global_scan g (set_global g (edits.marked_word (world_of h) y) (mark_word y (world_of h))))
     (sym same))
 
@@ -201,8 +204,8 @@ module _ {h : HeapState} {p p0 : PlainHeap} (s : IsStore h.store) (d : IsHeap h)
     -- the next field, at a place in memory, is marked and written back
     field_scanned : (n bits : ℕ) → c.next < length here.0.refs → c.object + (1 + c.next) ≡ n
         → word_at h.store n ≡ Some bits → StepHolds h p p0 (Worker w) steps.ScanField
-        (with_scan (with_marked_place h n (read_reference bits)) w (Some (next_field c))) answers.Scanned
-    unfolding plain_step plain_answer with_marked_place with_mark
+        (with_scan (mark_place h n (read_reference bits)) w (Some (next_field c))) answers.Scanned
+    unfolding plain_step plain_answer mark_place with_marked_place with_mark
     field_scanned n bits within spot read =
         let v = read_reference bits in
         let q = here.0 in
@@ -210,15 +213,20 @@ module _ {h : HeapState} {p p0 : PlainHeap} (s : IsStore h.store) (d : IsHeap h)
         field_is h s k.laid c.object q here.1 c.next bits within (ap (word_at h.store) spot ∙ read) in
         let same : field q c.next ≡ as_word v =
         held ∙ read_named h bits _ (ap (names (world_of h)) (sym held) ∙ stands c.next) in
-        let leads = leads_to h v _ (ap (names (world_of h)) (sym same) ∙ stands c.next) in
-        let m = mark_carries h s k.laid v leads in
-        let written = field_carries (with_mark h v) s (m.laid k.laid) c.object q here.1 c.next n (marked_word h v)
-        (marked_is_word h v s leads) within spot in
-        let passed = scan_carries (with_marked_place h n v) w low (Some (next_field c)) in
+        let m = marks_first s k.laid k.invariant i.runs v _ (ap (names (world_of h)) (sym same) ∙ stands c.next) in
+        let g = copied_for h v in
+        let still : object_at g c.object ≡ Some q =
+        ap (λ (z : AddressHeap). z.object_at c.object) m.copied.carries.world
+        ∙ copied_stays (world_of h) (births_of p) (births_of p0) k.invariant i.runs (as_word v) c.object is_marked
+        ∙ here.1 in
+        let written = field_carries (with_mark g v) m.copied.store (m.carries.laid k.laid) c.object q still c.next n
+        (marked_word g v) m.word within spot in
+        let passed = scan_carries (with_marked_place g n v) w (subst (λ (ws : List (Option Scan)). w < length ws)
+        (sym m.copied.workers) low) (Some (next_field c)) in
         let after : Word → AddressHeap → AddressHeap = λ y z.
         set_scan w (Some (as_scan (next_field c))) (set_object c.object (with_field q c.next y) z) in
-        row_by k (becomes (and_then (and_then m written) passed) (scan_field w (as_scan c) q)
-        (ap (λ y. after y (mark_word (as_word v) (world_of h))) (marked_same h v)
+        row_by k (becomes (and_then (and_then m.carries written) passed) (scan_field w (as_scan c) q)
+        (ap (λ y. after y (mark_word (as_word v) (world_of h))) m.same
         ∙ ap (λ y. after (edits.marked_word (world_of h) y) (mark_word y (world_of h))) (sym same))) (stays h p)
         (ScanField w (as_scan c) q i has here.1 within) tt
 
@@ -258,7 +266,7 @@ module _ {h : HeapState} {p p0 : PlainHeap} (s : IsStore h.store) (d : IsHeap h)
         let read : word_at h.store n ≡ Some bits = ap (word_at h.store) (sym spot)
         ∙ word_there h s k.laid c.object here.0 here.1 (1 + c.next) 0 (omega (arith, within)) ∙ at in
         subst (λ v. StepHolds h p p0 (Worker w) steps.ScanField
-        (with_scan (with_marked_place h n v) w (Some (next_field c))) answers.Scanned)
+        (with_scan (mark_place h n v) w (Some (next_field c))) answers.Scanned)
         (ap reference_in (sym read)) (field_scanned n bits within spot read)
 
   -- a worker scans
@@ -273,8 +281,5 @@ module _ {h : HeapState} {p p0 : PlainHeap} (s : IsStore h.store) (d : IsHeap h)
   unfolding scan_global_outcome plain_step plain_answer
   scan_global_holds g under = on_has (may_scan h) _ _ _ (is_scanning h) (λ u i.
       on_truth (is_todo_in (slice_get h.globals g)) _ _ _ (λ e.
-      let v = global_of h g in
-      let same = global_is h g in
-      let leads = leads_to h v _ (ap (names (world_of h)) (sym same) ∙ (k.invariant.words.globals g).names) in
-      row_by k (global_marked s k.laid g under leads) (stays h p)
+      row_by k (global_marked s k.laid k.invariant i.runs g under) (stays h p)
       (ScanGlobal g (less_is g (length h.globals) under) i) tt))

@@ -1,36 +1,30 @@
 -- A mark starts.
-use Rattle.std.proofs.Common.{◌≡◌, ◌≢◌, ◌⊎◌, inl, inr, ℕ, zero, suc, ◌+◌, ◌-◌, ◌/◌, ◌%◌, ◌<◌, ◌≤◌, ◌&&◌, ◌||◌}
+use Rattle.std.proofs.Common.{◌≡◌, ◌⊎◌, inl, inr, ℕ, zero, suc, ◌≤◌, ◌||◌}
 use Rattle.std.proofs.Common.{Bool, true, false, cond, not, nat_eq, nat_lt, List, [], ◌∷◌, length, map, Option, Some}
 use Rattle.std.proofs.Common.{None}
 use Rattle.std.proofs.Common.{refl, sym, ◌∙◌, ap, subst, arith}
 use mathlib.Core.Path.{fun_ext}
 use Rattle.std.specs.List.{slice_get, list_any}
 use Rattle.std.specs.Option.{option_map}
-use Rattle.std.proofs.lemmas.Bool.{true≢false, ltb-true, ltb-false, not-false}
 use Rattle.std.proofs.lemmas.Bool.Decides.{nat_tests}
 use Rattle.std.proofs.lemmas.List.{length-map}
-use Rattle.std.proofs.lemmas.Option.{slice_get-map, slice_get_within}
+use Rattle.std.proofs.lemmas.Option.{slice_get-map}
 use Rattle.refword.specs.Words.{IsWord}
 use Rattle.model.specs.declared.steps.Actor.TheVariants.{Worker}
 use Rattle.model.specs.declared.steps.Step.TheVariants as steps
 use Rattle.model.specs.declared.records.Forwarding.{Forwarding}
 use Rattle.model.specs.declared.records.Global.{Global}
-use Rattle.model.specs.declared.records.Page.{Page}
-use Rattle.model.specs.declared.records.PageState.TheVariants.{From}
 use Rattle.model.specs.declared.records.Phase.{Phase}
 use Rattle.model.specs.declared.records.Phase.TheVariants.{Idle, MarkCrossing, Scanning, ProtectCrossing, Relocating}
 use Rattle.model.specs.Phases.{may_start_mark}
-use Rattle.model.specs.Stores.{StoreState, state_at, state_in, page_at, is_from}
 use Rattle.model.specs.Owning.{Each, IsStore}
 use Rattle.model.specs.Holding.{IsHeap}
 use Rattle.model.specs.States.{HeapState, ThreadState}
 use Rattle.model.specs.Threads.{register_in, set_crossed_of, buffer_in, has_crossed, is_parked_in}
 use Rattle.model.specs.Registers.{register_of}
-use Rattle.model.specs.Bits.{of_page}
-use Rattle.model.specs.Cycles.{is_uncopied, has_uncopied, uncopied_from, none_uncopied, set_todo_of, start_mark}
+use Rattle.model.specs.Cycles.{is_uncopied, set_todo_of, start_mark}
 use Rattle.model.specs.Cycles.{start_mark_outcome}
 use Rattle.model.specs.Plain.{PlainHeap, plain_step, plain_answer}
-use Rattle.model.proofs.Memory.{page_there}
 use Rattle.laws.specs.AddressHeap.{Null, Planned}
 use Rattle.laws.specs.Edits as edits
 use Rattle.laws.specs.Transitions.{StartMark}
@@ -38,7 +32,7 @@ use Rattle.refinement.specs.Worlds.{world_of, as_word, barrier_in, global_in, to
 use Rattle.refinement.specs.Worlds as worlds
 use Rattle.refinement.specs.Roots.{HoldsWords}
 use Rattle.refinement.specs.Standing.{Holds}
-use Rattle.refinement.proofs.Accepted.{OnAccepted, on_has, on_test}
+use Rattle.refinement.proofs.Accepted.{on_truth}
 use Rattle.refinement.proofs.Carrying.{Carries, RowHolds, row_by, stays}
 use Rattle.refinement.proofs.Records.{records_of, records_carry}
 use Rattle.refinement.proofs.References.{less_is}
@@ -117,34 +111,6 @@ planned_uncopied (f ∷ fs) o n e = by_test (nat_eq f.offset o) f.copied (planne
     by_test false true h k = h k
     by_test false false h k = refl
 
-none_from : (h : HeapState) (n m : ℕ) → uncopied_from h n m ≡ None → (i : ℕ) → n ≤ i → i < n + m
-    → has_uncopied h i ≡ false
-none_from h n zero e i low high = absurd (omega (arith, low, high))
-none_from h n (suc m) e i low high =
-    by_test (has_uncopied h n) refl e (λ f low. none_from h (n + 1) m f i low (omega (arith, high)))
-  where
-    split : (n ≡ i) ⊎ (n + 1 ≤ i)
-    split = by_less (nat_lt n i) refl
-      where
-        by_less : (b : Bool) → nat_lt n i ≡ b → (n ≡ i) ⊎ (n + 1 ≤ i)
-        by_less true e = inr (omega (arith, ltb-true n i e))
-        by_less false e = inl (omega (arith, ltb-false n i e, low))
-
-    by_test : (b : Bool) → has_uncopied h n ≡ b → cond b (Some n) (uncopied_from h (n + 1) m) ≡ None
-        → (uncopied_from h (n + 1) m ≡ None → n + 1 ≤ i → has_uncopied h i ≡ false) → has_uncopied h i ≡ false
-    by_test true f k rest = absurd (cc)
-    by_test false f k rest = elim split [ inl z ↦ ap (has_uncopied h) (sym z) ∙ f | inr z ↦ rest k z ]
-
--- a page that is being emptied has a record
-emptied_there : (s : StoreState) (n : ℕ) → state_at s n ≡ From → (1 ≤ n) × (n < 1 + length s.pages)
-unfolding state_at
-emptied_there s n e = by_page (page_at s n) refl e
-  where
-    by_page : (o : Option Page) → page_at s n ≡ o → state_in o ≡ From → (1 ≤ n) × (n < 1 + length s.pages)
-    by_page None a k = absurd (cc)
-    by_page (Some q) a k = let (one, at) = page_there s n q a in
-        let under = slice_get_within s.pages (n - 1) q at in (omega (arith, one), omega (arith, one, under))
-
 -- in these phases a mark may start
 pub in_phase : (f : Phase) → may_start_mark f ≡ true → (f ≡ Idle) ⊎ (f ≡ Relocating)
 in_phase Idle e = inl refl
@@ -160,23 +126,6 @@ first_waits [] m = absurd (omega (arith, m))
 first_waits (x ∷ xs) m = refl
 
 module _ {h : HeapState} {p p0 : PlainHeap} (s : IsStore h.store) (d : IsHeap h) (k : Holds h p p0) where
-  -- nothing has still to be copied
-  all_copied : OnAccepted (λ (u : Unit {0}). (a n : ℕ) → (world_of h).side_entry a ≢ Planned n)
-      (none_uncopied (uncopied_from h 1 (length h.store.pages)))
-  unfolding has_uncopied
-  all_copied = by_found (uncopied_from h 1 (length h.store.pages)) refl
-    where
-      by_found : (o : Option ℕ) → uncopied_from h 1 (length h.store.pages) ≡ o
-          → OnAccepted (λ (u : Unit {0}). (a n : ℕ) → (world_of h).side_entry a ≢ Planned n) (none_uncopied o)
-      by_found (Some n) e = tt
-      by_found None e = λ a n planned.
-          let m = a / h.store.words in
-          let from : state_at h.store m ≡ From = k.invariant.objects.planned_from a n planned in
-          let (low, high) = emptied_there h.store m from in
-          true≢false (sym (planned_uncopied (of_page h.sides m) (a % h.store.words) n planned)
-          ∙ ap (λ f. is_from f && list_any is_uncopied (of_page h.sides m)) (sym from)
-          ∙ none_from h 1 (length h.store.pages) e m low high)
-
   no_thread : (t r : ℕ) → has_crossed (slice_get (behind h) t) ≡ true → (world_of h).register t r ≡ Null
   unfolding register_of
   no_thread t r e = by_thread (slice_get h.threads t) (sym (ap has_crossed (slice_get-map
@@ -190,12 +139,10 @@ module _ {h : HeapState} {p p0 : PlainHeap} (s : IsStore h.store) (d : IsHeap h)
   -- a mark starts
   pub start_mark_holds : (w : ℕ) → RowHolds h p p0 (Worker w) steps.StartMark (start_mark_outcome h)
   unfolding start_mark_outcome plain_step plain_answer
-  start_mark_holds w = on_test (not (may_start_mark h.phase)) _ _ _ (λ e.
-      on_has (none_uncopied (uncopied_from h 1 (length h.store.pages))) _ _ _ all_copied (λ u copied.
+  start_mark_holds w = on_truth (may_start_mark h.phase) _ _ _ (λ e.
       let threads : 1 ≤ length h.threads = omega (arith, d.config.threads_low, k.sizes.threads) in
       row_by k (start_carries h) (stays h p) (StartMark _ (record {
-        phase = in_phase h.phase (not-false (may_start_mark h.phase) e);
-        copied = copied;
+        phase = in_phase h.phase e;
         waits = (0, first_waits h.threads threads);
         no_thread = no_thread;
-      })) tt))
+      })) tt)

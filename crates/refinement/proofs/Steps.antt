@@ -10,7 +10,10 @@ use Rattle.model.specs.Holding.{IsHeap}
 use Rattle.model.specs.States.{HeapState}
 use Rattle.model.specs.Outcome.{outcome, thread_gate, thread_row, worker_gate, worker_row}
 use Rattle.model.specs.Plain.{PlainHeap, plain_step}
-use Rattle.refinement.specs.Standing.{Holds, StepHolds, FindsLive, Finds, kept_at_mark}
+use Rattle.laws.specs.Promises.{PlannedIsUnreachable}
+use Rattle.refinement.specs.Worlds.{world_of}
+use Rattle.refinement.specs.PlainHeaps.{births_of}
+use Rattle.refinement.specs.Standing.{Holds, StepHolds, FindsLive, Finds, Leaves, kept_at_mark}
 use Rattle.refinement.proofs.Accepted.{OnAccepted, accepted, of_accepted, on_bind, on_has}
 use Rattle.refinement.proofs.Carrying.{RowHolds}
 use Rattle.refinement.proofs.Verdicts.{Passed, passed, WorkerPassed, worker_passed, is_global, is_thread}
@@ -91,19 +94,20 @@ step_holds h p p0 actor step g answer s d k e = of_accepted
 
 -- what a mark that ends has found
 ended_holds : (h : HeapState) (p p0 : PlainHeap) (actor : Actor) → IsStore h.store → Holds h p p0
-    → OnAccepted (λ (z : HeapState × Answer). FindsLive z.0 p p0) (outcome h actor steps.EndMark)
+    → OnAccepted (λ (z : HeapState × Answer). FindsLive z.0 p p0 × PlannedIsUnreachable (world_of h) (births_of p))
+    (outcome h actor steps.EndMark)
 unfolding outcome
 ended_holds h p p0 (Thread t) s k = on_bind (thread_gate h t steps.EndMark) _ _ (λ u e. tt)
 ended_holds h p p0 (Worker w) s k = on_bind (worker_gate h w steps.EndMark) _ _ (λ u e. ended_finds s k)
 
 pub marks_find : (h : HeapState) (p p0 : PlainHeap) (actor : Actor) (step : Step) (g : HeapState) (answer : Answer)
     → IsStore h.store → IsHeap h → Holds h p p0 → outcome h actor step ≡ accepted (g, answer)
-    → Finds g (plain_step h.config.layouts p actor step) (kept_at_mark p p0 step) step
+    → Finds g (plain_step h.config.layouts p actor step) (kept_at_mark p p0 step) step × Leaves h p step
 unfolding plain_step
 marks_find h p p0 (Thread t) steps.EndMark g answer s d k e = of_accepted
-    (λ (z : HeapState × Answer). FindsLive z.0 p p0) (outcome h (Thread t) steps.EndMark) (g, answer)
+    (λ (z : HeapState × Answer). FindsLive z.0 p p0 × PlannedIsUnreachable (world_of h) (births_of p)) (outcome h (Thread t) steps.EndMark) (g, answer)
     (ended_holds h p p0 (Thread t) s k) e
 marks_find h p p0 (Worker w) steps.EndMark g answer s d k e = of_accepted
-    (λ (z : HeapState × Answer). FindsLive z.0 p p0) (outcome h (Worker w) steps.EndMark) (g, answer)
+    (λ (z : HeapState × Answer). FindsLive z.0 p p0 × PlannedIsUnreachable (world_of h) (births_of p)) (outcome h (Worker w) steps.EndMark) (g, answer)
     (ended_holds h p p0 (Worker w) s k) e
-marks_find h p p0 actor _ g answer s d k e = tt
+marks_find h p p0 actor _ g answer s d k e = (tt, tt)

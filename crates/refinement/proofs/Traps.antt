@@ -19,7 +19,7 @@ use Rattle.model.specs.Threads.{has_crossed}
 use Rattle.model.specs.Registers.{register_of, let_through, held_back}
 use Rattle.model.specs.Marks.{entry_at, forward_by, resolve, with_mark, marked_word}
 use Rattle.model.specs.Loads.{with_barrier, barrier_of_thread, is_refused, gc_trap_due, nmt_trap_due}
-use Rattle.model.specs.Moves.{with_copied_words, with_copy, copied_first, place_by, moved_word}
+use Rattle.model.specs.Moves.{with_copied_words, with_copy, copied_by, copied_first, copied_for, place_by, moved_word}
 use Rattle.model.specs.Traps.{trap_outcome, scrub_outcome}
 use Rattle.model.specs.Plain.{PlainHeap}
 use Rattle.laws.specs.AddressHeap.{To, names}
@@ -32,7 +32,8 @@ use Rattle.refinement.proofs.Accepted.{on_some, on_either}
 use Rattle.refinement.proofs.Carrying.{RowHolds}
 use Rattle.refinement.proofs.Loads.{nmt_holds, opened, marks_run}
 use Rattle.refinement.proofs.Marks.{as_entry}
-use Rattle.refinement.proofs.Moving.{Leads, leads, same_entry, held_protected, gc_holds, scrub_word_holds}
+use Rattle.refinement.proofs.Copies.{same_entry}
+use Rattle.refinement.proofs.Moving.{Leads, leads, held_protected, gc_holds, scrub_word_holds}
 use Rattle.refinement.proofs.Verdicts.{Passed, is_register}
 
 -- what isn't on a protected page may be used
@@ -74,11 +75,30 @@ module _ {h : HeapState} {p p0 : PlainHeap} (k : Holds h p p0) (t : ℕ) where
           by_copied true c = absurd (true≢false (sym (k.invariant.objects.copied_from a f.to
               (same_entry h a ∙ ap as_entry e ∙ ap (λ b. worlds.entry_of b f.to) c)) ∙ free))
 
+  -- nothing is copied for a word whose address may be used
+  pub copies_nothing : (v : Reference) → gc_trap_due h t v ≡ false → is_marking h.phase ≡ true → copied_for h v ≡ h
+  unfolding copied_for copied_first
+  copies_nothing None f m = refl
+  copies_nothing (Some (a, bit)) f m = by_entry (entry_at h a) refl
+    where
+      by_entry : (o : Option Forwarding) → entry_at h a ≡ o → copied_by h a o ≡ h
+      by_entry None e = refl
+      by_entry (Some f') e = by_copied f'.copied refl
+        where
+          by_copied : (b : Bool) → f'.copied ≡ b → cond b h (with_copy h a f'.to) ≡ h
+          by_copied true c = refl
+          by_copied false c = absurd (true≢false (sym (ap is_protected
+              (k.invariant.objects.planned_from a f'.to
+              (same_entry h a ∙ ap as_entry e ∙ ap (λ b. worlds.entry_of b f'.to) c))) ∙ not_held a f m))
+
   -- behind an NMT trap none is due
   pub marked_free : (b c : Barrier) → gc_trap_due h t b.now ≡ false → nmt_trap_due h t b.now ≡ true
-      → gc_trap_due (with_barrier (with_mark h b.now) t c) t (marked_word h b.now) ≡ false
+      → gc_trap_due (with_barrier (with_mark (copied_for h b.now) b.now) t c) t (marked_word (copied_for h b.now) b.now)
+      ≡ false
   unfolding with_barrier with_mark marked_word
-  marked_free b c free due = by_word b.now free (marks_run h t b.now due)
+  marked_free b c free due =
+      subst (λ g. gc_trap_due (with_barrier (with_mark g b.now) t c) t (marked_word g b.now) ≡ false)
+      (sym (copies_nothing b.now free (marks_run h t b.now due))) (by_word b.now free (marks_run h t b.now due))
     where
       by_word : (v : Reference) → gc_trap_due h t v ≡ false → is_marking h.phase ≡ true
           → gc_trap_due (with_barrier (with_mark h b.now) t c) t (marked_word h v) ≡ false

@@ -8,11 +8,11 @@ use Rattle.model.specs.declared.steps.Answer.TheVariants as answers
 use Rattle.model.specs.declared.steps.Refusal.TheVariants as refusals
 use Rattle.model.specs.declared.config.Config.{Config}
 use Rattle.model.specs.Bits.{of_page}
-use Rattle.model.specs.Checkpoints.{all_crossed}
-use Rattle.model.specs.Moves.{with_copy, with_copied_words, entry_on, copy_outcome, heap_after, copies_from, copy_page}
-use Rattle.model.specs.Moves.{copy_page_outcome, words_from}
+use Rattle.model.specs.Emptying.{crossed_if_protecting, entry_on, copy_outcome, heap_after, copies_from, copy_page}
+use Rattle.model.specs.Emptying.{copy_page_outcome}
+use Rattle.model.specs.Moves.{with_copy, with_copied_words, words_from}
 use Rattle.model.specs.Owning.{IsStore}
-use Rattle.model.specs.Phases.{is_moving}
+use Rattle.model.specs.Phases.{is_idle}
 use Rattle.model.specs.Plain.{PlainHeap, plain_step, plain_answer}
 use Rattle.model.specs.Refusing.{Outcome}
 use Rattle.model.specs.States.{HeapState}
@@ -45,7 +45,7 @@ copied_keeps s a to n h = words_keep s (to / s.words)
 copied_store : (h : HeapState) (page e : ℕ) → IsStore h.store
     → OnAccepted (λ (z : HeapState × Answer). IsStore z.0.store) (copy_outcome h page e)
 unfolding copy_outcome with_copy
-copied_store h page e s = on_unless (not (is_moving h.phase)) _ _ _ (λ u. on_bind (all_crossed h) _ _ (λ v f.
+copied_store h page e s = on_unless (is_idle h.phase) _ _ _ (λ u. on_bind (crossed_if_protecting h) _ _ (λ v f.
     on_some (entry_on h page e) _ _ _ (λ w g. on_unless w.copied _ _ _ (λ x.
     copied_keeps h.store (page * h.store.words + w.offset) w.to
     (object_words h (page * h.store.words + w.offset)) s))))
@@ -72,7 +72,7 @@ copies_keep h p p0 w page e (suc k) s l =
 pub copy_page_holds : (h : HeapState) (p p0 : PlainHeap) (w page : ℕ) → IsStore h.store → Holds h p p0
     → RowHolds h p p0 (Worker w) (steps.CopyPage page) (copy_page_outcome h page)
 unfolding copy_page_outcome copy_page plain_step plain_answer
-copy_page_holds h p p0 w page s k = on_unless (not (is_moving h.phase)) _ _ _ (λ u. on_bind (all_crossed h) _ _ (λ v f.
+copy_page_holds h p p0 w page s k = on_unless (is_idle h.phase) _ _ _ (λ u. on_bind (crossed_if_protecting h) _ _ (λ v f.
     on_unless (not (is_from (state_at h.store page))) _ _ _ (λ x.
     let all = copies_keep h p p0 w page 0 (length (of_page h.sides page)) s k in
     record { config = all.config; holds = all.holds; answers = tt })))
@@ -92,6 +92,6 @@ copies_stay h page e (suc k) =
 
 pub copy_page_stays : (h : HeapState) (page : ℕ) → Stays h (copy_page_outcome h page)
 unfolding copy_page_outcome copy_page
-copy_page_stays h page = on_unless (not (is_moving h.phase)) _ _ _ (λ u. on_bind (all_crossed h) _ _ (λ v f.
+copy_page_stays h page = on_unless (is_idle h.phase) _ _ _ (λ u. on_bind (crossed_if_protecting h) _ _ (λ v f.
     on_unless (not (is_from (state_at h.store page))) _ _ _ (λ x.
     copies_stay h page 0 (length (of_page h.sides page)))))

@@ -16,7 +16,7 @@ use Rattle.model.specs.declared.records.Phase.{Phase}
 use Rattle.model.specs.declared.records.Phase.TheVariants.{Idle, MarkCrossing, Scanning, ProtectCrossing, Relocating}
 use Rattle.model.specs.Checkpoints.{first_behind}
 use Rattle.laws.specs.Invariant.{Invariant}
-use Rattle.laws.specs.Promises.{ReachableIsLive, LiveWasReachable}
+use Rattle.laws.specs.Promises.{ReachableIsLive, LiveWasReachable, PlannedIsUnreachable}
 use Rattle.refinement.specs.Worlds.{world_of}
 use Rattle.refinement.specs.PlainHeaps.{births_of, HasRootsOf}
 use Rattle.refinement.specs.Claims.{IsLaid, HasGiven}
@@ -70,12 +70,17 @@ abbrev pub Finds : HeapState → PlainHeap → PlainHeap → Step → Type 0
 Finds h p p0 steps.EndMark = FindsLive h p p0
 Finds h p p0 _ = Unit {0}
 
--- every mark finds what lives
+-- what a mark that may end leaves behind: what is still to be copied from a protected page can't be reached
+abbrev pub Leaves : HeapState → PlainHeap → Step → Type 0
+Leaves h p steps.EndMark = PlannedIsUnreachable (world_of h) (births_of p)
+Leaves h p _ = Unit {0}
+
+-- every mark finds what lives, and leaves nothing behind that can be reached
 abbrev pub MarksFind : Type 0
 MarksFind =
     (h : HeapState) (p p0 : PlainHeap) (actor : Actor) (step : Step) (g : HeapState) (answer : Answer)
     → IsStore h.store → IsHeap h → Holds h p p0 → outcome h actor step ≡ Ok (g, answer)
-    → Finds g (plain_step h.config.layouts p actor step) (kept_at_mark p p0 step) step
+    → Finds g (plain_step h.config.layouts p actor step) (kept_at_mark p p0 step) step × Leaves h p step
 
 -- a crossing leaves the phase while a thread has still to cross, and the last one begins the next phase (the paper's
 -- checkpoints)
@@ -100,11 +105,13 @@ PhasesMove =
     → IsStore h.store → IsHeap h → Holds h p p0 → outcome h actor step ≡ Ok (g, answer) → MovesPhase h step g
 
 -- what an accepted step has, from a heap that stood for the plain heap p: it stands for the plain heap after its step,
--- and answers as that does; a mark that has ended has found what lives; and the phase has moved as it may
+-- and answers as that does; a mark that has ended has found what lives, and left nothing behind that can be reached; and
+-- the phase has moved as it may
 pub record StepKeeps (old : HeapState) (p p0 : PlainHeap) (actor : Actor) (step : Step) (new : HeapState)
     (answer : Answer) : Type 0 where
   pub stands : StepHolds old p p0 actor step new answer
   pub finds : Finds new (plain_step old.config.layouts p actor step) (kept_at_mark p p0 step) step
+  pub leaves : Leaves old p step
   pub phase : MovesPhase old step new
 
 -- what a call that gave this result keeps, where the heap stood for a plain heap

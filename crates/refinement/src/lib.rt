@@ -22,7 +22,8 @@ pub fn law()
     // plain heap's
     ensures steps { StepsHold }
     // where a mark has ended, what can be reached is live, and what is live could be reached as the
-    // mark began, or is born since
+    // mark began, or is born since; and what wasn't copied from a protected page by then can't be
+    // reached
     ensures marks { MarksFind }
     // the phase moves as the collector's cycle has it, and in no other way
     ensures phases { PhasesMove }

@@ -11,9 +11,10 @@ use Rattle.model.specs.declared.steps.Refusal.TheVariants as refusals
 use Rattle.model.specs.Bits.{of_page}
 use Rattle.model.specs.Checkpoints.{all_crossed}
 use Rattle.model.specs.Cycles.{is_uncopied}
-use Rattle.model.specs.Moves.{with_copy, with_copied_words, entry_on, copy_outcome, heap_after, copies_from, copy_page}
-use Rattle.model.specs.Moves.{copy_page_outcome}
-use Rattle.model.specs.Phases.{is_moving}
+use Rattle.model.specs.Emptying.{crossed_if_protecting, entry_on, copy_outcome, heap_after, copies_from, copy_page}
+use Rattle.model.specs.Emptying.{copy_page_outcome}
+use Rattle.model.specs.Moves.{with_copy, with_copied_words}
+use Rattle.model.specs.Phases.{is_idle}
 use Rattle.model.specs.Refusing.{◌>>=◌, or_refuse, refuse_if, Outcome}
 use Rattle.model.specs.States.{HeapState}
 use Rattle.model.specs.Stores.{state_at, is_from, with_words, page_at}
@@ -22,27 +23,28 @@ use Rattle.relocate.specs.Runs.{may_copy_page}
 
 -- a page's objects may be copied
 record MayCopy (h : HeapState) (n : ℕ) : Type 0 where
-  moving : is_moving h.phase ≡ true
-  crossed : all_crossed h ≡ Ok tt
+  busy : is_idle h.phase ≡ false
+  crossed : crossed_if_protecting h ≡ Ok tt
   emptied : is_from (state_at h.store n) ≡ true
 
 may_copy : (h : HeapState) (n : ℕ) → may_copy_page h n ≡ Ok tt → MayCopy h n
-may_copy h n e = by_tests (is_moving h.phase) (all_crossed h) (is_from (state_at h.store n)) refl refl refl e
+may_copy h n e = by_tests (is_idle h.phase) (crossed_if_protecting h) (is_from (state_at h.store n)) refl refl refl e
   where
-    by_tests : (a : Bool) (r : Result Unit Refusal) (b : Bool) → is_moving h.phase ≡ a → all_crossed h ≡ r
+    by_tests : (a : Bool) (r : Result Unit Refusal) (b : Bool) → is_idle h.phase ≡ a → crossed_if_protecting h ≡ r
         → is_from (state_at h.store n) ≡ b
-        → (refuse_if (not a) refusals.Phase >>= (λ u. r >>= (λ v. refuse_if (not b) refusals.BadIndex))) ≡ Ok tt
+        → (refuse_if a refusals.Phase >>= (λ u. r >>= (λ v. refuse_if (not b) refusals.BadIndex))) ≡ Ok tt
         → MayCopy h n
-    by_tests false r b x y z k = absurd (cc)
-    by_tests true (Err m) b x y z k = absurd (cc)
-    by_tests true (Ok tt) false x y z k = absurd (cc)
-    by_tests true (Ok tt) true x y z k = record { moving = x; crossed = y; emptied = z }
+    by_tests true r b x y z k = absurd (cc)
+    by_tests false (Err m) b x y z k = absurd (cc)
+    by_tests false (Ok tt) false x y z k = absurd (cc)
+    by_tests false (Ok tt) true x y z k = record { busy = x; crossed = y; emptied = z }
 
 -- Copy of an entry, there
 copied_one : (h : HeapState) (n e : ℕ) → MayCopy h n
     → heap_after h (copy_outcome h n e) ≡ with_entry h n (slice_get (of_page h.sides n) e)
 unfolding copy_outcome entry_on
-copied_one h n e m = by_tests (is_moving h.phase) (all_crossed h) (is_from (state_at h.store n)) m.moving m.crossed m.emptied
+copied_one h n e m = by_tests (is_idle h.phase) (crossed_if_protecting h) (is_from (state_at h.store n)) m.busy m.crossed
+    m.emptied
   where
     row : Option Forwarding → Outcome
     row o = or_refuse o refusals.BadIndex >>= (λ f. refuse_if f.copied refusals.Copied
@@ -64,24 +66,24 @@ copied_one h n e m = by_tests (is_moving h.phase) (all_crossed h) (is_from (stat
         by_copied true = refl
         by_copied false = refl
 
-    by_tests : (a : Bool) (r : Result Unit Refusal) (b : Bool) → a ≡ true → r ≡ Ok tt → b ≡ true
-        → heap_after h (refuse_if (not a) refusals.Phase >>= (λ u. r
+    by_tests : (a : Bool) (r : Result Unit Refusal) (b : Bool) → a ≡ false → r ≡ Ok tt → b ≡ true
+        → heap_after h (refuse_if a refusals.Phase >>= (λ u. r
         >>= (λ v. row (cond b (slice_get (of_page h.sides n) e) None))))
         ≡ with_entry h n (slice_get (of_page h.sides n) e)
-    by_tests true (Ok tt) true x y z = by_entry (slice_get (of_page h.sides n) e)
-    by_tests false r b x y z = absurd (cc)
-    by_tests true (Err k) b x y z = absurd (cc)
-    by_tests true (Ok tt) false x y z = absurd (cc)
+    by_tests false (Ok tt) true x y z = by_entry (slice_get (of_page h.sides n) e)
+    by_tests true r b x y z = absurd (cc)
+    by_tests false (Err k) b x y z = absurd (cc)
+    by_tests false (Ok tt) false x y z = absurd (cc)
 
 -- and then as before
 still : (h : HeapState) (n : ℕ) (o : Option Forwarding) → MayCopy h n → MayCopy (with_entry h n o) n
-unfolding with_copy with_copied_words with_words state_at page_at all_crossed
+unfolding with_copy with_copied_words with_words state_at page_at crossed_if_protecting all_crossed
 still h n None m = m
 still h n (Some f) m = by_copied f.copied
   where
     by_copied : (b : Bool) → MayCopy (cond b h (with_copy h (n * h.store.words + f.offset) f.to)) n
     by_copied true = m
-    by_copied false = record { moving = m.moving; crossed = m.crossed; emptied = m.emptied }
+    by_copied false = record { busy = m.busy; crossed = m.crossed; emptied = m.emptied }
 
 copies_are : (h : HeapState) (n e k : ℕ) → MayCopy h n → copies_from h n e k ≡ with_entries h n e k
 copies_are h n e zero m = refl
@@ -102,7 +104,7 @@ both_of r q = r >>= (λ u. q)
 
 by_parts : (h : HeapState) (n : ℕ) → copy_page_outcome h n ≡ first_then (may_copy_page h n) (told h n)
 unfolding copy_page_outcome
-by_parts h n = by_tests (refuse_if (not (is_moving h.phase)) refusals.Phase) (all_crossed h)
+by_parts h n = by_tests (refuse_if (is_idle h.phase) refusals.Phase) (crossed_if_protecting h)
     (refuse_if (not (is_from (state_at h.store n))) refusals.BadIndex)
   where
     by_tests : (a b c : Result Unit Refusal) → first_then a (first_then b (first_then c (told h n)))

@@ -10,7 +10,8 @@ use Rattle.model.specs.declared.records.Forwarding.{Forwarding}
 use Rattle.model.specs.States.{HeapState, change_at, change_found}
 use Rattle.model.specs.Bits.{of_page}
 use Rattle.model.specs.Marks.{entry_of, entry_at}
-use Rattle.model.specs.Moves.{with_copy, copied_by, copied_first, set_copied_of, entry_on}
+use Rattle.model.specs.Emptying.{entry_on}
+use Rattle.model.specs.Moves.{with_copy, copied_by, copied_first, set_copied_of}
 use Rattle.model.specs.Stores.{is_from, state_at}
 use Rattle.model.proofs.Lists.{get_within}
 use Rattle.forward.specs.Searching.{found_at}

@@ -4,8 +4,8 @@ use Rattle.model.specs.declared.records.Forwarding.{Forwarding}
 use Rattle.model.specs.declared.steps.Refusal.{Refusal}
 use Rattle.model.specs.declared.steps.Refusal.TheVariants as refusals
 use Rattle.model.specs.Bits.{of_page}
-use Rattle.model.specs.Checkpoints.{all_crossed}
-use Rattle.model.specs.Phases.{is_moving}
+use Rattle.model.specs.Emptying.{crossed_if_protecting}
+use Rattle.model.specs.Phases.{is_idle}
 use Rattle.model.specs.Refusing.{◌>>=◌, refuse_if}
 use Rattle.model.specs.States.{HeapState}
 use Rattle.model.specs.Stores.{state_at, is_from}
@@ -25,6 +25,6 @@ pub record IsRun (h : HeapState) (n e end target count : ℕ) : Type 0 where
 -- the tests of CopyPage
 abbrev pub may_copy_page : HeapState → ℕ → Result Unit Refusal
 may_copy_page h n = do
-  _ ← refuse_if (not (is_moving h.phase)) refusals.Phase
-  _ ← all_crossed h
+  _ ← refuse_if (is_idle h.phase) refusals.Phase
+  _ ← crossed_if_protecting h
   refuse_if (not (is_from (state_at h.store n))) refusals.BadIndex

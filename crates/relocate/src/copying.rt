@@ -6,13 +6,14 @@ ghost use Rattle.heap.specs.Runs.{with_entry};
 ghost use Rattle.model.specs.Bits.{of_page};
 ghost use Rattle.model.specs.declared.limits.TheConstants.{MOST_PAGES};
 ghost use Rattle.model.specs.Marks.{entry_at};
-ghost use Rattle.model.specs.Moves.{copied_first, copy_outcome, entry_on, moved_word, place_by};
-ghost use Rattle.model.specs.Phases.{is_moving};
+ghost use Rattle.model.specs.Emptying.{copy_outcome, entry_on};
+ghost use Rattle.model.specs.Moves.{copied_first, copied_for, moved_word, place_by};
 ghost use Rattle.model.specs.Outcome.{WorkerPasses};
 ghost use Rattle.model.specs.Refusing.{Does};
 ghost use Rattle.model.specs.declared.steps.Step.TheVariants as steps;
 
 use crate::emptied::is_emptied;
+use crate::releasing::crossed_if_protecting;
 use heap::Heap;
 use model::{Answer, Forwarding, Phase, Refusal, Reply};
 use refword::{Addr, Word};
@@ -43,6 +44,19 @@ fn copy_first(heap: &mut Heap, address: Addr)
     }
 }
 
+/// Copies the object of a word, where it has a place to go and wasn't copied. While nothing is left to
+/// be copied, that is one test.
+#[tactic(auto, unfolding(model::specs::Moves::copied_for), using(crate::proofs::Copied::none_to_copy))]
+pub fn copy_for(heap: &mut Heap, word: Word)
+    ensures { heap.new ≡ copied_for heap.old word }
+{
+    if let Some(address) = word.addr() {
+        if heap.sides().uncopied() > 0 {
+            copy_first(heap, address);
+        }
+    }
+}
+
 /// Where the object at an address is, once it is copied.
 fn place_of(heap: &Heap, address: Addr) -> Addr
     ensures { result ≡ place_by (entry_at heap.now address) address }
@@ -67,7 +81,7 @@ pub fn follow(heap: &mut Heap, address: Addr, nmt: bool) -> Word
 
 /// The entry of a page that is being emptied, by the page's number and the entry's number from 0,
 /// if there is one.
-#[tactic(auto, unfolding(model::specs::Moves::entry_on), using(crate::proofs::Entries::entry_within, crate::proofs::Entries::page_low, crate::proofs::Entries::page_high))]
+#[tactic(auto, unfolding(model::specs::Emptying::entry_on), using(crate::proofs::Entries::entry_within, crate::proofs::Entries::page_low, crate::proofs::Entries::page_high))]
 fn entry_on(heap: &Heap, page: u32, entry: u32) -> Option<Forwarding>
     ensures value { result ≡ entry_on heap.now page entry }
     ensures low { IfSome result (λ f. 0 < page) }
@@ -83,29 +97,22 @@ fn entry_on(heap: &Heap, page: u32, entry: u32) -> Option<Forwarding>
     }
 }
 
-/// Whether pages are protected, and no mark runs.
-pub(crate) fn is_moving(phase: Phase) -> bool
-    ensures { result ≡ is_moving phase }
-{
-    matches!(phase, Phase::ProtectCrossing | Phase::Relocating)
-}
-
 /// A worker copies the object of an entry of a page that is being emptied to where it is planned
 /// (the paper's Relocate phase), and answers the new address. Pages count from 1, entries and
 /// workers from 0.
 ///
-/// Refused where no pages are protected, or a mark has begun since (`Phase`), a thread hasn't
-/// crossed (`NotCrossed`), the page isn't being emptied or has no such entry (`BadIndex`), or the
-/// object is copied already (`Copied`).
-#[tactic(auto, unfolding(model::specs::Moves::copy_outcome), using(crate::proofs::Runs::entry_copied))]
+/// Refused while the collector is idle (`Phase`), while pages are being protected and a thread hasn't
+/// crossed (`NotCrossed`), where the page isn't being emptied or has no such entry (`BadIndex`), and
+/// where the object is copied already (`Copied`).
+#[tactic(auto, unfolding(model::specs::Emptying::copy_outcome), using(crate::proofs::Runs::entry_copied))]
 pub fn copy(heap: &mut Heap, worker: u32, page: u32, entry: u32) -> Reply
     requires { WorkerPasses heap.old worker (steps.Copy page entry) }
     ensures { Does heap.old result heap.new (copy_outcome heap.old page entry) }
 {
-    if !is_moving(heap.phase()) {
+    if matches!(heap.phase(), Phase::Idle) {
         return Err(Refusal::Phase);
     }
-    heap.all_crossed()?;
+    crossed_if_protecting(heap)?;
     let Some(found) = entry_on(heap, page, entry) else {
         return Err(Refusal::BadIndex);
     };

@@ -14,7 +14,7 @@ mod settling;
 mod targets;
 mod whole;
 
-pub use copying::{copy, follow};
+pub use copying::{copy, copy_for, follow};
 pub use page::PieceGate;
 pub use protecting::protect;
 pub use releasing::release;

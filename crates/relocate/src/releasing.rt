@@ -1,7 +1,7 @@
 //! Pages give their memory up (the paper's Relocate phase).
 
 ghost use Rattle.std.specs.Prelude.{◌≡◌};
-ghost use Rattle.model.specs.Moves.{crossed_if_protecting, release_outcome};
+ghost use Rattle.model.specs.Emptying.{crossed_if_protecting, release_outcome};
 ghost use Rattle.model.specs.Outcome.{WorkerPasses};
 ghost use Rattle.model.specs.Refusing.{Does};
 ghost use Rattle.model.specs.declared.steps.Step.TheVariants as steps;
@@ -11,8 +11,8 @@ use heap::Heap;
 use model::{Answer, Phase, Refusal, Reply};
 
 /// Where pages are being protected, whether all threads have crossed. Refused as `NotCrossed`.
-#[tactic(auto, unfolding(model::specs::Moves::crossed_if_protecting))]
-fn crossed_if_protecting(heap: &Heap) -> Result<(), Refusal>
+#[tactic(auto, unfolding(model::specs::Emptying::crossed_if_protecting))]
+pub(crate) fn crossed_if_protecting(heap: &Heap) -> Result<(), Refusal>
     ensures { result ≡ crossed_if_protecting heap.now }
 {
     if matches!(heap.phase(), Phase::ProtectCrossing) {
@@ -30,7 +30,7 @@ fn crossed_if_protecting(heap: &Heap) -> Result<(), Refusal>
 /// Refused while the collector is idle (`Phase`), while pages are being protected and a thread
 /// hasn't crossed (`NotCrossed`), where the page isn't being emptied (`BadIndex`), and where an
 /// object of it isn't copied (`Uncopied`).
-#[tactic(auto, unfolding(model::specs::Moves::release_outcome, model::specs::Protections::free_count))]
+#[tactic(auto, unfolding(model::specs::Emptying::release_outcome, model::specs::Protections::free_count))]
 pub fn release(heap: &mut Heap, worker: u32, page: u32) -> Reply
     requires { WorkerPasses heap.old worker (steps.Release page) }
     ensures { Does heap.old result heap.new (release_outcome heap.old page) }

@@ -4,17 +4,17 @@
 ghost use Rattle.std.specs.Prelude.{◌≡◌, ◌+◌, ◌<◌, ◌≤◌, length, true, Some, slice_get};
 ghost use Rattle.heap.specs.Runs.{with_entries};
 ghost use Rattle.model.specs.Bits.{of_page};
-ghost use Rattle.model.specs.Moves.{copy_page_outcome};
+ghost use Rattle.model.specs.Emptying.{copy_page_outcome};
 ghost use Rattle.model.specs.Refusing.{Does};
 ghost use Rattle.model.specs.Saying.{said};
 ghost use Rattle.model.specs.declared.limits.TheConstants.{MOST_WORDS};
 ghost use Rattle.model.specs.declared.steps.Answer.TheVariants as answers;
 ghost use Rattle.relocate.specs.Runs.{IsRun, goes_to, may_copy_page};
 
-use crate::copying::is_moving;
 use crate::emptied::is_emptied;
+use crate::releasing::crossed_if_protecting;
 use heap::Heap;
-use model::Refusal;
+use model::{Phase, Refusal};
 use page::PieceGate;
 use std::thread::Threads;
 
@@ -111,16 +111,16 @@ fn copy_runs_by<R: Threads + Sync, G: PieceGate + Sync>(
     }
 }
 
-/// Whether a page's objects may be copied. Refused where no pages are protected, or a mark has begun
-/// since (`Phase`), a thread hasn't crossed (`NotCrossed`), or the page isn't being emptied
-/// (`BadIndex`).
+/// Whether a page's objects may be copied. Refused while the collector is idle (`Phase`), while pages
+/// are being protected and a thread hasn't crossed (`NotCrossed`), and where the page isn't being
+/// emptied (`BadIndex`).
 fn may_copy_page(heap: &Heap, page: u32) -> Result<(), Refusal>
     ensures { result ≡ may_copy_page heap.now page }
 {
-    if !is_moving(heap.phase()) {
+    if matches!(heap.phase(), Phase::Idle) {
         return Err(Refusal::Phase);
     }
-    heap.all_crossed()?;
+    crossed_if_protecting(heap)?;
     if !is_emptied(heap, page) {
         return Err(Refusal::BadIndex);
     }
@@ -132,8 +132,8 @@ fn may_copy_page(heap: &Heap, page: u32) -> Result<(), Refusal>
 /// entry does, one after the other; the words of all that go to one target are copied at once.
 /// Pages count from 1.
 ///
-/// Refused where no pages are protected, or a mark has begun since (`Phase`), a thread hasn't crossed
-/// (`NotCrossed`), or the page isn't being emptied (`BadIndex`). It takes no memory.
+/// Refused while the collector is idle (`Phase`), while pages are being protected and a thread hasn't
+/// crossed (`NotCrossed`), and where the page isn't being emptied (`BadIndex`). It takes no memory.
 #[tactic(auto, using(crate::proofs::PageCopies::refused, crate::proofs::PageCopies::accepted))]
 pub fn copy_page(heap: &mut Heap, page: u32) -> Result<u32, Refusal>
     ensures { Does heap.old (said answers.CopiedPage result) heap.new (copy_page_outcome heap.old page) }

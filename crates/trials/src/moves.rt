@@ -250,7 +250,6 @@ fn release(rt: &impl Abort, heap: &mut impl Stepping) {
     cross(rt, heap);
     let uncopied = Refusal::Uncopied { page };
     says(rt, heap, WORKER, Step::Release(page), Err(uncopied));
-    says(rt, heap, WORKER, Step::StartMark, Err(uncopied));
     let beyond = Step::Copy { page, entry: 1 };
     says(rt, heap, WORKER, beyond, Err(Refusal::BadIndex));
     let to = Answer::MovedTo { page: 2, offset: 0 };

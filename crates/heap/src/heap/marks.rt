@@ -1,13 +1,12 @@
 //! Words are resolved, and what the running mark has marked (the paper's Mark phase).
 
-ghost use Rattle.std.specs.Prelude.{◌≡◌, length};
+ghost use Rattle.std.specs.Prelude.{◌≡◌};
 ghost use Rattle.model.specs.Bits.{bit_at, with_bit};
-ghost use Rattle.model.specs.Cycles.{has_uncopied, uncopied_from};
 ghost use Rattle.model.specs.Marks.{entry_at, resolve, marked_word};
 
 use crate::heap::Heap;
 use markbits::{IndexedRows, Rows};
-use model::{Forwarding, PageState};
+use model::Forwarding;
 use page::Store;
 use refword::{Addr, Word};
 
@@ -53,41 +52,6 @@ impl Heap {
         match self.entry_at(address) {
             None => address,
             Some(entry) => { if entry.copied { entry.to } else { address } }
-        }
-    }
-
-    /// Whether a page, by its number from 1, is being emptied and has an object that isn't copied.
-    #[tactic(auto, unfolding(model::specs::Cycles::has_uncopied))]
-    fn has_uncopied(&self, page: u32) -> bool
-        ensures { result ≡ has_uncopied self.now page }
-    {
-        matches!(self.store.state(page), PageState::From) && !self.sides.is_copied(page)
-    }
-
-    /// The least page that has one, of all that have records.
-    fn search_uncopied(&self) -> Option<u32>
-        ensures { result ≡ uncopied_from self.now 1 (length self.now.store.pages) }
-    {
-        let count = self.store.pages().len();
-        for index in 0..count {
-            self.law();
-            let page = index as u32 + 1;
-            if self.has_uncopied(page) {
-                return Some(page);
-            }
-        }
-        None
-    }
-
-    /// The least page, by its number from 1, that is being emptied and has an object that isn't
-    /// copied (the paper's Relocate phase). Where there is none, that is a count.
-    pub fn first_uncopied(&self) -> Option<u32>
-        ensures { result ≡ uncopied_from self.now 1 (length self.now.store.pages) }
-    {
-        if self.sides.uncopied() == 0 {
-            None
-        } else {
-            self.search_uncopied()
         }
     }
 

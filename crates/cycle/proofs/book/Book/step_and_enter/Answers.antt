@@ -1,5 +1,5 @@
 use Rattle.std.proofs.Common.{◌∙◌, ◌++◌, ◌∷◌, [], ap, sym, subst}
-use Rattle.refinement.specs.Standing.{MovesPhase}
+use Rattle.refinement.specs.Standing.{Leaves, MovesPhase}
 use Rattle.cycle.specs.Books.{is_full, BookState}
 use Rattle.cycle.specs.Replays.{replayed}
 use Rattle.cycle.specs.Views.{book_of}
@@ -23,6 +23,12 @@ invariant_of-self-2 c =
       step = c.args.step;
       answer = c.in_ok-answer.answer;
     } ∷ []) c.reserve.ensures.entries)
+
+pub returns-clause-leaves : goal.returns-clause-leaves
+returns-clause-leaves c =
+    let b = book_of c.self.inside in
+    subst (λ (b : BookState). Leaves b.heap (replayed b).now c.args.step) c.self.view_is
+    (c.in_ok-answer.ensures.stands (replayed b).now (replayed b).at_mark c.self.invariant.holds).leaves
 
 pub returns-clause-phase : goal.returns-clause-phase
 returns-clause-phase c =
