@@ -27,6 +27,7 @@ class Thread:
         self.crossed = True
         self.parked = False
         self.barrier = None
+        self.tally = dict.fromkeys(["loads", "gc", "nmt", "healed", "changed"], 0)
 
 
 def text_of(word):
@@ -147,10 +148,12 @@ class Heap:
         thing = self.used(thread, register)
         refuse_if(index >= len(thing.refs), "BadIndex")
         thread.barrier = Barrier(target, thing.refs, index)
+        thread.tally["loads"] += 1
         return "loaded"
 
     def do_loadg(self, thread, target, number):
         thread.barrier = Barrier(target, self.globals, number)
+        thread.tally["loads"] += 1
         return "loaded"
 
     # A word that a thread has loaded has still to be marked.
@@ -188,9 +191,11 @@ class Heap:
         barrier = thread.barrier
         if self.obstacle(thread, barrier.now) is not None:
             barrier.now = self.moved_word(barrier.now)
+            thread.tally["gc"] += 1
             return "moved"
         if self.is_unmarked(thread, barrier.now):
             barrier.now = self.mark_word(barrier.now)
+            thread.tally["nmt"] += 1
             return "marked"
         return "clear"
 
@@ -200,8 +205,10 @@ class Heap:
         refuse_if(self.is_due(thread, barrier.now), "Busy")
         barrier.healed = True
         if barrier.holder[barrier.index] != barrier.loaded:
+            thread.tally["changed"] += 1
             return "changed"
         barrier.holder[barrier.index] = barrier.now
+        thread.tally["healed"] += 1
         return "healed"
 
     def do_finish(self, thread):
@@ -429,4 +436,7 @@ class Heap:
             registers = "".join(f" r{i} {text_of(word)}" for i, word in enumerate(thread.registers))
             lines.append(f"thread {number} {state} buffer {buffer}{registers}")
         lines += [f"global {i} {text_of(word)}" for i, word in enumerate(self.globals)]
-        return lines + ["cycle {} live {} retired {}".format(k + 1, *cycle) for k, cycle in enumerate(self.cycles)]
+        lines += ["cycle {} live {} retired {}".format(k + 1, *cycle) for k, cycle in enumerate(self.cycles)]
+        for number, thread in enumerate(self.threads):
+            lines.append(f"barrier {number} " + " ".join(f"{name} {count}" for name, count in thread.tally.items()))
+        return lines

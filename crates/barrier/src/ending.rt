@@ -10,7 +10,7 @@ ghost use Rattle.model.specs.Loads.{are_bits_of, set_healed, heal_place, heal_ou
 
 use crate::traps::trap_due;
 use heap::{Edits, Heap};
-use model::{Barrier, Refusal};
+use model::{Barrier, Counter, Refusal};
 use refword::Word;
 
 /// Whether bits are there, and are those of a word.
@@ -43,10 +43,10 @@ fn heal_place(heap: &mut Heap, thread: u32, barrier: Barrier) -> bool
 {
     if are_bits_of(heap.bits_at(barrier.place), barrier.raw) {
         heap.set_place(barrier.place, barrier.now);
-        heap.set_barrier(thread, set_healed(barrier));
+        heap.set_barrier(thread, set_healed(barrier), Counter::Healed);
         true
     } else {
-        heap.set_barrier(thread, set_healed(barrier));
+        heap.set_barrier(thread, set_healed(barrier), Counter::Changed);
         false
     }
 }

@@ -9,7 +9,7 @@ ghost use Rattle.model.specs.declared.steps.Answer.TheVariants as answers;
 ghost use Rattle.model.specs.Loads.{new_barrier, load_outcome, load_global_outcome};
 
 use heap::{Edits, Heap, read_reference};
-use model::{Barrier, Place, Refusal};
+use model::{Barrier, Counter, Place, Refusal};
 use refword::Word;
 
 /// The barrier of a load that has just read a word.
@@ -53,7 +53,8 @@ pub fn load(
         object: address,
         index: field,
     };
-    heap.set_barrier(thread, new_barrier(target, place, read_reference(bits)));
+    let barrier = new_barrier(target, place, read_reference(bits));
+    heap.set_barrier(thread, barrier, Counter::Loads);
     Ok(())
 }
 
@@ -66,5 +67,6 @@ pub fn load_global(heap: &mut Heap, thread: u32, target: u32, global: u32)
     ensures { load_global_outcome heap.old thread target global ≡ Ok (heap.new, answers.Loaded) }
 {
     let word = heap.global(global);
-    heap.set_barrier(thread, new_barrier(target, Place::Global(global), word));
+    let barrier = new_barrier(target, Place::Global(global), word);
+    heap.set_barrier(thread, barrier, Counter::Loads);
 }

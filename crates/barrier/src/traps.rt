@@ -10,7 +10,7 @@ ghost use Rattle.model.specs.Traps.{gc_trap, trap_outcome};
 
 use heap::{Edits, Heap};
 use marker::mark;
-use model::{Barrier, Phase, Refusal, Trap};
+use model::{Barrier, Counter, Phase, Refusal, Trap};
 use refword::Word;
 use relocate::follow;
 
@@ -66,7 +66,7 @@ fn nmt_trap(heap: &mut Heap, thread: u32, barrier: Barrier) -> Trap
         return Trap::Clear;
     }
     let marked = mark(heap, barrier.now);
-    heap.set_barrier(thread, set_now(barrier, marked));
+    heap.set_barrier(thread, set_now(barrier, marked), Counter::Nmt);
     Trap::Marked
 }
 
@@ -82,7 +82,7 @@ fn gc_trap(heap: &mut Heap, thread: u32, barrier: Barrier) -> Result<Trap, Refus
         return Err(Refusal::Stall);
     }
     let moved = follow(heap, address, barrier.now.nmt());
-    heap.set_barrier(thread, set_now(barrier, moved));
+    heap.set_barrier(thread, set_now(barrier, moved), Counter::Gc);
     Ok(Trap::Moved)
 }
 

@@ -20,11 +20,13 @@ use Rattle.refinement.specs.Worlds.{world_of}
 use Rattle.refinement.specs.PlainHeaps.{births_of}
 use Rattle.refinement.specs.Standing.{Holds, StepKeeps, AnswersPlain, FirstHolds, StepsHold, MarksFind, PhasesMove}
 use Rattle.refinement.specs.Standing.{Finds, KeepsStanding}
+use Rattle.refinement.specs.Tallies.{StepsCount}
 use Rattle.entries.specs.declared.entry.Entry.{Entry}
 use Rattle.cycle.specs.Books.{BookState, first_book, is_full}
 use Rattle.cycle.specs.Replays.{Replayed, after_entry, after_entries, before_entries}
 use Rattle.cycle.specs.Replays.{replayed, AnswersAre, IsBook, KeepsPromises, last_entry}
 use Rattle.cycle.proofs.Stepped.{step_accepted, step_refused}
+use Rattle.cycle.proofs.Tallying.{tallies_more, first_tallies}
 
 after_more : (ls : List Layout) (r : Replayed) (es : List Entry) (e : Entry)
     → after_entries ls r (es ++ e ∷ []) ≡ after_entry ls (after_entries ls r es) e
@@ -72,6 +74,8 @@ entry_added b actor step g answer k store heap more kept =
           (subst (λ (c : Config). Finds g (after_entries c.layouts (before_entries c) (b.history ++ e ∷ [])).now
           (after_entries c.layouts (before_entries c) (b.history ++ e ∷ [])).at_mark step) (sym s.config)
           (subst (λ (r : Replayed). Finds g r.now r.at_mark step) (sym after) kept.finds));
+      tallies = tallies_more b.heap g actor step answer b.history k.tallies (omega (arith, k.heap.config.history,
+          leb-false b.heap.config.history (length b.history) more)) kept.tallies;
     }
 
 -- a new book
@@ -79,7 +83,7 @@ pub new_book : (c : Config) → Holds (first_heap c) (before_entries c).now (bef
     → IsStore (first_heap c).store → IsHeap (first_heap c) → IsBook (first_book c)
 unfolding replayed first_book first_heap
 new_book c k store heap =
-    record { store = store; heap = heap; holds = k; answers = tt; limit = omega arith; marks = tt }
+    record { store = store; heap = heap; holds = k; answers = tt; limit = omega arith; marks = tt; tallies = first_tallies c }
 
 -- what the law promises
 pub promises : (b : BookState) → IsBook b → KeepsPromises b
@@ -88,21 +92,23 @@ promises b k = record {
   usable = usable_has_memory (world_of b.heap) (births_of (replayed b).now)
       (births_of (replayed b).at_mark) k.holds.invariant;
   marks = k.marks;
+  tallies = k.tallies;
 }
 
 -- a call that did what its outcome says
 pub keeps_standing : (old new : HeapState) (actor : Actor) (step : Step) (result : Result Answer Refusal)
     → DoesStep old step result new (outcome old actor step) → IsStore old.store → IsHeap old → StepsHold → MarksFind
-    → PhasesMove → KeepsStanding old actor step result new
-keeps_standing old new actor step (Ok a) does s d holds find move p p0 k =
+    → PhasesMove → StepsCount → KeepsStanding old actor step result new
+keeps_standing old new actor step (Ok a) does s d holds find move count p p0 k =
     let is = step_accepted old new step a (outcome old actor step) does in
     record {
       stands = holds old p p0 actor step new a s d k is;
       finds = (find old p p0 actor step new a s d k is).0;
       leaves = (find old p p0 actor step new a s d k is).1;
       phase = move old p p0 actor step new a s d k is;
+      tallies = count old actor step new a is;
     }
-keeps_standing old new actor step (Err e) does s d holds find move p p0 k = tt
+keeps_standing old new actor step (Err e) does s d holds find move count p p0 k = tt
 
 -- the parts of a new book
 pub made : (c : Config) (h : HeapState) (es : List Entry) → h ≡ first_heap c → es ≡ [] → IsStore h.store → IsHeap h

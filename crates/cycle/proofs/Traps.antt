@@ -6,6 +6,8 @@ use Rattle.std.specs.List.{slice_get}
 use Rattle.std.specs.Prelude.{Result, Ok, Err, if◌then◌else◌}
 use Rattle.std.proofs.lemmas.Option.{same_Some}
 use Rattle.model.specs.declared.records.Barrier.{Barrier}
+use Rattle.model.specs.declared.records.Counter.{Counter}
+use Rattle.model.specs.declared.records.Counter.TheVariants as counters
 use Rattle.model.specs.declared.records.Forwarding.{Forwarding}
 use Rattle.model.specs.declared.steps.Actor.{Actor}
 use Rattle.model.specs.declared.steps.Actor.TheVariants.{Thread, Worker}
@@ -46,14 +48,14 @@ abbrev allow : HeapState × Answer → Outcome
 allow x = Ok x
 
 -- a barrier that is changed is there
-barrier_there : (threads : List ThreadState) (t : ℕ) (b c : Barrier) → barrier_of (slice_get threads t) ≡ Some b
-    → barrier_of (slice_get (change_at threads t (set_barrier_of (Some c))) t) ≡ Some c
-barrier_there threads t b c e = by_thread (slice_get threads t) refl e
+barrier_there : (threads : List ThreadState) (t : ℕ) (b c : Barrier) (n : Counter) → barrier_of (slice_get threads t) ≡ Some b
+    → barrier_of (slice_get (change_at threads t (set_barrier_of c n)) t) ≡ Some c
+barrier_there threads t b c n e = by_thread (slice_get threads t) refl e
   where
     by_thread : (o : Option ThreadState) → slice_get threads t ≡ o → barrier_of o ≡ Some b
-        → barrier_of (slice_get (change_found threads t o (set_barrier_of (Some c))) t) ≡ Some c
+        → barrier_of (slice_get (change_found threads t o (set_barrier_of c n)) t) ≡ Some c
     by_thread None f k = absurd cc
-    by_thread (Some x) f k = ap barrier_of (get_set_same threads t x (set_barrier_of (Some c) x) f)
+    by_thread (Some x) f k = ap barrier_of (get_set_same threads t x (set_barrier_of c n x) f)
 
 -- an object that is copied leaves the threads
 first_threads : (h : HeapState) (a : ℕ) → (copied_first h a).threads ≡ h.threads
@@ -75,7 +77,7 @@ for_threads h (Some w) = first_threads h w.0
 
 -- the heap after the word of a barrier is marked where its object is now
 abbrev marked_now : HeapState → ℕ → Barrier → HeapState
-marked_now h t b = with_barrier (with_mark h b.now) t (set_now_of (marked_word h b.now) b)
+marked_now h t b = with_barrier (with_mark h b.now) t (set_now_of (marked_word h b.now) b) counters.Nmt
 
 -- the heap behind an NMT trap
 abbrev marked_heap : HeapState → ℕ → Barrier → HeapState
@@ -136,7 +138,7 @@ clear_behind h p p0 t b k first free due y f =
     let there : barrier_of (slice_get g.threads t) ≡ Some b =
     ap (λ ts. barrier_of (slice_get ts t)) (for_threads h b.now) ∙ first in
     clear_by (marked_heap h t b) t c y (never_due g t b)
-    (unguarded (marked_heap h t b) t c y (barrier_there g.threads t b c there) (marked_free k t b c free due) f)
+    (unguarded (marked_heap h t b) t c y (barrier_there g.threads t b c counters.Nmt there) (marked_free k t b c free due) f)
 
 -- a trap is clear, or marks and the next one is clear
 abbrev ClearNext : Actor → HeapState × Answer → Type 0
@@ -185,15 +187,15 @@ module _ (h : HeapState) (p p0 : PlainHeap) (s : IsStore h.store) (d : IsHeap h)
   gc_soon t b x first due is e = by_now b.now refl e
     where
       behind_it : (w : ℕ × Bool) → b.now ≡ Some w
-          → (with_barrier (copied_first h w.0) t (set_now_of (Some (moved_word h w)) b), answers.Moved) ≡ x
+          → (with_barrier (copied_first h w.0) t (set_now_of (Some (moved_word h w)) b) counters.Gc, answers.Moved) ≡ x
           → ClearSoon (Thread t) x
       behind_it w now z =
           let c : Barrier = set_now_of (Some (moved_word h w)) b in
           let there = thread_there h t b first in
           let held = step_holds h p p0 (Thread t) steps.Trap x.0 x.1 s d k is in
-          let heap : with_barrier (copied_first h w.0) t c ≡ x.0 = ap (λ (y : HeapState × Answer). y.0) z in
+          let heap : with_barrier (copied_first h w.0) t c counters.Gc ≡ x.0 = ap (λ (y : HeapState × Answer). y.0) z in
           let at : barrier_of_thread x.0 t ≡ Some c = subst (λ g. barrier_of_thread g t ≡ Some c) heap
-          (barrier_there (copied_first h w.0).threads t b c
+          (barrier_there (copied_first h w.0).threads t b c counters.Gc
           (ap (λ ts. barrier_of (slice_get ts t)) (first_threads h w.0) ∙ first)) in
           let free : gc_trap_due x.0 t c.now ≡ false = subst (λ g. gc_trap_due g t c.now ≡ false) heap
           (moved_free s d k t there.0 there.1 b c w first now due) in
@@ -208,7 +210,7 @@ module _ (h : HeapState) (p p0 : PlainHeap) (s : IsStore h.store) (d : IsHeap h)
       by_now (Some w) f z = by_phase (is_protect_crossing h.phase) z
         where
           by_phase : (c : Bool) → (if c then Err refusals.Stall else allow
-              (with_barrier (copied_first h w.0) t (set_now_of (Some (moved_word h w)) b), answers.Moved)) ≡ Ok x
+              (with_barrier (copied_first h w.0) t (set_now_of (Some (moved_word h w)) b) counters.Gc, answers.Moved)) ≡ Ok x
               → ClearSoon (Thread t) x
           by_phase true z = absurd cc
           by_phase false z = behind_it w f (same_outcome _ x z)

@@ -13,6 +13,7 @@ use Rattle.refinement.specs.PlainHeaps.{births_of}
 use Rattle.refinement.specs.Standing.{Holds, AnswersPlain, Finds, Leaves, MovesPhase, kept_at_mark}
 use Rattle.entries.specs.declared.entry.Entry.{Entry}
 use Rattle.cycle.specs.Books.{BookState, Reply, Acts, act_outcome}
+use Rattle.cycle.specs.Tallies.{TalliesAre}
 
 -- a plain heap, and what it was as the last mark began
 pub record Replayed : Type 0 where
@@ -52,7 +53,8 @@ last_entry (e ∷ d ∷ es) = last_entry (d ∷ es)
 abbrev pub LastFinds : BookState → Type 0
 LastFinds b = IfSome (last_entry b.history) (λ e. Finds b.heap (replayed b).now (replayed b).at_mark e.step)
 
--- the law of a book: its heap is one, and stands for what its history makes, whose answers it gave
+-- the law of a book: its heap is one, and stands for what its history makes, whose answers it gave; and each thread's
+-- tally is that of its entries
 pub record IsBook (b : BookState) : Type 0 where
   pub store : IsStore b.heap.store
   pub heap : IsHeap b.heap
@@ -60,14 +62,16 @@ pub record IsBook (b : BookState) : Type 0 where
   pub answers : AnswersAre b.heap.config.layouts (before_entries b.heap.config) b.history
   pub limit : length b.history ≤ b.heap.config.history
   pub marks : LastFinds b
+  pub tallies : TalliesAre b.heap b.history
 
 -- what it promises: the heap stands for the plain heap of its history; no register that may be used names a page
 -- without memory; and where its last step has ended a mark, all that can be reached is live, and what is live could
--- be reached as that mark began, or is born since
+-- be reached as that mark began, or is born since; and the tally of each thread is what its entries make of it
 pub record KeepsPromises (b : BookState) : Type 0 where
   pub stands : StandsForPlain (world_of b.heap) (births_of (replayed b).now)
   pub usable : UsableHasMemory (world_of b.heap)
   pub marks : LastFinds b
+  pub tallies : TalliesAre b.heap b.history
 
 -- what a step with this reply promises: what its book does, and where it is accepted, that a mark that it has ended has
 -- left nothing behind that can be reached, and that it has moved the phase as it may

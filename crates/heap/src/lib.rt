@@ -13,5 +13,5 @@ pub use heap::collecting::CollectorEdits;
 pub use heap::edits::Edits;
 pub use heap::references::read_reference;
 pub use markbits::{IndexedRows, Row, Rows};
-pub use model::{Config, ConfigFault, Refusal};
+pub use model::{Config, ConfigFault, Refusal, Tally};
 pub use threads::Thread;

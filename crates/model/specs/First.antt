@@ -5,8 +5,9 @@ use Rattle.model.specs.declared.records.Forwarding.{Forwarding}
 use Rattle.model.specs.declared.records.Phase.TheVariants.{Idle}
 use Rattle.model.specs.Stores.{first_store, record_count}
 use Rattle.model.specs.States.{ThreadState, HeapState}
+use Rattle.model.specs.Tallies.{blank_tally}
 
--- a thread as a heap begins: its registers are null, it has crossed, and it runs
+-- a thread as a heap begins: its registers are null, it has crossed, it runs, and nothing is counted
 abbrev pub blank_thread : ℕ → ThreadState
 blank_thread registers = record {
   registers = replicate registers None;
@@ -14,6 +15,7 @@ blank_thread registers = record {
   crossed = true;
   parked = false;
   barrier = None;
+  tally = blank_tally;
 }
 
 -- a row with all bits clear for each page record

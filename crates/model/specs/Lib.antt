@@ -1,5 +1,6 @@
 pub mod Configs
 pub mod Phases
+pub mod Tallies
 pub mod Stores
 pub mod Owning
 pub mod States

@@ -3,7 +3,10 @@ use Rattle.std.specs.Prelude.{ℕ, ◌==◌, Bool, true, false, Option, Some, No
 use Rattle.std.specs.Prelude.{Result, Ok, Err}
 use Rattle.refword.specs.Words.{bits_of}
 use Rattle.model.specs.declared.records.Barrier.{Barrier}
+use Rattle.model.specs.declared.records.Counter.{Counter}
+use Rattle.model.specs.declared.records.Counter.TheVariants as counters
 use Rattle.model.specs.declared.records.Place.{Place}
+use Rattle.model.specs.declared.records.Tally.{Tally}
 use Rattle.model.specs.declared.records.Place.TheVariants as places
 use Rattle.model.specs.Stores.{word_at}
 use Rattle.model.specs.declared.steps.Answer.{Answer}
@@ -13,19 +16,23 @@ use Rattle.model.specs.declared.steps.Refusal.TheVariants as refusals
 use Rattle.model.specs.Phases.{may_nmt_trap, same_bit}
 use Rattle.model.specs.Refusing.{◌>>=◌, or_refuse, Outcome}
 use Rattle.model.specs.States.{Reference, HeapState, change_at}
-use Rattle.model.specs.Threads.{set_barrier_of, barrier_of, set_loaded_of, has_crossed}
+use Rattle.model.specs.Threads.{set_barrier_of, barrier_of, tally_in, set_loaded_of, has_crossed}
 use Rattle.model.specs.Registers.{let_through, usable}
 use Rattle.model.specs.Marks.{with_mark, marked_word}
 use Rattle.model.specs.Moves.{copied_for}
 use Rattle.model.specs.References.{global_of, read_reference, field_address, with_place, field_at}
 
--- the heap with another barrier of a thread
-unfoldable pub with_barrier : HeapState → ℕ → Barrier → HeapState
-with_barrier h t b = record h { threads = change_at h.threads t (set_barrier_of (Some b)) }
+-- the heap after a thread's barrier is opened or changed, which raises a number of its tally
+unfoldable pub with_barrier : HeapState → ℕ → Barrier → Counter → HeapState
+with_barrier h t b c = record h { threads = change_at h.threads t (set_barrier_of b c) }
 
 -- the barrier of a thread
 abbrev pub barrier_of_thread : HeapState → ℕ → Option Barrier
 barrier_of_thread h t = barrier_of (slice_get h.threads t)
+
+-- the tally of a thread, if the thread is there
+abbrev pub tally_of_thread : HeapState → ℕ → Option Tally
+tally_of_thread h t = tally_in (slice_get h.threads t)
 
 -- the heap after a thread's load for register r has ended
 unfoldable pub with_loaded : HeapState → ℕ → ℕ → Reference → HeapState
@@ -41,12 +48,12 @@ load_outcome h t target object i = do
   address ← usable h t object
   place ← or_refuse (field_at h address i) refusals.BadIndex
   bits ← or_refuse (word_at h.store place) refusals.BadIndex
-  Ok (with_barrier h t (new_barrier target (places.Field address i) (read_reference bits)), answers.Loaded)
+  Ok (with_barrier h t (new_barrier target (places.Field address i) (read_reference bits)) counters.Loads, answers.Loaded)
 
 -- the row of LoadGlobal
 unfoldable pub load_global_outcome : HeapState → ℕ → ℕ → ℕ → Outcome
 load_global_outcome h t target global =
-    Ok (with_barrier h t (new_barrier target (places.Global global) (global_of h global)), answers.Loaded)
+    Ok (with_barrier h t (new_barrier target (places.Global global) (global_of h global)) counters.Loads, answers.Loaded)
 
 -- whether something is refused
 abbrev pub is_refused : Result Unit Refusal → Bool
@@ -78,7 +85,8 @@ abbrev pub nmt_trap : HeapState → ℕ → Barrier → Outcome
 nmt_trap h t b =
     if nmt_trap_due h t b.now
     then Ok (
-      with_barrier (with_mark (copied_for h b.now) b.now) t (set_now_of (marked_word (copied_for h b.now) b.now) b),
+      with_barrier (with_mark (copied_for h b.now) b.now) t (set_now_of (marked_word (copied_for h b.now) b.now) b)
+          counters.Nmt,
       answers.Marked,
     )
     else Ok (h, answers.Clear)
@@ -101,8 +109,8 @@ set_healed b = record b { healed = true }
 unfoldable pub heal_place : HeapState → ℕ → Barrier → HeapState × Answer
 heal_place h t b =
     if are_bits_of (bits_at h b.place) b.raw
-    then (with_barrier (with_place h b.place b.now) t (set_healed b), answers.Healed)
-    else (with_barrier h t (set_healed b), answers.Changed)
+    then (with_barrier (with_place h b.place b.now) t (set_healed b) counters.Healed, answers.Healed)
+    else (with_barrier h t (set_healed b) counters.Changed, answers.Changed)
 
 -- the row of Heal
 unfoldable pub heal_outcome : HeapState → ℕ → Outcome

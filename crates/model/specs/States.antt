@@ -7,19 +7,22 @@ use Rattle.model.specs.declared.records.Scan.{Scan}
 use Rattle.model.specs.declared.records.Forwarding.{Forwarding}
 use Rattle.model.specs.declared.records.Global.{Global}
 use Rattle.model.specs.declared.records.Phase.{Phase}
+use Rattle.model.specs.declared.records.Tally.{Tally}
 use Rattle.model.specs.Stores.{StoreState}
 
 -- null, or an address with its not-marked-through bit
 abbrev pub Reference : Type 0
 Reference = Option (ℕ × Bool)
 
--- a thread: its registers, its buffer, whether it has crossed and is parked, and its load that isn't finished
+-- a thread: its registers, its buffer, whether it has crossed and is parked, its load that isn't finished, and what its
+-- loads have come to
 pub record ThreadState : Type 0 where
   pub registers : List Reference
   pub buffer : Option Buffer
   pub crossed : Bool
   pub parked : Bool
   pub barrier : Option Barrier
+  pub tally : Tally
 
 -- A heap: all that it keeps, and how many objects were born.
 -- Rows have a bit for each word of a page; a page's row stands where its record does in the store.

@@ -2,7 +2,10 @@
 use Rattle.std.specs.Prelude.{ℕ, Bool, true, false, Option, Some, None, slice_get, slice_set}
 use Rattle.model.specs.declared.records.Buffer.{Buffer}
 use Rattle.model.specs.declared.records.Barrier.{Barrier}
+use Rattle.model.specs.declared.records.Counter.{Counter}
+use Rattle.model.specs.declared.records.Tally.{Tally}
 use Rattle.model.specs.States.{Reference, ThreadState, flat}
+use Rattle.model.specs.Tallies.{counted}
 
 -- a thread that may be missing has crossed the open checkpoint
 abbrev pub has_crossed : Option ThreadState → Bool
@@ -32,9 +35,14 @@ abbrev pub buffer_in : Option ThreadState → Option Buffer
 buffer_in None = None
 buffer_in (Some t) = t.buffer
 
--- a thread with another barrier, or none
-abbrev pub set_barrier_of : Option Barrier → ThreadState → ThreadState
-set_barrier_of b t = record t { barrier = b }
+-- a thread whose barrier is opened or changed, which is counted
+abbrev pub set_barrier_of : Barrier → Counter → ThreadState → ThreadState
+set_barrier_of b c t = record t { barrier = Some b; tally = counted c t.tally }
+
+-- the tally of a thread that may be missing
+abbrev pub tally_in : Option ThreadState → Option Tally
+tally_in None = None
+tally_in (Some t) = Some t.tally
 
 -- the barrier of a thread that may be missing
 abbrev pub barrier_of : Option ThreadState → Option Barrier

@@ -1,6 +1,7 @@
 -- Words that name protected pages are corrected: by the traps of a load (the paper's read barrier), and in registers.
 use Rattle.std.specs.Prelude.{ℕ, not, Bool, Some, None, if◌then◌else◌, Ok, Err}
 use Rattle.model.specs.declared.records.Barrier.{Barrier}
+use Rattle.model.specs.declared.records.Counter.TheVariants as counters
 use Rattle.model.specs.declared.steps.Answer.TheVariants as answers
 use Rattle.model.specs.declared.steps.Refusal.TheVariants as refusals
 use Rattle.model.specs.Phases.{is_protect_crossing}
@@ -16,7 +17,7 @@ abbrev pub gc_trap : HeapState → ℕ → Barrier → Reference → Outcome
 gc_trap h t b None = Ok (h, answers.Clear)
 gc_trap h t b (Some w) =
     if is_protect_crossing h.phase then Err refusals.Stall
-    else Ok (with_barrier (copied_first h w.0) t (set_now_of (Some (moved_word h w)) b), answers.Moved)
+    else Ok (with_barrier (copied_first h w.0) t (set_now_of (Some (moved_word h w)) b) counters.Gc, answers.Moved)
 
 -- the row of Trap
 unfoldable pub trap_outcome : HeapState → ℕ → Outcome

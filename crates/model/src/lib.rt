@@ -15,5 +15,7 @@ pub use limits::{
     MOST_BIRTHS, MOST_FIELDS, MOST_FRAMES, MOST_GLOBALS, MOST_HISTORY, MOST_LAYOUTS, MOST_PAGES,
     MOST_REGISTERS, MOST_THREADS, MOST_WORDS, MOST_WORKERS,
 };
-pub use records::{Barrier, Buffer, Forwarding, Global, Page, PageState, Phase, Place, Room, Scan};
+pub use records::{
+    Barrier, Buffer, Counter, Forwarding, Global, Page, PageState, Phase, Place, Room, Scan, Tally,
+};
 pub use steps::{Actor, Answer, PageList, Refusal, Reply, Step, Trap};

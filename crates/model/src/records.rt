@@ -2,6 +2,7 @@
 
 ghost use Rattle.std.specs.Prelude.{◌≡◌};
 ghost use Rattle.model.specs.Phases.{is_marking, is_mark_crossing, is_crossing, may_nmt_trap};
+ghost use Rattle.model.specs.Tallies.{counted, blank_tally};
 
 use refword::{Addr, Word};
 
@@ -132,6 +133,66 @@ pub struct Barrier {
     pub now: Word,
     /// Whether the place was healed.
     pub healed: bool,
+}
+
+/// How often a thread's read barrier has done each thing. Each number stops at the greatest of 64
+/// bits, which no book reaches (ours).
+#[derive(Clone, Copy, Debug, PartialEq, Eq)]
+pub struct Tally {
+    /// Loads that were begun, of fields and of globals.
+    pub loads: u64,
+    /// GC traps: the word named a protected page, and names the copy since.
+    pub gc: u64,
+    /// NMT traps: the word had still to be marked, and is marked since.
+    pub nmt: u64,
+    /// Places that were healed.
+    pub healed: u64,
+    /// Places that had changed, and weren't written.
+    pub changed: u64,
+}
+
+/// One of the numbers of a tally.
+#[derive(Clone, Copy, Debug, PartialEq, Eq)]
+pub enum Counter {
+    /// Loads that were begun.
+    Loads,
+    /// GC traps.
+    Gc,
+    /// NMT traps.
+    Nmt,
+    /// Places that were healed.
+    Healed,
+    /// Places that had changed.
+    Changed,
+}
+
+impl Tally {
+    /// Nothing was counted so far.
+    pub fn blank() -> Tally
+        ensures { result ≡ blank_tally }
+    {
+        Tally {
+            loads: 0,
+            gc: 0,
+            nmt: 0,
+            healed: 0,
+            changed: 0,
+        }
+    }
+
+    /// Counts one more.
+    #[inline(always)]
+    pub fn count(&mut self, counter: Counter)
+        ensures { self.new ≡ counted counter self.old }
+    {
+        match counter {
+            Counter::Loads => self.loads = self.loads.saturating_add(1),
+            Counter::Gc => self.gc = self.gc.saturating_add(1),
+            Counter::Nmt => self.nmt = self.nmt.saturating_add(1),
+            Counter::Healed => self.healed = self.healed.saturating_add(1),
+            Counter::Changed => self.changed = self.changed.saturating_add(1),
+        }
+    }
 }
 
 /// An object that a worker scans (the paper's Mark phase).

@@ -49,6 +49,7 @@ use Rattle.std.specs.Option.{option_map}
 use Rattle.std.proofs.lemmas.Bool.{ltb-true, eqb-true}
 use Rattle.model.specs.declared.steps.Answer.TheVariants as answers
 use Rattle.model.specs.declared.records.Barrier.{Barrier}
+use Rattle.model.specs.declared.records.Counter.TheVariants as counters
 use Rattle.refword.proofs.Reading.{reads_back}
 use Rattle.laws.specs.Invariant.{IsPlace}
 use Rattle.laws.proofs.Basics.{current_there}
@@ -105,10 +106,10 @@ plain_field (Some o) i m =
 -- the barrier of a load that begins
 load_carries : (h : HeapState) (t : ℕ) (x : ThreadState) → slice_get h.threads t ≡ Some x → (r : ℕ) (z : Place)
     → (w : Reference) (v : Word) → as_word w ≡ v → IsWord w → r < h.config.registers
-    → Carries h (with_barrier h t (new_barrier r z w)) (set_barrier t (effects.new_barrier r (as_place z) v))
+    → Carries h (with_barrier h t (new_barrier r z w) counters.Loads) (set_barrier t (effects.new_barrier r (as_place z) v))
 load_carries h t x at r z w v same word low =
-    subst (λ v. Carries h (with_barrier h t (new_barrier r z w)) (set_barrier t (effects.new_barrier r (as_place z) v)))
-    same (barrier_carries h t x at (new_barrier r z w) (record { target = low; raw = word; now = word }))
+    subst (λ v. Carries h (with_barrier h t (new_barrier r z w) counters.Loads) (set_barrier t (effects.new_barrier r (as_place z) v)))
+    same (barrier_carries h t x at (new_barrier r z w) counters.Loads (record { target = low; raw = word; now = word }))
 
 module _ {h : HeapState} {p p0 : PlainHeap} (s : IsStore h.store) (d : IsHeap h) (k : Holds h p p0) (t : ℕ) where
   -- a field is loaded
@@ -197,7 +198,8 @@ module _ {h : HeapState} {p p0 : PlainHeap} (s : IsStore h.store) (d : IsHeap h)
 
     -- the word is marked
     now_marked : nmt_trap_due h t b.now ≡ true → StepHolds h p p0 (Thread t) steps.Trap
-        (with_barrier (with_mark (copied_for h b.now) b.now) t (set_now_of (marked_word (copied_for h b.now) b.now) b))
+        (with_barrier (with_mark (copied_for h b.now) b.now) t (set_now_of (marked_word (copied_for h b.now) b.now) b)
+        counters.Nmt)
         answers.Marked
     unfolding plain_step plain_answer with_mark
     now_marked due =
@@ -207,7 +209,7 @@ module _ {h : HeapState} {p p0 : PlainHeap} (s : IsStore h.store) (d : IsHeap h)
         let target : b.target < g.config.registers =
         subst (λ (z : Config). b.target < z.registers) (sym m.copied.carries.size.config) load.target in
         row_by k (becomes (and_then m.carries
-        (barrier_carries (with_mark g b.now) t x there (set_now_of (marked_word g b.now) b)
+        (barrier_carries (with_mark g b.now) t x there (set_now_of (marked_word g b.now) b) counters.Nmt
         (record { target = target; raw = load.raw; now = m.word })))
         (λ w. set_barrier t (record (as_barrier b) { now = edits.marked_word w (as_word b.now) })
         (mark_word (as_word b.now) w)) (ap (λ v. set_barrier t (record (as_barrier b) { now = v })
@@ -222,7 +224,7 @@ module _ {h : HeapState} {p p0 : PlainHeap} (s : IsStore h.store) (d : IsHeap h)
         by_due : (c : Bool) → nmt_trap_due h t b.now ≡ c → RowHolds h p p0 (Thread t) steps.Trap (cond c
             (Ok (
               with_barrier (with_mark (copied_for h b.now) b.now) t
-                  (set_now_of (marked_word (copied_for h b.now) b.now) b),
+                  (set_now_of (marked_word (copied_for h b.now) b.now) b) counters.Nmt,
               answers.Marked,
             ))
             (Ok (h, answers.Clear)))
@@ -233,16 +235,16 @@ module _ {h : HeapState} {p p0 : PlainHeap} (s : IsStore h.store) (d : IsHeap h)
     still_load = record { target = load.target; raw = load.raw; now = load.now }
 
     -- the place has another word by now
-    other_word : StepHolds h p p0 (Thread t) steps.Heal (with_barrier h t (set_healed b)) answers.Changed
+    other_word : StepHolds h p p0 (Thread t) steps.Heal (with_barrier h t (set_healed b) counters.Changed) answers.Changed
     unfolding plain_step plain_answer
-    other_word = row_by k (barrier_carries h t x at (set_healed b) still_load) (stays h p)
+    other_word = row_by k (barrier_carries h t x at (set_healed b) counters.Changed still_load) (stays h p)
         (HealChanged t (as_barrier b) in_world) tt
 
     -- a field is healed
     field_healed : (a i : ℕ) → b.place ≡ places.Field a i
         → trap_due h t b.now ≡ false → word_at h.store (field_address a i) ≡ Some (bits_of b.raw)
         → StepHolds h p p0 (Thread t) steps.Heal
-        (with_barrier (with_place h (places.Field a i) b.now) t (set_healed b)) answers.Healed
+        (with_barrier (with_place h (places.Field a i) b.now) t (set_healed b) counters.Healed) answers.Healed
     unfolding plain_step plain_answer
     field_healed a i place clear bits =
         let there = subst (λ z. IsPlace (world_of h) (births_of p) t (as_place z)) place opened.barrier.place in
@@ -253,20 +255,20 @@ module _ {h : HeapState} {p p0 : PlainHeap} (s : IsStore h.store) (d : IsHeap h)
         field_is h s k.laid a q here i (bits_of b.raw) there.within (ap (word_at h.store) spot ∙ bits)
         ∙ ap as_read (reads_back b.raw load.raw) in
         row_by k (and_then (field_carries h s k.laid a q here i (field_address a i) b.now load.now there.within spot)
-        (barrier_carries (with_place h (places.Field a i) b.now) t x at (set_healed b) still_load)) (stays h p)
+        (barrier_carries (with_place h (places.Field a i) b.now) t x at (set_healed b) counters.Healed still_load)) (stays h p)
         (HealField t (as_barrier b) a i q in_world (ap as_place place) here same (unmarked clear)) tt
 
     -- a global is healed
     global_healed : (n : ℕ) → b.place ≡ places.Global n → trap_due h t b.now ≡ false
         → bits_of (global_of h n) ≡ bits_of b.raw → StepHolds h p p0 (Thread t) steps.Heal
-        (with_barrier (with_place h (places.Global n) b.now) t (set_healed b)) answers.Healed
+        (with_barrier (with_place h (places.Global n) b.now) t (set_healed b) counters.Healed) answers.Healed
     unfolding plain_step plain_answer with_global global_of
     global_healed n place clear bits =
         let there = subst (λ z. IsPlace (world_of h) (births_of p) t (as_place z)) place opened.barrier.place in
         let same : (world_of h).global n ≡ as_word b.raw = global_same (slice_get h.globals n)
         ∙ ap as_word (same_word (global_of h n) b.raw (global_word h n k.words) load.raw bits) in
         row_by k (and_then (global_carries h n b.now load.now (ltb-true n (length h.globals) there))
-        (barrier_carries (with_global h n b.now) t x at (set_healed b) still_load)) (stays h p)
+        (barrier_carries (with_global h n b.now) t x at (set_healed b) counters.Healed still_load)) (stays h p)
         (HealGlobal t (as_barrier b) n in_world (ap as_place place) same (unmarked clear)) tt
 
     -- a place is healed where it still has what was loaded
@@ -276,14 +278,14 @@ module _ {h : HeapState} {p p0 : PlainHeap} (s : IsStore h.store) (d : IsHeap h)
     place_healed clear = by_bits (are_bits_of (bits_at h b.place) b.raw) refl
       where
         by_place : (z : Place) → b.place ≡ z → bits_at h z ≡ Some (bits_of b.raw) → StepHolds h p p0
-            (Thread t) steps.Heal (with_barrier (with_place h z b.now) t (set_healed b)) answers.Healed
+            (Thread t) steps.Heal (with_barrier (with_place h z b.now) t (set_healed b) counters.Healed) answers.Healed
         by_place (places.Field a i) q e = field_healed a i q clear e
         by_place (places.Global n) q e = global_healed n q clear (same_Some _ _ e)
 
         by_bits : (c : Bool) → are_bits_of (bits_at h b.place) b.raw ≡ c
             → RowHolds h p p0 (Thread t) steps.Heal (Ok (cond c
-            (with_barrier (with_place h b.place b.now) t (set_healed b), answers.Healed)
-            (with_barrier h t (set_healed b), answers.Changed)))
+            (with_barrier (with_place h b.place b.now) t (set_healed b) counters.Healed, answers.Healed)
+            (with_barrier h t (set_healed b) counters.Changed, answers.Changed)))
         by_bits false f = other_word
         by_bits true f = by_place b.place refl (are_bits (bits_at h b.place) b.raw f)
 

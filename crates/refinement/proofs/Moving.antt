@@ -12,6 +12,7 @@ use Rattle.std.proofs.lemmas.Nat.{div-mul-add, mod-mul-add, mul-add-lt}
 use Rattle.std.proofs.lemmas.Option.{slice_get_within, same_Some}
 use Rattle.refword.specs.Words.{IsAddress}
 use Rattle.model.specs.declared.records.Barrier.{Barrier}
+use Rattle.model.specs.declared.records.Counter.TheVariants as counters
 use Rattle.model.specs.declared.records.Forwarding.{Forwarding}
 use Rattle.model.specs.declared.records.Page.{Page}
 use Rattle.model.specs.declared.records.PageState.TheVariants.{Open}
@@ -242,16 +243,16 @@ module _ {h : HeapState} {p p0 : PlainHeap} (s : IsStore h.store) (k : Holds h p
             let z = leads a bit open_load.pending.1 (ap (names (world_of h)) (sym word) ∙ open_load.barrier.now.names)
             (pending_kept (world_of h) (births_of p) t (as_barrier b) open_load) (held_protected h t a f) in
             subst (λ n. StepHolds h p p0 (Thread t) steps.Trap
-            (with_barrier (copied_first h a) t (set_now_of (Some (n, bit)) b)) answers.Moved) (sym z.word) (elim z.how [
+            (with_barrier (copied_first h a) t (set_now_of (Some (n, bit)) b) counters.Gc) answers.Moved) (sym z.word) (elim z.how [
               | inl (copied, same) ↦ subst (λ g. StepHolds h p p0 (Thread t) steps.Trap
-                  (with_barrier g t (set_now_of (Some (z.place, bit)) b)) answers.Moved) (sym same)
-                  (row_by k (barrier_carries h t x at (set_now_of (Some (z.place, bit)) b)
+                  (with_barrier g t (set_now_of (Some (z.place, bit)) b) counters.Gc) answers.Moved) (sym same)
+                  (row_by k (barrier_carries h t x at (set_now_of (Some (z.place, bit)) b) counters.Gc
                   (loads z.place bit z.is_address)) (stays h p)
                   (TrapMoved t (as_barrier b) a z.place bit (in_world s d k t x at b first) word copied) tt)
               | inr (q, plan, here, same) ↦ subst (λ g. StepHolds h p p0 (Thread t) steps.Trap
-                  (with_barrier g t (set_now_of (Some (z.place, bit)) b)) answers.Moved) (sym same)
+                  (with_barrier g t (set_now_of (Some (z.place, bit)) b) counters.Gc) answers.Moved) (sym same)
                   (row_by k (and_then (copy_carries s k.laid k.invariant.objects a z.place q plan here)
-                  (barrier_carries (with_copy h a z.place) t x at (set_now_of (Some (z.place, bit)) b)
+                  (barrier_carries (with_copy h a z.place) t x at (set_now_of (Some (z.place, bit)) b) counters.Gc
                   (loads z.place bit z.is_address))) (stays h p)
                   (TrapCopied t (as_barrier b) a z.place bit q (in_world s d k t x at b first) word plan here
                   (not_protecting h.phase phase)) tt)

@@ -6,6 +6,7 @@ use Rattle.std.specs.List.{slice_get}
 use Rattle.std.specs.Prelude.{Result, Ok, Err}
 use Rattle.layout.specs.Objects.{size_of}
 use Rattle.model.specs.declared.records.Barrier.{Barrier}
+use Rattle.model.specs.declared.records.Counter.TheVariants as counters
 use Rattle.model.specs.declared.records.Buffer.{Buffer}
 use Rattle.model.specs.declared.records.Phase.{Phase}
 use Rattle.model.specs.declared.records.Phase.TheVariants.{Idle, MarkCrossing, Scanning, ProtectCrossing, Relocating}
@@ -102,7 +103,7 @@ module _ (h : HeapState) (t : ℕ) where
       by_due : (b : Barrier) (c : Bool) → Stays h (cond c
           (Ok (
             with_barrier (with_mark (copied_for h b.now) b.now) t
-                (record b { now = marked_word (copied_for h b.now) b.now }),
+                (record b { now = marked_word (copied_for h b.now) b.now }) counters.Nmt,
             answers.Marked,
           ))
           (Ok (h, answers.Clear)))
@@ -119,8 +120,8 @@ module _ (h : HeapState) (t : ℕ) where
       at_place b (places.Global n) = refl
 
       by_bits : (b : Barrier) (c : Bool) (z : Place) → Stays h (Ok (cond c
-          (with_barrier (with_place h z b.now) t (set_healed b), answers.Healed)
-          (with_barrier h t (set_healed b), answers.Changed)))
+          (with_barrier (with_place h z b.now) t (set_healed b) counters.Healed, answers.Healed)
+          (with_barrier h t (set_healed b) counters.Changed, answers.Changed)))
       by_bits b true z = at_place b z
       by_bits b false z = refl
 

@@ -6,6 +6,7 @@ use Rattle.std.proofs.lemmas.Option.{same_Some}
 use Rattle.refword.specs.Words.{IsWord, read_word, bits_of}
 use Rattle.refword.proofs.Reading.{reads_back, read_word-is_word}
 use Rattle.model.specs.declared.records.Barrier.{Barrier}
+use Rattle.model.specs.declared.records.Counter.{Counter}
 use Rattle.model.specs.declared.records.Buffer.{Buffer}
 use Rattle.model.specs.declared.records.Global.{Global}
 use Rattle.model.specs.Owning.{Each}
@@ -80,9 +81,9 @@ pub handed_holds_words : (n r : ℕ) (w : Reference) (b : Buffer) (y : ThreadSta
 handed_holds_words n r w b y k l =
     record { registers_hold = each_set IsWord y.registers r w l.registers_hold k; barrier = l.barrier }
 
-pub barrier_holds_words : (n : ℕ) (b : Barrier) (y : ThreadState) → IsLoad n b → HoldsWords n y
-    → HoldsWords n (set_barrier_of (Some b) y)
-barrier_holds_words n b y k l = record { registers_hold = l.registers_hold; barrier = k }
+pub barrier_holds_words : (n : ℕ) (b : Barrier) (c : Counter) (y : ThreadState) → IsLoad n b → HoldsWords n y
+    → HoldsWords n (set_barrier_of b c y)
+barrier_holds_words n b c y k l = record { registers_hold = l.registers_hold; barrier = k }
 
 pub loaded_holds_words : (n r : ℕ) (w : Reference) (y : ThreadState) → IsWord w → HoldsWords n y
     → HoldsWords n (set_loaded_of r w y)

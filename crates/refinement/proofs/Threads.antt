@@ -7,6 +7,7 @@ use Rattle.std.proofs.lemmas.Option.{none-some}
 use mathlib.Core.Path.{fun_ext}
 use Rattle.refword.specs.Words.{IsWord}
 use Rattle.model.specs.declared.records.Barrier.{Barrier}
+use Rattle.model.specs.declared.records.Counter.{Counter}
 use Rattle.model.specs.declared.records.Global.{Global}
 use Rattle.model.specs.declared.records.Buffer.{Buffer}
 use Rattle.model.specs.States.{HeapState, ThreadState, Reference, change_at}
@@ -90,23 +91,23 @@ module _ (h : HeapState) (t : ℕ) (x : ThreadState) (at : slice_get h.threads t
       (λ y. register_holds_words h.config.registers r w y word)
       (register_world r w (omega (arith, low, l.registers t x at)))
 
-  -- a barrier is opened or changed
-  barrier_world : (b : Barrier) → world_of (with_barrier h t b) ≡ set_barrier t (as_barrier b) (world_of h)
+  -- a barrier is opened or changed; the heap by addresses has no tallies
+  barrier_world : (b : Barrier) (c : Counter) → world_of (with_barrier h t b c) ≡ set_barrier t (as_barrier b) (world_of h)
   unfolding with_barrier register_of
-  barrier_world b = λ z. record (world_of h) {
+  barrier_world b c = λ z. record (world_of h) {
     register = fun_ext (λ u. fun_ext
-        (λ s. kept_of (λ o. as_word (register_in o s)) h.threads t (set_barrier_of (Some b)) (λ y. refl) u)) z;
-    crossed = fun_ext (kept_of has_crossed h.threads t (set_barrier_of (Some b)) (λ y. refl)) z;
-    parked = fun_ext (kept_of is_parked_in h.threads t (set_barrier_of (Some b)) (λ y. refl)) z;
-    barrier = fun_ext (read_changed barrier_in h.threads t (set_barrier_of (Some b)) x (Some (as_barrier b)) at refl) z;
+        (λ s. kept_of (λ o. as_word (register_in o s)) h.threads t (set_barrier_of b c) (λ y. refl) u)) z;
+    crossed = fun_ext (kept_of has_crossed h.threads t (set_barrier_of b c) (λ y. refl)) z;
+    parked = fun_ext (kept_of is_parked_in h.threads t (set_barrier_of b c) (λ y. refl)) z;
+    barrier = fun_ext (read_changed barrier_in h.threads t (set_barrier_of b c) x (Some (as_barrier b)) at refl) z;
   }
 
-  pub barrier_carries : (b : Barrier) → IsLoad h.config.registers b
-      → Carries h (with_barrier h t b) (set_barrier t (as_barrier b))
+  pub barrier_carries : (b : Barrier) (c : Counter) → IsLoad h.config.registers b
+      → Carries h (with_barrier h t b c) (set_barrier t (as_barrier b))
   unfolding with_barrier
-  barrier_carries b load = thread_carries h t (set_barrier_of (Some b)) (set_barrier t (as_barrier b))
-      (thread_laid h t (set_barrier_of (Some b)) (record { buffer = λ y b e. e; size = λ y. refl }))
-      (λ y. barrier_holds_words h.config.registers b y load) (barrier_world b)
+  barrier_carries b c load = thread_carries h t (set_barrier_of b c) (set_barrier t (as_barrier b))
+      (thread_laid h t (set_barrier_of b c) (record { buffer = λ y b e. e; size = λ y. refl }))
+      (λ y. barrier_holds_words h.config.registers b c y load) (barrier_world b c)
 
   -- a load ends
   loaded_world : (r : ℕ) (w : Reference) → r < length x.registers

@@ -5,6 +5,7 @@ use Rattle.std.specs.List.{slice_get}
 use Rattle.std.specs.Prelude.{Ok}
 use Rattle.std.proofs.lemmas.Bool.{true≢false}
 use Rattle.model.specs.declared.records.Barrier.{Barrier}
+use Rattle.model.specs.declared.records.Counter.TheVariants as counters
 use Rattle.model.specs.declared.records.Forwarding.{Forwarding}
 use Rattle.model.specs.declared.records.Phase.{Phase}
 use Rattle.model.specs.declared.records.Phase.TheVariants.{Idle, MarkCrossing, Scanning, ProtectCrossing, Relocating}
@@ -93,19 +94,19 @@ module _ {h : HeapState} {p p0 : PlainHeap} (k : Holds h p p0) (t : ℕ) where
 
   -- behind an NMT trap none is due
   pub marked_free : (b c : Barrier) → gc_trap_due h t b.now ≡ false → nmt_trap_due h t b.now ≡ true
-      → gc_trap_due (with_barrier (with_mark (copied_for h b.now) b.now) t c) t (marked_word (copied_for h b.now) b.now)
-      ≡ false
+      → gc_trap_due (with_barrier (with_mark (copied_for h b.now) b.now) t c counters.Nmt) t
+      (marked_word (copied_for h b.now) b.now) ≡ false
   unfolding with_barrier with_mark marked_word
   marked_free b c free due =
-      subst (λ g. gc_trap_due (with_barrier (with_mark g b.now) t c) t (marked_word g b.now) ≡ false)
+      subst (λ g. gc_trap_due (with_barrier (with_mark g b.now) t c counters.Nmt) t (marked_word g b.now) ≡ false)
       (sym (copies_nothing b.now free (marks_run h t b.now due))) (by_word b.now free (marks_run h t b.now due))
     where
       by_word : (v : Reference) → gc_trap_due h t v ≡ false → is_marking h.phase ≡ true
-          → gc_trap_due (with_barrier (with_mark h b.now) t c) t (marked_word h v) ≡ false
+          → gc_trap_due (with_barrier (with_mark h b.now) t c counters.Nmt) t (marked_word h v) ≡ false
       by_word None f m = refl
       by_word (Some (a, bit)) f m =
           let unprotected = not_held a f m in
-          free_there t (with_barrier (with_mark h b.now) t c) (resolve h a)
+          free_there t (with_barrier (with_mark h b.now) t c counters.Nmt) (resolve h a)
           (subst (λ n. is_protected (state_at h.store (n / h.store.words)) ≡ false) (sym (stays_there a unprotected))
           unprotected)
 
@@ -120,7 +121,7 @@ module _ {h : HeapState} {p p0 : PlainHeap} (s : IsStore h.store) (d : IsHeap h)
   -- behind a GC trap none is due: its word names an open page
   pub moved_free : (x : ThreadState) → slice_get h.threads t ≡ Some x → (b c : Barrier) (w : ℕ × Bool)
       → barrier_of_thread h t ≡ Some b → b.now ≡ Some w → gc_trap_due h t b.now ≡ true
-      → gc_trap_due (with_barrier (copied_first h w.0) t c) t (Some (moved_word h w)) ≡ false
+      → gc_trap_due (with_barrier (copied_first h w.0) t c counters.Gc) t (Some (moved_word h w)) ≡ false
   unfolding with_barrier moved_word with_copy with_copied_words with_words state_at page_at
   moved_free x at b c (a, bit) first e due =
       let word : as_word b.now ≡ To a bit = ap as_word e in
@@ -128,7 +129,7 @@ module _ {h : HeapState} {p p0 : PlainHeap} (s : IsStore h.store) (d : IsHeap h)
       let z = leads s k a bit open_load.pending.1 (ap (names (world_of h)) (sym word) ∙ open_load.barrier.now.names)
       (pending_kept (world_of h) (births_of p) t (as_barrier b) open_load)
       (held_protected h t a (subst (λ v. gc_trap_due h t v ≡ true) e due)) in
-      free_there t (with_barrier (copied_first h a) t c) (place_by (entry_at h a) a)
+      free_there t (with_barrier (copied_first h a) t c counters.Gc) (place_by (entry_at h a) a)
       (subst (λ n. is_protected (state_at (copied_first h a).store (n / (copied_first h a).store.words)) ≡ false)
       (sym z.word) (same_state z))
     where

@@ -2,4 +2,5 @@ pub mod Worlds
 pub mod PlainHeaps
 pub mod Claims
 pub mod Roots
+pub mod Tallies
 pub mod Standing

@@ -21,6 +21,7 @@ use Rattle.refinement.specs.Worlds.{world_of}
 use Rattle.refinement.specs.PlainHeaps.{births_of, HasRootsOf}
 use Rattle.refinement.specs.Claims.{IsLaid, HasGiven}
 use Rattle.refinement.specs.Roots.{HasWords}
+use Rattle.refinement.specs.Tallies.{CountsStep}
 
 -- a heap stands for a plain heap p; p0 is the plain heap as the last mark began
 pub record Holds (h : HeapState) (p p0 : PlainHeap) : Type 0 where
@@ -105,14 +106,15 @@ PhasesMove =
     → IsStore h.store → IsHeap h → Holds h p p0 → outcome h actor step ≡ Ok (g, answer) → MovesPhase h step g
 
 -- what an accepted step has, from a heap that stood for the plain heap p: it stands for the plain heap after its step,
--- and answers as that does; a mark that has ended has found what lives, and left nothing behind that can be reached; and
--- the phase has moved as it may
+-- and answers as that does; a mark that has ended has found what lives, and left nothing behind that can be reached; the
+-- phase has moved as it may; and the tallies count the step
 pub record StepKeeps (old : HeapState) (p p0 : PlainHeap) (actor : Actor) (step : Step) (new : HeapState)
     (answer : Answer) : Type 0 where
   pub stands : StepHolds old p p0 actor step new answer
   pub finds : Finds new (plain_step old.config.layouts p actor step) (kept_at_mark p p0 step) step
   pub leaves : Leaves old p step
   pub phase : MovesPhase old step new
+  pub tallies : CountsStep old actor step answer new
 
 -- what a call that gave this result keeps, where the heap stood for a plain heap
 abbrev pub KeepsStanding : HeapState → Actor → Step → Result Answer Refusal → HeapState → Type 0

@@ -11,6 +11,7 @@
 #![tactic(auto)]
 
 ghost use Rattle.refinement.specs.Standing.{FirstHolds, StepsHold, MarksFind, PhasesMove};
+ghost use Rattle.refinement.specs.Tallies.{StepsCount};
 
 /// What joins the states of the code to the laws (ours). It is said of every state that has what
 /// all heaps have, `IsStore` and `IsHeap`, for each step of each actor. A refused step is not
@@ -27,4 +28,6 @@ pub fn law()
     ensures marks { MarksFind }
     // the phase moves as the collector's cycle has it, and in no other way
     ensures phases { PhasesMove }
+    // the tallies of threads count what their loads come to, and nothing else
+    ensures tallies { StepsCount }
 {}

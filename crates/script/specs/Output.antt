@@ -99,13 +99,18 @@ unfoldable pub cycles_from : ℕ → List Entry → List ℕ
 cycles_from k [] = []
 cycles_from k (e ∷ es) = cycle_line k e.answer ++ cycles_from (next_cycle k e.answer) es
 
--- the heap as it stands, and what each mark has found
+-- the line of what the loads of thread n have come to
+abbrev pub barrier_line : ℕ → ThreadState → List ℕ
+barrier_line n t = with_newline (lines.barrier_line n t.tally)
+
+-- the heap as it stands, what each mark has found, and what the loads of each thread have come to
 unfoldable pub report_text : HeapState → List Entry → List ℕ
 report_text h history =
     head_line h
     ++ (texts_from (page_line h) 0 h.store.pages
     ++ (texts_from (thread_line h.store.words) 0 h.threads
-    ++ (texts_from (global_line h.store.words) 0 h.globals ++ cycles_from 1 history)))
+    ++ (texts_from (global_line h.store.words) 0 h.globals
+    ++ (cycles_from 1 history ++ texts_from barrier_line 0 h.threads))))
 
 -- the commands
 

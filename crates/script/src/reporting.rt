@@ -4,7 +4,7 @@ ghost use Rattle.std.specs.Prelude.{◌≡◌, ◌++◌, ◌∷◌, [], IfSome, 
 ghost use Rattle.std.specs.Io.KnownBytes.{Appends};
 ghost use Rattle.model.specs.Stores.{is_protected, is_unused};
 ghost use Rattle.text.specs.Reports.{texts_from};
-ghost use Rattle.script.specs.Output.{head_line, page_line, thread_line, global_line, cycle_line, cycles_from, next_cycle, report_text, bits_in, copied_in, copies_in, copies_of, activity_of};
+ghost use Rattle.script.specs.Output.{head_line, page_line, thread_line, global_line, barrier_line, cycle_line, cycles_from, next_cycle, report_text, bits_in, copied_in, copies_in, copies_of, activity_of};
 
 use crate::fault::RunFault;
 use cycle::{Answer, History};
@@ -15,8 +15,8 @@ use std::alloc::{AllocError, Global as Memory};
 use std::fmt::{Display, Write as _};
 use std::io;
 use text::{
-    Activity, Copies, CycleLine, GlobalLine, HeadLine, PageLine, RegistersText, ThreadLine,
-    WordText,
+    Activity, BarrierLine, Copies, CycleLine, GlobalLine, HeadLine, PageLine, RegistersText,
+    ThreadLine, WordText,
 };
 
 /// Writes a text. The fault is a writer that failed.
@@ -282,8 +282,30 @@ fn tell_cycles<W: io::Write>(
     Ok(())
 }
 
-/// Writes the report: the collector's state, the pages in use, the threads and the globals, and
-/// for each mark that ended in the history what it found.
+fn tell_barrier<W: io::Write>(
+    number: usize,
+    thread: &Thread,
+    text: &mut String,
+    w: &mut W,
+) -> Result<(), RunFault>
+    ensures { OnOk result (Appends (W.contents w.old) (W.contents w.new) (barrier_line number thread.now)) }
+{
+    let tally = thread.tally();
+    tell_line(&BarrierLine { number, tally }, text, w)
+}
+
+fn tell_barriers<W: io::Write>(heap: &Heap, text: &mut String, w: &mut W) -> Result<(), RunFault>
+    ensures { OnOk result (Appends (W.contents w.old) (W.contents w.new) (texts_from barrier_line 0 heap.now.threads)) }
+{
+    let threads = heap.threads();
+    for (number, thread) in threads.iter().enumerate() {
+        tell_barrier(number, thread, text, w)?;
+    }
+    Ok(())
+}
+
+/// Writes the report: the collector's state, the pages in use, the threads and the globals, for each
+/// mark that ended in the history what it found, and for each thread what its loads have come to.
 #[tactic(auto, unfolding(crate::specs::Output::report_text))]
 pub fn report<W: io::Write>(
     alloc: Memory,
@@ -298,5 +320,6 @@ pub fn report<W: io::Write>(
     tell_pages(heap, &mut text, w)?;
     tell_threads(heap, &mut text, w)?;
     tell_globals(heap, &mut text, w)?;
-    tell_cycles(history, &mut text, w)
+    tell_cycles(history, &mut text, w)?;
+    tell_barriers(heap, &mut text, w)
 }

@@ -4,6 +4,7 @@ use Rattle.std.specs.Fmt.{decimal}
 use Rattle.model.specs.declared.records.Buffer.{Buffer}
 use Rattle.model.specs.declared.records.Page.{Page}
 use Rattle.model.specs.declared.records.Phase.{Phase}
+use Rattle.model.specs.declared.records.Tally.{Tally}
 use Rattle.text.specs.declared.records.Copies.{Copies}
 use Rattle.text.specs.declared.report.Activity.{Activity}
 use Rattle.text.specs.declared.report.Activity.TheVariants as activities
@@ -64,3 +65,13 @@ global_line page_words n w = codes "global " ++ decimal n ++ codes " " ++ word_t
 abbrev pub cycle_line : ℕ → ℕ → ℕ → List ℕ
 cycle_line k live retired =
     codes "cycle " ++ decimal k ++ codes " live " ++ decimal live ++ codes " retired " ++ decimal retired
+
+-- how many places were healed, and how many had changed
+abbrev pub heals_text : ℕ → ℕ → List ℕ
+heals_text healed changed = codes " healed " ++ decimal healed ++ codes " changed " ++ decimal changed
+
+-- the line of what the loads of thread n have come to
+abbrev pub barrier_line : ℕ → Tally → List ℕ
+barrier_line n y =
+    codes "barrier " ++ decimal n ++ codes " loads " ++ decimal y.loads ++ codes " gc " ++ decimal y.gc
+    ++ codes " nmt " ++ decimal y.nmt ++ heals_text y.healed y.changed

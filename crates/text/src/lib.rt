@@ -10,6 +10,7 @@ mod steps;
 pub use line::{put_drained, put_line, write_line};
 pub use records::{BufferText, Copies, CopiesText, FrameText, PageStateText, PhaseText, WordText};
 pub use report::{
-    Activity, BitText, CycleLine, GlobalLine, HeadLine, PageLine, RegistersText, ThreadLine,
+    Activity, BarrierLine, BitText, CycleLine, GlobalLine, HeadLine, PageLine, RegistersText,
+    ThreadLine,
 };
 pub use steps::{ActorText, AnswerText, ReplyText};

@@ -2,12 +2,12 @@
 
 ghost use Rattle.std.specs.Prelude.{◌≡◌, ◌++◌, ◌<◌};
 ghost use Rattle.std.specs.Fmt.{WritesOnOk};
-ghost use Rattle.text.specs.Reports.{counts_text, register_text};
+ghost use Rattle.text.specs.Reports.{counts_text, heals_text, register_text};
 
 use crate::records::{
     BufferText, Copies, CopiesText, FrameText, PageStateText, PhaseText, WordText,
 };
-use model::{Buffer, Page, Phase};
+use model::{Buffer, Page, Phase, Tally};
 use refword::Word;
 use std::fmt;
 
@@ -241,5 +241,36 @@ impl fmt::Display for CycleLine {
     fn fmt<W: fmt::Write>(&self, f: &mut fmt::Formatter<W>) -> fmt::Result {
         let (number, live, retired) = (self.number, self.live, self.retired);
         write!(f, "cycle {number} live {live} retired {retired}")
+    }
+}
+
+/// The line of what a thread's loads have come to, as
+/// `barrier 0 loads 1 gc 1 nmt 0 healed 1 changed 0`.
+#[derive(Clone, Copy, Debug, PartialEq, Eq)]
+pub struct BarrierLine {
+    /// The thread's number, from 0.
+    pub number: usize,
+    /// What they have come to.
+    pub tally: Tally,
+}
+
+/// Writes how many places were healed, and how many had changed.
+fn write_heals<W: fmt::Write>(f: &mut fmt::Formatter<W>, healed: u64, changed: u64) -> fmt::Result
+    ensures { WritesOnOk W.write_str_gives f.old result (heals_text healed changed) f.new }
+{
+    write!(f, " healed {healed} changed {changed}")
+}
+
+impl fmt::Display for BarrierLine {
+    ghost use Rattle.std.specs.Prelude.{Some};
+    ghost use Rattle.text.specs.Reports.{barrier_line};
+
+    ghost output = { λ l. Some (barrier_line l.number l.tally) };
+
+    fn fmt<W: fmt::Write>(&self, f: &mut fmt::Formatter<W>) -> fmt::Result {
+        let (number, tally) = (self.number, self.tally);
+        let (loads, gc, nmt) = (tally.loads, tally.gc, tally.nmt);
+        write!(f, "barrier {number} loads {loads} gc {gc} nmt {nmt}")?;
+        write_heals(f, tally.healed, tally.changed)
     }
 }

@@ -7,7 +7,7 @@ ghost use Rattle.model.specs.Threads.{set_register_of, set_buffer_of, set_barrie
 ghost use Rattle.model.specs.First.{blank_thread};
 ghost use Rattle.threads.specs.Counting.{counted_behind};
 
-use model::{Barrier, Buffer};
+use model::{Barrier, Buffer, Counter, Tally};
 use refword::Word;
 use std::alloc::{AllocError, Global};
 use std::marker::Model;
@@ -20,6 +20,7 @@ pub struct Thread {
     crossed: bool,
     parked: bool,
     barrier: Option<Barrier>,
+    tally: Tally,
 }
 
 impl Model for Thread {
@@ -27,7 +28,7 @@ impl Model for Thread {
 
     ghost Value = { ThreadState };
 
-    ghost view = { λ t. record { registers = t.registers.items; buffer = t.buffer; crossed = t.crossed; parked = t.parked; barrier = t.barrier } };
+    ghost view = { λ t. record { registers = t.registers.items; buffer = t.buffer; crossed = t.crossed; parked = t.parked; barrier = t.barrier; tally = t.tally } };
 }
 
 /// So many registers, which are null. Fails only by memory.
@@ -54,6 +55,7 @@ impl Thread {
             crossed: true,
             parked: false,
             barrier: None,
+            tally: Tally::blank(),
         })
     }
 
@@ -99,6 +101,13 @@ impl Thread {
         self.barrier
     }
 
+    /// What its loads have come to.
+    pub fn tally(&self) -> Tally
+        ensures { result ≡ self.now.tally }
+    {
+        self.tally
+    }
+
     /// The word in a register, by its number from 0; null where there is no such register.
     pub fn register(&self, number: u32) -> Word
         ensures { result ≡ flat (slice_get self.now.registers number) }
@@ -125,11 +134,12 @@ impl Thread {
         self.buffer = buffer;
     }
 
-    /// Opens or changes its barrier, or closes it.
-    pub(crate) fn set_barrier(&mut self, barrier: Option<Barrier>)
-        ensures { self.new ≡ set_barrier_of barrier self.old }
+    /// Opens or changes its barrier, which counts as one more of a number.
+    pub(crate) fn set_barrier(&mut self, barrier: Barrier, counter: Counter)
+        ensures { self.new ≡ set_barrier_of barrier counter self.old }
     {
-        self.barrier = barrier;
+        self.barrier = Some(barrier);
+        self.tally.count(counter);
     }
 
     /// Ends its load: a register, by its number from 0, gets the word, if it is there, and the

@@ -7,11 +7,11 @@ ghost use Rattle.model.specs.Checkpoints.{first_behind};
 ghost use Rattle.model.specs.Cycles.{first_pending, is_buffer_on, is_lent};
 ghost use Rattle.model.specs.First.{blank_thread};
 ghost use Rattle.model.specs.States.{change_at};
-ghost use Rattle.model.specs.Threads.{has_crossed, is_parked_in, register_in, buffer_in, barrier_of};
+ghost use Rattle.model.specs.Threads.{has_crossed, is_parked_in, register_in, buffer_in, barrier_of, tally_in};
 ghost use Rattle.model.specs.Threads.{set_register_of, set_buffer_of, set_barrier_of, set_loaded_of, set_parked_of, set_crossed_of};
 
 use crate::thread::Thread;
-use model::{Barrier, Buffer};
+use model::{Barrier, Buffer, Counter, Tally};
 use refword::Word;
 use std::alloc::{AllocError, Global};
 use std::marker::Model;
@@ -124,6 +124,17 @@ impl Threads {
         }
     }
 
+    /// What the loads of a thread have come to, by its number from 0; `None` where there is no such
+    /// thread.
+    pub fn tally(&self, thread: u32) -> Option<Tally>
+        ensures { result ≡ tally_in (slice_get self.now thread) }
+    {
+        match self.list.get(thread as usize) {
+            None => None,
+            Some(record) => Some(record.tally()),
+        }
+    }
+
     /// The buffer of a thread, by its number from 0, if it has one.
     #[inline(always)]
     pub fn buffer(&self, thread: u32) -> Option<Buffer>
@@ -211,15 +222,16 @@ impl Threads {
         }
     }
 
-    /// Opens or changes the barrier of a thread, if it is there, or closes it.
+    /// Opens or changes the barrier of a thread, if it is there, which counts as one more of a
+    /// number.
     #[inline(always)]
     #[tactic(auto, using(crate::proofs::Counting::still_behind))]
-    pub fn set_barrier(&mut self, thread: u32, barrier: Option<Barrier>)
-        ensures { self.new ≡ change_at self.old thread (set_barrier_of barrier) }
+    pub fn set_barrier(&mut self, thread: u32, barrier: Barrier, counter: Counter)
+        ensures { self.new ≡ change_at self.old thread (set_barrier_of barrier counter) }
     {
         if (thread as usize) < self.list.len() {
             let record = &mut self.list[thread as usize];
-            record.set_barrier(barrier);
+            record.set_barrier(barrier, counter);
         }
     }
 

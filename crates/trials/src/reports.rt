@@ -24,22 +24,22 @@ fn runs(rt: HostRuntime) -> Result<(), Fail> {
         (
             "0 2",
             "",
-            "phase idle nmt 0 births 0 frames 0/1\nthread 0 running buffer - r0 - r1 -\nglobal 0 -\n",
+            "phase idle nmt 0 births 0 frames 0/1\nthread 0 running buffer - r0 - r1 -\nglobal 0 -\nbarrier 0 loads 0 gc 0 nmt 0 healed 0 changed 0\n",
         ),
         (
             "1 1",
             "t0 take 16\nt0 new r0 0\nt0 new r0 0\nt0 new r0 0\nt0 new r0 0\nt0 new r0 0\nt0 new r0 0\n",
-            "1 t0 lent 1.0\n2 t0 birth 0\n3 t0 birth 1\n4 t0 birth 2\n5 t0 birth 3\n6 t0 birth 4\n7 t0 refused NoRoom\nphase idle nmt 0 births 5 frames 1/1\npage 1 open frame 0 top 16 objects 5 live 0\nthread 0 running buffer 1.15-16 r0 1.12/0 r1 -\nglobal 0 -\n",
+            "1 t0 lent 1.0\n2 t0 birth 0\n3 t0 birth 1\n4 t0 birth 2\n5 t0 birth 3\n6 t0 birth 4\n7 t0 refused NoRoom\nphase idle nmt 0 births 5 frames 1/1\npage 1 open frame 0 top 16 objects 5 live 0\nthread 0 running buffer 1.15-16 r0 1.12/0 r1 -\nglobal 0 -\nbarrier 0 loads 0 gc 0 nmt 0 healed 0 changed 0\n",
         ),
         (
             "1 14",
             "t0 take 16\nt0 new r0 0\nt0 new r0 0\n",
-            "1 t0 lent 1.0\n2 t0 birth 0\n3 t0 refused NoRoom\nphase idle nmt 0 births 1 frames 1/1\npage 1 open frame 0 top 16 objects 1 live 0\nthread 0 running buffer 1.16-16 r0 1.0/0 r1 -\nglobal 0 -\n",
+            "1 t0 lent 1.0\n2 t0 birth 0\n3 t0 refused NoRoom\nphase idle nmt 0 births 1 frames 1/1\npage 1 open frame 0 top 16 objects 1 live 0\nthread 0 running buffer 1.16-16 r0 1.0/0 r1 -\nglobal 0 -\nbarrier 0 loads 0 gc 0 nmt 0 healed 0 changed 0\n",
         ),
         (
             "0 2",
             "times 2\nt0 null r0\nt0 same r0 r1\nend\nt0 give\n",
-            "1 t0 true\n2 t0 true\n3 t0 true\n4 t0 true\n5 t0 refused NoRoom\nphase idle nmt 0 births 0 frames 0/1\nthread 0 running buffer - r0 - r1 -\nglobal 0 -\n",
+            "1 t0 true\n2 t0 true\n3 t0 true\n4 t0 true\n5 t0 refused NoRoom\nphase idle nmt 0 births 0 frames 0/1\nthread 0 running buffer - r0 - r1 -\nglobal 0 -\nbarrier 0 loads 0 gc 0 nmt 0 healed 0 changed 0\n",
         ),
     ] {
         let written = output(rt.alloc(), layout, commands)?;
@@ -79,7 +79,7 @@ fn tells_cycles(
         },
     ];
     let wanted =
-        "phase idle nmt 0 births 0 frames 0/1\nthread 0 running buffer - r0 - r1 -\ncycle 1 live 4 retired 0\ncycle 2 live 2 retired 1\n";
+        "phase idle nmt 0 births 0 frames 0/1\nthread 0 running buffer - r0 - r1 -\ncycle 1 live 4 retired 0\ncycle 2 live 2 retired 1\nbarrier 0 loads 0 gc 0 nmt 0 healed 0 changed 0\n";
     let written = told(alloc, book, &answers)?;
     assert_eq!(rt; written.as_slice(), wanted.as_bytes());
     Ok(())

@@ -2,13 +2,13 @@
 //! being parked, which is ours.
 
 ghost use Rattle.std.specs.Prelude.{◌≡◌, slice_get};
-ghost use Rattle.model.specs.Loads.{barrier_of_thread};
+ghost use Rattle.model.specs.Loads.{barrier_of_thread, tally_of_thread};
 ghost use Rattle.model.specs.Checkpoints.{all_crossed, first_behind};
 ghost use Rattle.model.specs.Cycles.{first_pending};
 ghost use Rattle.model.specs.Threads.{has_crossed, is_parked_in};
 
 use crate::heap::Heap;
-use model::{Barrier, Refusal};
+use model::{Barrier, Refusal, Tally};
 
 impl Heap {
     /// Whether a thread has crossed the open checkpoint, by its number from 0; true where there is
@@ -31,6 +31,14 @@ impl Heap {
         ensures { result ≡ barrier_of_thread self.now thread }
     {
         self.threads.barrier(thread)
+    }
+
+    /// What the loads of a thread have come to, by the thread's number from 0; `None` where there is
+    /// no such thread. Of a book's heap, these are the numbers of the thread's entries of each kind.
+    pub fn tally(&self, thread: u32) -> Option<Tally>
+        ensures { result ≡ tally_of_thread self.now thread }
+    {
+        self.threads.tally(thread)
     }
 
     /// The least thread that hasn't crossed the open checkpoint, by its number from 0.

@@ -7,7 +7,7 @@ ghost use Rattle.model.specs.Checkpoints.{with_parked};
 ghost use Rattle.model.specs.Registers.{with_register};
 
 use crate::heap::Heap;
-use model::{Barrier, Place};
+use model::{Barrier, Counter, Place};
 use refword::Word;
 
 /// Edits for the crates that do rows of steps. Each does what it says and tests nothing, so it can
@@ -20,8 +20,9 @@ pub trait Edits {
     /// Writes the place of a load, if it has memory.
     fn set_place(&mut self, place: Place, word: Word);
 
-    /// Opens or changes the barrier of a thread, if the thread is there.
-    fn set_barrier(&mut self, thread: u32, barrier: Barrier);
+    /// Opens or changes the barrier of a thread, if the thread is there, which raises a number of its
+    /// tally.
+    fn set_barrier(&mut self, thread: u32, barrier: Barrier, counter: Counter);
 
     /// Ends the load of a thread, if the thread is there: a register, by its number from 0, gets
     /// the word, and the barrier closes.
@@ -58,10 +59,10 @@ impl Edits for Heap {
     }
 
     #[tactic(auto, unfolding(model::specs::Loads::with_barrier), using(crate::proofs::Keeping::thread_keeps))]
-    fn set_barrier(&mut self, thread: u32, barrier: Barrier)
-        ensures { self.new ≡ with_barrier self.old thread barrier }
+    fn set_barrier(&mut self, thread: u32, barrier: Barrier, counter: Counter)
+        ensures { self.new ≡ with_barrier self.old thread barrier counter }
     {
-        self.threads.set_barrier(thread, Some(barrier));
+        self.threads.set_barrier(thread, barrier, counter);
     }
 
     #[tactic(auto, unfolding(model::specs::Loads::with_loaded), using(crate::proofs::Keeping::thread_keeps))]

@@ -1,6 +1,7 @@
 use Rattle.refinement.proofs.Beginning.{first_stands}
 use Rattle.refinement.proofs.Steps.{step_holds, marks_find}
 use Rattle.refinement.proofs.Phases.{phases_move}
+use Rattle.refinement.proofs.Tallies.{steps_count}
 use Rattle.refinement.proofs.law.Goals as goal
 
 pub returns-clause-first : goal.returns-clause-first
@@ -14,3 +15,6 @@ returns-clause-marks c = marks_find
 
 pub returns-clause-phases : goal.returns-clause-phases
 returns-clause-phases c = phases_move
+
+pub returns-clause-tallies : goal.returns-clause-tallies
+returns-clause-tallies c = steps_count

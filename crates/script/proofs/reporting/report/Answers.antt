@@ -6,6 +6,7 @@ use Rattle.script.proofs.reporting.report.Goals as goal
 pub returns : goal.returns
 unfolding report_text
 returns g c =
-    on_ok c.tell_cycles.result _ _ c.tell_cycles.ensures (λ a.
+    on_ok c.tell_barriers.result _ _ c.tell_barriers.ensures (λ a.
     appends_more _ _ _ _ _ c.in_ok-tell_head.ensures (appends_more _ _ _ _ _ c.in_ok-tell_pages.ensures
-    (appends_more _ _ _ _ _ c.in_ok-tell_threads.ensures (appends_more _ _ _ _ _ c.in_ok-tell_globals.ensures a))))
+    (appends_more _ _ _ _ _ c.in_ok-tell_threads.ensures (appends_more _ _ _ _ _ c.in_ok-tell_globals.ensures
+    (appends_more _ _ _ _ _ c.in_ok-tell_cycles.ensures a)))))
