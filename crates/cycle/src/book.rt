@@ -86,6 +86,7 @@ impl Book {
         &self.history
     }
 
+    #[inline(always)]
     #[tactic(auto, unfolding(crate::specs::Books::is_full))]
     fn is_full(&self) -> bool
         ensures { result ≡ is_full self.now }
@@ -103,6 +104,7 @@ impl Book {
     /// reached is live, and what is live could be reached as that mark began, or is born since; and
     /// what wasn't copied from a protected page by then can't be reached. The
     /// phase moves as the collector's cycle has it (the paper's phases), and in no other way.
+    #[inline(always)]
     pub fn act(&mut self, actor: Actor, step: Step) -> Reply
         ensures acts { Acts self.old result self.new (act_outcome self.old actor step) }
         ensures book { IsBook self.new }
@@ -114,6 +116,7 @@ impl Book {
     }
 
     /// What `act` does.
+    #[inline(always)]
     #[tactic(auto, unfolding(crate::specs::Books::act_outcome))]
     fn step_and_enter(&mut self, actor: Actor, step: Step) -> Reply
         ensures acts { Acts self.old result self.new (act_outcome self.old actor step) }

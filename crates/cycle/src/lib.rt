@@ -41,6 +41,7 @@
 #![tactic(auto)]
 
 mod book;
+mod arms;
 mod calls;
 mod draining;
 mod gate;

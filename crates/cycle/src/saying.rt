@@ -7,6 +7,7 @@ ghost use Rattle.model.specs.Saying.{said, done, loaded, lent, trapped, healed, 
 use model::{Answer, Buffer, Refusal, Reply, Trap};
 
 /// The reply to a step that has nothing to tell but that it is done.
+#[inline(always)]
 pub fn done(told: Result<(), Refusal>) -> Reply
     ensures { result ≡ said done told }
 {
@@ -15,6 +16,7 @@ pub fn done(told: Result<(), Refusal>) -> Reply
 }
 
 /// The reply to a step that begins a load.
+#[inline(always)]
 pub fn loaded(told: Result<(), Refusal>) -> Reply
     ensures { result ≡ said loaded told }
 {
@@ -23,6 +25,7 @@ pub fn loaded(told: Result<(), Refusal>) -> Reply
 }
 
 /// The answer that a buffer is.
+#[inline(always)]
 pub fn lent(buffer: Buffer) -> Answer
     ensures { result ≡ lent buffer }
 {
@@ -33,6 +36,7 @@ pub fn lent(buffer: Buffer) -> Answer
 }
 
 /// The answer that a trap is.
+#[inline(always)]
 pub fn trapped(trap: Trap) -> Answer
     ensures { result ≡ trapped trap }
 {
@@ -44,6 +48,7 @@ pub fn trapped(trap: Trap) -> Answer
 }
 
 /// The answer to `Heal`.
+#[inline(always)]
 pub fn healed(written: bool) -> Answer
     ensures { result ≡ healed written }
 {
@@ -55,6 +60,7 @@ pub fn healed(written: bool) -> Answer
 }
 
 /// The answer to `Scrub`.
+#[inline(always)]
 pub fn scrubbed(corrected: bool) -> Answer
     ensures { result ≡ scrubbed corrected }
 {

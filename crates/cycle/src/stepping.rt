@@ -7,11 +7,11 @@ ghost use Rattle.model.specs.declared.steps.Step.TheVariants as steps;
 ghost use Rattle.model.specs.Outcome.{WorkerPasses, worker_row, outcome};
 ghost use Rattle.refinement.specs.Standing.{KeepsStanding};
 
-use crate::calls;
+use crate::arms;
 use crate::gate::{thread_gate, worker_gate};
-use crate::saying::{copied_page, done, healed, lent, loaded, scrubbed, trapped};
+use crate::saying::copied_page;
 use heap::Heap;
-use model::{Actor, Answer, Refusal, Reply, Step};
+use model::{Actor, Refusal, Reply, Step};
 use relocate::PieceGate;
 use std::thread::Threads;
 
@@ -55,55 +55,56 @@ fn actor_row(heap: &mut Heap, actor: Actor, step: &Step) -> Reply
 }
 
 /// The step of a thread: its call, and the answer that the value stands for.
+#[inline(always)]
 #[tactic(auto, unfolding(model::specs::Outcome::outcome, model::specs::Outcome::thread_gate))]
 fn thread_step(heap: &mut Heap, thread: u32, step: &Step) -> Reply
     ensures { Does heap.old result heap.new (outcome heap.old (Thread thread) step.now) }
 {
     match step {
-        Step::Take(words) => Ok(lent(calls::take(heap, thread, *words)?)),
-        Step::GiveBack => done(calls::give_back(heap, thread)),
+        Step::Take(words) => arms::take(heap, thread, *words),
+        Step::GiveBack => arms::give_back(heap, thread),
         Step::New { target, layout } => {
-            Ok(Answer::Birth(calls::new_object(heap, thread, *target, *layout)?))
+            arms::new_object(heap, thread, *target, *layout)
         }
         Step::Load {
             target,
             object,
             field,
-        } => loaded(calls::load(heap, thread, *target, *object, *field)),
-        Step::LoadGlobal { target, global } => loaded(calls::load_global(
+        } => arms::load(heap, thread, *target, *object, *field),
+        Step::LoadGlobal { target, global } => arms::load_global(
             heap, thread, *target, *global,
-        )),
-        Step::Trap => Ok(trapped(calls::trap(heap, thread)?)),
-        Step::Heal => Ok(healed(calls::heal(heap, thread)?)),
-        Step::Finish => done(calls::finish(heap, thread)),
+        ),
+        Step::Trap => arms::trap(heap, thread),
+        Step::Heal => arms::heal(heap, thread),
+        Step::Finish => arms::finish(heap, thread),
         Step::Store {
             object,
             field,
             source,
-        } => done(calls::store(heap, thread, *object, *field, *source)),
-        Step::StoreGlobal { global, source } => done(calls::store_global(
+        } => arms::store(heap, thread, *object, *field, *source),
+        Step::StoreGlobal { global, source } => arms::store_global(
             heap, thread, *global, *source,
-        )),
+        ),
         Step::Datum { object, index } => {
-            Ok(Answer::Datum(calls::datum(heap, thread, *object, *index)?))
+            arms::datum(heap, thread, *object, *index)
         }
         Step::SetDatum {
             object,
             index,
             value,
-        } => done(calls::set_datum(heap, thread, *object, *index, *value)),
+        } => arms::set_datum(heap, thread, *object, *index, *value),
         Step::Same { left, right } => {
-            Ok(Answer::Truth(calls::same(heap, thread, *left, *right)?))
+            arms::same(heap, thread, *left, *right)
         }
-        Step::IsNull(register) => Ok(Answer::Truth(calls::is_null(heap, thread, *register)?)),
-        Step::CopyReg { target, source } => done(calls::copy_register(
+        Step::IsNull(register) => arms::is_null(heap, thread, *register),
+        Step::CopyReg { target, source } => arms::copy_register(
             heap, thread, *target, *source,
-        )),
-        Step::ClearReg(target) => done(calls::clear_register(heap, thread, *target)),
-        Step::Cross => done(calls::cross(heap, thread)),
-        Step::Scrub(register) => Ok(scrubbed(calls::scrub(heap, thread, *register)?)),
-        Step::Park => done(calls::park(heap, thread)),
-        Step::Unpark => done(calls::unpark(heap, thread)),
+        ),
+        Step::ClearReg(target) => arms::clear_register(heap, thread, *target),
+        Step::Cross => arms::cross(heap, thread),
+        Step::Scrub(register) => arms::scrub(heap, thread, *register),
+        Step::Park => arms::park(heap, thread),
+        Step::Unpark => arms::unpark(heap, thread),
         _ => {
             thread_gate(heap, thread, step)?;
             Err(Refusal::NoActor)

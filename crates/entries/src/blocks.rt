@@ -88,6 +88,7 @@ impl Blocks {
     }
 
     /// How many entries there are: less than 2^63.
+    #[inline(always)]
     pub(crate) fn len(&self) -> usize
         ensures value { result ≡ length self.now.items }
         ensures range { result < 2 ^ 63 }
@@ -108,6 +109,7 @@ impl Blocks {
     }
 
     /// Makes room for one more entry. Fails only by memory.
+    #[inline(always)]
     pub(crate) fn reserve(&mut self) -> Result<(), AllocError>
         ensures items { self.new.items ≡ self.old.items }
         ensures room { OnOk result (self.new.has_room ≡ true) }
@@ -123,6 +125,7 @@ impl Blocks {
     }
 
     /// Puts an entry behind the others.
+    #[inline(always)]
     #[tactic(auto, using(crate::proofs::Joining::joined_pushed, crate::proofs::Joining::has_more))]
     pub(crate) fn push(&mut self, kept: Kept)
         requires { self.old.has_room ≡ true }

@@ -51,6 +51,7 @@ pub(crate) enum Event {
 const _: () = prove!(size_of::<Event>() == 24);
 
 /// An event that is answered `Done`, if that is the answer.
+#[inline(always)]
 fn done(step: &Step, answer: Answer, event: Event) -> Option<Event>
     requires { IsShort step.now answers.Done event }
     ensures { IfSome result (IsShort step.now answer) }
@@ -62,6 +63,7 @@ fn done(step: &Step, answer: Answer, event: Event) -> Option<Event>
 }
 
 /// An event that is answered `Loaded`, if that is the answer.
+#[inline(always)]
 fn loaded(step: &Step, answer: Answer, event: Event) -> Option<Event>
     requires { IsShort step.now answers.Loaded event }
     ensures { IfSome result (IsShort step.now answer) }
@@ -73,6 +75,7 @@ fn loaded(step: &Step, answer: Answer, event: Event) -> Option<Event>
 }
 
 /// The event of a `Trap`.
+#[inline(always)]
 fn trapped(answer: Answer) -> Option<Event>
     ensures { IfSome result (IsShort steps.Trap answer) }
 {
@@ -85,6 +88,7 @@ fn trapped(answer: Answer) -> Option<Event>
 }
 
 /// The event of a step that tells numbers, or one of two things.
+#[inline(always)]
 fn telling_event(step: &Step, answer: Answer) -> Option<Event>
     ensures { IfSome result (IsShort step.now answer) }
 {
@@ -119,6 +123,7 @@ fn telling_event(step: &Step, answer: Answer) -> Option<Event>
 }
 
 /// The short form of a step with its answer, if they have one.
+#[inline(always)]
 pub(crate) fn short_event(step: &Step, answer: Answer) -> Option<Event>
     ensures { IfSome result (IsShort step.now answer) }
 {

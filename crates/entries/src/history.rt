@@ -71,6 +71,7 @@ impl History {
     }
 
     /// How many entries there are: less than 2^63.
+    #[inline(always)]
     pub fn len(&self) -> usize
         ensures value { result ≡ length self.now.entries }
         ensures range { result < 2 ^ 63 }
@@ -96,6 +97,7 @@ impl History {
     }
 
     /// Makes room for one more entry. Fails only by memory.
+    #[inline(always)]
     pub fn reserve(&mut self) -> Result<(), AllocError>
         ensures entries { self.new.entries ≡ self.old.entries }
         ensures room { OnOk result (self.new.has_room ≡ true) }
@@ -105,6 +107,7 @@ impl History {
     }
 
     /// Enters an accepted step of an actor with its answer, behind the others.
+    #[inline(always)]
     pub fn enter(&mut self, actor: Actor, step: Step, answer: Answer)
         requires { self.old.has_room ≡ true }
         ensures { self.new.entries ≡ self.old.entries ++ record { actor = actor; step = step; answer = answer } ∷ [] }
