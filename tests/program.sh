@@ -44,7 +44,7 @@ is_told() {
     ends "$what" "$wanted" "$line" "$kept/nothing"
 }
 
-usage='usage: pauseless run|check FILE\n'
+usage='usage: pauseless run|threads|check FILE\n'
 strange=$kept/$(printf 'a\377b')
 cp "$script" "$strange"
 cp "$script" "$kept/-name"

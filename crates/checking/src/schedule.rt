@@ -1,13 +1,15 @@
 //! Runs of scripts.
 
-ghost use Rattle.std.specs.Prelude.{◌≡◌, None, IfOk};
+ghost use Rattle.std.specs.Prelude.{◌≡◌, true, None, IfOk, IfErr};
 ghost use Rattle.checking.specs.Ends.{IsClean};
+ghost use Rattle.parser.specs.Orders.{needs_threads};
+ghost use Rattle.script.specs.Faults.{is_line};
 
 use crate::faults::FaultText;
 use crate::steps::{check_command, look};
 use cycle::Book;
-use parser::{Command, Script};
-use script::{RunFault, new_book, report, tell, tell_command};
+use parser::{Command, Script, needs_threads};
+use script::{RunFault, cycle_fault, new_book, report, tell, tell_command};
 use std::alloc::{AllocError, Global};
 use std::fmt::Write as _;
 use std::io;
@@ -119,6 +121,18 @@ fn check_book<W: io::Write>(
     }
 }
 
+/// What `by_check` does, of a script that needs no threads.
+fn run_checked<W: io::Write>(
+    alloc: Global,
+    script: &Script,
+    w: &mut W,
+) -> Result<Checked, RunFault>
+    ensures { IfOk result IsClean }
+{
+    let mut book = new_book(alloc, script)?;
+    check_book(alloc, &mut book, script.commands(), w)
+}
+
 /// Runs a script on a new heap as `by_schedule` does, and verifies the heap before the first command
 /// and after each accepted step, those inside a whole load or a drain too (ours). Behind the report
 /// comes the line `verified n`, with how many verifications there were.
@@ -131,8 +145,15 @@ pub fn by_check<W: io::Write>(
     script: &Script,
     w: &mut W,
 ) -> Result<Checked, RunFault>
-    ensures { IfOk result IsClean }
+    ensures clean { IfOk result IsClean }
+    ensures line { IfErr result (λ fault. is_line fault ≡ true → needs_threads script.now.commands ≡ true) }
+    ensures kept { IfErr result (λ fault. is_line fault ≡ true → w.new ≡ w.old) }
 {
-    let mut book = new_book(alloc, script)?;
-    check_book(alloc, &mut book, script.commands(), w)
+    if needs_threads(script.commands()) {
+        return Err(cycle_fault(script));
+    }
+    match run_checked(alloc, script, w) {
+        Ok(checked) => Ok(checked),
+        Err(fault) => Err(fault.of_run()),
+    }
 }

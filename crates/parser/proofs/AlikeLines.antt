@@ -10,7 +10,7 @@ use Rattle.parser.specs.declared.fault.Flaw.{Flaw}
 use Rattle.parser.specs.declared.heading.Sizes.{Sizes}
 use Rattle.parser.specs.declared.order.Order.{Order}
 use Rattle.parser.specs.declared.verbs.Kind.{Kind}
-use Rattle.parser.specs.declared.verbs.Kind.TheVariants.{Nothing, Register, Number, ThreadName, Long, Address}
+use Rattle.parser.specs.declared.verbs.Kind.TheVariants.{Nothing, Register, Number, ThreadName, Long, Address, Percent}
 use Rattle.parser.specs.declared.verbs.Verb.{Verb}
 use Rattle.model.specs.declared.steps.Actor.{Actor}
 use Rattle.parser.specs.Words.{◌>>=◌, flaw, or_flaw, word_or, is_number, capped_from, named_in, named_at, end_at}
@@ -181,6 +181,7 @@ module _ (n : ℕ) (line other : List ℕ) (k : AreAlike n line other) (sizes : 
   operand_alike at ThreadName = named_alike at 116 sizes.threads kinds.NoSuchActor (no_thread at)
   operand_alike at Long = number_alike n line other k at 0 18446744073709551615
   operand_alike at Address = address_alike at sizes.words
+  operand_alike at Percent = number_alike n line other k at 0 100
 
   more_alike : (at : ℕ) (some : Bool) → Alike n line other k at (more_at some line at) (more_at some other at)
   more_alike at false = found_alike n line other k [] at

@@ -14,7 +14,7 @@ use Rattle.parser.specs.declared.heading.Sizes.{Sizes}
 use Rattle.parser.specs.Words.{◌>>=◌, flaw, word_or, is_number, capped_from, in_range, number_at, small_at, named_in}
 use Rattle.parser.specs.Words.{named_at, address_at, end_at, or_flaw}
 use Rattle.parser.specs.declared.verbs.Kind.{Kind}
-use Rattle.parser.specs.declared.verbs.Kind.TheVariants.{Nothing, Register, Number, ThreadName, Long, Address}
+use Rattle.parser.specs.declared.verbs.Kind.TheVariants.{Nothing, Register, Number, ThreadName, Long, Address, Percent}
 use Rattle.parser.specs.Orders.{does, verb_in, register_at, operand_at, numbers_by, numbers_at, more_at, order_of}
 use Rattle.parser.specs.Orders.{operands_at, order_at}
 use Rattle.parser.specs.Spelling.{operand_word, operand_words, order_words, IsOperand, AreMore, IsOrder, IsFor}
@@ -208,6 +208,7 @@ operand_break sizes line at ThreadName f h =
     named_break line at 116 sizes.threads kinds.NoSuchActor f (no_thread at) h
 operand_break sizes line at Long f h = number_break line at 0 18446744073709551615 f h
 operand_break sizes line at Address f h = address_break line at sizes.words f h
+operand_break sizes line at Percent f h = number_break line at 0 100 f h
 
 -- ---- numbers behind operands
 
@@ -267,6 +268,7 @@ zero_fits sizes Number few = omega arith
 zero_fits sizes ThreadName few = few.threads.0
 zero_fits sizes Long few = omega arith
 zero_fits sizes Address few = (omega arith, few.words.0)
+zero_fits sizes Percent few = omega arith
 
 -- operands of a verb, of which the fault stands behind the first ones
 record OperandsBreak (sizes : Sizes) (line : List ℕ) (at : ℕ) (f : Flaw) (verb : Verb) : Type 0 where

@@ -9,7 +9,7 @@ use Rattle.parser.specs.declared.fault.FaultKind.TheVariants as kinds
 use Rattle.parser.specs.declared.heading.Sizes.{Sizes}
 use Rattle.parser.specs.declared.order.Order.{Order}
 use Rattle.parser.specs.declared.verbs.Kind.{Kind}
-use Rattle.parser.specs.declared.verbs.Kind.TheVariants.{Nothing, Register, Number, ThreadName, Long, Address}
+use Rattle.parser.specs.declared.verbs.Kind.TheVariants.{Nothing, Register, Number, ThreadName, Long, Address, Percent}
 use Rattle.parser.specs.declared.verbs.Verb.{Verb}
 use Rattle.parser.specs.Verbs.{row_of}
 use Rattle.parser.specs.Orders.{register_at, operand_at, more_at, order_of, operands_at}
@@ -65,6 +65,9 @@ operand_ok sizes line at ThreadName v few h =
 operand_ok sizes line at Address v few h =
     let a = address_ok line at sizes.words v (omega (arith, few.words.1)) h in
     record { spelled = a.spelled; fits = (a.fits, a.within) }
+operand_ok sizes line at Percent v few h =
+    let n = number_ok line at 0 100 v (lit< tt) h in
+    record { spelled = n.spelled; fits = omega (arith, n.below) }
 
 pub operand_again : (sizes : Sizes) (line : List ℕ) (at : ℕ) (kind : Kind) (n : ℕ) (ws : List (List ℕ))
     → AreFew sizes → IsOperand (bounds_in sizes) kind n → words_from line at ≡ operand_word kind n ++ ws
@@ -79,6 +82,8 @@ operand_again sizes line at Long n ws few is h =
 operand_again sizes line at ThreadName n ws few is h =
     named_again line at 116 sizes.threads kinds.NoSuchActor n ws (omega (arith, few.threads.1, is)) is h
 operand_again sizes line at Address n ws few is h = address_again line at sizes.words n ws is.0 is.1 h
+operand_again sizes line at Percent n ws few is h =
+    number_again line at 0 100 n ws (omega (arith, is)) (omega arith) (omega (arith, is)) h
 
 -- ---- numbers behind operands
 

@@ -13,7 +13,7 @@ use Rattle.model.specs.declared.steps.Actor.TheVariants.{Thread, Worker}
 use Rattle.parser.specs.declared.heading.Sizes.{Sizes}
 use Rattle.parser.specs.declared.order.Order.{Order}
 use Rattle.parser.specs.declared.verbs.Kind.{Kind}
-use Rattle.parser.specs.declared.verbs.Kind.TheVariants.{Nothing, Register, Number, ThreadName, Long, Address}
+use Rattle.parser.specs.declared.verbs.Kind.TheVariants.{Nothing, Register, Number, ThreadName, Long, Address, Percent}
 use Rattle.parser.specs.declared.verbs.Verb.{Verb}
 use Rattle.parser.specs.Words.{is_digit, page_in, offset_in}
 use Rattle.parser.specs.Verbs.{row_of}
@@ -115,6 +115,7 @@ operand_plain sizes Number n few is = (number_plain n (omega (arith, is)), tt)
 operand_plain sizes ThreadName n few is = (number_plain n (omega (arith, few.threads.1, is)), tt)
 operand_plain sizes Long n few is = (number_plain n is, tt)
 operand_plain sizes Address n few is = (address_plain n is.0, tt)
+operand_plain sizes Percent n few is = (number_plain n (omega (arith, is)), tt)
 
 numbers_plain : (ns : List ℕ) → AreSmall ns → AllByRecursion IsPlain (map decimal ns)
 numbers_plain [] h = tt

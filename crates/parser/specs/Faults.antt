@@ -83,6 +83,7 @@ IsWrongWord kinds.NoSuchActor front word = IsNameOf (codes "t") word ⊎ ((front
 IsWrongWord kinds.NoSuchRegister front word = IsNameOf (codes "r") word
 IsWrongWord kinds.EndOfLineExpected front word = front ≢ []
 IsWrongWord kinds.NewlineExpected front word = ⊥
+IsWrongWord kinds.CycleNeedsThreads front word = ⊥
 IsWrongWord kinds.EndWithoutTimes front word = (front ≡ []) × (word ≡ codes "end")
 IsWrongWord kinds.TimesWithoutEnd front word = ⊥
 IsWrongWord kinds.TooManyCommands front word = front ≡ []

@@ -1,6 +1,7 @@
 -- Commands.
 use Rattle.std.specs.Prelude.{◌≡◌, ℕ, zero, suc, ◌+◌, ◌==◌, nat_lt, not, Bool, true, false, List, [], ◌∷◌, length}
 use Rattle.std.specs.Prelude.{Option, Some, None, Result, Ok, Err, if◌then◌else◌}
+use Rattle.std.specs.List.{list_any}
 use Rattle.model.specs.declared.steps.Actor.{Actor}
 use Rattle.model.specs.declared.steps.Actor.TheVariants.{Thread, Worker}
 use Rattle.model.specs.declared.steps.Step.{Step}
@@ -11,17 +12,19 @@ use Rattle.parser.specs.declared.fault.Stop.{Stop}
 use Rattle.parser.specs.declared.fault.Stop.TheVariants as stops
 use Rattle.parser.specs.declared.heading.Sizes.{Sizes}
 use Rattle.parser.specs.declared.order.Order.{Order}
+use Rattle.parser.specs.declared.order.Command.{Command}
 use Rattle.parser.specs.declared.order.Then.{Then}
 use Rattle.parser.specs.declared.order.Then.TheVariants as thens
 use Rattle.parser.specs.declared.verbs.Kind.{Kind}
-use Rattle.parser.specs.declared.verbs.Kind.TheVariants.{Nothing, Register, Number, ThreadName, Long, Address}
+use Rattle.parser.specs.declared.verbs.Kind.TheVariants.{Nothing, Register, Number, ThreadName, Long, Address, Percent}
 use Rattle.parser.specs.declared.verbs.Verb.{Verb}
 use Rattle.parser.specs.declared.verbs.Verb.TheVariants as verbs
 use Rattle.parser.specs.Verbs.{row_of, verb_of, is_for_worker}
 use Rattle.parser.specs.Words.{◌>>=◌, or_flaw, flaw, word_or, number_at, small_at, named_at, address_at, end_at}
 use Rattle.parser.specs.Words.{page_in, offset_in}
 
--- the step of a verb with operands and more numbers; of `get`, `getg` and `drain` the first one
+-- the step of a verb with operands and more numbers; of `get`, `getg`, `drain`, `cycle` and `roll` the first
+-- one
 abbrev pub step_with : Verb → ℕ → ℕ → ℕ → ℕ → List ℕ → Step
 step_with verbs.Take n b c d e = steps.Take n
 step_with verbs.Give a b c d e = steps.GiveBack
@@ -56,6 +59,8 @@ step_with verbs.Protect page b c d others = steps.Protect (page ∷ others)
 step_with verbs.Copy page entry c d e = steps.Copy page entry
 step_with verbs.CopyAll page b c d e = steps.CopyPage page
 step_with verbs.Release page b c d e = steps.Release page
+step_with verbs.Cycle percent b c d e = steps.StartMark
+step_with verbs.Roll percent b c d e = steps.StartMark
 
 -- the step of an order
 abbrev pub step_of : Order → Step
@@ -66,11 +71,23 @@ abbrev pub then_with : Verb → Then
 then_with verbs.Get = thens.LoadsEnd
 then_with verbs.GetGlobal = thens.LoadsEnd
 then_with verbs.Drain = thens.Drains
+then_with verbs.Cycle = thens.Cycles
+then_with verbs.Roll = thens.Rolls
 then_with other = thens.Nothing
 
 -- what follows the step of an order
 abbrev pub then_of : Order → Then
 then_of o = then_with o.verb
+
+-- a command is a cycle, or the first part of one
+abbrev pub is_cycles : Then → Bool
+is_cycles thens.Cycles = true
+is_cycles thens.Rolls = true
+is_cycles other = false
+
+-- a run by threads alone does all these commands
+abbrev pub needs_threads : List Command → Bool
+needs_threads cs = list_any (λ (c : Command). is_cycles (then_of c.order)) cs
 
 -- an actor does a verb
 abbrev pub does : Actor → Verb → Bool
@@ -102,6 +119,7 @@ operand_at sizes line at Number = small_at line at
 operand_at sizes line at ThreadName = thread_at sizes line at
 operand_at sizes line at Long = number_at line at 0 18446744073709551615
 operand_at sizes line at Address = address_at line at sizes.words
+operand_at sizes line at Percent = number_at line at 0 100
 
 -- numbers of 32 bits from a place to the end of the line, n of them at most
 unfoldable pub numbers_by : ℕ → List ℕ → ℕ → Result (List ℕ × ℕ) Flaw

@@ -10,7 +10,7 @@ use Rattle.model.specs.Configs.{IsConfig}
 use Rattle.parser.specs.declared.order.Order.{Order}
 use Rattle.parser.specs.declared.order.Command.{Command}
 use Rattle.parser.specs.declared.verbs.Kind.{Kind}
-use Rattle.parser.specs.declared.verbs.Kind.TheVariants.{Nothing, Register, Number, ThreadName, Long, Address}
+use Rattle.parser.specs.declared.verbs.Kind.TheVariants.{Nothing, Register, Number, ThreadName, Long, Address, Percent}
 use Rattle.parser.specs.declared.verbs.Kinds.{Kinds}
 use Rattle.model.specs.declared.limits.TheConstants.{MOST_BIRTHS, MOST_HISTORY, MOST_FIELDS}
 use Rattle.parser.specs.declared.reading.TheConstants.{MOST_COMMANDS, MOST_TURNS}
@@ -44,6 +44,7 @@ operand_word Number n = decimal n ∷ []
 operand_word ThreadName n = actor_word (Thread n) ∷ []
 operand_word Long n = decimal n ∷ []
 operand_word Address n = address_word (page_in n) (offset_in n) ∷ []
+operand_word Percent n = decimal n ∷ []
 
 -- the words of operands, and those of more numbers behind them
 abbrev pub operand_words : Kinds → Order → List (List ℕ)
@@ -166,6 +167,7 @@ IsOperand bounds Number n = n < 2 ^ 32
 IsOperand bounds ThreadName n = n < bounds.threads
 IsOperand bounds Long n = n < 2 ^ 64
 IsOperand bounds Address n = (n < 2 ^ 64) × (offset_in n < bounds.words)
+IsOperand bounds Percent n = n ≤ 100
 
 -- more numbers stand only where there may be some, and each fits 32 bits
 abbrev pub AreMore : Bool → List ℕ → Type 0

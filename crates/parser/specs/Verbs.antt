@@ -4,7 +4,7 @@ use Rattle.std.specs.Str.{bytes_eq}
 use Rattle.parser.specs.declared.verbs.Verb.{Verb}
 use Rattle.parser.specs.declared.verbs.Verb.TheVariants as verbs
 use Rattle.parser.specs.declared.verbs.Kind.{Kind}
-use Rattle.parser.specs.declared.verbs.Kind.TheVariants.{Nothing, Register, Number, ThreadName, Long, Address}
+use Rattle.parser.specs.declared.verbs.Kind.TheVariants.{Nothing, Register, Number, ThreadName, Long, Address, Percent}
 use Rattle.parser.specs.declared.verbs.Kinds.{Kinds}
 use Rattle.parser.specs.declared.verbs.TheConstants.{VERBS}
 
@@ -60,6 +60,8 @@ row_of verbs.Protect = listing (codes "protect") Number
 row_of verbs.Copy = row (codes "copy") Number Number Nothing Nothing
 row_of verbs.CopyAll = row (codes "copyall") Number Nothing Nothing Nothing
 row_of verbs.Release = row (codes "release") Number Nothing Nothing Nothing
+row_of verbs.Cycle = row (codes "cycle") Percent Nothing Nothing Nothing
+row_of verbs.Roll = row (codes "roll") Percent Nothing Nothing Nothing
 
 -- workers do these verbs, and threads all others
 abbrev pub is_for_worker : Verb → Bool
@@ -74,6 +76,8 @@ is_for_worker verbs.Protect = true
 is_for_worker verbs.Copy = true
 is_for_worker verbs.CopyAll = true
 is_for_worker verbs.Release = true
+is_for_worker verbs.Cycle = true
+is_for_worker verbs.Roll = true
 is_for_worker other = false
 
 -- the verb that a word is
@@ -91,4 +95,5 @@ abbrev pub IsWide : Kind → Type 0
 IsWide Register = ⊥
 IsWide Number = ⊥
 IsWide ThreadName = ⊥
+IsWide Percent = ⊥
 IsWide other = Unit {0}

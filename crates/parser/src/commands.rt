@@ -2,7 +2,7 @@
 
 ghost use Rattle.std.specs.Prelude.{◌≡◌, ◌==◌};
 ghost use Rattle.parser.specs.declared.fault.FaultKind.TheVariants.{NoSuchActor};
-ghost use Rattle.parser.specs.Words.{named_at};
+ghost use Rattle.parser.specs.Words.{named_at, number_at};
 ghost use Rattle.parser.specs.Reading.{first_word};
 ghost use Rattle.parser.specs.Verbs.{IsSmall, IsWide};
 ghost use Rattle.parser.specs.Orders.{register_at, thread_at, operand_at, actor_at, first_byte};
@@ -95,6 +95,14 @@ fn register_at(sizes: &Sizes, line: &[u8], at: usize) -> Result<(u32, usize), Fl
     named_at(line, at, b'r', sizes.registers, FaultKind::NoSuchRegister)
 }
 
+/// A number from 0 to 100, and the place after it.
+fn percent_at(line: &[u8], at: usize) -> Result<(u32, usize), Flaw>
+    ensures { result ≡ number_at line.now at 0 100 }
+{
+    let (value, after) = number_at(line, at, 0, 100)?;
+    Ok((value as u32, after))
+}
+
 /// An operand of 32 bits, and the place after it.
 #[inline(always)]
 #[tactic(auto, unfolding(crate::specs::Orders::operand_at))]
@@ -107,6 +115,7 @@ fn small_operand_at(sizes: &Sizes, line: &[u8], at: usize, kind: Kind) -> Result
         Kind::Register => register_at(sizes, line, at),
         Kind::Number => small_at(line, at),
         Kind::ThreadName => thread_at(sizes, line, at),
+        Kind::Percent => percent_at(line, at),
         Kind::Long | Kind::Address => unreachable!(),
     }
 }
@@ -122,7 +131,7 @@ fn wide_operand_at(sizes: &Sizes, line: &[u8], at: usize, kind: Kind) -> Result<
         Kind::Nothing => Ok((0, at)),
         Kind::Long => number_at(line, at, 0, u64::MAX),
         Kind::Address => address_at(line, at, sizes.words),
-        Kind::Register | Kind::Number | Kind::ThreadName => unreachable!(),
+        Kind::Register | Kind::Number | Kind::ThreadName | Kind::Percent => unreachable!(),
     }
 }
 

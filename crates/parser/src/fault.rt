@@ -39,6 +39,9 @@ pub enum FaultKind {
     /// The last line has no newline.
     #[error("newline expected")]
     NewlineExpected,
+    /// A cycle is a command of a run by threads alone.
+    #[error("cycle needs threads")]
+    CycleNeedsThreads,
     /// A line `end` stands outside a block.
     #[error("end without times")]
     EndWithoutTimes,

@@ -8,11 +8,13 @@ mod number_list;
 mod order;
 mod reading;
 mod script;
+mod spots;
 mod verbs;
 mod words;
 
 pub use fault::{FaultKind, LineFault, ParseFault};
 pub use number_list::NumberList;
-pub use order::{Command, Order, Then};
+pub use order::{Command, Order, Then, needs_threads};
 pub use script::{MOST_BYTES, Script, one_first_line, one_reading, parse};
+pub use spots::Spots;
 pub use verbs::Verb;

@@ -1,7 +1,7 @@
 //! Commands of a script.
 
 ghost use Rattle.std.specs.Prelude.{◌≡◌, ◌∷◌, IfOk, OnErr};
-ghost use Rattle.parser.specs.Orders.{step_of, then_of};
+ghost use Rattle.parser.specs.Orders.{needs_threads, step_of, then_of};
 ghost use Rattle.parser.specs.Words.{page_in, offset_in};
 
 use crate::number_list::NumberList;
@@ -48,6 +48,11 @@ pub enum Then {
     /// All steps of a worker that scan, until none is left or one is refused. The order's step is
     /// the first of them where the worker has an object.
     Drains,
+    /// All steps of a cycle, in a run by threads. The order's step is the first of them.
+    Cycles,
+    /// The steps of a cycle up to where pages are protected, in a run by threads. The order's step is
+    /// the first of them.
+    Rolls,
 }
 
 impl Order {
@@ -95,7 +100,7 @@ impl Order {
             Verb::Scrub => Step::Scrub(first),
             Verb::Park => Step::Park,
             Verb::Unpark => Step::Unpark,
-            Verb::Mark => Step::StartMark,
+            Verb::Mark | Verb::Cycle | Verb::Roll => Step::StartMark,
             Verb::EndMark => Step::EndMark,
             Verb::Pick => pick(self.wide),
             Verb::Scan | Verb::Drain => Step::ScanField,
@@ -132,6 +137,8 @@ impl Order {
         match self.verb {
             Verb::Get | Verb::GetGlobal => Then::LoadsEnd,
             Verb::Drain => Then::Drains,
+            Verb::Cycle => Then::Cycles,
+            Verb::Roll => Then::Rolls,
             _ => Then::Nothing,
         }
     }
@@ -149,6 +156,14 @@ impl Command {
             order,
         })
     }
+}
+
+/// Whether a run by threads alone does all these commands: one of them is a cycle, or the first part
+/// of one.
+pub fn needs_threads(commands: &[Command]) -> bool
+    ensures { result ≡ needs_threads commands.now }
+{
+    commands.iter().any(|command| matches!(command.order.then(), Then::Cycles | Then::Rolls))
 }
 
 fn load(target: u32, object: u32, field: u32) -> Step

@@ -12,6 +12,7 @@ ghost use Rattle.parser.specs.Faults.{FaultsShareLine, TellsFirst};
 use crate::fault::ParseFault;
 use crate::order::Command;
 use crate::reading::read;
+use crate::spots::{Spots, find_spots};
 use model::Config;
 use std::alloc::Global;
 use std::marker::Model;
@@ -25,6 +26,8 @@ pub const MOST_BYTES: usize = 4_194_304;
 pub struct Script {
     config: Config,
     commands: Vec<Command>,
+    /// Where its commands stand that not every run does.
+    spots: Spots,
 }
 
 impl Model for Script {
@@ -57,13 +60,22 @@ impl Script {
         &self.commands
     }
 
+    /// Where its commands stand that not every run does. No clause says where that is.
+    pub fn spots(&self) -> Spots {
+        self.spots
+    }
+
     /// The configuration and the commands.
     pub fn into_parts(self) -> (Config, Vec<Command>)
         ensures config { result.0 ≡ self.config }
         ensures commands { result.1.items ≡ self.commands }
         ensures valid { IsScript (script_of result.0 result.1.items) }
     {
-        let Script { config, commands } = self;
+        let Script {
+            config,
+            commands,
+            spots: _,
+        } = self;
         (config, commands)
     }
 }
@@ -90,7 +102,11 @@ pub fn parse(alloc: Global, bytes: &[u8]) -> Result<Script, ParseFault>
         return Err(ParseFault::TooLong);
     }
     let (config, commands) = read(alloc, bytes)?;
-    Ok(Script { config, commands })
+    Ok(Script {
+        config,
+        commands,
+        spots: find_spots(bytes),
+    })
 }
 
 /// No bytes spell two scripts within the limits. It does nothing: its contract is the law.

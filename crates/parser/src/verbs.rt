@@ -20,6 +20,8 @@ pub enum Kind {
     Long,
     /// An address `P.O`: a page of 32 bits, and an offset within a page.
     Address,
+    /// A number from 0 to 100.
+    Percent,
 }
 
 /// What a command does: its word, with the operands that stand behind it (ours). Registers,
@@ -92,10 +94,15 @@ pub enum Verb {
     CopyAll,
     /// `release P`
     Release,
+    /// `cycle p`: a whole cycle, in a run by threads.
+    Cycle,
+    /// `roll p`: a cycle up to where pages are protected, in a run by threads. The next mark copies what
+    /// it meets of them.
+    Roll,
 }
 
 /// All verbs. A word that isn't the verb that it is likely to be is compared with theirs in this order.
-const VERBS: [Verb; 33] = [
+const VERBS: [Verb; 35] = [
     Verb::Get,
     Verb::Set,
     Verb::Datum,
@@ -129,6 +136,8 @@ const VERBS: [Verb; 33] = [
     Verb::Protect,
     Verb::Mark,
     Verb::EndMark,
+    Verb::Cycle,
+    Verb::Roll,
 ];
 
 /// The kinds of an order's operands. The first three have 32 bits.
@@ -210,6 +219,8 @@ impl Verb {
             Verb::Copy => b"copy",
             Verb::CopyAll => b"copyall",
             Verb::Release => b"release",
+            Verb::Cycle => b"cycle",
+            Verb::Roll => b"roll",
         }
     }
 
@@ -219,7 +230,7 @@ impl Verb {
         ensures small { IsSmall result.first × (IsSmall result.second × IsSmall result.third) }
         ensures wide { IsWide result.wide }
     {
-        use Kind::{Address, Long, Nothing, Number, Register, ThreadName};
+        use Kind::{Address, Long, Nothing, Number, Percent, Register, ThreadName};
         match self {
             Verb::Take | Verb::ScanGlobal | Verb::CopyAll | Verb::Release => make_kinds(
                 Number, Nothing, Nothing, Nothing,
@@ -239,6 +250,7 @@ impl Verb {
             Verb::Copy => make_kinds(Number, Number, Nothing, Nothing),
             Verb::Pick => make_kinds(Nothing, Nothing, Nothing, Address),
             Verb::CrossFor => make_kinds(ThreadName, Nothing, Nothing, Nothing),
+            Verb::Cycle | Verb::Roll => make_kinds(Percent, Nothing, Nothing, Nothing),
             _ => make_kinds(Nothing, Nothing, Nothing, Nothing),
         }
     }
@@ -260,6 +272,8 @@ impl Verb {
                 | Verb::Copy
                 | Verb::CopyAll
                 | Verb::Release
+                | Verb::Cycle
+                | Verb::Roll
         )
     }
 }
@@ -272,6 +286,7 @@ fn likely(first: u8, third: u8, length: usize) -> Verb {
             b'e' => Verb::Clear,
             b'o' if length == 5 => Verb::Cross,
             b'o' => Verb::CrossFor,
+            b'c' => Verb::Cycle,
             _ if length == 4 => Verb::Copy,
             _ => Verb::CopyAll,
         },
@@ -294,6 +309,7 @@ fn likely(first: u8, third: u8, length: usize) -> Verb {
             b'c' => Verb::Pick,
             _ => Verb::Protect,
         },
+        b'r' if length == 4 => Verb::Roll,
         b'r' => Verb::Release,
         b's' => likely_in_s(third, length),
         b't' if third == b'k' => Verb::Take,

@@ -1,10 +1,11 @@
 //! The program `pauseless`: runs a script on a heap.
 #![tactic(auto)]
 
-ghost use Rattle.std.specs.Prelude.{IfOk};
+ghost use Rattle.std.specs.Prelude.{IfErr};
 ghost use Rattle.service.specs.Serving.{IsStatus};
 
-use service::{AskFault, ask, not_opened, serve};
+use modes::serve;
+use service::{AskFault, Asked, ask, not_opened};
 use std::process::ExitCode;
 use std::rt::Files;
 use std::{env, fs, io};
@@ -19,28 +20,42 @@ fn words(rt: &HostRuntime) -> Result<Vec<String>, AskFault> {
     Ok(words)
 }
 
-/// Does what the words ask for, and gives the exit status.
-fn served<E: io::Write>(rt: &HostRuntime, errors: &mut E) -> Result<u8, AskFault>
-    ensures { IfOk result IsStatus }
+/// What the words ask for, and the file that they name, or the exit status where these can't be had.
+fn opened<E: io::Write>(rt: &HostRuntime, errors: &mut E) -> Result<(Asked, fs::File), u8>
+    ensures { IfErr result IsStatus }
 {
+    let asked = match asked(rt) {
+        Ok(asked) => asked,
+        Err(fault) => return Err(fault.tell(errors)),
+    };
+    match fs::open(rt, asked.file()) {
+        Ok(file) => Ok((asked, file)),
+        Err(error) => Err(not_opened(&asked, &error, errors)),
+    }
+}
+
+/// What the words of the command line ask for.
+fn asked(rt: &HostRuntime) -> Result<Asked, AskFault> {
     let words = words(rt)?;
-    let asked = ask(rt.alloc(), &words)?;
-    let mut file = match fs::open(rt, asked.file()) {
-        Ok(file) => file,
-        Err(error) => return Ok(not_opened(&asked, &error, errors)),
-    };
-    // That a buffer can't be made is want of memory alone.
-    let Ok(mut output) = io::BufWriter::new(rt.alloc(), io::writer(rt)) else {
-        return Err(AskFault::Memory);
-    };
-    Ok(serve(rt.alloc(), &asked, &mut file, &mut output, errors))
+    ask(rt.alloc(), &words)
 }
 
 fn main(rt: HostRuntime) -> ExitCode {
     let mut errors = rt.stderr();
-    let status = match served(&rt, &mut errors) {
-        Ok(status) => status,
-        Err(fault) => fault.tell(&mut errors),
+    let (asked, mut file) = match opened(&rt, &mut errors) {
+        Ok(found) => found,
+        Err(status) => return ExitCode::from(status),
     };
-    ExitCode::from(status)
+    // That a buffer can't be made is want of memory alone.
+    let Ok(mut output) = io::BufWriter::new(rt.alloc(), io::writer(&rt)) else {
+        return ExitCode::from(AskFault::Memory.tell(&mut errors));
+    };
+    ExitCode::from(serve(
+        &rt,
+        rt.alloc(),
+        &asked,
+        &mut file,
+        &mut output,
+        &mut errors,
+    ))
 }

@@ -124,6 +124,8 @@ abbrev pub done_with : BookState → Command → Then → Told
 done_with b c thens.Nothing = one_step b c.actor (step_of c.order)
 done_with b c thens.LoadsEnd = whole_load b c.actor (step_of c.order)
 done_with b c thens.Drains = drain_by b c.actor (step_of c.order)
+done_with b c thens.Cycles = one_step b c.actor (step_of c.order)
+done_with b c thens.Rolls = one_step b c.actor (step_of c.order)
 
 -- what a command does to a book, and what its steps say: one step, or those of a whole load or a drain
 unfoldable pub done : BookState → Command → Told
@@ -140,6 +142,8 @@ abbrev pub line_with : ℕ → Actor → Then → List Reply → List ℕ
 line_with n actor thens.Nothing replies = line_text n actor replies
 line_with n actor thens.LoadsEnd replies = line_text n actor replies
 line_with n actor thens.Drains replies = drain_line n actor (length replies) (verdict replies)
+line_with n actor thens.Cycles replies = line_text n actor replies
+line_with n actor thens.Rolls replies = line_text n actor replies
 
 -- the line of command n, of whose steps these are the replies
 abbrev pub command_line : ℕ → Command → List Reply → List ℕ

@@ -75,7 +75,7 @@ pub fn do_command(
 {
     replies.clear();
     match command.order.then() {
-        Then::Nothing => do_step(alloc, book, command, replies),
+        Then::Nothing | Then::Cycles | Then::Rolls => do_step(alloc, book, command, replies),
         Then::LoadsEnd => do_load(alloc, book, command, replies),
         Then::Drains => match command.actor {
             Actor::Worker(worker) => do_drain(book, worker, replies),

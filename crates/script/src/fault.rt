@@ -1,8 +1,10 @@
 //! Why a run ends before its end.
 
-ghost use Rattle.std.specs.Prelude.{◌≡◌};
+ghost use Rattle.std.specs.Prelude.{◌≡◌, false};
+ghost use Rattle.script.specs.Faults.{is_line};
 ghost use Rattle.script.specs.declared.fault.RunFault.TheVariants.{Memory};
 
+use parser::{FaultKind, LineFault, Script};
 use std::alloc::{AllocError, AllocFailed};
 use thiserror::Error;
 
@@ -15,6 +17,9 @@ pub enum RunFault {
     /// The writer failed.
     #[error("cannot write")]
     Write,
+    /// The script has a command that only a run by threads does.
+    #[error(transparent)]
+    Line(LineFault),
 }
 
 impl From<AllocError> for RunFault {
@@ -31,4 +36,25 @@ impl<T: Drop> From<AllocFailed<T>> for RunFault {
     fn from(_error: AllocFailed<T>) -> RunFault {
         RunFault::Memory
     }
+}
+
+impl RunFault {
+    /// The same fault, but no fault of a line: that is looked for before a run.
+    pub fn of_run(self) -> RunFault
+        ensures { is_line result ≡ false }
+    {
+        match self {
+            RunFault::Write => RunFault::Write,
+            _ => RunFault::Memory,
+        }
+    }
+}
+
+/// The fault of a script's first cycle in a run without threads.
+pub fn cycle_fault(script: &Script) -> RunFault {
+    RunFault::Line(script.spots().cycle.unwrap_or(LineFault {
+        line: 1,
+        column: 1,
+        kind: FaultKind::CycleNeedsThreads,
+    }))
 }

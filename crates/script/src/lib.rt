@@ -6,9 +6,10 @@ mod fault;
 mod reporting;
 mod schedule;
 
-pub use fault::RunFault;
+pub use fault::{RunFault, cycle_fault};
 pub use parser::{
-    Command, FaultKind, LineFault, MOST_BYTES, Order, ParseFault, Script, Then, Verb, parse,
+    Command, FaultKind, LineFault, MOST_BYTES, Order, ParseFault, Script, Then, Verb, needs_threads,
+    parse,
 };
 pub use reporting::{report, tell};
 pub use schedule::{by_schedule, new_book, tell_command};

@@ -1,18 +1,20 @@
 //! Commands one by one.
 
-ghost use Rattle.std.specs.Prelude.{◌≡◌, ◌++◌, length, string_bytes, IfOk, OnOk};
+ghost use Rattle.std.specs.Prelude.{◌≡◌, ◌++◌, true, length, string_bytes, IfOk, IfErr, OnOk};
 ghost use Rattle.std.specs.Io.KnownBytes.{Appends};
 ghost use Rattle.cycle.specs.Books.{first_book};
 ghost use Rattle.cycle.specs.Drains.{verdict};
+ghost use Rattle.parser.specs.Orders.{needs_threads};
+ghost use Rattle.script.specs.Faults.{is_line};
 ghost use Rattle.script.specs.Output.{output_text, lines_text, command_line, drain_line, book_after, told_text};
 
 use crate::doing::do_command;
-use crate::fault::RunFault;
+use crate::fault::{RunFault, cycle_fault};
 use crate::reporting::{report, tell};
 use cycle::{Book, verdict};
 use heap::NewFault;
 use model::{Actor, Answer, Refusal};
-use parser::{Command, Script, Then};
+use parser::{Command, Script, Then, needs_threads};
 use std::alloc::{AllocError, Global};
 use std::io;
 use text::{put_drained, put_line};
@@ -44,7 +46,9 @@ fn put_command(
         ≡ string_bytes text.old ++ command_line number command.now replies.now) }
 {
     match command.order.then() {
-        Then::Nothing | Then::LoadsEnd => put_line(text, number, command.actor, replies),
+        Then::Nothing | Then::LoadsEnd | Then::Cycles | Then::Rolls => {
+            put_line(text, number, command.actor, replies)
+        }
         Then::Drains => put_drain(text, number, command.actor, replies),
     }
 }
@@ -112,14 +116,30 @@ pub fn new_book(alloc: Global, script: &Script) -> Result<Book, RunFault>
     }
 }
 
-/// Runs a script on a new heap: writes the line of each command, and then the report.
-///
-/// A step that is refused has its line, and the run goes on. The faults are want of memory, also
-/// in a step, and a writer that failed.
+/// What `by_schedule` does, of a script that needs no threads.
 #[tactic(auto, unfolding(crate::specs::Output::output_text))]
-pub fn by_schedule<W: io::Write>(alloc: Global, script: &Script, w: &mut W) -> Result<(), RunFault>
+fn scheduled<W: io::Write>(alloc: Global, script: &Script, w: &mut W) -> Result<(), RunFault>
     ensures { OnOk result (Appends (W.contents w.old) (W.contents w.new) (output_text script.now)) }
 {
     let mut book = new_book(alloc, script)?;
     tell_all(alloc, &mut book, script.commands(), w)
+}
+
+/// Runs a script on a new heap: writes the line of each command, and then the report.
+///
+/// A step that is refused has its line, and the run goes on. The faults are want of memory, also
+/// in a step, and a writer that failed; and, before any step, a command that only a run by threads
+/// does.
+pub fn by_schedule<W: io::Write>(alloc: Global, script: &Script, w: &mut W) -> Result<(), RunFault>
+    ensures ok { OnOk result (Appends (W.contents w.old) (W.contents w.new) (output_text script.now)) }
+    ensures line { IfErr result (λ fault. is_line fault ≡ true → needs_threads script.now.commands ≡ true) }
+    ensures kept { IfErr result (λ fault. is_line fault ≡ true → w.new ≡ w.old) }
+{
+    if needs_threads(script.commands()) {
+        return Err(cycle_fault(script));
+    }
+    match scheduled(alloc, script, w) {
+        Ok(()) => Ok(()),
+        Err(fault) => Err(fault.of_run()),
+    }
 }

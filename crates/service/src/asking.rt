@@ -21,16 +21,19 @@ pub enum Mode {
     Run,
     /// The same, and the heap is verified after each step.
     Check,
+    /// Each actor does its commands in a thread of its own.
+    Threads,
 }
 
 impl Mode {
-    /// The mode of this name, if there is one: `run` or `check`.
+    /// The mode of this name, if there is one: `run`, `check` or `threads`.
     fn named(name: &str) -> Option<Mode>
         ensures { result ≡ mode_named name.now }
     {
         match name {
             "run" => Some(Mode::Run),
             "check" => Some(Mode::Check),
+            "threads" => Some(Mode::Threads),
             _ => None,
         }
     }
@@ -47,7 +50,7 @@ pub struct Asked {
 #[derive(Clone, Copy, Debug, PartialEq, Eq, Error)]
 pub enum AskFault {
     /// The words aren't a mode and a file.
-    #[error("usage: pauseless run|check FILE")]
+    #[error("usage: pauseless run|threads|check FILE")]
     Usage,
     /// Memory was refused.
     #[error("pauseless: out of memory")]
@@ -157,8 +160,8 @@ fn found<'a>(alloc: Global, texts: &'a [&'a str]) -> Result<ArgMatches<'a>, AskF
     }
 }
 
-/// What the words ask for, without the program's name (ours). They are a mode, `run` or `check`, and
-/// the name of a file; all else is the usage fault. It answers `Memory` where memory was refused.
+/// What the words ask for, without the program's name (ours). They are a mode, `run`, `check` or
+/// `threads`, and the name of a file; all else is the usage fault. It answers `Memory` where memory was refused.
 ///
 /// No clause speaks of words of which one begins with `-`: they are read by the rules of flags,
 /// of which the program has none.

@@ -6,4 +6,4 @@ mod asking;
 mod serving;
 
 pub use asking::{AskFault, Asked, Mode, ask};
-pub use serving::{not_opened, serve};
+pub use serving::{ServeFault, not_opened, read_script, serve};

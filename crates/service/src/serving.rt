@@ -1,9 +1,10 @@
 //! Serving what was asked for.
 
-ghost use Rattle.std.specs.Prelude.{◌≡◌, ◌≤◌, ◌+◌, [], length, Ok, IfErr, IfSome, OnOk, IfOk};
+ghost use Rattle.std.specs.Prelude.{◌≡◌, ◌≢◌, ◌≤◌, ◌+◌, [], true, length, Ok, IfErr, IfSome, OnOk, IfOk};
 ghost use Rattle.parser.specs.Reading.{script_in};
+ghost use Rattle.parser.specs.Orders.{needs_threads};
 ghost use Rattle.parser.specs.declared.script.TheConstants.{MOST_BYTES};
-ghost use Rattle.service.specs.declared.asking.Mode.TheVariants.{Run};
+ghost use Rattle.service.specs.declared.asking.Mode.TheVariants.{Run, Threads};
 ghost use Rattle.std.specs.Io.Buffered.{writer_buffer, writer_contents};
 ghost use Rattle.std.specs.Io.KnownBytes.{Appends, Keeps};
 ghost use Rattle.script.specs.Output.{output_text};
@@ -18,7 +19,7 @@ use std::io::{BufWriter, Read as _, Write as _};
 
 /// Why a script wasn't run to its end.
 #[derive(Clone, Copy, Debug, PartialEq, Eq)]
-enum ServeFault {
+pub enum ServeFault {
     /// The file can't be read.
     Read,
     /// The bytes are no script.
@@ -87,6 +88,14 @@ fn script_in(alloc: Global, bytes: &[u8]) -> Result<Script, ServeFault>
     }
 }
 
+/// The script that is read. A fault is told by `ServeFault::tell`.
+pub fn read_script<R: io::Read>(alloc: Global, reader: &mut R) -> Result<Script, ServeFault>
+    ensures faults { IfErr result (λ fault. fault_status fault ≡ 2 → IfSome (R.remaining reader.old) HasFault) }
+{
+    let bytes = read_bytes(alloc, reader)?;
+    script_in(alloc, &bytes)
+}
+
 /// Runs the script that the bytes spell.
 fn run_bytes<W: io::Write + Drop>(
     alloc: Global,
@@ -111,7 +120,8 @@ fn run_script<W: io::Write + Drop>(
         (Appends (writer_contents W.contents output.old) (writer_contents W.contents output.new)
         (output_text script.now)) }
     ensures flushed { OnOk result (writer_buffer output.new ≡ []) }
-    ensures faults { IfErr result (λ fault. fault_status fault ≡ 3) }
+    ensures faults { IfErr result (λ fault. fault_status fault ≡ 2 → needs_threads script.now.commands ≡ true) }
+    ensures kept { IfErr result (λ fault. fault_status fault ≡ 2 → output.new ≡ output.old) }
 {
     match by_schedule(alloc, script, output) {
         Ok(()) => flushed(output),
@@ -134,7 +144,7 @@ fn flushed<W: io::Write + Drop>(output: &mut BufWriter<W>) -> Result<(), ServeFa
 
 impl ServeFault {
     /// Writes its line to standard error, and gives the exit status.
-    fn tell<E: io::Write>(self, asked: &Asked, errors: &mut E) -> u8
+    pub fn tell<E: io::Write>(self, asked: &Asked, errors: &mut E) -> u8
         ensures { result ≡ fault_status self }
     {
         match self {
@@ -147,7 +157,8 @@ impl ServeFault {
             }
         }
         match self {
-            ServeFault::Parse(ParseFault::Line(_) | ParseFault::TooLong) => 2,
+            ServeFault::Parse(ParseFault::Line(_) | ParseFault::TooLong)
+            | ServeFault::Run(RunFault::Line(_)) => 2,
             _ => 3,
         }
     }
@@ -175,7 +186,8 @@ fn check_script<W: io::Write + Drop>(
 ) -> Result<u8, ServeFault>
     ensures sound { IfOk result (λ status. status ≡ 0) }
     ensures flushed { OnOk result (writer_buffer output.new ≡ []) }
-    ensures faults { IfErr result (λ fault. fault_status fault ≡ 3) }
+    ensures faults { IfErr result (λ fault. fault_status fault ≡ 2 → needs_threads script.now.commands ≡ true) }
+    ensures kept { IfErr result (λ fault. fault_status fault ≡ 2 → output.new ≡ output.old) }
 {
     match by_check(alloc, script, output) {
         Ok(checked) => {
@@ -234,6 +246,7 @@ pub fn serve<R: io::Read, W: io::Write + Drop, E: io::Write>(
     output: &mut BufWriter<W>,
     errors: &mut E,
 ) -> u8
+    requires { asked.now.mode ≢ Threads }
     ensures done { asked.now.mode ≡ Run → result ≡ 0
         → IfSome (R.remaining reader.old) (Prints W.contents output.old output.new) }
     ensures flushed { result ≡ 0 → writer_buffer output.new ≡ [] }
@@ -250,5 +263,6 @@ pub fn serve<R: io::Read, W: io::Write + Drop, E: io::Write>(
             Ok(status) => status,
             Err(fault) => fault.tell(asked, errors),
         },
+        Mode::Threads => unreachable!(),
     }
 }

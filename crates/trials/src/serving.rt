@@ -31,7 +31,7 @@ fn are_refused(rt: &impl Abort, alloc: Global, line: &str) -> Result<(), Fail> {
             assert_eq!(rt; fault.tell(&mut errors), 2);
             assert_eq!(rt;
                 errors.as_slice(),
-                b"usage: pauseless run|check FILE\n".as_slice()
+                b"usage: pauseless run|threads|check FILE\n".as_slice()
             );
         }
     }
@@ -40,7 +40,11 @@ fn are_refused(rt: &impl Abort, alloc: Global, line: &str) -> Result<(), Fail> {
 
 #[test]
 fn words(rt: HostRuntime) -> Result<(), Fail> {
-    for (line, mode) in [("run a.script", Mode::Run), ("check a.script", Mode::Check)] {
+    for (line, mode) in [
+        ("run a.script", Mode::Run),
+        ("check a.script", Mode::Check),
+        ("threads a.script", Mode::Threads),
+    ] {
         let asked = words_asked(rt.alloc(), line)?;
         assert_eq!(rt; asked.mode(), mode);
         assert_eq!(rt; asked.file(), "a.script");
@@ -55,7 +59,6 @@ fn other_words(rt: HostRuntime) -> Result<(), Fail> {
         "run",
         "a.script",
         "walk a.script",
-        "threads a.script",
         "check",
         "checks a.script",
         "run a.script b.script",

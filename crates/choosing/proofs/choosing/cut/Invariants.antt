@@ -1,0 +1,7 @@
+use Rattle.std.proofs.Common.{map}
+use Rattle.choosing.specs.Choices.{page_of}
+use Rattle.choosing.proofs.Cuts.{IsBeginning}
+use Rattle.choosing.proofs.choosing.cut.Given as goal
+
+abbrev pub invariant-loop-index : goal.invariant-loop-index
+invariant-loop-index l = IsBeginning l.heap (map page_of l.pages) l.index l.chosen.items l.packing

@@ -1,0 +1,94 @@
+//! Next fit, object by object.
+
+ghost use Rattle.std.specs.Prelude.{◌≡◌, ◌<◌, ◌≤◌, ◌+◌, ◌^◌, length, map};
+ghost use Rattle.model.specs.Plans.{offsets_from};
+ghost use Rattle.model.specs.declared.limits.TheConstants.{MOST_WORDS};
+ghost use Rattle.choosing.specs.Choices.{size_on, sizes_on};
+ghost use Rattle.choosing.specs.Packings.{pack, pack_one, first_packing};
+
+use heap::{Heap, Row};
+
+/// Where the next object would go, and how many targets those before it are in.
+#[derive(Clone, Copy, Debug, PartialEq, Eq)]
+pub(crate) struct Packing {
+    /// The number of the present target, from 0.
+    target: u64,
+    /// How many of its words are taken.
+    offset: u32,
+    /// How many targets there are.
+    pub(crate) count: u64,
+}
+
+/// Before all objects.
+pub(crate) fn first_packing() -> Packing
+    ensures { result ≡ first_packing }
+{
+    Packing {
+        target: 0,
+        offset: 0,
+        count: 0,
+    }
+}
+
+/// Behind one more object.
+#[tactic(auto, unfolding(crate::specs::Packings::pack_one))]
+fn pack_one(words: u32, before: Packing, size: u32) -> Packing
+    requires targets { before.target < 2 ^ 34 }
+    requires words { words ≤ MOST_WORDS }
+    requires offset { before.offset < 2 ^ 17 }
+    requires size { size < 2 ^ 17 }
+    ensures value { result ≡ pack_one words before size }
+    ensures targets { result.target ≤ before.target + 1 }
+    ensures offset { result.offset < 2 ^ 17 }
+{
+    if before.offset + size <= words {
+        Packing {
+            target: before.target,
+            offset: before.offset + size,
+            count: before.target + 1,
+        }
+    } else {
+        Packing {
+            target: before.target + 1,
+            offset: size,
+            count: before.target + 2,
+        }
+    }
+}
+
+/// Behind the live objects of a page, by its number from 1 and its row of live bits.
+fn pack_row(heap: &Heap, page: u32, row: &Row, before: Packing) -> Packing
+    requires low { 0 < page }
+    requires high { page ≤ heap.now.store.count }
+    requires size { length row.now ≡ heap.now.store.words }
+    requires targets { before.target ≤ 2 ^ 32 }
+    requires offset { before.offset < 2 ^ 17 }
+    ensures value { result ≡ pack heap.now.store.words before (map (size_on heap.now page) (offsets_from 0 row.now)) }
+    ensures offset { result.offset < 2 ^ 17 }
+{
+    let words = heap.store().page_words();
+    let mut packing = before;
+    let mut from = 0;
+    while let Some(offset) = row.next_from(from) {
+        let size = heap.object_words(heap.address_on(page, offset));
+        packing = pack_one(words, packing, size);
+        from = offset as usize + 1;
+    }
+    packing
+}
+
+/// Behind the live objects of a page, by its number from 1.
+pub(crate) fn pack_page(heap: &Heap, page: u32, before: Packing) -> Packing
+    requires low { 0 < page }
+    requires high { page ≤ heap.now.store.count }
+    requires targets { before.target ≤ 2 ^ 32 }
+    requires offset { before.offset < 2 ^ 17 }
+    ensures value { result ≡ pack heap.now.store.words before (sizes_on heap.now page) }
+    ensures offset { result.offset < 2 ^ 17 }
+{
+    heap.law();
+    match heap.live().get((page - 1) as usize) {
+        None => before,
+        Some(row) => pack_row(heap, page, row, before),
+    }
+}

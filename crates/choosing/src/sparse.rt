@@ -1,0 +1,86 @@
+//! Pages with few live words.
+
+ghost use Rattle.std.specs.Prelude.{◌≡◌, ◌<◌, ◌≤◌, ◌*◌, length, IfOk};
+ghost use Rattle.std.specs.List.{sum_by};
+ghost use Rattle.model.specs.Plans.{offsets_from};
+ghost use Rattle.choosing.specs.Choices.{is_closed_at, live_words, measured_if, size_on, sparse_pages};
+
+use heap::{Heap, Row};
+use model::PageState;
+use std::alloc::{AllocError, Global};
+
+/// How many words the live objects of a page have, by its number from 1 and its row of live bits.
+fn row_words(heap: &Heap, page: u32, row: &Row) -> u64
+    requires low { 0 < page }
+    requires high { page ≤ heap.now.store.count }
+    requires size { length row.now ≡ heap.now.store.words }
+    ensures value { result ≡ sum_by (size_on heap.now page) (offsets_from 0 row.now) }
+    ensures range { result ≤ 131071 * 32768 }
+{
+    let _ = heap.store().page_words();
+    let mut total = 0u64;
+    let mut from = 0;
+    while let Some(offset) = row.next_from(from) {
+        total += heap.object_words(heap.address_on(page, offset)) as u64;
+        from = offset as usize + 1;
+    }
+    total
+}
+
+/// How many words the live objects of a page have, by its number from 1.
+fn live_words(heap: &Heap, page: u32) -> u64
+    requires low { 0 < page }
+    requires high { page ≤ heap.now.store.count }
+    ensures value { result ≡ live_words heap.now page }
+    ensures range { result ≤ 131071 * 32768 }
+{
+    heap.law();
+    match heap.live().get((page - 1) as usize) {
+        None => 0,
+        Some(row) => row_words(heap, page, row),
+    }
+}
+
+/// Whether a page is closed.
+fn is_closed(heap: &Heap, page: u32) -> bool
+    ensures { result ≡ is_closed_at heap.now page }
+{
+    matches!(heap.store().state(page), PageState::Closed)
+}
+
+/// A closed page of which at most so many words of a hundred are live, with its live words.
+fn measured(heap: &Heap, percent: u32, page: u32) -> Option<(u64, u32)>
+    requires low { 0 < page }
+    requires high { page ≤ heap.now.store.count }
+    ensures { result ≡ measured_if heap.now percent page }
+{
+    if !is_closed(heap, page) {
+        return None;
+    }
+    let live = live_words(heap, page);
+    let words = heap.store().page_words();
+    if live * 100 <= u64::from(percent) * u64::from(words) {
+        Some((live, page))
+    } else {
+        None
+    }
+}
+
+/// The closed pages of which at most so many words of a hundred are live, each behind its live words,
+/// by their numbers.
+#[tactic(auto, using(crate::proofs::Sums::sparse_more, crate::proofs::Sums::sparse_same))]
+pub(crate) fn sparse(
+    alloc: Global,
+    heap: &Heap,
+    percent: u32,
+) -> Result<Vec<(u64, u32)>, AllocError>
+    ensures { IfOk result (λ found. found.items ≡ sparse_pages heap.now percent) }
+{
+    let mut found = Vec::new(alloc);
+    for index in 0..heap.store().page_count() {
+        if let Some(page) = measured(heap, percent, index + 1) {
+            found.push(page)?;
+        }
+    }
+    Ok(found)
+}

@@ -1,0 +1,3 @@
+pub mod OneCode
+pub mod Entries
+pub mod Parts

@@ -1,0 +1,11 @@
+//! The tests of runs by threads, of seats and of hints.
+#![tactic(auto)]
+
+#[cfg(test)]
+mod gates;
+#[cfg(test)]
+mod rows;
+#[cfg(test)]
+mod stealing;
+#[cfg(test)]
+mod strays;

@@ -1,0 +1,185 @@
+//! The cycles of the worker that has commands.
+
+use crate::gate::Gate;
+use crate::run::{Finished, Run};
+use crate::scanning::Scanner;
+use choosing::choose;
+use cycle::{Actor, PageList, Step};
+use heap::Heap;
+use model::{Phase, Refusal};
+use parser::{Command, Then};
+use sharing::Seat;
+use std::alloc::{AllocError, Global};
+use std::sync::Wait;
+use std::thread;
+use std::thread::Threads;
+
+/// The first parked thread that hasn't crossed.
+fn first_parked(heap: &Heap) -> Option<u32> {
+    let mut number = 0u32;
+    for thread in heap.threads() {
+        if thread.is_parked() && !thread.has_crossed() {
+            return Some(number);
+        }
+        number = number.wrapping_add(1);
+    }
+    None
+}
+
+/// The worker that has commands.
+#[derive(Drop)]
+pub(crate) struct Collector {
+    pub(crate) scanner: Scanner,
+}
+
+impl Collector {
+    /// Crosses for parked threads until the phase has come. False where all stop.
+    fn wait_for<R: Wait, G: Gate>(&self, run: &Run<R, G>, seat: &mut Seat, phase: Phase) -> bool {
+        for _ in run.rt.forever() {
+            if run.is_stopped() {
+                return false;
+            }
+            if run.phase() == phase {
+                return true;
+            }
+            match run.shared.look(run.rt, |heap: &Heap| first_parked(heap)) {
+                Some(thread) => {
+                    let _ = run.ask(seat, &Step::CrossFor(thread));
+                }
+                None => thread::yield_now(),
+            }
+        }
+        unreachable!()
+    }
+
+    /// Drains the mark and ends it. False where it is refused for good.
+    fn end_mark<R: Wait, G: Gate>(&mut self, run: &Run<R, G>, seat: &mut Seat) -> bool {
+        for _ in run.rt.forever() {
+            self.scanner.drain(run, seat);
+            if run.is_stopped() {
+                return false;
+            }
+            match run.ask(seat, &Step::EndMark) {
+                Ok(_) => return true,
+                Err(Refusal::TodoLeft | Refusal::Pending { .. }) => thread::yield_now(),
+                Err(_) => return false,
+            }
+        }
+        unreachable!()
+    }
+
+    /// Copies all objects of a protected page, and releases it.
+    fn empty<R: Threads + Wait + Sync, G: Gate>(&self, run: &Run<R, G>, seat: &mut Seat, page: u32) {
+        if run.is_stopped() {
+            return;
+        }
+        let _ = run.copy_page(seat, page);
+        let _ = run.ask(seat, &Step::Release(page));
+    }
+
+    /// Protects the pages that are chosen, until all threads have crossed. The pages; none where that is
+    /// refused. The error is want of memory.
+    fn protect<R: Wait, G: Gate>(
+        &self,
+        alloc: Global,
+        run: &Run<R, G>,
+        seat: &mut Seat,
+        percent: u32,
+    ) -> Result<Vec<u32>, AllocError> {
+        let pages = run
+            .shared
+            .look(run.rt, |heap: &Heap| choose(alloc, heap, percent))?;
+        if pages.is_empty() {
+            return Ok(pages);
+        }
+        let named = Vec::from_slice(alloc, &pages)?;
+        let protected = run.ask(seat, &Step::Protect(PageList::new(named)));
+        if protected.is_err() || !self.wait_for(run, seat, Phase::Relocating) {
+            return Ok(Vec::new(alloc));
+        }
+        Ok(pages)
+    }
+
+    /// The first part of a cycle: marks, and protects the pages that are chosen, which it gives. The
+    /// error is want of memory.
+    fn roll<R: Wait, G: Gate>(
+        &mut self,
+        alloc: Global,
+        run: &Run<R, G>,
+        seat: &mut Seat,
+        percent: u32,
+    ) -> Result<Vec<u32>, AllocError> {
+        if run.ask(seat, &Step::StartMark).is_err() {
+            return Ok(Vec::new(alloc));
+        }
+        if !self.wait_for(run, seat, Phase::Scanning) || !self.end_mark(run, seat) {
+            return Ok(Vec::new(alloc));
+        }
+        self.protect(alloc, run, seat, percent)
+    }
+
+    /// A whole cycle: its first part, and then each page is emptied. The error is want of memory.
+    fn cycle<R: Threads + Wait + Sync, G: Gate>(
+        &mut self,
+        alloc: Global,
+        run: &Run<R, G>,
+        seat: &mut Seat,
+        percent: u32,
+    ) -> Result<(), AllocError> {
+        let pages = self.roll(alloc, run, seat, percent)?;
+        for page in pages {
+            self.empty(run, seat, page);
+        }
+        Ok(())
+    }
+
+    /// One command. The error is want of memory.
+    fn command<R: Threads + Wait + Sync, G: Gate>(
+        &mut self,
+        alloc: Global,
+        run: &Run<R, G>,
+        seat: &mut Seat,
+        command: &Command,
+    ) -> Result<(), AllocError> {
+        match command.order.then() {
+            Then::Cycles => self.cycle(alloc, run, seat, command.order.first),
+            Then::Rolls => {
+                let _pages = self.roll(alloc, run, seat, command.order.first)?;
+                Ok(())
+            }
+            _ => Ok(()),
+        }
+    }
+
+    /// All commands of the worker in order.
+    pub(crate) fn work<R: Threads + Wait + Sync, G: Gate>(
+        &mut self,
+        alloc: Global,
+        run: &Run<R, G>,
+        mut seat: Seat,
+        commands: &[Command],
+    ) -> Finished {
+        let mut lacked = false;
+        for command in commands {
+            if run.is_stopped() {
+                break;
+            }
+            if is_of(command, self.scanner.worker)
+                && self.command(alloc, run, &mut seat, command).is_err()
+            {
+                run.shared.stop(run.rt);
+                lacked = true;
+            }
+        }
+        run.leave();
+        Finished { seat, lacked }
+    }
+}
+
+/// Whether a command is a worker's.
+fn is_of(command: &Command, worker: u32) -> bool {
+    match command.actor {
+        Actor::Worker(number) => number == worker,
+        Actor::Thread(_) => false,
+    }
+}

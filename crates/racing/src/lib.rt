@@ -1,0 +1,14 @@
+//! Runs of scripts in which each actor has a thread of the system (ours).
+#![tactic(auto)]
+
+mod collector;
+mod gate;
+mod mutator;
+mod run;
+mod running;
+mod scanning;
+mod telling;
+
+pub use gate::{Gate, OpenGate};
+pub use running::{ThreadsFault, by_threads};
+pub use telling::{tell_stray, tell_threads};

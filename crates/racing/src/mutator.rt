@@ -1,0 +1,153 @@
+//! What a mutator's thread does.
+
+use crate::gate::Gate;
+use crate::run::{Finished, Run};
+use cycle::{Actor, Answer, Reply, Step};
+use heap::Heap;
+use model::Refusal;
+use parser::{Command, Then};
+use sharing::Seat;
+use std::alloc::Global;
+use std::sync::Wait;
+
+/// Whether a thread has a checkpoint to cross, and may: it is neither in a barrier nor parked.
+fn is_to_cross(heap: &Heap, thread: u32) -> bool {
+    match heap.threads().get(thread as usize) {
+        Some(thread) => {
+            !thread.has_crossed() && !thread.is_parked() && thread.barrier().is_none()
+        }
+        None => false,
+    }
+}
+
+/// Whether a thread is in a barrier.
+fn is_loading(heap: &Heap, thread: u32) -> bool {
+    match heap.threads().get(thread as usize) {
+        Some(thread) => thread.barrier().is_some(),
+        None => false,
+    }
+}
+
+/// Whether a register of a thread isn't null.
+fn is_used(heap: &Heap, thread: u32, register: u32) -> bool {
+    match heap.threads().get(thread as usize) {
+        Some(thread) => !thread.register(register).is_null(),
+        None => false,
+    }
+}
+
+/// Whether a reply is that the register is stale.
+fn is_stale(reply: Reply) -> bool {
+    matches!(reply, Err(Refusal::Stale))
+}
+
+/// A mutator at its thread.
+#[derive(Drop)]
+pub(crate) struct Mutator<'a, R, G> {
+    pub(crate) run: &'a Run<'a, R, G>,
+    pub(crate) thread: u32,
+    pub(crate) registers: u32,
+}
+
+impl<R: Wait, G: Gate> Mutator<'_, R, G> {
+    /// Crosses a checkpoint, where one is to be crossed.
+    fn cross(&self, seat: &mut Seat) {
+        let thread = self.thread;
+        let run = self.run;
+        if run.shared.look(run.rt, |heap: &Heap| is_to_cross(heap, thread)) {
+            let _ = run.ask(seat, &Step::Cross);
+        }
+    }
+
+    /// Corrects each register that isn't null.
+    fn scrub(&self, seat: &mut Seat) {
+        let thread = self.thread;
+        let run = self.run;
+        for register in 0..self.registers {
+            if run.shared.look(run.rt, |heap: &Heap| is_used(heap, thread, register)) {
+                let _ = run.ask(seat, &Step::Scrub(register));
+            }
+        }
+    }
+
+    /// One step, behind a checkpoint that is to be crossed. A stale register is corrected, and the step
+    /// asked for again.
+    fn step(&self, seat: &mut Seat, step: &Step) -> Reply {
+        for _ in self.run.rt.forever() {
+            self.cross(seat);
+            let reply = self.run.ask(seat, step);
+            if !is_stale(reply) || self.run.is_stopped() {
+                return reply;
+            }
+            self.scrub(seat);
+        }
+        unreachable!()
+    }
+
+    /// Goes on with a load to its end, or to the first refusal: traps until one is clear, heals where one
+    /// was due, and finishes.
+    fn end_load(&self, seat: &mut Seat, healing: bool) {
+        let mut due = healing;
+        for _ in self.run.rt.forever() {
+            match self.step(seat, &Step::Trap) {
+                Ok(Answer::Clear) => break,
+                Ok(_) => due = true,
+                Err(_) => return,
+            }
+        }
+        if due && self.step(seat, &Step::Heal).is_err() {
+            return;
+        }
+        let _ = self.step(seat, &Step::Finish);
+    }
+
+    /// One command. The error is want of memory.
+    fn command(&self, alloc: Global, seat: &mut Seat, command: &Command) -> bool {
+        let Ok(step) = command.order.step(alloc) else {
+            self.run.shared.stop(self.run.rt);
+            return false;
+        };
+        let reply = self.step(seat, &step);
+        if reply.is_ok() && matches!(command.order.then(), Then::LoadsEnd) {
+            self.end_load(seat, false);
+        }
+        true
+    }
+
+    /// Ends a barrier that is open, gives the buffer back, and parks.
+    fn end(&self, seat: &mut Seat) {
+        let thread = self.thread;
+        let run = self.run;
+        if run.shared.look(run.rt, |heap: &Heap| is_loading(heap, thread)) {
+            self.end_load(seat, true);
+        }
+        let _ = self.step(seat, &Step::GiveBack);
+        let _ = self.step(seat, &Step::Park);
+    }
+
+    /// All commands of the seat's actor in order, and then the end.
+    pub(crate) fn work(&self, alloc: Global, mut seat: Seat, commands: &[Command]) -> Finished {
+        let mut lacked = false;
+        for command in commands {
+            if self.run.is_stopped() {
+                break;
+            }
+            if is_of(command, self.thread) && !self.command(alloc, &mut seat, command) {
+                lacked = true;
+            }
+        }
+        if !self.run.is_stopped() {
+            self.end(&mut seat);
+        }
+        self.run.leave();
+        Finished { seat, lacked }
+    }
+}
+
+/// Whether a command is a thread's.
+fn is_of(command: &Command, thread: u32) -> bool {
+    match command.actor {
+        Actor::Thread(number) => number == thread,
+        Actor::Worker(_) => false,
+    }
+}

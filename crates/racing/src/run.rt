@@ -1,0 +1,91 @@
+//! What all actors of a run share.
+
+ghost use Rattle.model.specs.declared.steps.Step.TheVariants as steps;
+ghost use Rattle.sharing.specs.Seats.{Notes};
+
+use crate::gate::Gate;
+use cycle::{Reply, Step};
+use heap::Heap;
+use model::{Phase, Refusal};
+use sharing::{Seat, Shared};
+use std::sync::Wait;
+use std::sync::atomic::{AtomicU64, Ordering};
+use std::thread::Threads;
+
+/// How often the entries of a page are cut in two, so that pieces are copied side by side.
+const DEPTH: u32 = 2;
+
+/// What all actors of a run share.
+#[derive(Drop)]
+pub(crate) struct Run<'a, R, G> {
+    pub(crate) rt: &'a R,
+    pub(crate) shared: &'a Shared,
+    pub(crate) gate: &'a G,
+    /// How many actors have commands left.
+    pub(crate) busy: &'a AtomicU64,
+    /// The words of a page.
+    pub(crate) words: u32,
+    /// How many workers there are.
+    pub(crate) workers: u32,
+}
+
+/// An actor at the end of its work: its seat, and whether it was refused memory.
+#[derive(Drop)]
+pub(crate) struct Finished {
+    pub(crate) seat: Seat,
+    pub(crate) lacked: bool,
+}
+
+impl<R: Wait, G: Gate> Run<'_, R, G> {
+    /// One step, which is told to the gate. Where no further step can be done, all stop.
+    pub(crate) fn ask(&self, seat: &mut Seat, step: &Step) -> Reply
+        ensures { Notes seat.old step.now result seat.new }
+    {
+        let actor = seat.actor();
+        self.gate.before(actor, step);
+        let reply = self.shared.ask(self.rt, seat, step);
+        self.gate.after(actor, step);
+        if matches!(reply, Err(Refusal::HistoryFull | Refusal::Memory)) {
+            self.shared.stop(self.rt);
+        }
+        reply
+    }
+
+    /// Whether all stop.
+    pub(crate) fn is_stopped(&self) -> bool {
+        self.shared.is_stopped(self.rt)
+    }
+
+    /// The phase.
+    pub(crate) fn phase(&self) -> Phase {
+        self.shared.look(self.rt, |heap: &Heap| heap.phase())
+    }
+
+    /// One more actor has done its commands.
+    pub(crate) fn leave(&self) {
+        let _ = self.busy.fetch_sub(1, Ordering::SeqCst);
+    }
+
+    /// Whether all actors have done their commands.
+    pub(crate) fn is_over(&self) -> bool {
+        self.busy.load(Ordering::SeqCst) == 0
+    }
+}
+
+impl<R: Threads + Wait + Sync, G: Gate> Run<'_, R, G> {
+    /// The step that copies the objects of a page, by halves on threads, told to the gate as each
+    /// step is. Where no further step can be done, all stop.
+    pub(crate) fn copy_page(&self, seat: &mut Seat, page: u32) -> Reply
+        ensures { Notes seat.old (steps.CopyPage page) result seat.new }
+    {
+        let actor = seat.actor();
+        let step = Step::CopyPage(page);
+        self.gate.before(actor, &step);
+        let reply = self.shared.copy_page(self.rt, seat, page, DEPTH);
+        self.gate.after(actor, &step);
+        if matches!(reply, Err(Refusal::HistoryFull | Refusal::Memory)) {
+            self.shared.stop(self.rt);
+        }
+        reply
+    }
+}

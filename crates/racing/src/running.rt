@@ -1,0 +1,229 @@
+//! Runs of scripts by threads.
+
+ghost use Rattle.std.specs.Prelude.{IfOk};
+ghost use Rattle.sharing.specs.Seats.{AreSettled};
+
+use crate::collector::Collector;
+use crate::gate::Gate;
+use crate::mutator::Mutator;
+use crate::run::{Finished, Run};
+use crate::scanning::Scanner;
+use cycle::{Actor, Book};
+use hints::{HintSeat, Hints};
+use parser::{Command, LineFault, Script};
+use sharing::{Seat, Settled, Shared, settle};
+use std::alloc::{AllocError, AllocFailed, Global};
+use std::sync::Wait;
+use std::sync::atomic::AtomicU64;
+use std::thread;
+use std::thread::Threads;
+
+/// Why a run by threads has no result.
+#[derive(Clone, Copy, Debug, PartialEq, Eq)]
+pub enum ThreadsFault {
+    /// Memory was refused, or a thread couldn't be started.
+    Memory,
+    /// The seats and the history disagree on this actor.
+    Stray(Actor),
+    /// The script has a command that a run by threads doesn't do.
+    Line(LineFault),
+}
+
+impl From<AllocError> for ThreadsFault {
+    ghost from_gives = { λ _ _. Unit {0} };
+
+    fn from(_error: AllocError) -> ThreadsFault {
+        ThreadsFault::Memory
+    }
+}
+
+impl<T: Drop> From<AllocFailed<T>> for ThreadsFault {
+    ghost from_gives = { λ _ _. Unit {0} };
+
+    fn from(_error: AllocFailed<T>) -> ThreadsFault {
+        ThreadsFault::Memory
+    }
+}
+
+/// An actor with all that it needs: its seat, and of a worker its seat among the hints.
+#[derive(Drop)]
+struct Player {
+    seat: Seat,
+    hints: Option<HintSeat>,
+}
+
+/// The work of one actor, in its own thread.
+fn play<R: Threads + Wait + Sync, G: Gate>(
+    run: &Run<R, G>,
+    alloc: Global,
+    player: Player,
+    commands: &[Command],
+    registers: u32,
+) -> Finished {
+    let Player { seat, hints } = player;
+    match (seat.actor(), hints) {
+        (Actor::Thread(thread), _) => {
+            let mutator = Mutator {
+                run,
+                thread,
+                registers,
+            };
+            mutator.work(alloc, seat, commands)
+        }
+        (Actor::Worker(worker), Some(hints)) => {
+            let mut scanner = Scanner { worker, hints };
+            if worker == 0 {
+                let mut collector = Collector { scanner };
+                collector.work(alloc, run, seat, commands)
+            } else {
+                scanner.help(run, seat)
+            }
+        }
+        (Actor::Worker(_), None) => Finished {
+            seat,
+            lacked: false,
+        },
+    }
+}
+
+/// The actors with their seats, workers with theirs among the hints.
+fn players(alloc: Global, seats: Vec<Seat>, hints: Vec<HintSeat>) -> Result<Vec<Player>, AllocError> {
+    let mut players = Vec::with_capacity(alloc, seats.len())?;
+    let mut left = hints;
+    left.reverse();
+    for seat in seats {
+        let hints = match seat.actor() {
+            Actor::Thread(_) => None,
+            Actor::Worker(_) => left.pop(),
+        };
+        players.push(Player { seat, hints })?;
+    }
+    Ok(players)
+}
+
+/// A thread for each actor, and the seats as they leave them.
+fn all_played<R: Threads + Wait + Sync, G: Gate + Sync>(
+    run: &Run<R, G>,
+    alloc: Global,
+    players: Vec<Player>,
+    commands: &[Command],
+    registers: u32,
+) -> Result<Vec<Seat>, AllocError> {
+    thread::scope(thread::scope_env(), run.rt, move |scope| {
+        let mut handles = Vec::with_capacity(alloc, players.len())?;
+        let mut seats = Vec::with_capacity(alloc, players.len())?;
+        let mut lacked = false;
+        for player in players {
+            match scope.spawn(move || play(run, alloc, player, commands, registers)) {
+                Ok(handle) => handles.push(handle)?,
+                Err(_) => {
+                    run.shared.stop(run.rt);
+                    lacked = true;
+                }
+            }
+        }
+        for handle in handles {
+            let finished = handle.join(run.rt);
+            lacked = lacked || finished.lacked;
+            seats.push(finished.seat)?;
+        }
+        if lacked { Err(AllocError) } else { Ok(seats) }
+    })
+}
+
+/// The sizes of a heap that its actors ask for.
+#[derive(Clone, Copy)]
+struct Sizes {
+    words: u32,
+    threads: u32,
+    workers: u32,
+    registers: u32,
+}
+
+/// Does the commands on a shared book by threads, one for each seat, and gives the seats as these leave
+/// them.
+fn played<R: Threads + Wait + Sync, G: Gate + Sync>(
+    rt: &R,
+    alloc: Global,
+    shared: &Shared,
+    seats: Vec<Seat>,
+    sizes: Sizes,
+    commands: &[Command],
+    gate: &G,
+) -> Result<Vec<Seat>, AllocError> {
+    let hints = Hints::new(alloc, sizes.workers)?;
+    let players = players(alloc, seats, hints)?;
+    let busy = AtomicU64::new(u64::from(sizes.threads) + 1);
+    let run = Run {
+        rt,
+        shared,
+        gate,
+        busy: &busy,
+        words: sizes.words,
+        workers: sizes.workers,
+    };
+    all_played(&run, alloc, players, commands, sizes.registers)
+}
+
+/// Does the commands on a book by threads, one for each actor.
+fn raced<R: Threads + Wait + Sync, G: Gate + Sync>(
+    rt: &R,
+    alloc: Global,
+    book: Book,
+    commands: &[Command],
+    gate: &G,
+) -> Result<Settled, ThreadsFault>
+    ensures { IfOk result (λ s. AreSettled s.book.history s.seats.items) }
+{
+    let config = book.heap().config();
+    let sizes = Sizes {
+        words: config.words,
+        threads: config.threads,
+        workers: config.workers,
+        registers: config.registers,
+    };
+    match Shared::open(alloc, book) {
+        Ok((shared, seats)) => {
+            let seats = played(rt, alloc, &shared, seats, sizes, commands, gate);
+            settled_or_stray(shared, seats)
+        }
+        Err(_) => Err(ThreadsFault::Memory),
+    }
+}
+
+/// The book and the seats, where they agree.
+fn settled_or_stray(
+    shared: Shared,
+    seats: Result<Vec<Seat>, AllocError>,
+) -> Result<Settled, ThreadsFault>
+    ensures { IfOk result (λ s. AreSettled s.book.history s.seats.items) }
+{
+    match seats {
+        Ok(seats) => match settle(shared.into_book(), seats) {
+            Ok(settled) => Ok(settled),
+            Err(stray) => Err(ThreadsFault::Stray(stray.actor)),
+        },
+        Err(_) => Err(ThreadsFault::Memory),
+    }
+}
+
+/// Runs a script on a new heap by threads of the system, one for each actor: each does its own commands
+/// in the script's order, each step under one hold of the lock, and told to the gate. Then the seats and
+/// the history are settled.
+pub fn by_threads<R: Threads + Wait + Sync, G: Gate + Sync>(
+    rt: &R,
+    alloc: Global,
+    script: &Script,
+    gate: &G,
+) -> Result<Settled, ThreadsFault>
+    ensures { IfOk result (λ s. AreSettled s.book.history s.seats.items) }
+{
+    if let Some(fault) = script.spots().other {
+        return Err(ThreadsFault::Line(fault));
+    }
+    let config = script.config().copy(alloc)?;
+    let Ok(book) = Book::new(alloc, config) else {
+        return Err(ThreadsFault::Memory);
+    };
+    raced(rt, alloc, book, script.commands(), gate)
+}

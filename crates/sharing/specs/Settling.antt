@@ -1,0 +1,19 @@
+-- The first actor of whom something fails.
+use Rattle.std.specs.Prelude.{◌≡◌, Bool, true, false, Option, Some, None, if◌then◌else◌}
+use Rattle.model.specs.declared.steps.Actor.{Actor}
+use Rattle.parts.specs.Parts.{is_before}
+
+-- nobody, or the first actor of whom it fails
+abbrev pub IsFirstNot : (Actor → Type 0) → Option Actor → Type 0
+IsFirstNot P None = (a : Actor) → P a
+IsFirstNot P (Some x) = (¬ P x) × ((a : Actor) → is_before a x ≡ true → P a)
+
+-- the earlier of an actor, if there is one, and another
+abbrev pub earlier : Option Actor → Actor → Option Actor
+earlier None b = Some b
+earlier (Some a) b = if is_before b a then Some b else Some a
+
+-- the first one of whom it fails, after a further actor was looked at
+abbrev pub noted : Option Actor → Actor → Bool → Option Actor
+noted found a true = found
+noted found a false = earlier found a

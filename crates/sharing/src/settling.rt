@@ -1,0 +1,106 @@
+//! Whether what each actor saw stands in the history.
+
+ghost use Rattle.std.specs.Prelude.{◌≡◌, ◌==◌, true, IfErr, IfOk, length};
+ghost use Rattle.model.specs.declared.steps.Actor.{Actor};
+ghost use Rattle.parts.specs.Parts.{is_before};
+ghost use Rattle.sharing.specs.Seats.{Agrees, AreSettled, HasPart, of_actor};
+ghost use Rattle.sharing.specs.Settling.{IsFirstNot, earlier, noted};
+
+use crate::seat::Seat;
+use cycle::{Actor, Book, History};
+use parts::{actor_at, is_before, is_part, is_same};
+
+/// A book and the seats of its actors, which agree.
+#[derive(Drop)]
+pub struct Settled {
+    /// The book, as it came in.
+    pub book: Book,
+    /// The seats, as they came in.
+    pub seats: Vec<Seat>,
+}
+
+/// The first actor, threads before workers, on whom the seats and the history disagree.
+#[derive(Clone, Copy, Debug, PartialEq, Eq)]
+pub struct Stray {
+    /// The actor.
+    pub actor: Actor,
+}
+
+/// Whether an actor has one seat and no other.
+fn has_one(seats: &[Seat], actor: Actor) -> bool
+    ensures { result ≡ (length (of_actor actor seats.now) == 1) }
+{
+    let mut count: usize = 0;
+    for seat in seats {
+        if is_same(seat.actor(), actor) {
+            count += 1;
+        }
+    }
+    count == 1
+}
+
+/// The earlier of two actors.
+fn earlier(a: Option<Actor>, b: Actor) -> Option<Actor>
+    ensures { result ≡ earlier a b }
+{
+    match a {
+        Some(a) => { if is_before(b, a) { Some(b) } else { Some(a) } }
+        None => Some(b),
+    }
+}
+
+/// The first actor so far, after a further one was looked at.
+fn noted(found: Option<Actor>, actor: Actor, fine: bool) -> Option<Actor>
+    ensures { result ≡ noted found actor fine }
+{
+    if fine { found } else { earlier(found, actor) }
+}
+
+/// The first actor of whom a seat's list isn't what the history has of it.
+#[tactic(auto, using(crate::proofs::Settles::wrong_more, crate::proofs::Settles::all_of))]
+fn first_wrong(history: &History, seats: &[Seat]) -> Option<Actor>
+    ensures { IsFirstNot (HasPart history.now.entries seats.now) result }
+{
+    let mut found = None;
+    for seat in seats {
+        let fine = is_part(seat.list(), seat.actor(), history);
+        found = noted(found, seat.actor(), fine);
+    }
+    found
+}
+
+/// The first actor of these and of those in the history that haven't one seat.
+fn first_lacking(history: &History, seats: &[Seat], before: Option<Actor>) -> Option<Actor>
+    requires { IsFirstNot (HasPart history.now.entries seats.now) before }
+    ensures { IsFirstNot (Agrees history.now.entries seats.now) result }
+{
+    let mut found = before;
+    for index in 0..history.len() {
+        let actor = actor_at(history, index);
+        let fine = has_one(seats, actor);
+        found = noted(found, actor, fine);
+    }
+    found
+}
+
+/// The first actor on whom the seats and the history disagree.
+fn first_stray(history: &History, seats: &[Seat]) -> Option<Actor>
+    ensures { IsFirstNot (Agrees history.now.entries seats.now) result }
+{
+    let wrong = first_wrong(history, seats);
+    first_lacking(history, seats, wrong)
+}
+
+/// The book and the seats as they came in, where each actor of the history has one seat, and each
+/// seat's list is what the history has of its actor, in order; else the first actor for whom this
+/// fails. It takes no memory.
+pub fn settle(book: Book, seats: Vec<Seat>) -> Result<Settled, Stray>
+    ensures same { IfOk result (λ s. (s.book ≡ book) × (s.seats.items ≡ seats.items)) }
+    ensures settled { IfOk result (λ s. AreSettled s.book.history s.seats.items) }
+    ensures stray { IfErr result (λ s. ¬ Agrees book.history seats.items s.actor × ((a : Actor) → is_before a s.actor ≡ true → Agrees book.history seats.items a)) }
+{
+    match first_stray(book.history(), seats.as_slice()) {
+        Some(actor) => Err(Stray { actor }),
+        None => Ok(Settled { book, seats }),
+    }
+}

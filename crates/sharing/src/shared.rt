@@ -1,0 +1,176 @@
+//! A book that threads share.
+
+ghost use Rattle.std.specs.Prelude.{◌≡◌, IfErr, IfOk};
+ghost use Rattle.std.specs.Fn.{FnOnceReturnsAt, FnOnceTakesAt};
+ghost use Rattle.cycle.specs.Books.{BookState};
+ghost use Rattle.cycle.specs.Replays.{IsBook, KeepsPromises};
+ghost use Rattle.sharing.specs.Seats.{Notes, seats_of};
+ghost use Rattle.model.specs.States.{HeapState};
+ghost use Rattle.model.specs.declared.steps.Step.TheVariants as steps;
+
+use crate::opening::seats;
+use crate::seat::Seat;
+use cycle::{Book, PieceGate, Reply, Step};
+use heap::Heap;
+use model::Refusal;
+use parts::again;
+use std::alloc::Global;
+use std::sync::{Condvar, Mutex, Wait};
+use std::thread::Threads;
+
+/// What lies under the lock.
+#[derive(Drop)]
+struct Desk {
+    book: Book,
+    stopped: bool,
+}
+
+impl Desk {
+    /// A step that may be asked for again.
+    fn attempt(&mut self, alloc: Global, seat: &mut Seat, step: &Step) -> Reply
+        ensures { Notes seat.old step.now result seat.new }
+    {
+        match again(alloc, step) {
+            Ok(copy) => seat.act(alloc, &mut self.book, copy),
+            Err(_) => Err(Refusal::Memory),
+        }
+    }
+}
+
+/// A gate that holds no piece.
+struct NoGate;
+
+impl PieceGate for NoGate {
+    fn begin(&self, _piece: u32) {}
+}
+
+/// A book under a lock, on which each actor acts by its seat.
+///
+/// A step is one hold of the lock. What the book holds is what `Book` promises each time.
+#[derive(Drop)]
+pub struct Shared {
+    desk: Mutex<Desk>,
+    changed: Condvar,
+    alloc: Global,
+}
+
+impl Shared {
+    /// A book that threads share, and a seat for each actor, threads first, whose list is what the
+    /// history has of it. Where memory was refused, the book comes back.
+    pub fn open(alloc: Global, book: Book) -> Result<(Shared, Vec<Seat>), Book>
+        ensures seats { IfOk result (λ opened. opened.1.items ≡ seats_of book) }
+        ensures back { IfErr result (λ back. back ≡ book) }
+    {
+        match seats(alloc, &book) {
+            Ok(seats) => Ok((Shared::over(alloc, book), seats)),
+            Err(_) => Err(book),
+        }
+    }
+
+    /// A book under a lock.
+    fn over(alloc: Global, book: Book) -> Shared {
+        Shared {
+            desk: Mutex::new(Desk {
+                book,
+                stopped: false,
+            }),
+            changed: Condvar::new(),
+            alloc,
+        }
+    }
+
+    /// One step of the seat's actor, under one hold of the lock, as `Seat::act` does it. An accepted
+    /// step wakes all that wait.
+    pub fn step<R: Wait>(&self, rt: &R, seat: &mut Seat, step: Step) -> Reply
+        ensures { Notes seat.old step result seat.new }
+    {
+        let mut desk = self.desk.lock(rt);
+        let reply = seat.act(self.alloc, &mut desk.book, step);
+        drop(desk);
+        if reply.is_ok() {
+            self.changed.notify_all();
+        }
+        reply
+    }
+
+    /// As `step`, but where it is refused as `Stall`, it waits for another step, and asks again,
+    /// until `stop` was called: then it answers that `Stall`.
+    pub fn step_wait<R: Wait>(&self, rt: &R, seat: &mut Seat, step: Step) -> Reply
+        ensures { Notes seat.old step result seat.new }
+    {
+        self.ask(rt, seat, &step)
+    }
+
+    /// As `step_wait`, by a step that is lent.
+    pub fn ask<R: Wait>(&self, rt: &R, seat: &mut Seat, step: &Step) -> Reply
+        ensures { Notes seat.old step.now result seat.new }
+    {
+        let mut desk = self.desk.lock(rt);
+        for _ in rt.forever() {
+            let reply = desk.attempt(self.alloc, seat, step);
+            if reply == Err(Refusal::Stall) && !desk.stopped {
+                desk = self.changed.wait(rt, desk);
+            } else {
+                drop(desk);
+                if reply.is_ok() {
+                    self.changed.notify_all();
+                }
+                return reply;
+            }
+        }
+        unreachable!()
+    }
+
+    /// The step that copies the objects of a page, by halves on threads to a depth (above 4 counts as
+    /// 4), under one hold of the lock; else as `step`. It waits for the threads.
+    pub fn copy_page<R: Threads + Wait + Sync>(
+        &self,
+        rt: &R,
+        seat: &mut Seat,
+        page: u32,
+        depth: u32,
+    ) -> Reply
+        ensures { Notes seat.old (steps.CopyPage page) result seat.new }
+    {
+        let mut desk = self.desk.lock(rt);
+        let reply = seat.copy_page(rt, self.alloc, &mut desk.book, page, depth, &NoGate);
+        drop(desk);
+        if reply.is_ok() {
+            self.changed.notify_all();
+        }
+        reply
+    }
+
+    /// Ends all waits, and changes neither the book nor a list.
+    pub fn stop<R: Wait>(&self, rt: &R) {
+        self.desk.lock(rt).stopped = true;
+        self.changed.notify_all();
+    }
+
+    /// Whether `stop` was called.
+    pub fn is_stopped<R: Wait>(&self, rt: &R) -> bool {
+        self.desk.lock(rt).stopped
+    }
+
+    /// What `f` says of the heap, which is lent to it for reading under one hold of the lock. What
+    /// it found may be old when the next step comes.
+    pub fn look<R: Wait, F: FnOnce(&Heap) -> T, T>(&self, rt: &R, f: F) -> T
+        requires { (h : HeapState) → FnOnceTakesAt F.FnOnce f h }
+        ensures { (b : BookState) × IsBook b × FnOnceReturnsAt F.FnOnce f b.heap result }
+    {
+        let desk = self.desk.lock(rt);
+        desk.book.law();
+        f(desk.book.heap())
+    }
+
+    /// The book, once no thread shares it: its history is one of one thread, and each answer in it
+    /// is the plain heap's at its place.
+    pub fn into_book(self) -> Book
+        ensures book { IsBook result }
+        ensures promises { KeepsPromises result }
+    {
+        let Desk { book, stopped: _ } = self.desk.into_inner();
+        book.law();
+        book
+    }
+}
