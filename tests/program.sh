@@ -54,7 +54,7 @@ is_told 'no words' 2 "$usage"
 is_told 'a file alone' 2 "$usage" "$script"
 is_told 'a mode alone' 2 "$usage" run
 is_told 'three words' 2 "$usage" run "$script" "$script"
-is_told 'a mode that is not there' 2 "$usage" threads "$script"
+is_told 'a mode that is not there' 2 "$usage" walk "$script"
 is_told 'a mode alone that checks' 2 "$usage" check
 is_told 'an empty mode' 2 "$usage" '' "$script"
 is_told 'a flag' 2 "$usage" run --help

@@ -342,7 +342,7 @@ after_stays h page e = by_outcome (copy_outcome h page e) (copy_stays h page e)
   where
     by_outcome : (o : Outcome) → Stays h o → TalliesStay h (heap_after h o)
     by_outcome (Ok z) s = s
-    by_outcome (Err n) s u = refl
+    by_outcome (Err n) s = λ u. refl
 
 -- so are many
 copies_stay : (h : HeapState) (page e k : ℕ) → TalliesStay h (copies_from h page e k)

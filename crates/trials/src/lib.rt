@@ -12,6 +12,7 @@ mod books;
 mod configs;
 #[cfg(test)]
 mod halving;
+#[cfg(test)]
 mod heaps;
 #[cfg(test)]
 mod histories;

@@ -81,7 +81,7 @@ fn are_needed(rt: &impl Abort, alloc: Global, capacity: usize, writes: u32) -> R
     for left in 0..writes {
         is_told(rt, alloc, capacity, left, 3, "pauseless: cannot write\n")?;
     }
-    for left in writes..6 {
+    for left in writes..7 {
         is_told(rt, alloc, capacity, left, 0, "")?;
     }
     Ok(())
@@ -90,13 +90,13 @@ fn are_needed(rt: &impl Abort, alloc: Global, capacity: usize, writes: u32) -> R
 /// The lines go out one by one behind a small buffer, and together behind a large one.
 #[test]
 fn each_write_fails(rt: HostRuntime) -> Result<(), Fail> {
-    are_needed(&rt, rt.alloc(), 8, 5)?;
+    are_needed(&rt, rt.alloc(), 8, 6)?;
     are_needed(&rt, rt.alloc(), 8192, 1)
 }
 
 /// A writer that fails when it is flushed, behind a buffer of so many bytes.
 fn flush_is_told(rt: &impl Abort, alloc: Global, capacity: usize) -> Result<(), Fail> {
-    let (status, taken, errors) = served(alloc, capacity, 6, false)?;
+    let (status, taken, errors) = served(alloc, capacity, 7, false)?;
     assert_eq!(rt; status, 3);
     assert_eq!(rt; taken.as_slice(), OUTPUT.as_bytes());
     assert_eq!(rt; errors.as_slice(), b"pauseless: cannot write\n".as_slice());

@@ -15,8 +15,8 @@ loop-offset-preserved c =
     let near = within row k first.here in (
       total_next (size_on h c.args.page) _ _ k c.loop-offset.total _ _ (left_next row c.loop-offset.from k first)
           c.loop-offset.invariant.0 (ap (λ (n : ℕ). c.loop-offset.total + n)
-          (c.object_words-total.ensures.value ∙ ap (object_words h) c.address_on.ensures)),
-      omega (arith, c.loop-offset.invariant.1, c.object_words-total.ensures.range, first.low),
+          (c.object_words.ensures.value ∙ ap (object_words h) c.address_on.ensures)),
+      omega (arith, c.loop-offset.invariant.1, c.object_words.ensures.range, first.low),
       omega (arith, near),
     )
 
