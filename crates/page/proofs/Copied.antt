@@ -1,6 +1,6 @@
 -- An element of a list that is taken out, while another is written.
-use Rattle.std.proofs.Common.{◌≡◌, ◌≢◌, ℕ, zero, suc, ◌≤◌, List, [], ◌∷◌, length, take, drop, set, Option, Some, None}
-use Rattle.std.proofs.Common.{refl, sym, ap, ◌∙◌, arith}
+use Rattle.std.proofs.Common.{◌≡◌, ◌≢◌, ℕ, zero, suc, List, [], ◌∷◌, length, take, set, Some}
+use Rattle.std.proofs.Common.{refl, sym, ap, ◌∙◌}
 use Rattle.std.specs.List.{slice_get}
 use Rattle.std.proofs.Math.Seq.{take-length}
 use Rattle.std.proofs.lemmas.List.{take-append-drop}
@@ -10,11 +10,6 @@ use Rattle.model.specs.Stores.{overlay}
 -- nothing is laid over words
 pub nothing_over : (ws : List ℕ) (o : ℕ) → overlay ws o [] ≡ ws
 nothing_over ws o = ap (take (length ws)) (take-append-drop o ws) ∙ take-length ws
-
-pub past : {X : Type 0} (xs : List X) (i : ℕ) → length xs ≤ i → slice_get xs i ≡ None
-past [] i h = refl
-past (x ∷ xs) zero h = absurd (omega (arith, h))
-past (x ∷ xs) (suc i) h = past xs i (omega (arith, h))
 
 pub same_set : {X : Type 0} (xs : List X) (i : ℕ) (x : X) → slice_get xs i ≡ Some x → set xs i x ≡ xs
 same_set [] i x e = refl

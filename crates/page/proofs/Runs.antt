@@ -1,22 +1,24 @@
 -- Runs of objects that are copied from one page to another.
-use Rattle.std.proofs.Common.{◌≡◌, ◌≢◌, ℕ, zero, suc, ◌+◌, ◌-◌, ◌≤◌, ◌<◌, ◌/◌, ◌%◌, ◌==◌, List, [], ◌∷◌, length, take, drop, set}
-use Rattle.std.proofs.Common.{get_or, Option, Some, None, if◌then◌else◌, cond, Bool, true, false, ne_eqb, eq-eqb}
-use Rattle.std.proofs.Common.{refl, sym, ap, ◌∙◌, subst, arith}
+use Rattle.std.proofs.Common.{◌≡◌, ℕ, zero, suc, ◌+◌, ◌-◌, ◌≤◌, ◌<◌, ◌%◌, ◌==◌, List, [], ◌∷◌, length, take, drop, set}
+use Rattle.std.proofs.Common.{Option, Some, None, cond, Bool, true, false, not, ◌&&◌, ◌⊎◌, inl, inr}
+use Rattle.std.proofs.Common.{refl, sym, ap, ◌∙◌, arith}
 use Rattle.std.specs.List.{slice_get}
-use Rattle.std.proofs.Math.ListN.{length-set}
-use Rattle.std.proofs.lemmas.Option.{same_Some}
+use Rattle.std.proofs.lemmas.Bool.{and_cases, and_parts, not-true, not-false}
+use Rattle.std.proofs.lemmas.Option.{same_Some, slice_get_within}
 use Rattle.layout.specs.declared.shape.Layout.{Layout}
 use Rattle.model.specs.declared.records.Forwarding.{Forwarding}
-use Rattle.model.specs.Owning.{IsStore, Each}
+use Rattle.model.specs.Owning.{IsStore}
 use Rattle.model.specs.declared.limits.TheConstants.{MOST_WORDS}
 use Rattle.model.specs.Stores.{StoreState, page_at, frame_in, words_at, with_words, changed_frame, changed_in, overlay}
-use Rattle.model.proofs.Lists.{get_read, get_set_other, get_set_same}
-use Rattle.model.proofs.Memory.{own_frame, words_in}
+use Rattle.model.proofs.Lists.{get_set_same, no_some}
+use Rattle.model.proofs.Memory.{page_record, words_in, words_sized}
 use Rattle.pieces.specs.Pieces.{SourceState, laid_from, laid_by, words_at as object_at, size_at}
 use Rattle.pieces.proofs.Cuts.{length_all}
-use Rattle.page.specs.Runs.{known, source_with, with_run, with_run_in}
+use Rattle.pieces.proofs.Overlays.{overlaid_all}
+use Rattle.page.specs.Lending.{can_lend, has_frame}
+use Rattle.page.specs.Runs.{known, source_with, with_run}
 use Rattle.page.proofs.Keeping.{frame_keeps}
-use Rattle.page.proofs.Copied.{past, same_set, back_beside, nothing_over}
+use Rattle.page.proofs.Copied.{same_set, nothing_over}
 
 -- a page without words gives none
 
@@ -62,33 +64,6 @@ unchanged s n f same = ap (λ fs. record s { frames = fs }) (by_frame (frame_in 
     by_frame None = refl
     by_frame (Some i) = unchanged_frame s.frames i f same
 
--- in frames
-
-pub no_target : (fs : List (List ℕ)) (source target size : ℕ) (side : List Forwarding) (ls : List Layout) (e k : ℕ)
-    → length fs ≤ target → fs ≡ with_run_in fs source target size side ls e k
-unfolding with_run_in
-no_target fs source target size side ls e k h = rw (past fs target h) refl
-
-pub no_source : (fs : List (List ℕ)) (source target size : ℕ) (side : List Forwarding) (ls : List Layout) (e k : ℕ)
-    → length fs ≤ source → fs ≡ with_run_in fs source target size side ls e k
-unfolding with_run_in
-no_source fs source target size side ls e k h = unchanged_frame fs target
-    (laid_from (source_with size (slice_get fs source) side ls) 0 e k)
-    (λ ws. laid_none (source_with size (slice_get fs source) side ls) e k ws (ap known (past fs source h)))
-
--- the source is held aside, and none stands in its place, while the target is written
-pub held_aside : (fs : List (List ℕ)) (source target size : ℕ) (side : List Forwarding) (ls : List Layout) (e k : ℕ)
-    (none held from over new : List ℕ) → source ≢ target → source < length fs → target < length fs
-    → from ≡ get_or fs source from → held ≡ from → over ≡ get_or (set fs source none) target over
-    → new ≡ laid_from (record { size = size; words = held; side = side; layouts = ls }) 0 e k over
-    → set (set (set fs source none) target new) source held ≡ with_run_in fs source target size side ls e k
-unfolding with_run_in
-held_aside fs source target size side ls e k none held from over new apart low high a b c d =
-    let there : slice_get fs source ≡ Some held = get_read fs source from low a ∙ ap Some (sym b) in
-    let beside : slice_get fs target ≡ Some over = sym (get_set_other fs source target none (λ z. apart (sym z)))
-    ∙ get_read (set fs source none) target over (rw (length-set fs source none) high) c in
-    back_beside fs source target none new held apart there ∙ ap (set fs target) d ∙ rw (there, beside) refl
-
 -- in a store
 
 pub run_nowhere : (s : StoreState) (page target : ℕ) (side : List Forwarding) (ls : List Layout) (e k : ℕ)
@@ -111,39 +86,62 @@ run_of_nothing s page target side ls e k none = unchanged s target
     by_page true ws = refl
     by_page false ws = laid_none from e k ws (ap (λ o. known (words_in s.frames o)) none)
 
-pub run_on_one : (s : StoreState) (page target : ℕ) (side : List Forwarding) (ls : List Layout) (e k f g : ℕ)
-    → IsStore s → frame_in (page_at s page) ≡ Some f → frame_in (page_at s target) ≡ Some g → f ≡ g
-    → s ≡ with_run s page target side ls e k
+-- where nothing can be lent, nothing is copied
+pub run_unlent : (s : StoreState) (page target : ℕ) (side : List Forwarding) (ls : List Layout) (e k : ℕ)
+    → can_lend s page target ≡ false → s ≡ with_run s page target side ls e k
 unfolding with_run
-run_on_one s page target side ls e k f g h a b same =
-    let one : page ≡ target = own_frame s page target g h (a ∙ ap Some same) b in
-    rw (eq-eqb page target one) (unchanged s target (λ ws. ws) (λ ws. refl))
-
-pub run_apart : (s : StoreState) (page target : ℕ) (side : List Forwarding) (ls : List Layout) (e k f g : ℕ)
-    → frame_in (page_at s page) ≡ Some f → frame_in (page_at s target) ≡ Some g → f ≢ g
-    → record s { frames = with_run_in s.frames f g s.words side ls e k } ≡ with_run s page target side ls e k
-unfolding with_run with_words words_at with_run_in
-run_apart s page target side ls e k f g a b apart =
-    let two : page ≢ target = λ z. apart (same_Some _ _ (sym a ∙ ap (λ n. frame_in (page_at s n)) z ∙ b)) in
-    rw (ne_eqb page target two, a, b) refl
-
--- the frames keep their words' number
-pub run_keeps : (s : StoreState) (source target size : ℕ) (side : List Forwarding) (ls : List Layout) (e k : ℕ)
-    → IsStore s → IsStore (record s { frames = with_run_in s.frames source target size side ls e k })
-unfolding with_run_in
-run_keeps s source target size side ls e k h = by_words (slice_get s.frames target) refl
+run_unlent s page target side ls e k h = by_pages (and_cases _ _ h)
   where
-    from : SourceState
-    from = source_with size (slice_get s.frames source) side ls
+    by_frames : (has_frame s page ≡ false) ⊎ (has_frame s target ≡ false) → s ≡ with_run s page target side ls e k
+    by_frames (inl a) = run_of_nothing s page target side ls e k (no_some _ a)
+    by_frames (inr b) = run_nowhere s page target side ls e k (no_some _ b)
 
-    by_words : (o : Option (List ℕ)) → slice_get s.frames target ≡ o
-        → IsStore (record s { frames = changed_frame s.frames target o (laid_from from 0 e k) })
-    by_words None z = h
-    by_words (Some ws) z = frame_keeps s target _ h (length_all from 0 e k ws ∙ h.sized.frames target ws z)
+    by_pages : (not (page == target) ≡ false) ⊎ ((has_frame s page && has_frame s target) ≡ false)
+        → s ≡ with_run s page target side ls e k
+    by_pages (inl z) = rw (not-false (page == target) z) (unchanged s target (λ ws. ws) (λ ws. refl))
+    by_pages (inr z) = by_frames (and_cases _ _ z)
 
--- no frame has more words than a page may have
-pub frames_short : (s : StoreState) → IsStore s → Each s.frames (λ ws. length ws ≤ MOST_WORDS)
-frames_short s h i ws at = omega (arith, h.sized.frames i ws at, h.sized.words)
+-- two changes that do the same to a page's words
+same_words : (s : StoreState) (n : ℕ) (f g : List ℕ → List ℕ) (ws : List ℕ) → words_at s n ≡ Some ws → f ws ≡ g ws
+    → with_words s n f ≡ with_words s n g
+unfolding with_words words_at
+same_words s n f g ws e same = ap (λ fs. record s { frames = fs }) (by_frame (frame_in (page_at s n)) refl)
+  where
+    by_words : (x : ℕ) → frame_in (page_at s n) ≡ Some x → (o : Option (List ℕ)) → slice_get s.frames x ≡ o
+        → changed_frame s.frames x o f ≡ changed_frame s.frames x o g
+    by_words x k None a = refl
+    by_words x k (Some vs) a =
+        let there : words_in s.frames (Some x) ≡ Some vs = a in
+        let is : vs ≡ ws = same_Some _ _ (sym there ∙ ap (words_in s.frames) (sym k) ∙ e) in
+        ap (set s.frames x) (ap f is ∙ same ∙ ap g (sym is))
+
+    by_frame : (o : Option ℕ) → frame_in (page_at s n) ≡ o → changed_in s.frames o f ≡ changed_in s.frames o g
+    by_frame None k = refl
+    by_frame (Some x) k = by_words x k (slice_get s.frames x) refl
+
+-- the target's words are written, as they are lent beside those of the page
+pub run_lent : (s : StoreState) (page target size : ℕ) (side : List Forwarding) (ls : List Layout) (e k : ℕ)
+    (from to new : List ℕ) → can_lend s page target ≡ true → size ≡ s.words → words_at s page ≡ Some from
+    → words_at s target ≡ Some to
+    → new ≡ laid_from (record { size = size; words = from; side = side; layouts = ls }) 0 e k to
+    → with_words s target (λ ws. overlay ws 0 new) ≡ with_run s page target side ls e k
+unfolding with_run
+run_lent s page target size side ls e k from to new h a b c d =
+    let apart : (page == target) ≡ false = not-true (page == target) (and_parts _ _ h).0 in
+    let run : ℕ → List ℕ → List ℕ = λ n ws. laid_from (record { size = n; words = from; side = side; layouts = ls }) 0 e k ws in
+    let laid : run size to ≡ run s.words to = ap (λ n. run n to) a in
+    rw (apart, b) (same_words s target (λ ws. overlay ws 0 new) (run s.words) to c
+    (overlaid_all to new (ap length d ∙ length_all _ 0 e k to) ∙ d ∙ laid))
+
+-- a page's frame is there
+pub frame_there : (s : StoreState) (n f : ℕ) → IsStore s → frame_in (page_at s n) ≡ Some f → f < length s.frames
+frame_there s n f h e =
+    let (i, p, a, b, c) = page_record s n f e in
+    omega (arith, h.sized.owners, slice_get_within s.owners f _ (h.owning.owned i f p b c))
+
+-- no page has more words than it may have
+pub page_short : (s : StoreState) (n : ℕ) (ws : List ℕ) → IsStore s → words_at s n ≡ Some ws → length ws ≤ MOST_WORDS
+page_short s n ws h e = omega (arith, words_sized s n ws h e, h.sized.words)
 
 -- other words in a page, as many as before, leave what holds of the store
 pub words_keep : (s : StoreState) (n : ℕ) (f : List ℕ → List ℕ) → ((ws : List ℕ) → length (f ws) ≡ length ws) → IsStore s

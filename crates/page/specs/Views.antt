@@ -35,7 +35,7 @@ store_of s = record {
   words = s.words;
   count = s.count;
   pages = s.pages.items;
-  frames = s.frames.items;
+  frames = s.frames;
   owners = s.owners.items;
 }
 

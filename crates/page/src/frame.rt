@@ -2,14 +2,10 @@
 
 ghost use Rattle.std.specs.Prelude.{◌≡◌, ◌+◌, ◌≤◌, ◌<◌, ◌^◌, length, slice_get, slice_set, slice_range, replicate, take, drop, [], IfOk};
 ghost use Rattle.std.specs.Borrow.{sem};
-ghost use Rattle.model.specs.declared.limits.TheConstants.{MOST_WORDS};
 ghost use Rattle.page.specs.Lending.{LendsRun};
-ghost use Rattle.pieces.specs.Pieces.{source_of, laid_from};
 
-use pieces::{PieceGate, Source, copy_run, copy_run_by};
 use std::alloc::{AllocError, Global};
 use std::marker::Model;
-use std::thread::Threads;
 use std_alloc::vec::run_mut;
 
 /// The words of a frame. A contract sees the list of them.
@@ -28,17 +24,6 @@ impl Model for Frame {
     ghost view = { λ f. f.words.items };
 
     ghost invariant = { λ f. f.written ≡ false → f.words.items ≡ replicate (length f.words.items) 0 };
-}
-
-/// So many frames of so many words, all 0. Fails only by memory.
-pub(crate) fn blank_frames(alloc: Global, count: u32, words: u32) -> Result<Vec<Frame, Global>, AllocError>
-    ensures { IfOk result (λ v. v.items ≡ replicate count (replicate words 0)) }
-{
-    let mut frames = Vec::with_capacity(alloc, count as usize)?;
-    for _frame in 0..count {
-        frames.push(Frame::new(alloc, words)?)?;
-    }
-    Ok(frames)
 }
 
 impl Frame {
@@ -96,6 +81,16 @@ impl Frame {
         &self.words
     }
 
+    /// Lends all words to be written.
+    pub fn words_mut(&mut self) -> &mut [u64]
+        ensures value { result.now ≡ self.old }
+        ensures* after { sem 𝓛 (LendsRun self.entry 0 result) }
+    {
+        self.written = true;
+        let end = self.words.len();
+        run_mut(&mut self.words, 0, end)
+    }
+
     /// Lends the words from one offset up to another, which must not go past the end.
     pub fn run_mut(&mut self, start: usize, end: usize) -> &mut [u64]
         requires order { start ≤ end }
@@ -105,36 +100,5 @@ impl Frame {
     {
         self.written = true;
         run_mut(&mut self.words, start, end)
-    }
-
-    /// Copies the objects of a run of another page to their places among the words.
-    pub(crate) fn copy_run(&mut self, source: &Source<'_>, first: usize, count: usize)
-        requires size { 0 < source.now.size }
-        requires within { first + count ≤ length source.now.side.now }
-        ensures { self.new ≡ laid_from (source_of source.now) 0 first count self.old }
-    {
-        self.written = true;
-        copy_run(source, first, count, &mut self.words);
-    }
-
-    /// The same, by halves on threads.
-    pub(crate) fn copy_run_by<R: Threads + Sync, G: PieceGate + Sync>(
-        &mut self,
-        rt: &R,
-        gate: &G,
-        source: &Source<'_>,
-        first: usize,
-        count: usize,
-        depth: u32,
-        run: u32,
-    )
-        requires size { 0 < source.now.size }
-        requires within { first + count ≤ length source.now.side.now }
-        requires run { run ≤ MOST_WORDS }
-        requires room { length self.old ≤ MOST_WORDS }
-        ensures { self.new ≡ laid_from (source_of source.now) 0 first count self.old }
-    {
-        self.written = true;
-        copy_run_by(rt, gate, source, first, count, depth, run, &mut self.words);
     }
 }

@@ -3,12 +3,14 @@
 
 mod copies;
 mod frame;
+mod frames;
 mod index;
 mod size;
 mod store;
 
 pub use copies::many;
 pub use frame::Frame;
+pub use frames::Frames;
 pub use model::{Buffer, Page, PageState, Room};
-pub use pieces::PieceGate;
+pub use pieces::{Cutter, PieceGate, cut_off};
 pub use store::{Store, record_count};

@@ -1,5 +1,6 @@
 //! Pages and their frames.
 mod ending;
+mod lending;
 mod relocating;
 mod runs;
 
@@ -14,7 +15,7 @@ ghost use Rattle.page.specs.Lending.{LendsPart};
 ghost use Rattle.page.specs.Records.{is_unused_in};
 
 use crate::copies::many;
-use crate::frame::{Frame, blank_frames};
+use crate::frames::Frames;
 use crate::index::Tournament;
 use crate::size::PageSize;
 use model::{Buffer, Page, PageState, Room};
@@ -36,7 +37,7 @@ pub struct Store {
     size: PageSize,
     count: u32,
     pages: Vec<Page, Global>,
-    frames: Vec<Frame, Global>,
+    frames: Frames,
     owners: Vec<Option<u32>, Global>,
     free: u32,
     rooms: Tournament,
@@ -93,7 +94,7 @@ impl Store {
             size: PageSize::of(words),
             count: pages,
             pages: many(alloc, records, blank)?,
-            frames: blank_frames(alloc, frames, words)?,
+            frames: Frames::new(alloc, frames, words)?,
             owners: many(alloc, frames, None)?,
             free: frames,
             rooms: Tournament::new(alloc, records, 0)?,
@@ -137,11 +138,11 @@ impl Store {
     pub fn frame_count(&self) -> usize
         ensures { result ≡ length self.now.frames }
     {
-        self.frames.as_slice().len()
+        self.frames().len()
     }
 
     /// The frames, by number from 0: at most 4,096. Each has the words of a page.
-    pub fn frames(&self) -> &[Frame]
+    pub fn frames(&self) -> &Frames
         ensures { result.now ≡ self.now.frames }
     {
         &self.frames
@@ -317,7 +318,7 @@ impl Store {
         ensures { self.new ≡ record self.old { frames = changed_in self.old.frames (Some frame) (λ ws. slice_set ws offset value) } }
     {
         if (frame as usize) < self.frames.len() {
-            let frame = &mut self.frames[frame as usize];
+            let frame = self.frames.frame_mut(frame as usize);
             frame.set(offset, value);
         }
     }
@@ -356,7 +357,7 @@ impl Store {
         ensures* after { sem 𝓛 (LendsPart self.entry buffer.now.page buffer.now.next result) }
     {
         let frame = self.open_frame(buffer.page);
-        let words = &mut self.frames[frame];
+        let words = self.frames.frame_mut(frame);
         words.run_mut(buffer.next as usize, buffer.end as usize)
     }
 
@@ -398,7 +399,7 @@ impl Store {
         self.rooms.set(index, self.words);
         self.unused.set(index, 0);
         self.spare.set(frame, 0);
-        let words = &mut self.frames[frame];
+        let words = self.frames.frame_mut(frame);
         words.clear();
     }
 

@@ -141,7 +141,7 @@ length_all s base e zero ws = refl
 length_all s base e (suc k) ws = length_all s base (e + 1) k (laid_by s base (slice_get s.side e) ws)
     ∙ length_laid s base (slice_get s.side e) ws
 
-length_cut : (n : ℕ) (ws : List ℕ) → n ≤ length ws → length (take n ws) ≡ n
+pub length_cut : (n : ℕ) (ws : List ℕ) → n ≤ length ws → length (take n ws) ≡ n
 length_cut zero ws h = refl
 length_cut (suc n) [] h = absurd (omega (arith, h))
 length_cut (suc n) (w ∷ ws) h = ap suc (length_cut n ws (omega (arith, h)))

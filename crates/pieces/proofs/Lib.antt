@@ -1,4 +1,4 @@
 pub mod Overlays
-pub mod Entries
 pub mod Orders
 pub mod Cuts
+pub mod Stretches

@@ -1,8 +1,8 @@
 -- Objects that are to lie one behind the other.
-use Rattle.std.proofs.Common.{◌≡◌, ℕ, zero, suc, ◌+◌, ◌≤◌, Option, Some, None, refl, sym, ap, ◌∙◌, subst, arith}
+use Rattle.std.proofs.Common.{◌≡◌, ℕ, zero, suc, ◌+◌, ◌≤◌, Option, Some, None, sym, subst, arith}
 use Rattle.std.specs.List.{slice_get}
 use Rattle.model.specs.declared.records.Forwarding.{Forwarding}
-use Rattle.pieces.specs.Pieces.{SourceState, AreInOrder, Follows, end_by, size_at}
+use Rattle.pieces.specs.Pieces.{SourceState, AreInOrder, Follows, end_by}
 
 -- one lies there, and the others behind it
 pub order_more : (s : SourceState) (low end high e d k n : ℕ) → k ≡ suc n → d ≡ e + 1

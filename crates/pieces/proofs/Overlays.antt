@@ -1,6 +1,8 @@
 -- Words that are laid over others.
 use Rattle.std.proofs.Common.{◌≡◌, ℕ, zero, suc, ◌+◌, ◌-◌, ◌≤◌, List, [], ◌∷◌, ◌++◌, length, take, drop, refl, sym, ap, ◌∙◌, subst, ◌<◌, arith}
+use Rattle.std.proofs.Math.ListN.{drop_of_length-le}
 use Rattle.std.proofs.Math.Seq.{take-length}
+use Rattle.std.proofs.lemmas.List.{append-nil}
 use Rattle.model.specs.Stores.{overlay}
 
 -- there is no room behind the end
@@ -61,3 +63,10 @@ laid_parts ws xs before rest ys here behind o low a b c d e =
     (λ i. a i ++ (d i ++ (e ∙ ap (drop (length ys)) b) i))
     ∙ sym (overlaid_whole ws o ys (omega (arith, low, long)))
     ∙ ap (overlay ws o) c ∙ overlaid_cut ws o xs (length ws - o) refl
+
+-- words that are all written over
+pub overlaid_all : (ws xs : List ℕ) → length xs ≡ length ws → overlay ws 0 xs ≡ xs
+overlaid_all ws xs e =
+    let behind : drop (length xs) ws ≡ [] = drop_of_length-le ws (omega (arith, e)) in
+    ap (λ ys. take (length ws) (xs ++ ys)) behind ∙ ap (take (length ws)) (append-nil xs)
+    ∙ ap (λ n. take n xs) (sym e) ∙ take-length xs

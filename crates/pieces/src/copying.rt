@@ -1,9 +1,10 @@
 //! Objects are copied one after the other.
 
-ghost use Rattle.std.specs.Prelude.{◌≡◌, ◌+◌, ◌-◌, ◌%◌, ◌<◌, ◌≤◌, length, slice_get};
+ghost use Rattle.std.specs.Prelude.{◌≡◌, ℕ, List, ◌++◌, ◌+◌, ◌-◌, ◌%◌, ◌<◌, ◌≤◌, length, slice_get, if◌then◌else◌};
 ghost use Rattle.model.specs.Stores.{overlay};
 ghost use Rattle.pieces.specs.Pieces.{source_of, laid_by, laid_from};
 
+use crate::cutter::cut_off;
 use crate::source::{Source, words_from};
 use refword::Addr;
 
@@ -16,8 +17,12 @@ fn lay(target: &mut [u64], place: usize, words: &[u64])
         return;
     }
     let words = words_from(words, 0, target.len() - place);
-    let (_before, rest) = target.split_at_mut(place);
-    let (here, _behind) = rest.split_at_mut(words.len());
+    let Some((_before, rest)) = cut_off(target, place) else {
+        return;
+    };
+    let Some((here, _behind)) = cut_off(rest, words.len()) else {
+        return;
+    };
     here.copy_from_slice(words);
 }
 
@@ -48,8 +53,82 @@ fn copy_entry(source: &Source<'_>, entry: usize, base: usize, target: &mut [u64]
     lay(target, place, words);
 }
 
+/// Copies words over others of the same number, unless they are copied already.
+fn fill(here: &mut [u64], words: &[u64], copied: bool)
+    requires { length here.old ≡ length words.now }
+    ensures { here.new ≡ (if copied then here.old else words.now) }
+{
+    if !copied {
+        here.copy_from_slice(words);
+    }
+}
+
+/// Copies the objects of entries from a number on, each into the next piece that is cut off the
+/// target's words, as long as one begins where the one before it ended or behind that, and they go
+/// that far. Answers how many.
+fn copy_pieces(
+    source: &Source<'_>,
+    first: usize,
+    count: usize,
+    base: usize,
+    target: &mut [u64],
+) -> usize
+    requires size { 0 < source.now.size }
+    requires within { first + count ≤ length source.now.side.now }
+    ensures count { result ≤ count }
+    ensures laid { (front : List ℕ) → (at : ℕ) → base ≡ at + length front → laid_from (source_of source.now) at first result (front ++ target.old) ≡ front ++ target.new }
+{
+    let _entries = source.side.len();
+    if count == 0 {
+        return 0;
+    }
+    let Some(entry) = source.side.entry(first) else {
+        return 0;
+    };
+    let place = place_behind(source, entry.to, 0);
+    if place < base {
+        return 0;
+    }
+    let size = source.size_at(entry.offset);
+    let words = words_from(source.words, entry.offset as usize, size);
+    let Some((_gap, rest)) = cut_off(target, place - base) else {
+        return 0;
+    };
+    let Some((here, rest)) = cut_off(rest, words.len()) else {
+        return 0;
+    };
+    fill(here, words, entry.copied);
+    1 + copy_pieces(source, first + 1, count - 1, place + words.len(), rest)
+}
+
+/// How many objects are written one behind another, before the target's words are cut anew.
+const STRETCH: usize = 64;
+
+/// Copies the objects of the next entries, of which there is one: as many as lie one behind another,
+/// as far as a stretch goes. Answers how many.
+fn copy_stretch(
+    source: &Source<'_>,
+    first: usize,
+    count: usize,
+    base: usize,
+    target: &mut [u64],
+) -> usize
+    requires size { 0 < source.now.size }
+    requires within { first + count ≤ length source.now.side.now }
+    requires some { 0 < count }
+    ensures some { 0 < result }
+    ensures count { result ≤ count }
+    ensures laid { target.new ≡ laid_from (source_of source.now) base first result target.old }
+{
+    let copied = copy_pieces(source, first, count.min(STRETCH), base, target);
+    if copied > 0 {
+        return copied;
+    }
+    copy_entry(source, first, base, target);
+    1
+}
+
 /// Copies the objects of so many entries from a number on.
-#[tactic(auto, using(crate::proofs::Entries::laid_more, crate::proofs::Entries::laid_all))]
 pub(crate) fn copy_entries(
     source: &Source<'_>,
     first: usize,
@@ -62,8 +141,9 @@ pub(crate) fn copy_entries(
     ensures { target.new ≡ laid_from (source_of source.now) base first count target.old }
 {
     let _entries = source.side.len();
-    for index in 0..count {
-        copy_entry(source, first + index, base, target);
+    let mut done = 0;
+    while done < count {
+        done += copy_stretch(source, first + done, count - done, base, target);
     }
 }
 

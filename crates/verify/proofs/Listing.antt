@@ -1,7 +1,10 @@
 -- Lists that are made one number after another.
-use Rattle.std.proofs.Common.{◌≡◌, ℕ, zero, suc, ◌+◌, Bool, true, false, cond, List, [], ◌∷◌, ◌++◌, filter, map, append-nil}
+use Rattle.std.proofs.Common.{◌≡◌, ℕ, zero, suc, ◌+◌, Bool, true, false, cond, List, [], ◌∷◌, ◌++◌, take, Some, filter, map, append-nil}
 use Rattle.std.proofs.Common.{sym, ◌∙◌, ap, arith}
-use Rattle.std.specs.List.{range_with_len}
+use Rattle.std.specs.List.{range_with_len, slice_get}
+use Rattle.std.proofs.lemmas.List.{take_more}
+use Rattle.std.proofs.lemmas.Option.{get_or_from_slice_get}
+use Rattle.std.proofs.lemmas.Option.{slice_get_within}
 use Rattle.std.proofs.lemmas.List.Elements.{filter-append}
 use Rattle.std.proofs.lemmas.List.FromFn.{map-range_with_len_more}
 
@@ -47,3 +50,11 @@ mapped_more f n = map-range_with_len_more f 1 n (n + 1) (is n)
   where
     is : (n : ℕ) → 1 + n ≡ n + 1
     is n = omega arith
+
+-- the next element is taken
+pub taken_more : (xs done new : List (List ℕ)) (i : ℕ) (x y : List ℕ) → slice_get xs i ≡ Some x → done ≡ take i xs
+    → new ≡ done ++ y ∷ [] → y ≡ x → new ≡ take (i + 1) xs
+taken_more xs done new i x y at so_far put same =
+    put ∙ ap (λ zs. zs ++ y ∷ []) so_far
+    ∙ ap (λ z. take i xs ++ z ∷ []) (same ∙ sym (get_or_from_slice_get xs i x x at))
+    ∙ sym (take_more xs i x (slice_get_within xs i x at))

@@ -10,7 +10,7 @@ use crate::image::{Image, PageImage, Words};
 use heap::Heap;
 use markbits::Row;
 use model::{Forwarding, Global as Root};
-use page::{Frame, Store};
+use page::{Frames, Store};
 use refword::Word;
 use std::alloc::{AllocError, Global};
 use threads::Thread;
@@ -63,12 +63,12 @@ fn globals(alloc: Global, globals: &[Root]) -> Result<Vec<u64>, AllocError>
 }
 
 /// The memory of each frame.
-fn frames(alloc: Global, frames: &[Frame]) -> Result<Vec<Words>, AllocError>
+fn frames(alloc: Global, frames: &Frames) -> Result<Vec<Words>, AllocError>
     ensures { IfOk result (λ v. v.items ≡ frames.now) }
 {
     let mut memory = Vec::with_capacity(alloc, frames.len())?;
     for number in 0..frames.len() {
-        let words = Vec::from_slice(alloc, frames[number].words())?;
+        let words = Vec::from_slice(alloc, frames.words(number))?;
         memory.push(Words { words })?;
     }
     Ok(memory)

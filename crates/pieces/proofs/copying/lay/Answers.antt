@@ -4,5 +4,5 @@ use Rattle.pieces.proofs.copying.lay.Goals as goal
 
 pub returns : goal.returns
 returns c = laid_parts c.args.target.now c.args.words.now _ _ _ _ _ c.args.place (omega (arith, c.if-place-target.false))
-    c.split_at_mut-before.ensures.front c.split_at_mut-before.ensures.back c.words_from-words.ensures
-    c.copy_from_slice.ensures.after c.split_at_mut-here.ensures.back
+    c.in-Some.ensures.piece c.in-Some.ensures.rest c.words_from-words.ensures c.copy_from_slice.ensures.after
+    c.in-Some-cut_off.ensures.rest

@@ -1,4 +1,4 @@
-use Rattle.std.proofs.Common.{◌≡◌, ◌≤◌, ◌<◌, ◌+◌, ◌-◌, ◌/◌, ◌++◌, ◌∙◌, sym, subst, take, drop, List, ℕ, length, arith}
+use Rattle.std.proofs.Common.{◌≡◌, ◌≤◌, ◌+◌, ◌-◌, ◌/◌, ◌++◌, ◌∙◌, sym, subst, take, drop, List, ℕ, length, arith}
 use Rattle.pieces.specs.Pieces.{source_of, laid_from, AreInOrder}
 use Rattle.pieces.proofs.Cuts.{cut_within, cut_low, cut_high, cut_laid}
 use Rattle.pieces.proofs.halves.cut_at.Goals as goal

@@ -13,13 +13,13 @@ invariant_of-result c =
       size = c.of.ensures;
       store = first_inside c.args.words c.args.frames c.args.pages _ _ _ c.requires.words_low c.requires.words_high
           c.requires.frames_high c.requires.pages_high
-          (c.in_ok-many.ensures ∙ ap (λ n. replicate n blank_page) records.ensures) c.in_ok-blank_frames.ensures
+          (c.in_ok-many.ensures ∙ ap (λ n. replicate n blank_page) records.ensures) c.in_ok-new.ensures
           c.in_ok-many-2.ensures;
       free = first_free c.args.frames _ c.in_ok-many-2.ensures;
-      rooms = c.in_ok-new.ensures ∙ copies_mapped (left_in c.args.words) records.result blank_page
+      rooms = c.in_ok-new-2.ensures ∙ copies_mapped (left_in c.args.words) records.result blank_page
           ∙ ap (map (left_in c.args.words)) (sym c.in_ok-many.ensures);
-      unused = c.in_ok-new-2.ensures ∙ copies_mapped (λ (p : Page). mark (is_unused p.state)) records.result blank_page
+      unused = c.in_ok-new-3.ensures ∙ copies_mapped (λ (p : Page). mark (is_unused p.state)) records.result blank_page
           ∙ ap (map (λ (p : Page). mark (is_unused p.state))) (sym c.in_ok-many.ensures);
-      spare = c.in_ok-new-3.ensures ∙ copies_mapped (λ (o : Option ℕ). mark (is_none o)) c.args.frames None
+      spare = c.in_ok-new-4.ensures ∙ copies_mapped (λ (o : Option ℕ). mark (is_none o)) c.args.frames None
           ∙ ap (map (λ (o : Option ℕ). mark (is_none o))) (sym c.in_ok-many-2.ensures);
     }

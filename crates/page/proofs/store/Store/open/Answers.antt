@@ -3,7 +3,7 @@ use Rattle.std.proofs.Common.{None, Some, replicate, sym, subst, ap, refl, arith
 use Rattle.std.specs.List.{slice_get}
 use Rattle.model.specs.declared.records.Page.{Page}
 use Rattle.model.specs.Stores.{StoreState, open_fresh, is_unused, fresh_page}
-use Rattle.model.proofs.Lists.{get_read, count_positive, count_set}
+use Rattle.model.proofs.Lists.{count_positive, count_set}
 use Rattle.page.specs.Views.{store_of, left_in, mark}
 use Rattle.page.proofs.Indexes.{set_mapped}
 use Rattle.page.specs.Records.{is_unused_in}
@@ -27,7 +27,7 @@ invariant_of-self c =
     let owner =
     subst (λ (s : StoreState). c.args.frame < length s.owners) (sym c.self.view_is) c.requires.frame_there in
     let frame = frame_of_owner s c.args.frame c.self.invariant.store owner in
-    let words = get_read s.frames c.args.frame c.index_mut-words.result.now frame c.index_mut-words.ensures.value in
+    let words = c.frame_mut-words.ensures.value in
     let zeros : c.clear.new.self ≡ replicate s.words 0 =
     c.clear.ensures ∙ ap (λ n. replicate n 0) (c.self.invariant.store.sized.frames c.args.frame _ words) in
     record {
@@ -52,7 +52,7 @@ returns c =
     let owner =
     subst (λ (s : StoreState). c.args.frame < length s.owners) (sym c.self.view_is) c.requires.frame_there in
     let frame = frame_of_owner s c.args.frame c.self.invariant.store owner in
-    let words = get_read s.frames c.args.frame c.index_mut-words.result.now frame c.index_mut-words.ensures.value in
+    let words = c.frame_mut-words.ensures.value in
     let zeros : c.clear.new.self ≡ replicate s.words 0 =
     c.clear.ensures ∙ ap (λ n. replicate n 0) (c.self.invariant.store.sized.frames c.args.frame _ words) in
     opened_as s c.args.index c.args.frame c.clear.new.self zeros

@@ -1,0 +1,130 @@
+//! All frames of a store, of which two can be lent at once.
+
+ghost use Rattle.std.specs.Prelude.{◌≡◌, ◌≢◌, ◌≤◌, ◌<◌, length, slice_get, slice_set, replicate, IfOk, Some};
+ghost use Rattle.std.specs.Option.{option_copied};
+ghost use Rattle.std.specs.Borrow.{sem};
+ghost use Rattle.page.specs.Lending.{LendsFrame, LendsWords};
+
+use crate::frame::Frame;
+use std::alloc::{AllocError, Global};
+use std::marker::Model;
+
+/// The frames, by number from 0. One of them may be held aside, so that it is read while another is
+/// written: this takes no time and no memory, and shows in no contract. It comes back to its place
+/// when the next frame is lent.
+#[derive(Drop)]
+pub struct Frames {
+    held: Frame,
+    /// The number of the frame that is held; none, where there is no such number.
+    held_at: usize,
+    frames: Vec<Frame, Global>,
+}
+
+impl Model for Frames {
+    ghost use Rattle.std.specs.Prelude.{List, ℕ, slice_set};
+
+    ghost Value = { List (List ℕ) };
+
+    ghost view = { λ s. slice_set s.frames.items s.held_at s.held };
+}
+
+/// So many frames of so many words, all 0. Fails only by memory.
+fn blank_frames(alloc: Global, count: u32, words: u32) -> Result<Vec<Frame, Global>, AllocError>
+    ensures { IfOk result (λ v. v.items ≡ replicate count (replicate words 0)) }
+{
+    let mut frames = Vec::with_capacity(alloc, count as usize)?;
+    for _frame in 0..count {
+        frames.push(Frame::new(alloc, words)?)?;
+    }
+    Ok(frames)
+}
+
+/// The frame that is held aside comes back to its place.
+fn put_back(held: &mut Frame, frames: &mut Vec<Frame, Global>, at: usize)
+    ensures { frames.new.items ≡ slice_set frames.old.items at held.old }
+{
+    if at < frames.len() {
+        std::mem::swap(held, &mut frames[at]);
+    }
+}
+
+/// A frame is held aside.
+fn take_out(held: &mut Frame, frames: &mut Vec<Frame, Global>, at: usize)
+    requires { at < length frames.old.items }
+    ensures held { slice_get frames.old.items at ≡ Some held.new }
+    ensures frames { frames.new.items ≡ slice_set frames.old.items at held.old }
+{
+    std::mem::swap(held, &mut frames[at]);
+}
+
+impl Frames {
+    /// So many frames of so many words, all 0. Fails only by memory.
+    pub(crate) fn new(alloc: Global, count: u32, words: u32) -> Result<Frames, AllocError>
+        ensures { IfOk result (λ f. f ≡ replicate count (replicate words 0)) }
+    {
+        let frames = blank_frames(alloc, count, words)?;
+        Ok(Frames {
+            held: Frame::empty(alloc),
+            held_at: frames.len(),
+            frames,
+        })
+    }
+
+    /// How many there are.
+    pub fn len(&self) -> usize
+        ensures { result ≡ length self.now }
+    {
+        self.frames.len()
+    }
+
+    /// A frame by its number, if it is there.
+    #[inline(always)]
+    pub fn get(&self, number: usize) -> Option<&Frame>
+        ensures { option_copied result ≡ slice_get self.now number }
+    {
+        if number == self.held_at && number < self.frames.len() {
+            return Some(&self.held);
+        }
+        self.frames.get(number)
+    }
+
+    /// The words of a frame.
+    pub fn words(&self, number: usize) -> &[u64]
+        requires { number < length self.now }
+        ensures { slice_get self.now number ≡ Some result.now }
+    {
+        self.get(number).unwrap().words()
+    }
+
+    /// Lends a frame to be written.
+    #[inline(always)]
+    pub(crate) fn frame_mut(&mut self, number: usize) -> &mut Frame
+        requires { number < length self.old }
+        ensures value { slice_get self.old number ≡ Some result.now }
+        ensures* after { sem 𝓛 (LendsFrame self.entry number result) }
+    {
+        let at = self.held_at;
+        put_back(&mut self.held, &mut self.frames, at);
+        self.held_at = self.frames.len();
+        &mut self.frames[number]
+    }
+
+    /// Lends the words of one frame to be read, and those of another to be written.
+    pub(crate) fn lend(&mut self, from: usize, to: usize) -> (&[u64], &mut [u64])
+        requires apart { from ≢ to }
+        requires from_there { from < length self.old }
+        requires to_there { to < length self.old }
+        ensures from { slice_get self.old from ≡ Some result.0.now }
+        ensures to { slice_get self.old to ≡ Some result.1.now }
+        ensures* after { sem 𝓛 (LendsWords self.entry to result.1) }
+    {
+        let at = self.held_at;
+        put_back(&mut self.held, &mut self.frames, at);
+        take_out(&mut self.held, &mut self.frames, from);
+        self.held_at = from;
+        let from = self.held.words();
+        let frame = &mut self.frames[to];
+        let to = frame.words_mut();
+        (from, to)
+    }
+}
