@@ -25,6 +25,11 @@ settled rows new busy i f e k = subst (λ n. settle busy i (slice_get n i) ≡ m
     by_row (Some row) g = ap (settle (map has_bits rows) i) (get_set_same rows i row (f row) g)
         ∙ sym (map-set has_bits rows i (f row))
 
+-- an entry that is as it is to be
+pub settled_before : (busy : List Bool) (i : ℕ) (row : List Bool) → slice_index_or busy i false ≡ has_bits row
+    → busy ≡ set busy i (has_bits row)
+settled_before busy i row is = sym (subst (λ b. set busy i b ≡ busy) is (set-get_or busy i false))
+
 -- a bit that is put where it is as it was changes nothing
 pub put_again : (rows : List (List Bool)) (i o : ℕ) (bit : Bool) (row : List Bool) → slice_get rows i ≡ Some row
     → slice_index_or row o false ≡ bit → change_at rows i (put_bit o bit) ≡ rows

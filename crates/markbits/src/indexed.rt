@@ -32,12 +32,18 @@ impl Model for IndexedRows {
     ghost invariant = { λ r. r.busy ≡ map has_bits r.rows };
 }
 
-/// Sets the entry of an index as the row of this index has it, if there is one.
+/// Sets the entry of an index as the row of this index has it, if there is one. Mostly it is as it
+/// is to be.
+#[inline(always)]
+#[tactic(auto, using(crate::proofs::Busy::settled_before))]
 fn settle(busy: &mut IndexedRow, rows: &Rows, index: usize)
     ensures { busy.new ≡ settle busy.old index (slice_get rows.now index) }
 {
     if let Some(row) = rows.get(index) {
-        busy.put(index, row.count() != 0);
+        let has_bits = row.count() != 0;
+        if busy.test(index) != has_bits {
+            busy.put(index, has_bits);
+        }
     }
 }
 

@@ -1,6 +1,6 @@
 //! A row with an index of its words that have a bit set.
 
-ghost use Rattle.std.specs.Prelude.{◌≡◌, ◌<◌, ◌^◌, replicate, false, IfOk, count_by};
+ghost use Rattle.std.specs.Prelude.{◌≡◌, ◌<◌, ◌^◌, replicate, slice_index_or, false, IfOk, count_by};
 ghost use Rattle.model.specs.Bits.{put_bit};
 ghost use Rattle.markbits.specs.Words.{IsNextPlace};
 ghost use Rattle.markbits.specs.Blocks.{IsIndex};
@@ -45,6 +45,14 @@ impl IndexedRow {
         ensures range { result < 2 ^ 32 }
     {
         self.row.count()
+    }
+
+    /// Whether a bit is set; past the end of the row none is.
+    #[inline(always)]
+    pub fn test(&self, offset: usize) -> bool
+        ensures { result ≡ slice_index_or self.now offset false }
+    {
+        self.row.test(offset)
     }
 
     /// Sets or clears a bit, if the row goes that far.

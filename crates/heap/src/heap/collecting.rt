@@ -6,7 +6,7 @@ ghost use Rattle.refword.specs.Words.{bits_of};
 ghost use Rattle.model.specs.Bits.{bit_at, with_bit};
 ghost use Rattle.model.specs.Checkpoints.{with_crossed, first_behind, phase_behind};
 ghost use Rattle.model.specs.Cycles.{is_lent, set_todo_of, start_mark, end_mark};
-ghost use Rattle.model.specs.Marks.{with_mark};
+ghost use Rattle.model.specs.Marks.{with_mark, marked_word};
 ghost use Rattle.model.specs.Scans.{with_scan, with_scan_end, set_marked_of};
 ghost use Rattle.model.specs.States.{change_at};
 ghost use Rattle.model.specs.Stores.{store_after_mark, with_word, is_open, state_in};
@@ -53,15 +53,19 @@ pub trait CollectorEdits {
     fn end_mark(&mut self);
 }
 
-/// Marks the object at an address: it is to be scanned where it wasn't marked before.
-fn mark_at(mark: &mut Rows, todo: &mut IndexedRows, store: &Store, address: Addr)
+/// Marks the object at an address: it is to be scanned where it wasn't marked before. Gives whether
+/// it wasn't.
+#[inline(always)]
+fn mark_at(mark: &mut Rows, todo: &mut IndexedRows, store: &Store, address: Addr) -> bool
     ensures mark { mark.new ≡ with_bit mark.old store.now.words address true }
     ensures todo { todo.new ≡ (if bit_at mark.old store.now.words address then todo.old else with_bit todo.old store.now.words address true) }
 {
-    if !bit_at(mark, store, address) {
+    let is_new = !bit_at(mark, store, address);
+    if is_new {
         put_indexed_bit(todo, store, address, true);
     }
     put_bit(mark, store, address, true);
+    is_new
 }
 
 /// All globals have still to be marked.
@@ -138,6 +142,25 @@ impl Heap {
         ensures { self.new ≡ record self.old { threads = change_at self.old.threads thread (set_crossed_of true) } }
     {
         self.threads.set_crossed(thread);
+    }
+}
+
+impl Heap {
+    /// A raw edit: marks the object that a word names, as `set_mark` does, and gives the word that
+    /// marking leaves (the paper's Mark phase). It tells besides whether the object wasn't marked
+    /// before, which is for hints alone: no contract says so.
+    #[inline(always)]
+    #[tactic(auto, unfolding(model::specs::Marks::with_mark, model::specs::Marks::marked_word))]
+    pub fn mark_word(&mut self, word: Word) -> (Word, bool)
+        ensures heap { self.new ≡ with_mark self.old word }
+        ensures word { result.0 ≡ marked_word self.old word }
+    {
+        let Some(address) = word.addr() else {
+            return (word, false);
+        };
+        let place = self.resolve(address);
+        let is_new = mark_at(&mut self.mark, &mut self.todo, &self.store, place);
+        (Word::of(place, self.nmt), is_new)
     }
 }
 

@@ -48,9 +48,9 @@ impl Heap {
         self.store.set_word(address, value);
     }
 
-    /// Writes the word less than 2^17 words behind an address, if its page has memory.
+    /// A raw edit: writes the word less than 2^17 words behind an address, if its page has memory.
     #[inline(always)]
-    pub(crate) fn set_word_behind(&mut self, address: Addr, ahead: u64, value: u64)
+    pub fn set_word_behind(&mut self, address: Addr, ahead: u64, value: u64)
         requires { ahead < 2 ^ 17 }
         ensures { self.new ≡ record self.old { store = with_word self.old.store (address + ahead) value } }
     {

@@ -1,0 +1,335 @@
+-- An object that is picked and scanned field by field is scanned whole.
+use Rattle.std.proofs.Common.{◌≡◌, ◌≢◌, ◌⊎◌, inl, inr, ℕ, zero, suc, ◌+◌, ◌*◌, ◌/◌, ◌%◌, true, false}
+use Rattle.std.proofs.Common.{cond, nat_lt, List, [], ◌∷◌, set, Option, Some, None, refl, sym, ◌∙◌, ap, arith}
+use Rattle.std.specs.List.{slice_get}
+use Rattle.std.specs.Option.{option_and_then}
+use Rattle.std.specs.Prelude.{Result, Ok}
+use Rattle.std.proofs.Math.ListN.{length-set}
+use Rattle.std.proofs.lemmas.Bool.{cases_eq}
+use Rattle.std.proofs.lemmas.Nat.{div-add-mod'}
+use Rattle.refword.specs.Words.{bits_of}
+use Rattle.layout.specs.declared.shape.Layout.{Layout}
+use Rattle.model.specs.declared.records.Scan.{Scan}
+use Rattle.model.specs.declared.steps.Refusal.{Refusal}
+use Rattle.model.specs.declared.steps.Refusal.TheVariants as refusals
+use Rattle.model.specs.Bits.{bit_at, with_bit}
+use Rattle.model.specs.Holding.{IsHeap}
+use Rattle.heap.proofs.Keeping.{store_keeps}
+use Rattle.heap.proofs.Marking.{marks_keep, bit_keeps, bit_kept}
+use Rattle.page.proofs.Lying.{word_sized_alike, word_lies, word_unprotected}
+use Rattle.model.specs.Checkpoints.{all_crossed}
+use Rattle.model.specs.Data.{layout_at, layout_in, header_layout}
+use Rattle.model.specs.Emptying.{heap_after}
+use Rattle.model.specs.Marks.{with_mark, marked_word, resolve, entry_at}
+use Rattle.model.specs.Moves.{copied_for}
+use Rattle.model.specs.Owning.{IsStore}
+use Rattle.model.specs.References.{field_at, field_place, field_address}
+use Rattle.model.specs.Refusing.{◌>>=◌, or_refuse, Outcome}
+use Rattle.model.specs.Scans.{scan_of, with_scan, next_field, may_scan, reference_in}
+use Rattle.model.specs.Scans.{with_marked_place, mark_place, with_scan_end, scan_next, scan_field_outcome}
+use Rattle.model.specs.States.{Reference, HeapState, flat}
+use Rattle.model.specs.Stores.{StoreState, page_at, frame_in, at_offset, spot_of, word_in, word_at, with_word, with_words, changed_in, changed_frame}
+use Rattle.model.proofs.Lists.{get_set_same, get_set_other}
+use Rattle.model.proofs.Memory.{own_frame}
+use Rattle.forward.specs.Counts.{uncopied_count}
+use Rattle.page.proofs.Copied.{same_set}
+use Rattle.page.proofs.Runs.{words_keep}
+use Rattle.relocate.proofs.Copied.{none_to_copy}
+use Rattle.drains.specs.Drains.{refs_in, refs_at, marked_field, marked_fields, without_todo, scanned}
+
+-- ---- a word that is written leaves the others
+
+set_twice : {X : Type 0} (xs : List X) (i : ℕ) (v w : X) → set (set xs i v) i w ≡ set xs i w
+set_twice [] i v w = refl
+set_twice (x ∷ xs) zero v w = refl
+set_twice (x ∷ xs) (suc i) v w = ap (λ ys. x ∷ ys) (set_twice xs i v w)
+
+parted : (a b w : ℕ) → a / w ≡ b / w → a % w ≡ b % w → a ≡ b
+parted a b w e f = sym (div-add-mod' a w) ∙ (λ i. e i * w + f i) ∙ div-add-mod' b w
+
+pub word_stays : (s : StoreState) (a place v : ℕ) → IsStore s → a ≢ place
+    → word_at (with_word s place v) a ≡ word_at s a
+unfolding word_at spot_of with_word with_words page_at
+word_stays s a place v h apart =
+    by_frame (frame_in (page_at s (place / s.words))) refl (frame_in (page_at s (a / s.words))) refl
+  where
+    f : List ℕ → List ℕ
+    f ws = set ws (place % s.words) v
+
+    by_words : (x : ℕ) (o : Option (List ℕ)) → slice_get s.frames x ≡ o
+        → a % s.words ≢ place % s.words
+        → option_and_then (λ ws. slice_get ws (a % s.words)) (slice_get (changed_frame s.frames x o f) x)
+        ≡ option_and_then (λ ws. slice_get ws (a % s.words)) (slice_get s.frames x)
+    by_words x None z d = refl
+    by_words x (Some ws) z d =
+        ap (option_and_then (λ (us : List ℕ). slice_get us (a % s.words))) (get_set_same s.frames x ws (f ws) z)
+        ∙ get_set_other ws (place % s.words) (a % s.words) v d
+        ∙ sym (ap (option_and_then (λ (us : List ℕ). slice_get us (a % s.words))) z)
+
+    beside : (x y : ℕ) (o : Option (List ℕ)) → y ≢ x
+        → option_and_then (λ ws. slice_get ws (a % s.words)) (slice_get (changed_frame s.frames x o f) y)
+        ≡ option_and_then (λ ws. slice_get ws (a % s.words)) (slice_get s.frames y)
+    beside x y None d = refl
+    beside x y (Some ws) d =
+        ap (option_and_then (λ (us : List ℕ). slice_get us (a % s.words))) (get_set_other s.frames x y (f ws) d)
+
+    by_place : (x y : ℕ) → frame_in (page_at s (place / s.words)) ≡ Some x → frame_in (page_at s (a / s.words)) ≡ Some y
+        → (y ≡ x) ⊎ (y ≢ x)
+        → option_and_then (λ ws. slice_get ws (a % s.words)) (slice_get (changed_frame s.frames x (slice_get s.frames x) f) y)
+        ≡ option_and_then (λ ws. slice_get ws (a % s.words)) (slice_get s.frames y)
+    by_place x y p q (inr d) = beside x y (slice_get s.frames x) d
+    by_place x y p q (inl e) =
+        let one : a / s.words ≡ place / s.words = own_frame s (a / s.words) (place / s.words) x h (q ∙ ap Some e) p in
+        ap (λ j. option_and_then (λ (us : List ℕ). slice_get us (a % s.words))
+        (slice_get (changed_frame s.frames x (slice_get s.frames x) f) j)) e
+        ∙ by_words x (slice_get s.frames x) refl (λ z. apart (parted a place s.words one z))
+        ∙ sym (ap (λ j. option_and_then (λ (us : List ℕ). slice_get us (a % s.words)) (slice_get s.frames j)) e)
+
+    by_frame : (o : Option ℕ) → frame_in (page_at s (place / s.words)) ≡ o
+        → (q : Option ℕ) → frame_in (page_at s (a / s.words)) ≡ q
+        → word_in (changed_in s.frames o f) (at_offset q (a % s.words)) ≡ word_in s.frames (at_offset q (a % s.words))
+    by_frame None p q z = refl
+    by_frame (Some x) p None z = refl
+    by_frame (Some x) p (Some y) z = by_place x y p z (cases_eq y x)
+
+word_keeps : (s : StoreState) (place v : ℕ) → IsStore s → IsStore (with_word s place v)
+unfolding with_word
+word_keeps s place v h = words_keep s (place / s.words) (λ ws. set ws (place % s.words) v)
+    (λ ws. length-set ws (place % s.words) v) h
+
+-- ---- what a scan needs of a heap
+
+-- a mark runs that all have crossed, nothing is left to be copied, and the worker is there and has no object
+pub record MayScan (h : HeapState) (w : ℕ) : Type 0 where
+  pub scan : may_scan h ≡ Ok tt
+  pub none : uncopied_count h.sides ≡ 0
+  pub worker : slice_get h.workers w ≡ Some None
+  pub store : IsStore h.store
+  pub heap : IsHeap h
+
+pub mark_heap : (h : HeapState) (v : Reference) → IsHeap h → IsHeap (with_mark h v)
+unfolding with_mark
+mark_heap h None i = marks_keep h h.live h.mark h.todo i i.live i.mark i.todo
+mark_heap h (Some x) i = marks_keep h h.live _ _ i i.live
+    (bit_keeps h.config h.mark _ h.store.words (resolve h x.0) true i.mark refl)
+    (bit_kept h.config h.todo _ h.store.words (resolve h x.0) true (bit_at h.mark h.store.words (resolve h x.0)) i.todo refl)
+
+marked_heap : (h : HeapState) (place : ℕ) → IsHeap h → IsHeap (marked_field h place)
+unfolding marked_field with_marked_place with_mark
+marked_heap h place i = store_keeps (with_mark h v) (with_word h.store place bits) (mark_heap h v i)
+    (word_sized_alike h.store place bits) (λ b. word_lies h.store place bits b) (word_unprotected h.store place bits)
+  where
+    v : Reference
+    v = reference_in (word_at h.store place)
+
+    bits : ℕ
+    bits = bits_of (marked_word h v)
+
+pub scan_heap : (h : HeapState) (w : ℕ) (s : Option Scan) → IsHeap h → IsHeap (with_scan h w s)
+unfolding with_scan
+scan_heap h w s i = record {
+  config = i.config;
+  sizes = record {
+    words = i.sizes.words;
+    frames = i.sizes.frames;
+    pages = i.sizes.pages;
+    threads = i.sizes.threads;
+    workers = length-set h.workers w s ∙ i.sizes.workers;
+    globals = i.sizes.globals;
+  };
+  starts = i.starts;
+  live = i.live;
+  mark = i.mark;
+  todo = i.todo;
+  sides = i.sides;
+  births = i.births;
+  buffers = i.buffers;
+  idle = i.idle;
+}
+
+pub field_keeps : (h : HeapState) (w place : ℕ) → MayScan h w → MayScan (marked_field h place) w
+unfolding marked_field with_marked_place with_mark may_scan all_crossed
+field_keeps h w place m = record {
+  scan = m.scan;
+  none = m.none;
+  worker = m.worker;
+  store = word_keeps h.store place _ m.store;
+  heap = marked_heap h place m.heap;
+}
+
+pub layout_stays : (h : HeapState) (a place : ℕ) → IsStore h.store → a ≢ place
+    → layout_at (marked_field h place) a ≡ layout_at h a
+unfolding marked_field with_marked_place with_mark layout_at
+layout_stays h a place s apart = ap (λ v. layout_in h.config.layouts (header_layout v)) (word_stays h.store a place _ s apart)
+
+-- ---- one field
+
+abbrev pub at_field : ℕ → ℕ → Scan
+at_field a i = record { object = a; next = i }
+
+scan_held : (h : HeapState) (w : ℕ) (s : Scan) → slice_get h.workers w ≡ Some None
+    → scan_of (with_scan h w (Some s)) w ≡ Some s
+unfolding with_scan
+scan_held h w s e = ap flat (get_set_same h.workers w None (Some s) e)
+
+-- a word is marked beside what a worker has
+mark_beside : (h : HeapState) (w : ℕ) (s : Option Scan) (place : ℕ) (v : Reference)
+    → with_marked_place (with_scan h w s) place v ≡ with_scan (with_marked_place h place v) w s
+unfolding with_scan with_marked_place with_mark marked_word resolve entry_at
+mark_beside h w s place None = refl
+mark_beside h w s place (Some x) = refl
+
+pub none_copied : (h : HeapState) (v : Reference) → uncopied_count h.sides ≡ 0 → copied_for h v ≡ h
+unfolding copied_for
+none_copied h None e = refl
+none_copied h (Some x) e = sym (none_to_copy h x.0 e)
+
+scan_again : (h : HeapState) (w : ℕ) (s t : Option Scan) → with_scan (with_scan h w s) w t ≡ with_scan h w t
+unfolding with_scan
+scan_again h w s t = ap (λ (ws : List (Option Scan)). record h { workers = ws }) (set_twice h.workers w s t)
+
+abbrev row : HeapState → ℕ → Result Unit Refusal → Option Scan → Outcome
+row g w r o = r >>= (λ u. or_refuse o refusals.NotTodo >>= (λ s. scan_next g w s (field_at g s.object s.next)))
+
+field_row : (h : HeapState) (w : ℕ) (s : Scan) → MayScan h w
+    → scan_field_outcome (with_scan h w (Some s)) w
+    ≡ scan_next (with_scan h w (Some s)) w s (field_at (with_scan h w (Some s)) s.object s.next)
+unfolding scan_field_outcome with_scan may_scan all_crossed
+field_row h w s m = ap (λ r. row (with_scan h w (Some s)) w r (scan_of (with_scan h w (Some s)) w)) m.scan
+    ∙ ap (row (with_scan h w (Some s)) w (Ok tt)) (scan_held h w s m.worker)
+
+field_is : (h : HeapState) (w : ℕ) (s : Option Scan) (a i : ℕ) (o : Option Layout) → layout_at h a ≡ o
+    → field_at (with_scan h w s) a i ≡ field_place a i o
+unfolding field_at layout_at with_scan
+field_is h w s a i o e = ap (field_place a i) e
+
+pub one_field : (h : HeapState) (w a i : ℕ) (l : Layout) → MayScan h w → layout_at h a ≡ Some l → nat_lt i l.refs ≡ true
+    → heap_after (with_scan h w (Some (at_field a i))) (scan_field_outcome (with_scan h w (Some (at_field a i))) w)
+    ≡ with_scan (marked_field h (field_address a i)) w (Some (at_field a (i + 1)))
+unfolding mark_place marked_field with_scan
+one_field h w a i l m e low =
+    ap (heap_after g) (field_row h w s m
+    ∙ ap (scan_next g w s) (field_is h w (Some s) a i (Some l) e ∙ ap (λ b. cond b (Some place) None) low))
+    ∙ ap (λ k. with_scan k w (Some (next_field s)))
+    (ap (λ k. with_marked_place k place v) (none_copied g v none) ∙ mark_beside h w (Some s) place v)
+    ∙ scan_again (with_marked_place h place v) w (Some s) (Some (next_field s))
+  where
+    s : Scan
+    s = at_field a i
+
+    g : HeapState
+    g = with_scan h w (Some s)
+
+    place : ℕ
+    place = field_address a i
+
+    v : Reference
+    v = reference_in (word_at h.store place)
+
+    none : uncopied_count g.sides ≡ 0
+    none = m.none
+
+-- no field is left
+last_field : (h : HeapState) (w a i : ℕ) → MayScan h w → nat_lt i (refs_in (layout_at h a)) ≡ false
+    → heap_after (with_scan h w (Some (at_field a i))) (scan_field_outcome (with_scan h w (Some (at_field a i))) w)
+    ≡ without_todo h a
+unfolding with_scan_end without_todo with_scan
+last_field h w a i m high =
+    ap (heap_after g) (field_row h w s m
+    ∙ ap (scan_next g w s) (field_is h w (Some s) a i (layout_at h a) refl ∙ by_layout (layout_at h a) high))
+    ∙ ap (λ (ws : List (Option Scan)). record (without_todo h a) { workers = ws })
+    (set_twice h.workers w (Some s) None ∙ same_set h.workers w None m.worker)
+  where
+    s : Scan
+    s = at_field a i
+
+    g : HeapState
+    g = with_scan h w (Some s)
+
+    by_layout : (o : Option Layout) → nat_lt i (refs_in o) ≡ false → field_place a i o ≡ None
+    by_layout None e = refl
+    by_layout (Some l) e = ap (λ b. cond b (Some (field_address a i)) None) e
+
+-- ---- all fields
+
+abbrev pub scans : HeapState → ℕ → ℕ → HeapState
+scans h w zero = h
+scans h w (suc k) = scans (heap_after h (scan_field_outcome h w)) w k
+
+pub fields_scanned : (h : HeapState) (w a i k : ℕ) → MayScan h w → refs_in (layout_at h a) ≡ i + k
+    → scans (with_scan h w (Some (at_field a i))) w (suc k) ≡ without_todo (marked_fields h a i k) a
+fields_scanned h w a i zero m e = last_field h w a i m (none_left i (refs_in (layout_at h a)) e)
+  where
+    none_left : (i n : ℕ) → n ≡ i + 0 → nat_lt i n ≡ false
+    none_left i n e = grind arith
+fields_scanned h w a i (suc k) m e = by_layout (layout_at h a) refl e
+    (λ l same. fields_scanned (marked_field h (field_address a i)) w a (i + 1) k
+    (field_keeps h w (field_address a i) m) same)
+  where
+    one_left : (i n : ℕ) → n ≡ i + suc k → nat_lt i n ≡ true
+    one_left i n e = grind arith
+
+    next : HeapState
+    next = marked_field h (field_address a i)
+
+    by_layout : (o : Option Layout) → layout_at h a ≡ o → refs_in o ≡ i + suc k
+        → ((l : Layout) → refs_in (layout_at next a) ≡ (i + 1) + k
+        → scans (with_scan next w (Some (at_field a (i + 1)))) w (suc k)
+        ≡ without_todo (marked_fields next a (i + 1) k) a)
+        → scans (with_scan h w (Some (at_field a i))) w (suc (suc k)) ≡ without_todo (marked_fields h a i (suc k)) a
+    by_layout None z f rest = absurd (omega (arith, f))
+    by_layout (Some l) z f rest =
+        let apart : a ≢ field_address a i = λ y. absurd (omega (arith, y)) in
+        let same : layout_at next a ≡ Some l = layout_stays h a (field_address a i) m.store apart ∙ z in
+        let left : l.refs ≡ (i + 1) + k = omega (arith, f) in
+        ap (λ g. scans g w (suc k)) (one_field h w a i l m z (one_left i l.refs f))
+        ∙ rest l (ap refs_in same ∙ left)
+
+-- ---- what the code does
+
+pub fields_more : (h : HeapState) (a i k m : ℕ) → k ≡ suc m
+    → marked_fields h a i k ≡ marked_fields (marked_field h (field_address a i)) a (i + 1) m
+fields_more h a i k m e = ap (marked_fields h a i) e
+
+pub fields_none : (h : HeapState) (a i k : ℕ) → k ≡ 0 → marked_fields h a i k ≡ h
+fields_none h a i k e = ap (marked_fields h a i) e
+
+pub field_behind : (a i : ℕ) → a + (1 + i) ≡ field_address a i
+field_behind a i = omega arith
+
+-- the workers stay
+pub workers_stay : (h : HeapState) (a i k : ℕ) → (marked_fields h a i k).workers ≡ h.workers
+unfolding marked_field with_marked_place with_mark
+workers_stay h a i zero = refl
+workers_stay h a i (suc k) = workers_stay (marked_field h (field_address a i)) a (i + 1) k
+
+pub ended : (h : HeapState) (w a : ℕ) (s : Scan) → slice_get h.workers w ≡ Some None → s.object ≡ a
+    → with_scan_end h w s ≡ without_todo h a
+unfolding with_scan_end without_todo with_scan
+ended h w a s e f = λ i. record h {
+  workers = same_set h.workers w None e i;
+  todo = with_bit h.todo h.store.words (f i) false;
+}
+
+pub scan_done : (h g k : HeapState) (w a refs : ℕ) (s : Scan) → slice_get h.workers w ≡ Some None → refs ≡ refs_at h a
+    → g ≡ marked_fields h a 0 refs → k ≡ with_scan_end g w s → s.object ≡ a → k ≡ scanned h a
+unfolding scanned
+scan_done h g k w a refs s worker r f e o =
+    e ∙ ended g w a s (ap (λ (x : HeapState). slice_get x.workers w) f
+    ∙ ap (λ (ws : List (Option Scan)). slice_get ws w) (workers_stay h a 0 refs) ∙ worker) o
+    ∙ ap (λ x. without_todo x a) (f ∙ ap (marked_fields h a 0) r)
+
+pub fields_keep : (h : HeapState) (w a i k : ℕ) → MayScan h w → MayScan (marked_fields h a i k) w
+fields_keep h w a i zero m = m
+fields_keep h w a i (suc k) m = fields_keep (marked_field h (field_address a i)) w a (i + 1) k
+    (field_keeps h w (field_address a i) m)
+
+-- the globals stay
+fields_globals : (h : HeapState) (a i k : ℕ) → (marked_fields h a i k).globals ≡ h.globals
+unfolding marked_field with_marked_place with_mark
+fields_globals h a i zero = refl
+fields_globals h a i (suc k) = fields_globals (marked_field h (field_address a i)) a (i + 1) k
+
+pub scanned_globals : (h : HeapState) (a : ℕ) → (scanned h a).globals ≡ h.globals
+unfolding scanned without_todo
+scanned_globals h a = fields_globals h a 0 (refs_at h a)
