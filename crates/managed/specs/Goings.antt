@@ -1,0 +1,117 @@
+-- Calls of several steps.
+use Rattle.std.specs.Prelude.{◌≡◌, ◌⊎◌, ℕ, Bool, true, false, List, [], ◌∷◌, Some, None, Result, Ok, Err}
+use Rattle.layout.specs.declared.shape.Layout.{Layout}
+use Rattle.model.specs.declared.steps.Actor.{Actor}
+use Rattle.model.specs.declared.steps.Actor.TheVariants.{Thread, Worker}
+use Rattle.model.specs.declared.steps.Step.{Step}
+use Rattle.model.specs.declared.steps.Step.TheVariants as steps
+use Rattle.model.specs.declared.steps.Answer.{Answer}
+use Rattle.model.specs.declared.steps.Answer.TheVariants as answers
+use Rattle.model.specs.declared.steps.Refusal.{Refusal}
+use Rattle.model.specs.declared.steps.Refusal.TheVariants as refusals
+use Rattle.model.specs.Outcome.{outcome}
+use Rattle.model.specs.Plain.{PlainHeap, plain_step}
+use Rattle.model.specs.Scans.{next_drain}
+use Rattle.model.specs.States.{HeapState}
+use Rattle.refinement.specs.Standing.{Holds}
+use Rattle.entries.specs.declared.entry.Entry.{Entry}
+use Rattle.managed.specs.Runs.{Runs}
+
+-- an entry
+abbrev pub entry : Actor → Step → Answer → Entry
+entry actor step answer = record { actor = actor; step = step; answer = answer }
+
+-- each of these steps is such a one
+abbrev pub EachIs : (Actor → Step → Type 0) → List Entry → Type 0
+EachIs P [] = Unit {0}
+EachIs P (e ∷ es) = P e.actor e.step × EachIs P es
+
+-- accepted steps, each such a one, lead from heap h to g, and keep what h stands for
+pub record Goes (P : Actor → Step → Type 0) (h g : HeapState) : Type 0 where
+  pub entries : List Entry
+  pub each : EachIs P entries
+  pub runs : Runs h entries g
+
+-- one accepted step leads from heap h to g, and keeps what h stands for
+abbrev pub Steps : Actor → Step → Answer → HeapState → HeapState → Type 0
+Steps actor step answer h g = Runs h (entry actor step answer ∷ []) g
+
+-- where heap h stood for a plain heap, g stands for the same
+pub record StandsForSame (h g : HeapState) : Type 0 where
+  pub same : (p p0 : PlainHeap) → Holds h p p0 → Holds g p p0
+
+-- a trap or a heal: what a load does between its first step and its last
+abbrev pub IsTrapOrHeal : Step → Type 0
+IsTrapOrHeal steps.Trap = Unit {0}
+IsTrapOrHeal steps.Heal = Unit {0}
+IsTrapOrHeal _ = ⊥
+
+-- such a step of thread t
+abbrev pub IsInBarrier : ℕ → Actor → Step → Type 0
+IsInBarrier t (Thread u) step = (u ≡ t) × IsTrapOrHeal step
+IsInBarrier t (Worker w) step = ⊥
+
+-- a step that goes on with a load that has begun
+abbrev pub IsOfLoad : Step → Type 0
+IsOfLoad steps.Trap = Unit {0}
+IsOfLoad steps.Heal = Unit {0}
+IsOfLoad steps.Finish = Unit {0}
+IsOfLoad _ = ⊥
+
+-- such a step of thread t is refused so, as the heap stands
+abbrev pub IsRefused : HeapState → ℕ → Refusal → Type 0
+IsRefused g t e = (step : Step) × (outcome g (Thread t) step ≡ Err e) × IsOfLoad step
+
+-- a load that had begun is ended: by traps and heals, and then Finish; where a step is refused, those before it are done
+abbrev pub EndsLoad : HeapState → ℕ → Result Unit Refusal → HeapState → Type 0
+EndsLoad h t (Ok u) g = (m : HeapState) × Goes (IsInBarrier t) h m × Steps (Thread t) steps.Finish answers.Done m g
+EndsLoad h t (Err e) g = Goes (IsInBarrier t) h g × IsRefused g t e
+
+-- a whole load: the step that begins it, and those that end it; where the first is refused, nothing is done
+abbrev pub LoadsWhole : HeapState → ℕ → Step → Result Unit Refusal → HeapState → Type 0
+LoadsWhole h t begin (Ok u) g =
+    (m : HeapState) × Steps (Thread t) begin answers.Loaded h m × EndsLoad m t (Ok u) g
+LoadsWhole h t begin (Err e) g =
+    ((outcome h (Thread t) begin ≡ Err e) × (g ≡ h))
+    ⊎ ((m : HeapState) × Steps (Thread t) begin answers.Loaded h m × EndsLoad m t (Err e) g)
+
+-- the plain heap after a whole load: the register has the reference
+abbrev pub plain_loaded : List Layout → PlainHeap → ℕ → Step → PlainHeap
+plain_loaded ls p t begin = plain_step ls (plain_step ls p (Thread t) begin) (Thread t) steps.Finish
+
+-- where heap h stood for a plain heap, after a whole load g stands for the plain heap whose register has the reference;
+-- and after one that was refused, for that with the load begun, or as it was
+abbrev pub LoadStands : HeapState → ℕ → Step → Result Unit Refusal → HeapState → Type 0
+LoadStands h t begin (Ok u) g = (p p0 : PlainHeap) → Holds h p p0 → Holds g (plain_loaded h.config.layouts p t begin) p0
+LoadStands h t begin (Err e) g = (p p0 : PlainHeap) → Holds h p p0
+    → (Holds g p p0 ⊎ Holds g (plain_step h.config.layouts p (Thread t) begin) p0)
+
+-- a step that scans
+abbrev pub Scans : Step → Type 0
+Scans (steps.Pick page offset) = Unit {0}
+Scans steps.ScanField = Unit {0}
+Scans (steps.ScanGlobal g) = Unit {0}
+Scans _ = ⊥
+
+-- such a step of worker w
+abbrev pub IsScan : ℕ → Actor → Step → Type 0
+IsScan w (Thread t) step = ⊥
+IsScan w (Worker v) step = (v ≡ w) × Scans step
+
+-- how a scan ended: true where nothing is left that no other worker has; a refusal is that of the next step
+abbrev pub EndsScan : ℕ → Result Bool Refusal → HeapState → Type 0
+EndsScan w (Ok true) g = next_drain g w ≡ None
+EndsScan w (Ok false) g = Unit {0}
+EndsScan w (Err e) g = (step : Step) × (next_drain g w ≡ Some step) × (outcome g (Worker w) step ≡ Err e)
+
+-- how a drain ended: nothing is left that no other worker has; or the next step is refused so, or too many were left
+abbrev pub EndsDrain : ℕ → Result Unit Refusal → HeapState → Type 0
+EndsDrain w (Ok u) g = next_drain g w ≡ None
+EndsDrain w (Err e) g = (e ≡ refusals.TodoLeft) ⊎ EndsScan w (Err e) g
+
+-- a crossing of any thread, or for one by worker w
+abbrev pub IsCrossing : ℕ → Actor → Step → Type 0
+IsCrossing w (Thread t) steps.Cross = Unit {0}
+IsCrossing w (Thread t) _ = ⊥
+IsCrossing w (Worker v) (steps.CrossFor t) = v ≡ w
+IsCrossing w (Worker v) _ = ⊥

@@ -1,0 +1,4 @@
+pub mod Runs
+pub mod Goings
+pub mod Collecting
+pub mod Managing
