@@ -122,11 +122,7 @@ fn check_book<W: io::Write>(
 }
 
 /// What `by_check` does, of a script that needs no threads.
-fn run_checked<W: io::Write>(
-    alloc: Global,
-    script: &Script,
-    w: &mut W,
-) -> Result<Checked, RunFault>
+fn run_checked<W: io::Write>(alloc: Global, script: &Script, w: &mut W) -> Result<Checked, RunFault>
     ensures { IfOk result IsClean }
 {
     let mut book = new_book(alloc, script)?;

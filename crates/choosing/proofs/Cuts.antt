@@ -36,6 +36,7 @@ no_room h ns many = by (nat_le t (free_count h.store)) (nat_le t (unused_count h
   where
     t : ℕ
     t = target_count (plan_of h ns)
+
     by : (a b : Bool) → nat_le t (free_count h.store) ≡ a → nat_le t (unused_count h.store) ≡ b → (a && b) ≡ false
     by true true e f = absurd (omega (arith, targets_behind h ns, many, leb-true _ _ e, leb-true _ _ f))
     by true false e f = refl
@@ -110,14 +111,25 @@ goes_on h ns i n xs new s t b next is few low more =
 -- there is no room for one more page
 pub is_cut : (h : HeapState) (ns : List ℕ) (i : ℕ) (n : ℕ) (xs : List ℕ) (s t : Packing) → IsBeginning h ns i xs s
     → take (i + 1) ns ≡ take i ns ++ n ∷ [] → t ≡ pack h.store.words s (sizes_on h n) → room_in h < t.count → IsLongest h ns xs
-is_cut h ns i n xs s t b next is many =
-    (i, b.chosen, subst (λ l. has_room_for h l ≡ true) (sym b.chosen) (has_room h (take i ns) (omega (arith, b.room, ap (λ (z : Packing). z.count) b.packed))),
-    λ j later most. let rest = longer (i + 1) j ns (omega (arith, later)) in
-      no_room h (take j ns) (omega (arith, many, ap (λ (z : Packing). z.count) (is ∙ one_behind h ns i n s b.packed next),
-      behind_more h (take (i + 1) ns) rest.0, ap (λ l. (behind h l).count) rest.1)))
+is_cut h ns i n xs s t b next is many = (
+  i,
+  b.chosen,
+  subst (λ l. has_room_for h l ≡ true) (sym b.chosen) (has_room h (take i ns) (omega (arith, b.room, ap (λ (z : Packing). z.count) b.packed))),
+  λ j later most. let rest = longer (i + 1) j ns (omega (arith, later)) in
+      no_room h (take j ns) (omega (
+        arith,
+        many,
+        ap (λ (z : Packing). z.count) (is ∙ one_behind h ns i n s b.packed next),
+        behind_more h (take (i + 1) ns) rest.0,
+        ap (λ l. (behind h l).count) rest.1,
+      )),
+)
 
 -- there is room for all
 pub is_whole : (h : HeapState) (ns : List ℕ) (i : ℕ) (xs : List ℕ) (s : Packing) → IsBeginning h ns i xs s → length ns ≤ i → IsLongest h ns xs
-is_whole h ns i xs s b ends =
-    (i, b.chosen, subst (λ l. has_room_for h l ≡ true) (sym b.chosen) (has_room h (take i ns) (omega (arith, b.room, ap (λ (z : Packing). z.count) b.packed))),
-    λ j later most. absurd (omega (arith, ends, later, most)))
+is_whole h ns i xs s b ends = (
+  i,
+  b.chosen,
+  subst (λ l. has_room_for h l ≡ true) (sym b.chosen) (has_room h (take i ns) (omega (arith, b.room, ap (λ (z : Packing). z.count) b.packed))),
+  λ j later most. absurd (omega (arith, ends, later, most)),
+)

@@ -74,8 +74,11 @@ entry_added b actor step g answer k store heap more kept =
           (subst (λ (c : Config). Finds g (after_entries c.layouts (before_entries c) (b.history ++ e ∷ [])).now
           (after_entries c.layouts (before_entries c) (b.history ++ e ∷ [])).at_mark step) (sym s.config)
           (subst (λ (r : Replayed). Finds g r.now r.at_mark step) (sym after) kept.finds));
-      tallies = tallies_more b.heap g actor step answer b.history k.tallies (omega (arith, k.heap.config.history,
-          leb-false b.heap.config.history (length b.history) more)) kept.tallies;
+      tallies = tallies_more b.heap g actor step answer b.history k.tallies (omega (
+        arith,
+        k.heap.config.history,
+        leb-false b.heap.config.history (length b.history) more,
+      )) kept.tallies;
     }
 
 -- a new book

@@ -56,8 +56,12 @@ tally_more t es e c raised few = by_counter c raised
 
     raised_is : (c : Option Counter) → ((k : Counter) → raises t k e ≡ is_raised c k) → (k : Counter)
         → is_raised c k ≡ true → one_more (count_by (raises t k) es) ≡ count_by (raises t k) (es ++ e ∷ [])
-    raised_is c r k so = omega (arith, more c r k, ap as_number so,
-        one_more_is (count_by (raises t k) es) (omega (arith, few, count_by-le-length (raises t k) es)))
+    raised_is c r k so = omega (
+      arith,
+      more c r k,
+      ap as_number so,
+      one_more_is (count_by (raises t k) es) (omega (arith, few, count_by-le-length (raises t k) es)),
+    )
 
     by_counter : (c : Option Counter) → ((k : Counter) → raises t k e ≡ is_raised c k)
         → counted_if c (tally_of t es) ≡ tally_of t (es ++ e ∷ [])

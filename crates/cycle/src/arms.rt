@@ -23,35 +23,19 @@ pub(crate) fn give_back(heap: &mut Heap, thread: u32) -> Reply
     done(calls::give_back(heap, thread))
 }
 
-pub(crate) fn new_object(
-    heap: &mut Heap,
-    thread: u32,
-    target: u32,
-    layout: u32,
-) -> Reply
+pub(crate) fn new_object(heap: &mut Heap, thread: u32, target: u32, layout: u32) -> Reply
     ensures { Does heap.old result heap.new (outcome heap.old (Thread thread) (steps.New target layout)) }
 {
     Ok(Answer::Birth(calls::new_object(heap, thread, target, layout)?))
 }
 
-pub(crate) fn load(
-    heap: &mut Heap,
-    thread: u32,
-    target: u32,
-    object: u32,
-    field: u32,
-) -> Reply
+pub(crate) fn load(heap: &mut Heap, thread: u32, target: u32, object: u32, field: u32) -> Reply
     ensures { Does heap.old result heap.new (outcome heap.old (Thread thread) (steps.Load target object field)) }
 {
     loaded(calls::load(heap, thread, target, object, field))
 }
 
-pub(crate) fn load_global(
-    heap: &mut Heap,
-    thread: u32,
-    target: u32,
-    global: u32,
-) -> Reply
+pub(crate) fn load_global(heap: &mut Heap, thread: u32, target: u32, global: u32) -> Reply
     ensures { Does heap.old result heap.new (outcome heap.old (Thread thread) (steps.LoadGlobal target global)) }
 {
     loaded(calls::load_global(heap, thread, target, global))
@@ -75,24 +59,13 @@ pub(crate) fn finish(heap: &mut Heap, thread: u32) -> Reply
     done(calls::finish(heap, thread))
 }
 
-pub(crate) fn store(
-    heap: &mut Heap,
-    thread: u32,
-    object: u32,
-    field: u32,
-    source: u32,
-) -> Reply
+pub(crate) fn store(heap: &mut Heap, thread: u32, object: u32, field: u32, source: u32) -> Reply
     ensures { Does heap.old result heap.new (outcome heap.old (Thread thread) (steps.Store object field source)) }
 {
     done(calls::store(heap, thread, object, field, source))
 }
 
-pub(crate) fn store_global(
-    heap: &mut Heap,
-    thread: u32,
-    global: u32,
-    source: u32,
-) -> Reply
+pub(crate) fn store_global(heap: &mut Heap, thread: u32, global: u32, source: u32) -> Reply
     ensures { Does heap.old result heap.new (outcome heap.old (Thread thread) (steps.StoreGlobal global source)) }
 {
     done(calls::store_global(heap, thread, global, source))
@@ -104,13 +77,7 @@ pub(crate) fn datum(heap: &Heap, thread: u32, object: u32, index: u32) -> Reply
     Ok(Answer::Datum(calls::datum(heap, thread, object, index)?))
 }
 
-pub(crate) fn set_datum(
-    heap: &mut Heap,
-    thread: u32,
-    object: u32,
-    index: u32,
-    value: u64,
-) -> Reply
+pub(crate) fn set_datum(heap: &mut Heap, thread: u32, object: u32, index: u32, value: u64) -> Reply
     ensures { Does heap.old result heap.new (outcome heap.old (Thread thread) (steps.SetDatum object index value)) }
 {
     done(calls::set_datum(heap, thread, object, index, value))
@@ -128,12 +95,7 @@ pub(crate) fn is_null(heap: &Heap, thread: u32, register: u32) -> Reply
     Ok(Answer::Truth(calls::is_null(heap, thread, register)?))
 }
 
-pub(crate) fn copy_register(
-    heap: &mut Heap,
-    thread: u32,
-    target: u32,
-    source: u32,
-) -> Reply
+pub(crate) fn copy_register(heap: &mut Heap, thread: u32, target: u32, source: u32) -> Reply
     ensures { Does heap.old result heap.new (outcome heap.old (Thread thread) (steps.CopyReg target source)) }
 {
     done(calls::copy_register(heap, thread, target, source))

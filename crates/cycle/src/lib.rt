@@ -40,8 +40,8 @@
 //! | workers alone | all other changes of phase, the NMT value, what is scanned, which pages are emptied, side arrays |
 #![tactic(auto)]
 
-mod book;
 mod arms;
+mod book;
 mod calls;
 mod draining;
 mod gate;

@@ -63,17 +63,13 @@ fn thread_step(heap: &mut Heap, thread: u32, step: &Step) -> Reply
     match step {
         Step::Take(words) => arms::take(heap, thread, *words),
         Step::GiveBack => arms::give_back(heap, thread),
-        Step::New { target, layout } => {
-            arms::new_object(heap, thread, *target, *layout)
-        }
+        Step::New { target, layout } => { arms::new_object(heap, thread, *target, *layout) }
         Step::Load {
             target,
             object,
             field,
         } => arms::load(heap, thread, *target, *object, *field),
-        Step::LoadGlobal { target, global } => arms::load_global(
-            heap, thread, *target, *global,
-        ),
+        Step::LoadGlobal { target, global } => arms::load_global(heap, thread, *target, *global),
         Step::Trap => arms::trap(heap, thread),
         Step::Heal => arms::heal(heap, thread),
         Step::Finish => arms::finish(heap, thread),
@@ -82,24 +78,16 @@ fn thread_step(heap: &mut Heap, thread: u32, step: &Step) -> Reply
             field,
             source,
         } => arms::store(heap, thread, *object, *field, *source),
-        Step::StoreGlobal { global, source } => arms::store_global(
-            heap, thread, *global, *source,
-        ),
-        Step::Datum { object, index } => {
-            arms::datum(heap, thread, *object, *index)
-        }
+        Step::StoreGlobal { global, source } => arms::store_global(heap, thread, *global, *source),
+        Step::Datum { object, index } => { arms::datum(heap, thread, *object, *index) }
         Step::SetDatum {
             object,
             index,
             value,
         } => arms::set_datum(heap, thread, *object, *index, *value),
-        Step::Same { left, right } => {
-            arms::same(heap, thread, *left, *right)
-        }
+        Step::Same { left, right } => { arms::same(heap, thread, *left, *right) }
         Step::IsNull(register) => arms::is_null(heap, thread, *register),
-        Step::CopyReg { target, source } => arms::copy_register(
-            heap, thread, *target, *source,
-        ),
+        Step::CopyReg { target, source } => arms::copy_register(heap, thread, *target, *source),
         Step::ClearReg(target) => arms::clear_register(heap, thread, *target),
         Step::Cross => arms::cross(heap, thread),
         Step::Scrub(register) => arms::scrub(heap, thread, *register),

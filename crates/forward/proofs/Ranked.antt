@@ -75,21 +75,25 @@ bit_numbered b [] i l = absurd (omega (arith, l))
 bit_numbered b (true ∷ row) zero l =
     (zero, record { offset = omega arith; set = refl; rank = refl; within = omega arith })
 bit_numbered b (true ∷ row) (suc i) l =
-    let (k, is) = bit_numbered (b + 1) row i (omega (arith, l, more_bits true row)) in
-    (suc k, record {
-      offset = omega (arith, is.offset);
-      set = is.set;
-      rank = omega (arith, more_bits true (take k row), is.rank);
-      within = omega (arith, is.within);
-    })
+    let (k, is) = bit_numbered (b + 1) row i (omega (arith, l, more_bits true row)) in (
+      suc k,
+      record {
+        offset = omega (arith, is.offset);
+        set = is.set;
+        rank = omega (arith, more_bits true (take k row), is.rank);
+        within = omega (arith, is.within);
+      },
+    )
 bit_numbered b (false ∷ row) i l =
-    let (k, is) = bit_numbered (b + 1) row i (omega (arith, l, more_bits false row)) in
-    (suc k, record {
-      offset = omega (arith, is.offset);
-      set = is.set;
-      rank = omega (arith, more_bits false (take k row), is.rank);
-      within = omega (arith, is.within);
-    })
+    let (k, is) = bit_numbered (b + 1) row i (omega (arith, l, more_bits false row)) in (
+      suc k,
+      record {
+        offset = omega (arith, is.offset);
+        set = is.set;
+        rank = omega (arith, more_bits false (take k row), is.rank);
+        within = omega (arith, is.within);
+      },
+    )
 
 -- offsets rise
 pub offsets_rise : (b : ℕ) (row : List Bool) (i : ℕ) → suc i < total row
@@ -128,7 +132,6 @@ module _ (live : List Bool) (places : List ℕ) (copied : List Bool) where
           rising_from n (a + 1) (get_or (offsets_from 0 live) a 0 + 1) (omega (arith, e))
               (λ some. omega (arith, offsets_rise 0 live a (omega (arith, e, some, is.many)), next a)),
         )
-
       where
         behind : (n : ℕ) → suc n ≡ n + 1
         behind n = omega arith

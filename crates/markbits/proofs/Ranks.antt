@@ -95,7 +95,7 @@ rank_of_word n total words row k word below is view low there so_far at small =
     (omega (arith, there, many, low, is.room)) small in (
       omega (arith, more.1, next, there, many, is.short),
       more.0 ∙ ap (λ m. set_count (bits_of m words)) next
-      ∙ sym (counted_words n (64 * k) words row view (omega (arith, there, many))),
+          ∙ sym (counted_words n (64 * k) words row view (omega (arith, there, many))),
     )
 
 -- a number more is noted

@@ -5,8 +5,8 @@ ghost use Rattle.std.specs.List.{list_all};
 ghost use Rattle.model.specs.Configs.{is_page_size, fits_page, first_fault, usual_config, IsOfCaller, IsRanged};
 
 use crate::limits::{
-    MOST_BIRTHS, MOST_FIELDS, MOST_FRAMES, MOST_GLOBALS, MOST_HISTORY, MOST_LAYOUTS, MOST_PAGES, MOST_REGISTERS,
-    MOST_THREADS, MOST_WORKERS,
+    MOST_BIRTHS, MOST_FIELDS, MOST_FRAMES, MOST_GLOBALS, MOST_HISTORY, MOST_LAYOUTS, MOST_PAGES,
+    MOST_REGISTERS, MOST_THREADS, MOST_WORKERS,
 };
 use layout::{Layout, Layouts};
 use std::alloc::{AllocError, Global};

@@ -46,8 +46,11 @@ fn each_once(rt: HostRuntime) -> Result<(), Fail> {
         assert!(rt; false, "there are two seats");
         return Ok(());
     };
-    let ((mut owner, popped, first), (stolen, second)) =
-        join(&rt, move || push_all(owner), move || steal_all(thief));
+    let ((mut owner, popped, first), (stolen, second)) = join(
+        &rt,
+        move || push_all(owner),
+        move || steal_all(thief),
+    );
     let mut count = popped.wrapping_add(stolen);
     let mut sum = first.wrapping_add(second);
     for _ in 0..COUNT {

@@ -69,7 +69,12 @@ impl Collector {
     }
 
     /// Copies all objects of a protected page, and releases it.
-    fn empty<R: Threads + Wait + Sync, G: Gate>(&self, run: &Run<R, G>, seat: &mut Seat, page: u32) {
+    fn empty<R: Threads + Wait + Sync, G: Gate>(
+        &self,
+        run: &Run<R, G>,
+        seat: &mut Seat,
+        page: u32,
+    ) {
         if run.is_stopped() {
             return;
         }

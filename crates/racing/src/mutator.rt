@@ -54,7 +54,10 @@ impl<R: Wait, G: Gate> Mutator<'_, R, G> {
     fn cross(&self, seat: &mut Seat) {
         let thread = self.thread;
         let run = self.run;
-        if run.shared.look(run.rt, |heap: &Heap| is_to_cross(heap, thread)) {
+        if run
+            .shared
+            .look(run.rt, |heap: &Heap| is_to_cross(heap, thread))
+        {
             let _ = run.ask(seat, &Step::Cross);
         }
     }
@@ -64,7 +67,10 @@ impl<R: Wait, G: Gate> Mutator<'_, R, G> {
         let thread = self.thread;
         let run = self.run;
         for register in 0..self.registers {
-            if run.shared.look(run.rt, |heap: &Heap| is_used(heap, thread, register)) {
+            if run
+                .shared
+                .look(run.rt, |heap: &Heap| is_used(heap, thread, register))
+            {
                 let _ = run.ask(seat, &Step::Scrub(register));
             }
         }
@@ -118,7 +124,10 @@ impl<R: Wait, G: Gate> Mutator<'_, R, G> {
     fn end(&self, seat: &mut Seat) {
         let thread = self.thread;
         let run = self.run;
-        if run.shared.look(run.rt, |heap: &Heap| is_loading(heap, thread)) {
+        if run
+            .shared
+            .look(run.rt, |heap: &Heap| is_loading(heap, thread))
+        {
             self.end_load(seat, true);
         }
         let _ = self.step(seat, &Step::GiveBack);

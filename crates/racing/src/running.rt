@@ -87,7 +87,11 @@ fn play<R: Threads + Wait + Sync, G: Gate>(
 }
 
 /// The actors with their seats, workers with theirs among the hints.
-fn players(alloc: Global, seats: Vec<Seat>, hints: Vec<HintSeat>) -> Result<Vec<Player>, AllocError> {
+fn players(
+    alloc: Global,
+    seats: Vec<Seat>,
+    hints: Vec<HintSeat>,
+) -> Result<Vec<Player>, AllocError> {
     let mut players = Vec::with_capacity(alloc, seats.len())?;
     let mut left = hints;
     left.reverse();

@@ -50,12 +50,5 @@ fn main(rt: HostRuntime) -> ExitCode {
     let Ok(mut output) = io::BufWriter::new(rt.alloc(), io::writer(&rt)) else {
         return ExitCode::from(AskFault::Memory.tell(&mut errors));
     };
-    ExitCode::from(serve(
-        &rt,
-        rt.alloc(),
-        &asked,
-        &mut file,
-        &mut output,
-        &mut errors,
-    ))
+    ExitCode::from(serve(&rt, rt.alloc(), &asked, &mut file, &mut output, &mut errors))
 }

@@ -52,9 +52,11 @@ impl RunFault {
 
 /// The fault of a script's first cycle in a run without threads.
 pub fn cycle_fault(script: &Script) -> RunFault {
-    RunFault::Line(script.spots().cycle.unwrap_or(LineFault {
-        line: 1,
-        column: 1,
-        kind: FaultKind::CycleNeedsThreads,
-    }))
+    RunFault::Line(
+        script.spots().cycle.unwrap_or(LineFault {
+            line: 1,
+            column: 1,
+            kind: FaultKind::CycleNeedsThreads,
+        }),
+    )
 }

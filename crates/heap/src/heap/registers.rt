@@ -32,7 +32,10 @@ impl Heap {
     pub fn let_through(&self, thread: u32, address: Addr) -> Result<(), Refusal>
         ensures { result ≡ let_through self.now thread address }
     {
-        if !matches!(self.store.state_behind(address), PageState::From | PageState::Gone) {
+        if !matches!(
+            self.store.state_behind(address),
+            PageState::From | PageState::Gone
+        ) {
             return Ok(());
         }
         match self.phase {

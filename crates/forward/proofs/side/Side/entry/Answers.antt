@@ -25,7 +25,7 @@ returns c =
     let l : c.args.index < length places = omega (arith, c.if-index-len.false, c.len.ensures) in
     let ranked = ranked_offset 0 live c.in_ok-offset.offset there.0 in
     let read : get_or (offsets_from 0 live) (rank_of live c.in_ok-offset.offset) 0
-        ≡ get_or (offsets_from 0 live) c.args.index 0 = ap (λ n. get_or (offsets_from 0 live) n 0) there.1 in
+    ≡ get_or (offsets_from 0 live) c.args.index 0 = ap (λ n. get_or (offsets_from 0 live) n 0) there.1 in
     let offset : c.in_ok-offset.offset ≡ get_or (offsets_from 0 live) c.args.index 0 = omega (arith, ranked, read) in
     entry_is live places c.self.inside.copied c.self.invariant c.args.index c.in_ok-offset.offset c.index.result.now
     c.test.result l offset (get_or_read places c.args.index c.index.result.now l c.index.ensures 0) c.test.ensures
