@@ -1,12 +1,15 @@
 //! What the program's words ask for, and what it writes and answers for scripts and for files
 //! that can't be read.
 
-use service::{AskFault, Asked, Mode, ask, serve};
+use modes::serve;
+use service::{AskFault, Asked, Mode, ask};
 use std::alloc::Global;
 use std::io;
 use std::io::{BufWriter, Read};
 use std::process::Abort;
+use std::sync::Wait;
 use std::test::Fail;
+use std::thread::Threads;
 
 pub const SCRIPT: &str =
     "heap words 16 frames 1 pages 1 threads 1 workers 1 registers 2 globals 0\nlayout 0 2\nt0 take 4\nt0 datum r1 0\n";
@@ -72,25 +75,29 @@ fn other_words(rt: HostRuntime) -> Result<(), Fail> {
 
 /// What serving a reader's bytes gives: the status, the output past its buffer, what waits in the
 /// buffer, and the errors.
-fn served<R: Read>(alloc: Global, reader: &mut R) -> Result<(u8, Vec<u8>, Vec<u8>, Vec<u8>), Fail> {
+fn served<R: Read>(
+    rt: &(impl Threads + Wait + Sync),
+    alloc: Global,
+    reader: &mut R,
+) -> Result<(u8, Vec<u8>, Vec<u8>, Vec<u8>), Fail> {
     let asked = words_asked(alloc, "run a.script")?;
     let mut output = BufWriter::new(alloc, Vec::new(alloc))?;
     let mut errors = Vec::new(alloc);
-    let status = serve(alloc, &asked, reader, &mut output, &mut errors);
+    let status = serve(rt, alloc, &asked, reader, &mut output, &mut errors);
     let (written, waiting) = output.into_parts();
     Ok((status, written, waiting, errors))
 }
 
 /// Serving the bytes gives this status, writes this output, and tells this fault.
 fn has_served<R: Read>(
-    rt: &impl Abort,
+    rt: &(impl Abort + Threads + Wait + Sync),
     alloc: Global,
     reader: &mut R,
     wanted: u8,
     output: &str,
     fault: &str,
 ) -> Result<(), Fail> {
-    let (status, written, waiting, errors) = served(alloc, reader)?;
+    let (status, written, waiting, errors) = served(rt, alloc, reader)?;
     assert_eq!(rt; status, wanted);
     assert_eq!(rt; written.as_slice(), output.as_bytes());
     assert_eq!(rt; waiting.len(), 0);

@@ -1,12 +1,14 @@
 //! Writers that fail: at some write, or when they are flushed.
 
 use crate::serving::{OUTPUT, SCRIPT, words_asked};
-use service::serve;
+use modes::serve;
 use std::alloc::Global;
 use std::io;
 use std::io::{BufWriter, Write};
 use std::process::Abort;
+use std::sync::Wait;
 use std::test::Fail;
+use std::thread::Threads;
 
 /// A writer that takes a number of writes and fails at the next. When it is flushed it fails too,
 /// where it is made so.
@@ -39,6 +41,7 @@ impl Write for Failing {
 /// What serving the script gives by such a writer, behind a buffer of so many bytes: the status,
 /// what the writer took, and the errors.
 fn served(
+    rt: &(impl Threads + Wait + Sync),
     alloc: Global,
     capacity: usize,
     left: u32,
@@ -53,7 +56,7 @@ fn served(
     };
     let mut output = BufWriter::with_capacity(alloc, capacity, writer)?;
     let mut errors = Vec::new(alloc);
-    let status = serve(alloc, &asked, &mut reader, &mut output, &mut errors);
+    let status = serve(rt, alloc, &asked, &mut reader, &mut output, &mut errors);
     let (writer, _) = output.into_parts();
     Ok((status, writer.taken, errors))
 }
@@ -61,14 +64,14 @@ fn served(
 /// Behind a buffer of so many bytes a writer that fails behind so many writes makes this status and
 /// this fault, and takes a part of the output.
 fn is_told(
-    rt: &impl Abort,
+    rt: &(impl Abort + Threads + Wait + Sync),
     alloc: Global,
     capacity: usize,
     left: u32,
     wanted: u8,
     fault: &str,
 ) -> Result<(), Fail> {
-    let (status, taken, errors) = served(alloc, capacity, left, true)?;
+    let (status, taken, errors) = served(rt, alloc, capacity, left, true)?;
     assert_eq!(rt; status, wanted);
     assert_eq!(rt; taken.len() == OUTPUT.len(), wanted == 0);
     assert!(rt; OUTPUT.as_bytes().starts_with(&taken));
@@ -77,7 +80,12 @@ fn is_told(
 }
 
 /// Behind a buffer of so many bytes so many writes are needed, and a fault of each is told.
-fn are_needed(rt: &impl Abort, alloc: Global, capacity: usize, writes: u32) -> Result<(), Fail> {
+fn are_needed(
+    rt: &(impl Abort + Threads + Wait + Sync),
+    alloc: Global,
+    capacity: usize,
+    writes: u32,
+) -> Result<(), Fail> {
     for left in 0..writes {
         is_told(rt, alloc, capacity, left, 3, "pauseless: cannot write\n")?;
     }
@@ -95,8 +103,12 @@ fn each_write_fails(rt: HostRuntime) -> Result<(), Fail> {
 }
 
 /// A writer that fails when it is flushed, behind a buffer of so many bytes.
-fn flush_is_told(rt: &impl Abort, alloc: Global, capacity: usize) -> Result<(), Fail> {
-    let (status, taken, errors) = served(alloc, capacity, 7, false)?;
+fn flush_is_told(
+    rt: &(impl Abort + Threads + Wait + Sync),
+    alloc: Global,
+    capacity: usize,
+) -> Result<(), Fail> {
+    let (status, taken, errors) = served(rt, alloc, capacity, 7, false)?;
     assert_eq!(rt; status, 3);
     assert_eq!(rt; taken.as_slice(), OUTPUT.as_bytes());
     assert_eq!(rt; errors.as_slice(), b"pauseless: cannot write\n".as_slice());
