@@ -111,11 +111,11 @@ def written(root):
     return dict(zip(names, lines))
 
 
-def write(root, crates, name):
-    """Puts this crate's line into the book, in the order of crates.txt. Others may write there meanwhile."""
+def write(root, crates, line):
+    """Puts a crate's line into the book, in the order of crates.txt. Others may write there meanwhile."""
     with open(f"{root}/crates.txt", "rb") as held:
         fcntl.flock(held, fcntl.LOCK_EX)
-        lines = {**written(root), name: crates.line(name)}
+        lines = {**written(root), line.split()[0]: line}
         with open(f"{root}/{BOOK}.new", "w", encoding="utf-8") as file:
             file.write(HEAD + "".join(f"{lines[it]}\n" for it in crates.below if it in lines))
         os.replace(f"{root}/{BOOK}.new", f"{root}/{BOOK}")
@@ -171,14 +171,14 @@ def build_below(crates, names, folder, jobs):
 
 
 def try_crate(crates, name, folder):
-    """Tries a crate's edits. Gives whether all were refused, what was told, and how long it took."""
-    began = time.monotonic()
+    """Tries a crate's edits. Gives its line if all were refused, else None, and what was told."""
+    began, line = time.monotonic(), crates.line(name)
     how = {"stdout": subprocess.PIPE, "stderr": subprocess.STDOUT, "errors": "replace"}
     ran = subprocess.run([RT, "must-fail", name], cwd=folder, **how)
     refused = len(re.findall(r"^rt: must-fail \S+: refused", ran.stdout, re.M))
     edits = len(crates.edits(name))
     told = f"{ran.stdout}{name}: {refused} of {edits} edits refused, in {time.monotonic() - began:.0f} s"
-    return ran.returncode == 0 and refused == edits, told
+    return line if ran.returncode == 0 and refused == edits else None, told
 
 
 def lanes():
@@ -202,13 +202,14 @@ def try_all(names, jobs):
         with ThreadPoolExecutor(jobs) as pool:
             running = {pool.submit(try_crate, tried, name, folder): name for name in names}
             for done in as_completed(running):
-                name, (well, told) = running[done], done.result()
+                line, told = done.result()
                 print(told, flush=True)
-                passed, failed = passed + well, failed + (not well)
-                if well:
-                    write(crates.root, tried, name)
+                if line:
+                    write(crates.root, crates, line)
+                    passed += 1
                 else:
-                    print(f"failed: {name} isn't written down", flush=True)
+                    print(f"failed: {running[done]} isn't written down", flush=True)
+                    failed += 1
     print(f"{passed} passed, {failed} failed")
     return 1 if failed else 0
 

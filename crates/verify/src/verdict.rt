@@ -20,7 +20,7 @@ pub enum Fault {
     /// A root's value isn't good.
     Root(Root),
     /// The value of a reference field of a reached object isn't good: the object's address, below
-    /// 2^28, and the number of the field, from 0.
+    /// 2^40, and the number of the field, from 0.
     Field(u64, u32),
     /// Two objects have this birth number: one that is reached, and one that is reached too, or
     /// wasn't copied.
