@@ -1,7 +1,7 @@
 //! The cycles of the worker that has commands.
 
 use crate::gate::Gate;
-use crate::run::{Finished, Run};
+use crate::run::Run;
 use crate::scanning::Scanner;
 use choosing::choose;
 use cycle::{Actor, PageList, Step};
@@ -163,8 +163,7 @@ impl Collector {
         run: &Run<R, G>,
         mut seat: Seat,
         commands: &[Command],
-    ) -> Finished {
-        let mut lacked = false;
+    ) -> Seat {
         for command in commands {
             if run.is_stopped() {
                 break;
@@ -172,12 +171,11 @@ impl Collector {
             if is_of(command, self.scanner.worker)
                 && self.command(alloc, run, &mut seat, command).is_err()
             {
-                run.shared.stop(run.rt);
-                lacked = true;
+                run.lack();
             }
         }
         run.leave();
-        Finished { seat, lacked }
+        seat
     }
 }
 

@@ -1,7 +1,7 @@
 //! What a mutator's thread does.
 
 use crate::gate::Gate;
-use crate::run::{Finished, Run};
+use crate::run::Run;
 use cycle::{Actor, Answer, Reply, Step};
 use heap::Heap;
 use model::Refusal;
@@ -107,17 +107,16 @@ impl<R: Wait, G: Gate> Mutator<'_, R, G> {
         let _ = self.step(seat, &Step::Finish);
     }
 
-    /// One command. The error is want of memory.
-    fn command(&self, alloc: Global, seat: &mut Seat, command: &Command) -> bool {
+    /// One command.
+    fn command(&self, alloc: Global, seat: &mut Seat, command: &Command) {
         let Ok(step) = command.order.step(alloc) else {
-            self.run.shared.stop(self.run.rt);
-            return false;
+            self.run.lack();
+            return;
         };
         let reply = self.step(seat, &step);
         if reply.is_ok() && matches!(command.order.then(), Then::LoadsEnd) {
             self.end_load(seat, false);
         }
-        true
     }
 
     /// Ends a barrier that is open, gives the buffer back, and parks.
@@ -135,21 +134,20 @@ impl<R: Wait, G: Gate> Mutator<'_, R, G> {
     }
 
     /// All commands of the seat's actor in order, and then the end.
-    pub(crate) fn work(&self, alloc: Global, mut seat: Seat, commands: &[Command]) -> Finished {
-        let mut lacked = false;
+    pub(crate) fn work(&self, alloc: Global, mut seat: Seat, commands: &[Command]) -> Seat {
         for command in commands {
             if self.run.is_stopped() {
                 break;
             }
-            if is_of(command, self.thread) && !self.command(alloc, &mut seat, command) {
-                lacked = true;
+            if is_of(command, self.thread) {
+                self.command(alloc, &mut seat, command);
             }
         }
         if !self.run.is_stopped() {
             self.end(&mut seat);
         }
         self.run.leave();
-        Finished { seat, lacked }
+        seat
     }
 }
 

@@ -23,17 +23,12 @@ pub(crate) struct Run<'a, R, G> {
     pub(crate) gate: &'a G,
     /// How many actors have commands left.
     pub(crate) busy: &'a AtomicU64,
+    /// Not 0 once memory was refused to an actor.
+    pub(crate) lacked: &'a AtomicU64,
     /// The words of a page.
     pub(crate) words: u32,
     /// How many workers there are.
     pub(crate) workers: u32,
-}
-
-/// An actor at the end of its work: its seat, and whether it was refused memory.
-#[derive(Drop)]
-pub(crate) struct Finished {
-    pub(crate) seat: Seat,
-    pub(crate) lacked: bool,
 }
 
 impl<R: Wait, G: Gate> Run<'_, R, G> {
@@ -45,10 +40,28 @@ impl<R: Wait, G: Gate> Run<'_, R, G> {
         self.gate.before(actor, step);
         let reply = self.shared.ask(self.rt, seat, step);
         self.gate.after(actor, step);
-        if matches!(reply, Err(Refusal::HistoryFull | Refusal::Memory)) {
-            self.shared.stop(self.rt);
-        }
+        self.heed(reply);
         reply
+    }
+
+    /// Stops all where no further step can be done.
+    fn heed(&self, reply: Reply) {
+        match reply {
+            Err(Refusal::Memory) => self.lack(),
+            Err(Refusal::HistoryFull) => self.shared.stop(self.rt),
+            _ => {}
+        }
+    }
+
+    /// Memory was refused, or a thread couldn't be started: all stop, and the run has no result.
+    pub(crate) fn lack(&self) {
+        self.lacked.store(1, Ordering::SeqCst);
+        self.shared.stop(self.rt);
+    }
+
+    /// Whether memory was refused.
+    pub(crate) fn has_lacked(&self) -> bool {
+        self.lacked.load(Ordering::SeqCst) != 0
     }
 
     /// Whether all stop.
@@ -83,9 +96,7 @@ impl<R: Threads + Wait + Sync, G: Gate> Run<'_, R, G> {
         self.gate.before(actor, &step);
         let reply = self.shared.copy_page(self.rt, seat, page, DEPTH);
         self.gate.after(actor, &step);
-        if matches!(reply, Err(Refusal::HistoryFull | Refusal::Memory)) {
-            self.shared.stop(self.rt);
-        }
+        self.heed(reply);
         reply
     }
 }

@@ -6,7 +6,7 @@ ghost use Rattle.sharing.specs.Seats.{AreSettled};
 use crate::collector::Collector;
 use crate::gate::Gate;
 use crate::mutator::Mutator;
-use crate::run::{Finished, Run};
+use crate::run::Run;
 use crate::scanning::Scanner;
 use cycle::{Actor, Book};
 use hints::{HintSeat, Hints};
@@ -59,7 +59,7 @@ fn play<R: Threads + Wait + Sync, G: Gate>(
     player: Player,
     commands: &[Command],
     registers: u32,
-) -> Finished {
+) -> Seat {
     let Player { seat, hints } = player;
     match (seat.actor(), hints) {
         (Actor::Thread(thread), _) => {
@@ -79,10 +79,7 @@ fn play<R: Threads + Wait + Sync, G: Gate>(
                 scanner.help(run, seat)
             }
         }
-        (Actor::Worker(_), None) => Finished {
-            seat,
-            lacked: false,
-        },
+        (Actor::Worker(_), None) => seat,
     }
 }
 
@@ -116,22 +113,20 @@ fn all_played<R: Threads + Wait + Sync, G: Gate + Sync>(
     thread::scope(thread::scope_env(), run.rt, move |scope| {
         let mut handles = Vec::with_capacity(alloc, players.len())?;
         let mut seats = Vec::with_capacity(alloc, players.len())?;
-        let mut lacked = false;
         for player in players {
             match scope.spawn(move || play(run, alloc, player, commands, registers)) {
                 Ok(handle) => handles.push(handle)?,
-                Err(_) => {
-                    run.shared.stop(run.rt);
-                    lacked = true;
-                }
+                Err(_) => run.lack(),
             }
         }
         for handle in handles {
-            let finished = handle.join(run.rt);
-            lacked = lacked || finished.lacked;
-            seats.push(finished.seat)?;
+            seats.push(handle.join(run.rt))?;
         }
-        if lacked { Err(AllocError) } else { Ok(seats) }
+        if run.has_lacked() {
+            Err(AllocError)
+        } else {
+            Ok(seats)
+        }
     })
 }
 
@@ -158,11 +153,13 @@ fn played<R: Threads + Wait + Sync, G: Gate + Sync>(
     let hints = Hints::new(alloc, sizes.workers)?;
     let players = players(alloc, seats, hints)?;
     let busy = AtomicU64::new(u64::from(sizes.threads) + 1);
+    let lacked = AtomicU64::new(0);
     let run = Run {
         rt,
         shared,
         gate,
         busy: &busy,
+        lacked: &lacked,
         words: sizes.words,
         workers: sizes.workers,
     };

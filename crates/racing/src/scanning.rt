@@ -1,7 +1,7 @@
 //! How workers scan, with hints.
 
 use crate::gate::Gate;
-use crate::run::{Finished, Run};
+use crate::run::Run;
 use cycle::{Answer, Step};
 use heap::Heap;
 use hints::{HintSeat, Hints};
@@ -154,7 +154,7 @@ impl Scanner {
     }
 
     /// Scans what is found until all commands are done.
-    pub(crate) fn help<R: Wait, G: Gate>(&mut self, run: &Run<R, G>, mut seat: Seat) -> Finished {
+    pub(crate) fn help<R: Wait, G: Gate>(&mut self, run: &Run<R, G>, mut seat: Seat) -> Seat {
         for _ in run.rt.forever() {
             if run.is_over() || run.is_stopped() {
                 break;
@@ -164,9 +164,6 @@ impl Scanner {
                 thread::yield_now();
             }
         }
-        Finished {
-            seat,
-            lacked: false,
-        }
+        seat
     }
 }
