@@ -56,6 +56,10 @@ is_told 'a mode alone' 2 "$usage" run
 is_told 'three words' 2 "$usage" run "$script" "$script"
 is_told 'a mode that is not there' 2 "$usage" walk "$script"
 is_told 'a mode alone that checks' 2 "$usage" check
+is_told 'a mode alone of threads' 2 "$usage" threads
+is_told 'three words with threads' 2 "$usage" threads "$script" "$script"
+is_told 'a mode in capital letters' 2 "$usage" Threads "$script"
+is_told 'a flag with threads' 2 "$usage" threads --help
 is_told 'an empty mode' 2 "$usage" '' "$script"
 is_told 'a flag' 2 "$usage" run --help
 is_told 'a flag for a file' 2 "$usage" run "-name"
@@ -71,7 +75,9 @@ is_told 'two dashes for a file' 3 'pauseless: cannot read --\n' run -- --
 
 # Files.
 is_told 'a missing file' 3 'pauseless: cannot read no/such.script\n' run no/such.script
+is_told 'a missing file for threads' 3 'pauseless: cannot read no/such.script\n' threads no/such.script
 is_told 'a directory' 3 'pauseless: cannot read examples\n' run examples
+is_told 'a directory for threads' 3 'pauseless: cannot read examples\n' threads examples
 is_told 'an empty name' 3 'pauseless: cannot read \n' run ''
 is_told 'a dash is a name' 3 'pauseless: cannot read -\n' run -
 is_done 'standard input' run /dev/stdin < "$script"
@@ -137,6 +143,30 @@ printf 'heap\n' > "$kept/fault"
 "$program" run "$kept/fault" > /dev/full 2> "$kept/errors"
 status=$?
 ends 'a fault and a full device' 2 'pauseless: line 1 column 5: unknown word\n' "$kept/nothing"
+
+# The same by threads. The first script has one thread, which makes an object and reads 9.
+printf 'thread 0 births 1 data 9\nsettled\n' > "$kept/settled"
+runs threads "$script"
+ends 'threads' 0 '' "$kept/settled"
+runs threads -- "$script"
+ends 'two dashes behind threads' 0 '' "$kept/settled"
+runs threads /dev/stdin < "$script"
+ends 'standard input by threads' 0 '' "$kept/settled"
+is_told 'no bytes for threads' 2 'pauseless: line 1 column 1: heap line expected\n' threads /dev/null
+is_told 'a fault for threads' 2 'pauseless: line 1 column 5: unknown word\n' threads "$kept/fault"
+: > "$kept/output"
+"$program" threads "$script" > /dev/full 2> "$kept/errors"
+status=$?
+ends 'a full device for threads' 3 'pauseless: cannot write\n' "$kept/nothing"
+"$program" threads "$script" >&- 2> "$kept/errors"
+status=$?
+ends 'a closed output for threads' 3 'pauseless: cannot write\n' "$kept/nothing"
+"$program" threads "$kept/fault" > /dev/full 2> "$kept/errors"
+status=$?
+ends 'a fault and a full device for threads' 2 'pauseless: line 1 column 5: unknown word\n' "$kept/nothing"
+head -c 4194305 /dev/zero | tr '\0' '\n' > "$kept/large"
+is_told 'a script too long' 2 'pauseless: script too long\n' run "$kept/large"
+is_told 'a script too long for threads' 2 'pauseless: script too long\n' threads "$kept/large"
 
 # Errors that can't be told change no status.
 "$program" run "$kept/fault" > "$kept/output" 2> /dev/full
