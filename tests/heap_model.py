@@ -170,20 +170,20 @@ class Heap:
         if word is None:
             return None
         thing = word.thing
-        self.copy_first(thing)
+        self.copy_first(thing, "marks")
         if not thing.marked:
             thing.marked = True
             self.todo_things[thing.place] = thing
         return Word(thing, self.nmt, thing.place)
 
-    def copy_first(self, thing):
+    def copy_first(self, thing, mover):
         if thing.planned is not None:
-            self.pages.copy(thing)
+            self.pages.copy(thing, mover)
 
     # The word that a thread has instead of one that it may not use; its object is copied where it wasn't.
     def moved_word(self, word):
         refuse_if(self.phase == "protect-crossing", "Stall")
-        self.copy_first(word.thing)
+        self.copy_first(word.thing, "threads")
         return word._replace(place=word.thing.place)
 
     def do_trap(self, thread):

@@ -130,7 +130,7 @@ def next_of_copies(heap, numbers):
     left = [entry for entry, thing in enumerate(live) if thing.planned is not None]
     if numbers.below(8) == 0:
         any_entry = (number, numbers.below(len(live) + 2))
-        return numbers.one_of([("mark", ()), ("release", (number,)), ("copy", any_entry)])
+        return numbers.one_of([("mark", ()), ("release", (number,)), ("copy", any_entry), ("copyall", (number,))])
     return ("copy", (number, numbers.one_of(left))) if left else ("release", (number,))
 
 
@@ -140,7 +140,7 @@ def any_of_workers(heap, numbers):
     return numbers.one_of([
         ("mark", ()), ("endmark", ()), ("pick", (page, numbers.below(heap.pages.words))), ("scan", ()),
         ("scang", (numbers.below(len(heap.globals) + 1),)), ("crossfor", (numbers.below(len(heap.threads)),)),
-        ("protect", (page,)), ("copy", (page, numbers.below(4))), ("release", (page,))])
+        ("protect", (page,)), ("copy", (page, numbers.below(4))), ("copyall", (page,)), ("release", (page,))])
 
 
 def next_of_moves(heap, numbers):
@@ -167,9 +167,9 @@ REFUSALS = ("BadIndex", "Parked", "NotParked", "Busy", "NotBusy", "Null", "Stall
 
 
 def many_moves():
-    """64 threads and 16 workers in whole cycles: what lives moves from page to page, copied by workers and by the
-    threads that come upon it, while the threads go on, faster than those who copy. The last free frames are mostly
-    left to the moves."""
+    """64 threads and 16 workers in whole cycles: what lives moves from page to page, copied by workers, by the
+    threads that come upon it and by marks that begin early, while the threads go on, faster than those who copy. The
+    last free frames are mostly left to the moves."""
     layouts = [(0, 2), (3, 0), (2, 1), (1, 4), (5, 0)]
     writing = Writing(64, 54, 58, 64, 16, 6, 16, layouts, 2 ** 32, 1_000_000)
     heap = writing.heap
@@ -189,7 +189,7 @@ def many_moves():
             writing.say(number, name, *Operands(heap, thread, numbers).of(name))
     writing.demand("many_moves", dict(
         dict.fromkeys(REFUSALS, 5), accepted=30_000, cycles=50, moved_objects=2_000, moved_by_threads=500,
-        retired_pages=400))
+        moved_by_marks=1_000, moved_pages=20, retired_pages=400))
     return writing
 
 
@@ -279,34 +279,38 @@ class Fragmenting:
         self.say(self.any_worker(), "endmark")
 
     def copy(self, number, entry):
-        """A worker copies an object, where no thread comes before it. At times what can't be yet is asked for."""
+        """A worker copies an object, where no thread comes before it, or all that is left of its page. At times what
+        can't be yet is asked for."""
         if self.numbers.below(16) == 0:
             self.read(self.numbers.below(len(self.heap.globals)))
         if self.numbers.below(16) == 0:
             self.say(self.any_thread(), "scrub", self.numbers.below(4))
-        self.say(self.any_worker(), "copy", number, entry)
+        self.say(self.any_worker(), *self.numbers.one_of([("copy", number, entry)] * 7 + [("copyall", number)]))
         if self.numbers.below(8) == 0:
             self.say(self.any_worker(), "release", number)
 
     def move(self):
         """All pages are emptied, and each gives its frame back early or late; one at times only as the next mark
-        ends. Then the targets alone have frames, and that page."""
+        ends, and then no worker has copied anything of it or one has copied all. Until then the targets alone have
+        frames, and that page."""
         pages = self.heap.pages
         self.say(self.any_worker(), "protect", *self.numbers.shuffled(pages.used))
         targets = int(self.writing.output[-1].split(" ")[-1])
         self.at_point(2)
         self.cross()
-        emptied = [number for number, page in pages.used.items() if page.state == "from"]
-        entries = [(number, entry) for number in emptied for entry in range(len(pages.used[number].live))]
+        emptied = self.numbers.shuffled(number for number, page in pages.used.items() if page.state == "from")
+        passed_over = self.numbers.below(4) == 0
+        copied = emptied[passed_over:]
+        entries = [(number, entry) for number in copied for entry in range(len(pages.used[number].live))]
         for entry in self.numbers.shuffled(entries):
             self.copy(*entry)
         self.at_point(3)
-        left = self.numbers.shuffled(number for number in emptied if pages.state(number) == "from")
-        kept = self.numbers.below(2) if left else 0
+        left = self.numbers.shuffled(number for number in copied if pages.state(number) == "from")
+        kept = self.numbers.below(2) if left and not passed_over else 0
         for number in left[kept:]:
             self.say(self.any_worker(), "release", number)
         last = next(line for line in reversed(self.writing.output) if "released" in line)
-        self.came_back += last.endswith(f" free {pages.frames - targets - kept}")
+        self.came_back += last.endswith(f" free {pages.frames - targets - kept - passed_over}")
         self.at_point(4)
 
 
@@ -323,7 +327,8 @@ def fragmentation():
         fragmenting.move()
     fragmenting.writing.demand("fragmentation", {
         "accepted": 100_000, "cycles": 1_000, "frames_came_back": 1_000, "moved_objects": 20_000,
-        "moved_by_threads": 500, "retired_pages": 6_000, "datum": 15_000, "Copied": 500, "Uncopied": 500},
+        "moved_by_threads": 500, "moved_by_marks": 200, "moved_pages": 1_000, "retired_pages": 6_000, "datum": 15_000,
+        "Copied": 500, "Uncopied": 500},
         frames_came_back=fragmenting.came_back)
     return fragmenting.writing
 

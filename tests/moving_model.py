@@ -4,6 +4,7 @@ references and data once, wherever it is; a reference names the object, and has
 beside it the place where the object was.
 """
 
+from collections import Counter
 from typing import NamedTuple
 
 
@@ -90,7 +91,7 @@ class Pages:
         self.count = count
         self.used = {}
         self.free = set(range(frames))
-        self.moved = 0
+        self.moved = Counter()
 
     # The state of a page that may be unused.
     def state(self, number):
@@ -144,17 +145,18 @@ class Pages:
             self.used[number].state = "from"
         return len(things), need
 
-    def copy(self, thing):
+    # A thing is copied to its planned place, by threads, workers or marks.
+    def copy(self, thing, mover):
         thing.place, thing.planned = thing.planned, None
         self.put(thing)
-        self.moved += 1
+        self.moved[mover] += 1
 
     # The thing of an entry of a page's side array is copied. Its new place.
     def copy_entry(self, number, entry):
         refuse_if(self.state(number) != "from" or entry >= len(self.used[number].live), "BadIndex")
         thing = self.used[number].live[entry]
         refuse_if(thing.planned is None, "Copied")
-        self.copy(thing)
+        self.copy(thing, "workers")
         return thing.place
 
     # All things of a page are copied that weren't. How many.
@@ -162,7 +164,7 @@ class Pages:
         refuse_if(self.state(number) != "from", "BadIndex")
         left = [thing for thing in self.used[number].live if thing.planned is not None]
         for thing in left:
-            self.copy(thing)
+            self.copy(thing, "workers")
         return len(left)
 
     def refuse_uncopied(self, number):

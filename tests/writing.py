@@ -78,9 +78,11 @@ class Writing:
         often an answer or a refusal was told."""
         moved = self.heap.pages.moved
         retired = sum(retired for _, retired in self.heap.cycles)
+        pages = sum("copied all" in line and not line.endswith(" 0") for line in self.output)
         found = self.told | Counter(
-            found, accepted=self.accepted, cycles=len(self.heap.cycles), moved_objects=moved,
-            moved_by_threads=moved - self.told["copied"], retired_pages=retired)
+            found, accepted=self.accepted, cycles=len(self.heap.cycles), moved_objects=sum(moved.values()),
+            moved_by_threads=moved["threads"], moved_by_marks=moved["marks"], moved_pages=pages,
+            retired_pages=retired)
         if any(found[what] < floor for what, floor in floors.items()):
             sys.exit(f"{name}: " + ", ".join(f"{found[what]} {what}" for what in floors))
 
