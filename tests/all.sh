@@ -47,6 +47,7 @@ if "$INSTALL" -m 755 "$proved/crates/report/out/report" pauseless; then
     count 'the checks' sh tests/check.sh
     count 'the faults' sh tests/faults.sh
     count 'the program' sh tests/program.sh
+    count 'the threads' sh tests/threads.sh
     count 'long scripts' sh tests/long.sh
     count 'refused memory' sh tests/memory.sh
     count 'refused memory of calls' sh tests/calls.sh "$proved/crates/trials/out/trials_tests"
