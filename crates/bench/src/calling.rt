@@ -1,5 +1,6 @@
 //! The mixes by the calls of `Mutating`.
 
+use crate::asking::Calls;
 use crate::mixes::{LAST, LIST, Mix, OBJECTS, OTHER, WORDS, config};
 use anyhow::Result;
 use pauseless::{Heap, Mutating, Refusal, Trap};
@@ -94,12 +95,12 @@ fn globals(heap: &mut impl Mutating, count: u32) -> Result<u64, Refusal> {
 }
 
 /// The turns of a mix, on a heap that has what it needs.
-fn turns(heap: &mut Heap, mix: Mix, count: u32) -> Result<u64, Refusal> {
+fn turns(heap: &mut impl Calls, mix: Mix, count: u32) -> Result<u64, Refusal> {
     match mix {
         Mix::Data => data(heap, count),
         Mix::Build => {
             build(heap, count)?;
-            Ok(heap.births())
+            Ok(heap.heap().births())
         }
         Mix::Walk => walk(heap, count),
         Mix::Registers => registers(heap, count),
@@ -109,13 +110,13 @@ fn turns(heap: &mut Heap, mix: Mix, count: u32) -> Result<u64, Refusal> {
 
 /// Makes a list, whose head is in both registers, and does so many turns of a mix. Gives a number
 /// that the turns give.
-fn mixed(heap: &mut Heap, mix: Mix, count: u32) -> Result<u64, Refusal> {
-    build(heap, LIST)?;
-    turns(heap, mix, count)
+fn mixed(mut heap: impl Calls + Drop, mix: Mix, count: u32) -> Result<u64, Refusal> {
+    build(&mut heap, LIST)?;
+    turns(&mut heap, mix, count)
 }
 
 /// So many turns of a mix on a heap of its own. Gives a number that they give.
 pub fn run(alloc: Global, mix: Mix, count: u32) -> Result<u64> {
-    let mut heap = Heap::new(alloc, config(alloc, mix)?)?;
-    Ok(mixed(&mut heap, mix, count)?)
+    let heap = Heap::new(alloc, config(alloc, mix)?)?;
+    Ok(mixed(heap, mix, count)?)
 }

@@ -1,17 +1,36 @@
-//! Loops over the library's calls, which `bench/run.py` times from outside: `bench MIX NUMBERS`.
+//! Loops over the library's calls, which `bench/calls.py` times from outside. Each prints a number that
+//! its work gives.
 //!
-//! Two runs of the same numbers differ in one loop alone, so the difference of their times is that
+//! | Words | What is done |
+//! |---|---|
+//! | `call-MIX TURNS` | turns of a mix of steps (`mixes`) by the calls of `Mutating` |
+//! | `step-MIX TURNS` | the same by `Heap::step` |
+//! | `act-MIX TURNS` | the same by `Book::act` |
+//! | `copies WORDS PAGES COPIED` | of full pages of objects of so many words that are protected, some are copied, an object a step |
+//! | `pages WORDS PAGES COPIED` | the same, a page a step |
+//! | `slices PAGES COPIED` | of as many words some are copied, without a heap |
+//! | `verified WORDS FRAMES TIMES` | a heap of so many frames of so many words is verified some times |
+//! | `scan-list OBJECTS MARKS`, `scan-trees TREES MARKS` | marks of a list or of trees that are drained by steps |
+//! | `drain-list OBJECTS MARKS`, `drain-trees TREES MARKS` | the same by a call |
+//!
+//! A number that is left out is 0. The word `then` parts one such work from the next. Two runs of the
+//! same numbers but for the last one differ in one loop alone, so the difference of their times is that
 //! loop's.
 #![tactic(auto)]
 
-mod acting;
+mod asking;
 mod calling;
+mod draining;
+mod lists;
 mod mixes;
 mod moving;
 mod stepping;
+mod trees;
 mod verifying;
 
 use anyhow::{Result, bail};
+use draining::{DrainBy, Shape};
+use moving::CopyBy;
 use std::alloc::Global;
 use std::env;
 
@@ -32,37 +51,68 @@ fn words(rt: &HostRuntime) -> Result<Vec<String>> {
     Ok(words)
 }
 
-/// So many turns of a mix by a form of calls, as `step-data` names them. Gives a number that they
-/// give.
-fn turns(alloc: Global, name: &str, count: u32) -> Result<u64> {
-    let Some((form, mix)) = name.split_once('-') else {
+/// Marks of what is named, `list` or `trees`.
+fn marks(alloc: Global, by: DrainBy, name: &str, numbers: [u32; 3]) -> Result<u64> {
+    let [count, turns, _] = numbers;
+    let shape = match name {
+        "list" => Shape::List(count),
+        "trees" => Shape::Trees(count),
+        _ => bail!("nothing of this name is marked"),
+    };
+    draining::marks(alloc, by, shape, turns)
+}
+
+/// Turns of a mix by a form of calls.
+fn turns(alloc: Global, form: &str, name: &str, numbers: [u32; 3]) -> Result<u64> {
+    let Some(mix) = mixes::named(name) else {
         bail!("no such mix");
     };
-    let Some(mix) = mixes::named(mix) else {
-        bail!("no such mix");
-    };
+    let [count, _, _] = numbers;
     match form {
         "call" => calling::run(alloc, mix, count),
         "step" => stepping::run(alloc, mix, count),
-        "act" => acting::run(alloc, mix, count),
+        "act" => stepping::run_book(alloc, mix, count),
         _ => bail!("no such form"),
     }
 }
 
-/// Runs a mix, and prints a number that its work gives.
-fn run(rt: &HostRuntime, words: &[String]) -> Result<()> {
-    let Some(mix) = words.first() else {
-        bail!("no mix is named");
+/// A work whose name has two parts, as `step-data`.
+fn parted(alloc: Global, name: &str, numbers: [u32; 3]) -> Result<u64> {
+    let Some((form, rest)) = name.split_once('-') else {
+        bail!("no such work");
     };
-    let (first, second, third) = (number(words, 1)?, number(words, 2)?, number(words, 3)?);
-    match mix.as_str() {
-        "copies" => println!(rt; "{}", moving::copies(rt.alloc(), first, second, third)?)?,
-        "verified" => println!(rt;
-            "{}",
-            verifying::verifications(rt.alloc(), first, second, third)?
-        )?,
-        "slices" => println!(rt; "{}", moving::slices(rt.alloc(), first, second)?)?,
-        name => println!(rt; "{}", turns(rt.alloc(), name, first)?)?,
+    match form {
+        "scan" => marks(alloc, DrainBy::Steps, rest, numbers),
+        "drain" => marks(alloc, DrainBy::Call, rest, numbers),
+        _ => turns(alloc, form, rest, numbers),
+    }
+}
+
+/// Does a work by its name. Gives a number that it gives.
+fn work(alloc: Global, name: &str, numbers: [u32; 3]) -> Result<u64> {
+    let [first, second, third] = numbers;
+    match name {
+        "copies" => moving::copies(alloc, CopyBy::Object, first, second, third),
+        "pages" => moving::copies(alloc, CopyBy::Page, first, second, third),
+        "slices" => moving::slices(alloc, first, second),
+        "verified" => verifying::verifications(alloc, first, second, third),
+        _ => parted(alloc, name, numbers),
+    }
+}
+
+/// Does a work by its name and its numbers.
+fn work_of(alloc: Global, words: &[String]) -> Result<u64> {
+    let Some(name) = words.first() else {
+        bail!("no work is named");
+    };
+    let numbers = [number(words, 1)?, number(words, 2)?, number(words, 3)?];
+    work(alloc, name.as_str(), numbers)
+}
+
+/// Does each work, and prints the number that it gives.
+fn run(rt: &HostRuntime, words: &[String]) -> Result<()> {
+    for words in words.split(|word| word.as_str() == "then") {
+        println!(rt; "{}", work_of(rt.alloc(), words)?)?;
     }
     Ok(())
 }

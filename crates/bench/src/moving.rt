@@ -1,15 +1,19 @@
 //! Pages full of live objects are copied, beside slices of the same words.
 
+use crate::asking::{Steps, THREAD, WORKER};
+use crate::mixes::WORDS;
 use anyhow::Result;
-use pauseless::{Actor, Config, Heap, Layout, Layouts, PageList, Refusal, Step, Stepping};
+use pauseless::{Config, Heap, Layout, Layouts, PageList, Refusal, Step};
 use std::alloc::Global;
 
-/// The words of a page.
-const WORDS: u32 = 4_096;
-
-const THREAD: Actor = Actor::Thread(0);
-
-const WORKER: Actor = Actor::Worker(0);
+/// How the objects of a page are copied.
+#[derive(Clone, Copy)]
+pub enum CopyBy {
+    /// Each by a step of its own.
+    Object,
+    /// All by one step.
+    Page,
+}
 
 /// The layout of objects of so many words, all of which are data but for the header, up to 255, and
 /// references.
@@ -23,33 +27,33 @@ fn layout(size: u32) -> Layout {
 }
 
 /// Fills a page with objects, as many as it has room for.
-fn fill(heap: &mut impl Stepping, words: u32, objects: u32) -> Result<(), Refusal> {
+fn fill(heap: &mut impl Steps, words: u32, objects: u32) -> Result<(), Refusal> {
     let (target, layout) = (0, 0);
-    heap.step(THREAD, &Step::Take(words))?;
+    heap.step(THREAD, Step::Take(words))?;
     for _ in 0..objects {
-        heap.step(THREAD, &Step::New { target, layout })?;
+        heap.step(THREAD, Step::New { target, layout })?;
     }
-    heap.step(THREAD, &Step::GiveBack)?;
+    heap.step(THREAD, Step::GiveBack)?;
     Ok(())
 }
 
 /// Fills pages with objects that live: they are born while a mark runs.
 pub fn fill_live(
-    heap: &mut impl Stepping,
+    heap: &mut impl Steps,
     words: u32,
     pages: u32,
     objects: u32,
 ) -> Result<(), Refusal> {
-    heap.step(WORKER, &Step::StartMark)?;
-    heap.step(THREAD, &Step::Cross)?;
+    heap.step(WORKER, Step::StartMark)?;
+    heap.step(THREAD, Step::Cross)?;
     for _ in 0..pages {
         fill(heap, words, objects)?;
     }
-    heap.step(WORKER, &Step::EndMark)?;
+    heap.step(WORKER, Step::EndMark)?;
     Ok(())
 }
 
-/// Pages, by their numbers from 1.
+/// The first pages, by their numbers from 1.
 fn first_pages(alloc: Global, count: u32) -> Result<PageList> {
     let mut pages = Vec::with_capacity(alloc, count as usize)?;
     for page in 1..=count {
@@ -63,41 +67,87 @@ pub fn objects_of(words: u32, size: u32) -> u32 {
     words / size.max(1)
 }
 
-/// A heap of full pages that are protected, as all threads know.
-fn protected_heap(alloc: Global, size: u32, pages: u32) -> Result<Heap> {
-    let layouts = Layouts::new(vec![in alloc; layout(size)]?);
-    let mut config = Config::new(WORDS, pages.saturating_mul(2), layouts);
-    config.globals = 0;
-    let protect = Step::Protect(first_pages(alloc, pages)?);
-    let mut heap = Heap::new(alloc, config)?;
-    fill_live(&mut heap, WORDS, pages, objects_of(WORDS, size))?;
-    heap.step(WORKER, &protect)?;
-    heap.step(THREAD, &Step::Cross)?;
-    Ok(heap)
+/// Full pages are protected, as all threads know.
+fn protect_full(
+    heap: &mut impl Steps,
+    protect: Step,
+    pages: u32,
+    objects: u32,
+) -> Result<(), Refusal> {
+    fill_live(heap, WORDS, pages, objects)?;
+    heap.step(WORKER, protect)?;
+    heap.step(THREAD, Step::Cross)?;
+    Ok(())
+}
+
+/// Copies all objects of a page, each by a step of its own.
+fn copy_objects(heap: &mut impl Steps, page: u32, objects: u32) -> Result<(), Refusal> {
+    for entry in 0..objects {
+        heap.step(WORKER, Step::Copy { page, entry })?;
+    }
+    Ok(())
 }
 
 /// Copies all objects of a page.
-fn copy_page(heap: &mut impl Stepping, page: u32, objects: u32) -> Result<(), Refusal> {
-    for entry in 0..objects {
-        heap.step(WORKER, &Step::Copy { page, entry })?;
+fn copy_page(
+    heap: &mut impl Steps,
+    by: CopyBy,
+    page: u32,
+    objects: u32,
+) -> Result<(), Refusal> {
+    match by {
+        CopyBy::Object => copy_objects(heap, page, objects),
+        CopyBy::Page => {
+            heap.step(WORKER, Step::CopyPage(page))?;
+            Ok(())
+        }
     }
-    Ok(())
 }
 
 /// Copies all objects of the first pages.
-fn copy_pages(heap: &mut impl Stepping, pages: u32, objects: u32) -> Result<(), Refusal> {
+fn copy_pages(
+    heap: &mut impl Steps,
+    by: CopyBy,
+    pages: u32,
+    objects: u32,
+) -> Result<(), Refusal> {
     for page in 1..=pages {
-        copy_page(heap, page, objects)?;
+        copy_page(heap, by, page, objects)?;
     }
     Ok(())
 }
 
-/// Full pages of objects of so many words are protected; then all objects of so many of them are
-/// copied. Gives how many objects have still to be.
-pub fn copies(alloc: Global, size: u32, pages: u32, copied: u32) -> Result<u64> {
-    let mut heap = protected_heap(alloc, size, pages)?;
-    copy_pages(&mut heap, copied.min(pages), objects_of(WORDS, size))?;
-    Ok(heap.sides().uncopied())
+/// Full pages are protected, and the first of them are copied. Gives how many objects have still to
+/// be.
+fn copied(
+    mut heap: impl Steps + Drop,
+    protect: Step,
+    by: CopyBy,
+    pages: u32,
+    count: u32,
+    objects: u32,
+) -> Result<u64, Refusal> {
+    protect_full(&mut heap, protect, pages, objects)?;
+    copy_pages(&mut heap, by, count.min(pages), objects)?;
+    Ok(heap.heap().sides().uncopied())
+}
+
+/// What a heap is made with that has so many pages of objects of so many words, and frames for as
+/// many copies.
+fn config(alloc: Global, size: u32, pages: u32) -> Result<Config> {
+    let layouts = Layouts::new(vec![in alloc; layout(size)]?);
+    let mut config = Config::new(WORDS, pages.saturating_mul(2), layouts);
+    config.globals = 0;
+    Ok(config)
+}
+
+/// Full pages of objects of so many words are protected; then all objects of the first `count` of
+/// them are copied. Gives how many objects have still to be.
+pub fn copies(alloc: Global, by: CopyBy, size: u32, pages: u32, count: u32) -> Result<u64> {
+    let protect = Step::Protect(first_pages(alloc, pages)?);
+    let heap = Heap::new(alloc, config(alloc, size, pages)?)?;
+    let objects = objects_of(WORDS, size);
+    Ok(copied(heap, protect, by, pages, count, objects)?)
 }
 
 /// As many words as pages have are made twice; then those of so many pages are copied, a page at a

@@ -1,59 +1,19 @@
-//! The smallest program on the library: a linked list is made, and walked.
+//! Small programs on the library, as a user's own may begin: a list and a tree that stay among many
+//! nodes that are dropped, each on a heap that is collected where it is full; and a list on a heap
+//! that keeps its history.
 #![tactic(auto)]
 
+mod history;
+mod list;
+mod nodes;
+mod tree;
+
 use anyhow::Result;
-use pauseless::{Actor, Answer, Book, Config, Layout, Layouts, Refusal, Step};
-
-/// The program's one thread, and its registers for a node and for the list's head.
-const ME: Actor = Actor::Thread(0);
-
-const NODE: u32 = 0;
-
-const HEAD: u32 = 1;
-
-/// A node of this value becomes the head of the list.
-fn push(book: &mut Book, value: u64) -> Result<Answer, Refusal> {
-    let (target, layout) = (NODE, 0);
-    book.act(ME, Step::New { target, layout })?;
-    let set = Step::SetDatum {
-        object: NODE,
-        index: 0,
-        value,
-    };
-    book.act(ME, set)?;
-    let store = Step::Store {
-        object: NODE,
-        field: 0,
-        source: HEAD,
-    };
-    book.act(ME, store)?;
-    let (target, source) = (HEAD, NODE);
-    book.act(ME, Step::CopyReg { target, source })
-}
-
-/// Makes a list of five nodes, and prints their values from its head on.
-fn run(rt: &HostRuntime, book: &mut Book) -> Result<()> {
-    book.act(ME, Step::Take(512))?;
-    for value in 1..=5 {
-        push(book, value)?;
-    }
-    for _ in 0..5 {
-        let (object, index) = (HEAD, 0);
-        if let Answer::Datum(value) = book.act(ME, Step::Datum { object, index })? {
-            println!(rt; "{value}")?;
-        }
-        let next = Step::Load {
-            target: HEAD,
-            object: HEAD,
-            field: 0,
-        };
-        book.whole_load(ME, next, &mut Vec::new(rt.alloc()))?;
-    }
-    Ok(())
-}
 
 fn main(rt: HostRuntime) -> Result<()> {
-    let layouts = Layouts::new(vec![in rt.alloc(); Layout { refs: 1, nums: 1 }]?);
-    let mut book = Book::new(rt.alloc(), Config::new(512, 4, layouts))?;
-    run(&rt, &mut book)
+    let alloc = rt.alloc();
+    let sum = list::run(alloc)?;
+    let found = tree::run(alloc)?;
+    println!(rt; "list {sum}, tree {found}")?;
+    history::run(&rt)
 }

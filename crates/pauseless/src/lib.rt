@@ -14,10 +14,13 @@
 //! There is no code here: each name stands in a crate of its own, with its contract.
 #![tactic(auto)]
 
+pub use choosing::choose;
 pub use cycle::{
     Actor, Answer, Book, Buffer, Entry, EntryRef, History, Mutating, PageList, Reply, Step,
-    Stepping, Trap, run, three_traps,
+    Stepping, Trap, next_drain, run, three_traps,
 };
+pub use drains::{drain, is_ready};
 pub use heap::{Config, ConfigFault, Heap, NewFault, Refusal};
 pub use layout::{Layout, Layouts};
+pub use managed::ManagedHeap;
 pub use verify::{Fault, Image, PageImage, Root, Verdict, Words, verify, verify_image};
