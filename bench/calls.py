@@ -6,8 +6,13 @@ runs, the best of several, of which one leaves the calls out; the runs take
 turns, so that a slow moment doesn't fall on one alone.
 
 Copies: pages of 4,096 words are filled with objects that live, and protected;
-then each object is copied by a step of its own. Beside it as many words are
-copied from one list to another, a slice of a page at a time.
+then each object is copied by a step of its own, or those of a page by one step.
+Beside it as many words are copied from one list to another, a slice of a page
+at a time.
+
+Drains: a list, or trees, are marked some times, and one worker drains each
+mark: by steps, each of one reference, or by a call that scans objects whole.
+A figure has the mark's start, one crossing and the mark's end in it.
 
 Verifications: half the frames of a heap are filled with objects of 4 words
 that live, and the heap is verified some times.
@@ -32,6 +37,12 @@ RUNS = 25
 PAGES = 2_048
 WORDS = 4_096
 SIZES = [2, 8, 64, 511]
+
+# Drains: what is marked, with its objects, and about how many objects all timed marks of it find.
+SHAPES = {("list", 1_000): 1_000, ("list", 10_000): 10_000, ("list", 90_000): 90_000,
+          ("trees", 1): 16_383, ("trees", 8): 131_064}
+MARKED = 2_000_000
+DRAIN_RUNS = 9
 
 # Verifications: words of a page, frames, and how often such a heap is verified.
 HEAPS = [(16, 16, 2_000), (16, 256, 200), (16, 4_096, 10), (4_096, 16, 20), (4_096, 256, 2), (4_096, 4_096, 1)]
@@ -81,17 +92,33 @@ def differences(measured, runs, forms):
 
 def print_copies(program):
     """Times copies of objects, beside copies of slices."""
-    forms = {size: [[program, "copies", size, PAGES, copied] for copied in (0, PAGES)] for size in SIZES}
+    forms = {(name, size): [[program, name, size, PAGES, copied] for copied in (0, PAGES)]
+             for name in ("copies", "pages") for size in SIZES}
     forms["slices"] = [[program, "slices", PAGES, copied] for copied in (0, PAGES)]
     took = differences(timed, RUNS, forms)
     slices = took["slices"] / (PAGES * WORDS) * 1e9
     print(f"A word of a slice: {slices:.2f} ns")
     print()
-    print("| Words an object | ns an object | ns a word | over a slice |")
-    print("|---|---|---|---|")
+    print("| Words an object | ns an object | ns a word | over a slice | by the page: ns an object | over a slice |")
+    print("|---|---|---|---|---|---|")
     for size in SIZES:
-        each = took[size] / (WORDS // size * PAGES) * 1e9
-        print(f"| {size} | {each:.1f} | {each / size:.2f} | {each / size / slices:.2f} |")
+        objects = WORDS // size * PAGES
+        each, paged = took["copies", size] / objects * 1e9, took["pages", size] / objects * 1e9
+        print(f"| {size} | {each:.1f} | {each / size:.2f} | {each / size / slices:.2f}"
+              f" | {paged:.1f} | {paged / size / slices:.2f} |")
+
+
+def print_drains(program):
+    """Times marks of lists and of trees, by steps and by a call."""
+    forms = {(form, *shape): [[program, f"{form}-{shape[0]}", shape[1], marks] for marks in (1, 1 + MARKED // objects)]
+             for form in ("scan", "drain") for shape, objects in SHAPES.items()}
+    took = differences(timed, DRAIN_RUNS, forms)
+    print("| Marked | Objects | by steps: ns an object | by a call: ns an object | steps over call |")
+    print("|---|---|---|---|---|")
+    for (shape, count), objects in SHAPES.items():
+        found = MARKED // objects * objects
+        steps, call = (took[form, shape, count] / found * 1e9 for form in ("scan", "drain"))
+        print(f"| {shape} | {objects:,} | {steps:.1f} | {call:.1f} | {steps / call:.1f} |")
 
 
 def print_verifications(program):
@@ -187,6 +214,8 @@ def main():
         sys.exit(f"{program} isn't there: run 'make bench'")
     if not words.instructions:
         print_copies(program)
+        print()
+        print_drains(program)
         print()
         print_verifications(program)
         print()

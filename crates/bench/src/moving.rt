@@ -89,12 +89,7 @@ fn copy_objects(heap: &mut impl Steps, page: u32, objects: u32) -> Result<(), Re
 }
 
 /// Copies all objects of a page.
-fn copy_page(
-    heap: &mut impl Steps,
-    by: CopyBy,
-    page: u32,
-    objects: u32,
-) -> Result<(), Refusal> {
+fn copy_page(heap: &mut impl Steps, by: CopyBy, page: u32, objects: u32) -> Result<(), Refusal> {
     match by {
         CopyBy::Object => copy_objects(heap, page, objects),
         CopyBy::Page => {
@@ -105,12 +100,7 @@ fn copy_page(
 }
 
 /// Copies all objects of the first pages.
-fn copy_pages(
-    heap: &mut impl Steps,
-    by: CopyBy,
-    pages: u32,
-    objects: u32,
-) -> Result<(), Refusal> {
+fn copy_pages(heap: &mut impl Steps, by: CopyBy, pages: u32, objects: u32) -> Result<(), Refusal> {
     for page in 1..=pages {
         copy_page(heap, by, page, objects)?;
     }
