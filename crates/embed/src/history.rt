@@ -1,7 +1,7 @@
 //! A list on a `Book`, a heap that keeps each step with its answer.
 
 use anyhow::Result;
-use pauseless::{Actor, Answer, Book, Config, Layout, Layouts, NewFault, Refusal, Reply, Step};
+use pauseless::{Actor, Answer, Book, Config, Layout, Layouts, Refusal, Reply, Step};
 use std::alloc::Global;
 
 /// The program's one thread, and its registers for a node and for the list's head.
@@ -75,9 +75,9 @@ fn fill_and_print(rt: &HostRuntime, book: &mut Book) -> Result<()> {
 }
 
 /// A book of one layout, of a reference and a datum.
-fn new_book(alloc: Global) -> Result<Book, NewFault> {
+fn new_book(alloc: Global) -> Result<Book> {
     let layouts = Layouts::new(vec![in alloc; Layout { refs: 1, nums: 1 }]?);
-    Book::new(alloc, Config::new(512, 4, layouts))
+    Ok(Book::new(alloc, Config::new(512, 4, layouts))?)
 }
 
 /// Makes a list of five nodes on a book of its own, and prints it.
