@@ -107,16 +107,18 @@ fn copy_pages(heap: &mut impl Steps, by: CopyBy, pages: u32, objects: u32) -> Re
     Ok(())
 }
 
-/// Full pages are protected, and the first of them are copied. Gives how many objects have still to
-/// be.
+/// Full pages of objects of so many words are protected, and the first of them are copied. Gives how
+/// many objects have still to be.
 fn copied(
+    alloc: Global,
     mut heap: impl Steps + Drop,
-    protect: Step,
     by: CopyBy,
+    size: u32,
     pages: u32,
     count: u32,
-    objects: u32,
-) -> Result<u64, Refusal> {
+) -> Result<u64> {
+    let objects = objects_of(WORDS, size);
+    let protect = Step::Protect(first_pages(alloc, pages)?);
     protect_full(&mut heap, protect, pages, objects)?;
     copy_pages(&mut heap, by, count.min(pages), objects)?;
     Ok(heap.heap().sides().uncopied())
@@ -134,10 +136,8 @@ fn config(alloc: Global, size: u32, pages: u32) -> Result<Config> {
 /// Full pages of objects of so many words are protected; then all objects of the first `count` of
 /// them are copied. Gives how many objects have still to be.
 pub fn copies(alloc: Global, by: CopyBy, size: u32, pages: u32, count: u32) -> Result<u64> {
-    let protect = Step::Protect(first_pages(alloc, pages)?);
     let heap = Heap::new(alloc, config(alloc, size, pages)?)?;
-    let objects = objects_of(WORDS, size);
-    Ok(copied(heap, protect, by, pages, count, objects)?)
+    copied(alloc, heap, by, size, pages, count)
 }
 
 /// As many words as pages have are made twice; then those of so many pages are copied, a page at a

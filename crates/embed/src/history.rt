@@ -11,45 +11,59 @@ const NODE: u32 = 0;
 
 const HEAD: u32 = 1;
 
-/// A step of the thread. It promises nothing to what calls it, whose proof is short by that.
-fn act(book: &mut Book, step: Step) -> Reply {
-    book.act(ME, step)
+/// What the example asks of a book. It promises nothing, so that the proofs of the loops are short.
+trait Acting {
+    /// A step of the thread.
+    fn act(&mut self, step: Step) -> Reply;
+
+    /// A load by the thread, whole.
+    fn load(&mut self, alloc: Global, load: Step) -> Result<()>;
+}
+
+impl Acting for Book {
+    fn act(&mut self, step: Step) -> Reply {
+        Book::act(self, ME, step)
+    }
+
+    fn load(&mut self, alloc: Global, load: Step) -> Result<()> {
+        self.whole_load(ME, load, &mut Vec::new(alloc))?;
+        Ok(())
+    }
 }
 
 /// A node of this value becomes the head of the list.
-fn push(book: &mut Book, value: u64) -> Result<Answer, Refusal> {
+fn push(book: &mut impl Acting, value: u64) -> Result<Answer, Refusal> {
     let (target, layout) = (NODE, 0);
-    act(book, Step::New { target, layout })?;
+    book.act(Step::New { target, layout })?;
     let set = Step::SetDatum {
         object: NODE,
         index: 0,
         value,
     };
-    act(book, set)?;
+    book.act(set)?;
     let store = Step::Store {
         object: NODE,
         field: 0,
         source: HEAD,
     };
-    act(book, store)?;
+    book.act(store)?;
     let (target, source) = (HEAD, NODE);
-    act(book, Step::CopyReg { target, source })
+    book.act(Step::CopyReg { target, source })
 }
 
 /// The node behind the head becomes the head, by a whole load.
-fn pop(alloc: Global, book: &mut Book) -> Result<()> {
+fn pop(alloc: Global, book: &mut impl Acting) -> Result<()> {
     let next = Step::Load {
         target: HEAD,
         object: HEAD,
         field: 0,
     };
-    book.whole_load(ME, next, &mut Vec::new(alloc))?;
-    Ok(())
+    book.load(alloc, next)
 }
 
 /// Makes a list of five nodes.
-fn fill(book: &mut Book) -> Result<(), Refusal> {
-    act(book, Step::Take(512))?;
+fn fill(book: &mut impl Acting) -> Result<(), Refusal> {
+    book.act(Step::Take(512))?;
     for value in 1..=5 {
         push(book, value)?;
     }
@@ -57,10 +71,10 @@ fn fill(book: &mut Book) -> Result<(), Refusal> {
 }
 
 /// Prints the values of a list of five nodes from its head on.
-fn print_list(rt: &HostRuntime, book: &mut Book) -> Result<()> {
+fn print_list(rt: &HostRuntime, book: &mut impl Acting) -> Result<()> {
     let (object, index) = (HEAD, 0);
     for _ in 0..5 {
-        if let Answer::Datum(value) = act(book, Step::Datum { object, index })? {
+        if let Answer::Datum(value) = book.act(Step::Datum { object, index })? {
             println!(rt; "{value}")?;
         }
         pop(rt.alloc(), book)?;
@@ -69,9 +83,9 @@ fn print_list(rt: &HostRuntime, book: &mut Book) -> Result<()> {
 }
 
 /// Makes a list, and prints it.
-fn fill_and_print(rt: &HostRuntime, book: &mut Book) -> Result<()> {
-    fill(book)?;
-    print_list(rt, book)
+fn fill_and_print(rt: &HostRuntime, mut book: impl Acting + Drop) -> Result<()> {
+    fill(&mut book)?;
+    print_list(rt, &mut book)
 }
 
 /// A book of one layout, of a reference and a datum.
@@ -82,6 +96,5 @@ fn new_book(alloc: Global) -> Result<Book> {
 
 /// Makes a list of five nodes on a book of its own, and prints it.
 pub fn run(rt: &HostRuntime) -> Result<()> {
-    let mut book = new_book(rt.alloc())?;
-    fill_and_print(rt, &mut book)
+    fill_and_print(rt, new_book(rt.alloc())?)
 }
