@@ -3,9 +3,11 @@
 # refused in turn, one a run. Such a test has to end with the fault that the
 # call told, which is want of memory, or of writing where what is written to is
 # a list in memory; the first run in which no request is refused ends it. The
-# tests are those that 'rt ci' built.
+# tests are those that the first argument names, as 'rt ci' built them, or those
+# that it left in the repository.
 
 cd "$(dirname "$0")/.." || exit 1
+tests=${1:-crates/trials/out/trials_tests}
 . tests/begin.sh
 . tests/refusing.sh
 
