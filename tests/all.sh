@@ -1,8 +1,8 @@
 #!/bin/sh
-# The whole test command: 'rt ci', then the program on all scripts and faults,
-# on long scripts, and with words, files and outputs that fail; then the program
-# and the library's calls with each of their requests for memory refused, and
-# the trying of edits itself. 'make test' runs it at the top of the repository.
+# The whole test command: 'rt ci', then the programs of README.md; the program on
+# all scripts and faults, on long scripts, and with words, files and outputs that
+# fail; then the program and the library's calls with each of their requests for
+# memory refused, and the trying of edits itself. 'make test' runs it at the top of the repository.
 # The last line is 'N passed, M failed, K skipped', and the exit status is 0
 # where M is 0: K edits that must fail weren't tried, as tests/refused.txt says
 # that they were refused. What each crate took stands before it.
@@ -42,15 +42,17 @@ count() {
 # The copy in which all is proved has then the program and the tests as they were built.
 proved=$kept/proved
 count 'the proofs' sh tests/proofs.sh "$proved"
+count 'the README' sh tests/readme.sh
 if "$INSTALL" -m 755 "$proved/crates/report/out/report" pauseless; then
     count 'the scripts' sh tests/scripts.sh
     count 'the checks' sh tests/check.sh
+    count 'looks of checks' sh tests/looks.sh
     count 'the faults' sh tests/faults.sh
     count 'the program' sh tests/program.sh
     count 'the threads' sh tests/threads.sh
     count 'long scripts' sh tests/long.sh
     count 'refused memory' sh tests/memory.sh
-    count 'refused memory of calls' sh tests/calls.sh "$proved/crates/trials/out/trials_tests"
+    count 'refused memory of calls' sh tests/calls.sh "$proved/crates"
 else
     echo 'failed: the program could not be built'
     failed=$((failed + 1))

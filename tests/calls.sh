@@ -3,11 +3,11 @@
 # refused in turn, one a run. Such a test has to end with the fault that the
 # call told, which is want of memory, or of writing where what is written to is
 # a list in memory; the first run in which no request is refused ends it. The
-# tests are those that the first argument names, as 'rt ci' built them, or those
-# that it left in the repository.
+# first argument names the folder of the crates whose tests are built: where
+# 'rt ci' built them, or the repository's own.
 
 cd "$(dirname "$0")/.." || exit 1
-tests=${1:-crates/trials/out/trials_tests}
+crates=${1:-crates}
 . tests/begin.sh
 . tests/refusing.sh
 
@@ -21,11 +21,26 @@ told() {
         grep -q -e '^error: Memory$' -e '^error: Alloc' -e '^error: Write$' "$kept/errors"
 }
 
-for test in rows::a_row_of_clear_bits rows::rows_of_clear_bits rows::rows_with_an_index rows::copies_of_an_item \
-    configs::a_copy_has_the_same_values pages::takes_in_the_lowest_page \
-    heaps::the_first_fault_is_told books::a_run_is_accepted marks::a_drain scripts::steps_of_orders \
-    reports::runs reports::cycles protections::a_page_is_protected verified::the_image_of_an_object_that_moves; do
-    refuse_each "$test" "$tests" "$test"
+# Each is a crate, and a test of its own.
+for named in \
+    trials_memory:rows::a_row_of_clear_bits \
+    trials_memory:rows::rows_of_clear_bits \
+    trials_memory:rows::rows_with_an_index \
+    trials_memory:rows::copies_of_an_item \
+    trials_memory:configs::a_copy_has_the_same_values \
+    trials_memory:pages::takes_in_the_lowest_page \
+    trials_heap:heaps::the_first_fault_is_told \
+    trials_heap:protections::a_page_is_protected \
+    shortages:protections::four_pages_are_protected \
+    trials_books:books::a_run_is_accepted \
+    trials_books:marks::a_drain \
+    trials_verifier:verified::the_image_of_an_object_that_moves \
+    trials_scripts:scripts::steps_of_orders \
+    trials_scripts:reports::runs \
+    trials_scripts:reports::cycles; do
+    crate=${named%%:*}
+    test=${named#*:}
+    refuse_each "$test" "$crates/$crate/out/${crate}_tests" "$test"
 done
 echo "$passed passed, $failed failed"
 [ "$failed" = 0 ]

@@ -1,8 +1,8 @@
 #!/bin/sh
-# Runs the program on some examples with each of its requests for memory
+# Runs the program on some scripts with each of its requests for memory
 # refused in turn, one a run. A run has to end with status 3 and the one line
 # 'pauseless: out of memory', its output being a beginning of the whole one;
-# the first run in which no request is refused ends the test of an example. The
+# the first run in which no request is refused ends the test of a script. The
 # program is ./pauseless, or the one that the first argument names.
 
 cd "$(dirname "$0")/.." || exit 1
@@ -25,6 +25,11 @@ for example in first list moving; do
     expected=examples/$example.expected
     refuse_each "$example" "$program" run "examples/$example.script"
 done
+
+# A script that protects several pages at once.
+script=tests/scripts/four_pages_protected
+expected=$script.expected
+refuse_each 'four pages' "$program" run "$script.script"
 
 # The mode 'check' prints one line more.
 expected=$kept/checked

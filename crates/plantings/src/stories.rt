@@ -1,0 +1,148 @@
+//! What is done on the heaps into whose images faults are planted.
+
+use cycle::{Actor, Book, PageList, Reply, Step};
+use heap::{Config, NewFault, Refusal};
+use layout::{Layout, Layouts};
+use std::alloc::{AllocError, Global};
+use std::test::Fail;
+use verify::Image;
+
+const FIRST: Actor = Actor::Thread(0);
+
+const SECOND: Actor = Actor::Thread(1);
+
+const WORKER: Actor = Actor::Worker(0);
+
+/// What a story asks of a book. It promises nothing, so that the proofs of stories are short.
+pub trait Telling {
+    /// A step of an actor.
+    fn act(&mut self, actor: Actor, step: Step) -> Reply;
+
+    /// A whole load.
+    fn load(&mut self, alloc: Global, actor: Actor, load: Step) -> Result<(), Refusal>;
+
+    /// All steps of a worker that scan.
+    fn drain(&mut self, alloc: Global, worker: u32) -> Result<(), Refusal>;
+
+    /// The image of the heap.
+    fn image(&self, alloc: Global) -> Result<Image, AllocError>;
+}
+
+impl Telling for Book {
+    fn act(&mut self, actor: Actor, step: Step) -> Reply {
+        Book::act(self, actor, step)
+    }
+
+    fn load(&mut self, alloc: Global, actor: Actor, load: Step) -> Result<(), Refusal> {
+        self.whole_load(actor, load, &mut Vec::new(alloc))
+    }
+
+    fn drain(&mut self, alloc: Global, worker: u32) -> Result<(), Refusal> {
+        Book::drain(self, worker, &mut Vec::new(alloc))
+    }
+
+    fn image(&self, alloc: Global) -> Result<Image, AllocError> {
+        Image::of(alloc, self.heap())
+    }
+}
+
+/// Three frames of 16 words, eight pages, two threads of four registers, a worker and a global. An
+/// object has one reference and one datum.
+fn config(alloc: Global) -> Result<Config, AllocError> {
+    let layouts = vec![in alloc; Layout { refs: 1, nums: 1 }]?;
+    let mut config = Config::new(16, 3, Layouts::new(layouts));
+    config.pages = 8;
+    config.threads = 2;
+    config.registers = 4;
+    config.globals = 1;
+    Ok(config)
+}
+
+/// A book of such a heap.
+pub fn new_book(alloc: Global) -> Result<Book, NewFault> {
+    Book::new(alloc, config(alloc)?)
+}
+
+/// Thread 0 makes an object with a datum of 5 at page 1, offset 0, and stores it in the global.
+fn make(book: &mut impl Telling) -> Result<(), Refusal> {
+    let (target, layout) = (0, 0);
+    let (object, index, value) = (0, 0, 5);
+    let (global, source) = (0, 0);
+    book.act(FIRST, Step::Take(16))?;
+    book.act(FIRST, Step::New { target, layout })?;
+    let set = Step::SetDatum {
+        object,
+        index,
+        value,
+    };
+    book.act(FIRST, set)?;
+    book.act(FIRST, Step::StoreGlobal { global, source })?;
+    book.act(FIRST, Step::GiveBack)?;
+    Ok(())
+}
+
+/// Both threads cross.
+fn cross(book: &mut impl Telling) -> Result<(), Refusal> {
+    book.act(FIRST, Step::Cross)?;
+    book.act(SECOND, Step::Cross)?;
+    Ok(())
+}
+
+/// An object that a register of each thread and the global name, on a page that a mark has closed.
+fn close(alloc: Global, book: &mut impl Telling) -> Result<(), Refusal> {
+    make(book)?;
+    let (target, global) = (0, 0);
+    book.load(alloc, SECOND, Step::LoadGlobal { target, global })?;
+    book.act(WORKER, Step::StartMark)?;
+    cross(book)?;
+    book.drain(alloc, 0)?;
+    book.act(WORKER, Step::EndMark)?;
+    Ok(())
+}
+
+/// Its page is emptied, and gives its frame up: the object moves to page 2.
+fn move_off(book: &mut impl Telling, pages: PageList) -> Result<(), Refusal> {
+    let (page, entry) = (1, 0);
+    book.act(WORKER, Step::Protect(pages))?;
+    cross(book)?;
+    book.act(WORKER, Step::Copy { page, entry })?;
+    book.act(WORKER, Step::Release(page))?;
+    Ok(())
+}
+
+/// The next mark starts, and thread 0 loads the global: a trap has corrected the word of its load,
+/// which hasn't ended.
+fn trap(book: &mut impl Telling) -> Result<(), Refusal> {
+    let (target, global) = (1, 0);
+    book.act(WORKER, Step::StartMark)?;
+    cross(book)?;
+    book.act(FIRST, Step::LoadGlobal { target, global })?;
+    book.act(FIRST, Step::Trap)?;
+    Ok(())
+}
+
+/// The list of page 1 alone.
+fn first_page(alloc: Global) -> Result<PageList, AllocError> {
+    Ok(PageList::new(vec![in alloc; 1; 1]?))
+}
+
+/// The image of a book's heap behind a mark.
+pub fn closed(alloc: Global, mut book: impl Telling + Drop) -> Result<Image, Fail> {
+    close(alloc, &mut book)?;
+    Ok(book.image(alloc)?)
+}
+
+/// The image once the object has moved.
+pub fn moved(alloc: Global, mut book: impl Telling + Drop) -> Result<Image, Fail> {
+    close(alloc, &mut book)?;
+    move_off(&mut book, first_page(alloc)?)?;
+    Ok(book.image(alloc)?)
+}
+
+/// The image while a thread loads what names the object's old place, in the next mark.
+pub fn trapped(alloc: Global, mut book: impl Telling + Drop) -> Result<Image, Fail> {
+    close(alloc, &mut book)?;
+    move_off(&mut book, first_page(alloc)?)?;
+    trap(&mut book)?;
+    Ok(book.image(alloc)?)
+}

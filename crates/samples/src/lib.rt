@@ -1,0 +1,49 @@
+//! What several tests begin with: configurations, their numbers, and numbers without order.
+#![tactic(auto)]
+
+use layout::{Layout, Layouts};
+use model::Config;
+use std::alloc::{AllocError, Global};
+
+/// One page of 16 words, one thread with two registers, and one layout of two data.
+pub fn small(alloc: Global) -> Result<Config, AllocError> {
+    let layouts = vec![in alloc; Layout { refs: 0, nums: 2 }]?;
+    Ok(Config {
+        words: 16,
+        frames: 1,
+        pages: 1,
+        threads: 1,
+        workers: 1,
+        registers: 2,
+        globals: 0,
+        layouts: Layouts::new(layouts),
+        births: 1 << 32,
+        history: 1_000_000,
+    })
+}
+
+/// One page of 16 words, one thread with 16 registers, and one layout of one reference.
+pub fn linked(alloc: Global) -> Result<Config, AllocError> {
+    let layouts = vec![in alloc; Layout { refs: 1, nums: 0 }]?;
+    Ok(Config::new(16, 1, Layouts::new(layouts)))
+}
+
+/// The numbers of a configuration that are no counts of births or entries.
+pub fn sizes(config: &Config) -> [u32; 7] {
+    [
+        config.words,
+        config.frames,
+        config.pages,
+        config.threads,
+        config.workers,
+        config.registers,
+        config.globals,
+    ]
+}
+
+/// The next number of a sequence without order.
+pub fn scatter(number: u64) -> u64 {
+    number
+        .wrapping_mul(6_364_136_223_846_793_005)
+        .wrapping_add(1_442_695_040_888_963_407)
+}

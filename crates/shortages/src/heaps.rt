@@ -1,0 +1,133 @@
+//! A heap whose objects are on four pages.
+
+use cycle::{Actor, Reply, Step, Stepping, next_drain};
+use heap::{Config, Heap, NewFault, Refusal};
+use layout::{Layout, Layouts};
+use model::Phase;
+use std::alloc::{AllocError, Global};
+use std::fmt::Write as _;
+use verify::Image;
+
+const THREAD: Actor = Actor::Thread(0);
+
+const WORKER: Actor = Actor::Worker(0);
+
+/// What a test asks of a heap with one thread and one worker. It promises nothing, so that the proofs
+/// of tests are short.
+pub trait Moving {
+    /// A step of the thread.
+    fn act(&mut self, step: &Step) -> Reply;
+
+    /// A step of the worker.
+    fn work(&mut self, step: &Step) -> Reply;
+
+    /// The next step of a mark's scan, if one is left; whether it was.
+    fn scan(&mut self) -> Result<bool, Refusal>;
+
+    /// Its phase, whether its thread has crossed, and how many objects have still to be copied.
+    fn progress(&self) -> (Phase, bool, u64);
+
+    /// The text of its image.
+    fn text(&self, alloc: Global) -> Result<String, AllocError>;
+}
+
+/// Whether all threads have crossed.
+fn has_crossed(heap: &Heap) -> bool {
+    heap.threads().iter().all(|thread| thread.has_crossed())
+}
+
+/// The text of an image.
+fn text_of(alloc: Global, image: &Image) -> Result<String, AllocError> {
+    let mut text = String::new(alloc);
+    write!(text, "{image}")?;
+    Ok(text)
+}
+
+impl Moving for Heap {
+    fn act(&mut self, step: &Step) -> Reply {
+        self.step(THREAD, step)
+    }
+
+    fn work(&mut self, step: &Step) -> Reply {
+        self.step(WORKER, step)
+    }
+
+    fn scan(&mut self) -> Result<bool, Refusal> {
+        let Some(step) = next_drain(self, 0) else {
+            return Ok(false);
+        };
+        self.step(WORKER, &step)?;
+        Ok(true)
+    }
+
+    fn progress(&self) -> (Phase, bool, u64) {
+        (self.phase(), has_crossed(self), self.sides().uncopied())
+    }
+
+    fn text(&self, alloc: Global) -> Result<String, AllocError> {
+        let image = Image::of(alloc, self)?;
+        text_of(alloc, &image)
+    }
+}
+
+/// Six frames of 16 words, twelve pages, one thread with two registers, one worker and no globals. An
+/// object has one reference and one datum.
+fn config(alloc: Global) -> Result<Config, AllocError> {
+    let layouts = vec![in alloc; Layout { refs: 1, nums: 1 }]?;
+    let mut config = Config::new(16, 6, Layouts::new(layouts));
+    config.registers = 2;
+    config.globals = 0;
+    Ok(config)
+}
+
+/// Such a heap.
+pub fn new_heap(alloc: Global) -> Result<Heap, NewFault> {
+    Heap::new(alloc, config(alloc)?)
+}
+
+/// A new object becomes the head of the list in register 0.
+fn push(heap: &mut impl Moving) -> Result<(), Refusal> {
+    let (target, layout) = (1, 0);
+    heap.act(&Step::New { target, layout })?;
+    let (object, field, source) = (1, 0, 0);
+    let store = Step::Store {
+        object,
+        field,
+        source,
+    };
+    heap.act(&store)?;
+    let (target, source) = (0, 1);
+    heap.act(&Step::CopyReg { target, source })?;
+    Ok(())
+}
+
+/// A list of eight objects, two on each of the pages 1 to 4.
+fn fill(heap: &mut impl Moving) -> Result<(), Refusal> {
+    for _ in 0..4 {
+        heap.act(&Step::Take(16))?;
+        push(heap)?;
+        push(heap)?;
+        heap.act(&Step::GiveBack)?;
+    }
+    heap.act(&Step::ClearReg(1))?;
+    Ok(())
+}
+
+/// All of a mark's scan, in at most so many steps.
+fn drain(heap: &mut impl Moving, most: u32) -> Result<(), Refusal> {
+    for _ in 0..most {
+        if !heap.scan()? {
+            break;
+        }
+    }
+    Ok(())
+}
+
+/// That list, on pages that a mark has closed.
+pub fn fill_and_close(heap: &mut impl Moving) -> Result<Reply, Refusal> {
+    fill(heap)?;
+    heap.work(&Step::StartMark)?;
+    heap.act(&Step::Cross)?;
+    drain(heap, 100)?;
+    Ok(heap.work(&Step::EndMark))
+}

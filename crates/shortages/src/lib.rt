@@ -1,0 +1,8 @@
+//! What is left where memory is refused: these tests are run with each of their requests for memory
+//! refused in turn.
+#![tactic(auto)]
+
+#[cfg(test)]
+mod heaps;
+#[cfg(test)]
+mod protections;

@@ -1,0 +1,73 @@
+//! Four pages are protected in one step.
+
+use crate::heaps::{Moving, fill_and_close, new_heap};
+use heap::Refusal;
+use model::{Answer, PageList, Phase, Reply, Step};
+use std::alloc::{AllocError, Global};
+use std::process::Abort;
+use std::test::Fail;
+
+/// The pages, in the order in which they are named.
+const PAGES: [u32; 4] = [3, 1, 4, 2];
+
+/// A mark has found eight objects.
+const EIGHT: Reply = Ok(Answer::Ended {
+    live: 8,
+    retired: 0,
+});
+
+/// Eight objects of three words go to two targets of sixteen.
+const ALL: Reply = Ok(Answer::Protected {
+    objects: 8,
+    targets: 2,
+});
+
+/// That the pages be protected.
+fn protection(alloc: Global) -> Result<Step, AllocError> {
+    Ok(Step::Protect(PageList::new(Vec::from_slice(alloc, &PAGES)?)))
+}
+
+/// Each page is copied, and gives its frame up: none is free before.
+fn empty(rt: &impl Abort, heap: &mut impl Moving) {
+    assert_eq!(rt; heap.act(&Step::Cross), Ok(Answer::Done));
+    let mut free = 0u64;
+    for page in PAGES {
+        free = free.saturating_add(1);
+        let copied = Answer::CopiedPage { copied: 2 };
+        assert_eq!(rt; heap.work(&Step::CopyPage(page)), Ok(copied));
+        let released = Answer::Released { free };
+        assert_eq!(rt; heap.work(&Step::Release(page)), Ok(released));
+    }
+    assert_eq!(rt; heap.progress(), (Phase::Relocating, true, 0));
+}
+
+/// Nothing was done, and the same step is done when it is asked again.
+fn protects_again(rt: &impl Abort, heap: &mut impl Moving, step: &Step, before: &str, after: &str) {
+    assert_eq!(rt; after, before);
+    assert_eq!(rt; heap.progress(), (Phase::Idle, true, 0));
+    assert_eq!(rt; heap.work(step), ALL);
+}
+
+/// The pages are protected and emptied. Where the step lacks memory, the heap is as it was, and all is
+/// done when the step is asked again; the test then tells the want of memory.
+fn protect(rt: &impl Abort, alloc: Global, mut heap: impl Moving + Drop) -> Result<(), Fail> {
+    assert_eq!(rt; fill_and_close(&mut heap), Ok(EIGHT));
+    let step = protection(alloc)?;
+    let before = heap.text(alloc)?;
+    let reply = heap.work(&step);
+    if reply == Err(Refusal::Memory) {
+        let after = heap.text(alloc)?;
+        protects_again(rt, &mut heap, &step, &before, &after);
+    } else {
+        assert_eq!(rt; reply, ALL);
+    }
+    assert_eq!(rt; heap.progress(), (Phase::ProtectCrossing, false, 8));
+    empty(rt, &mut heap);
+    reply?;
+    Ok(())
+}
+
+#[test]
+fn four_pages_are_protected(rt: HostRuntime) -> Result<(), Fail> {
+    protect(&rt, rt.alloc(), new_heap(rt.alloc())?)
+}

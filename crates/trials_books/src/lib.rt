@@ -1,0 +1,17 @@
+//! The tests of books: steps with their answers, whole loads, marks and cycles, and histories.
+#![tactic(auto)]
+
+#[cfg(test)]
+mod books;
+#[cfg(test)]
+mod halving;
+#[cfg(test)]
+mod histories;
+#[cfg(test)]
+mod loads;
+#[cfg(test)]
+mod marks;
+#[cfg(test)]
+mod plans;
+#[cfg(test)]
+mod same;

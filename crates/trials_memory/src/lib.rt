@@ -1,0 +1,20 @@
+//! The tests of what lies below the heap: words, rows, side arrays, pages, objects and
+//! configurations.
+#![tactic(auto)]
+
+#[cfg(test)]
+mod bits;
+#[cfg(test)]
+mod configs;
+#[cfg(test)]
+mod objects;
+#[cfg(test)]
+mod pages;
+#[cfg(test)]
+mod rows;
+#[cfg(test)]
+mod same;
+#[cfg(test)]
+mod sides;
+#[cfg(test)]
+mod words;

@@ -1,0 +1,111 @@
+//! Layouts of objects, their headers and parts.
+
+use crate::same::same;
+use layout::{Header, Layout, Layouts, split, split_header, split_parts};
+use std::process::Abort;
+use std::test::Fail;
+
+#[test]
+fn bits_of_a_header(rt: HostRuntime) {
+    let header = Header {
+        birth: 5,
+        layout: 3,
+    };
+    same(&rt, header.write(), 0x0000_0003_0000_0005);
+    same(&rt, Header::read(0x0000_0003_0000_0005), Some(header));
+    same(&rt, Header::read(1 << 40), None);
+}
+
+/// Two layouts, of which the second is this one.
+fn has_two(rt: &impl Abort, table: &Layouts, second: Layout) {
+    same(rt, (table.len(), table.is_empty()), (2, false));
+    same(rt, (table.get(1), table.get(2)), (Some(second), None));
+    same(rt, table.as_slice().len(), 2);
+}
+
+#[test]
+fn a_table_of_two(rt: HostRuntime) -> Result<(), Fail> {
+    let small = Layout { refs: 0, nums: 0 };
+    let large = Layout {
+        refs: 1023,
+        nums: 1023,
+    };
+    same(&rt, (small.size(), large.size()), (1, 2047));
+    let table = Layouts::new(vec![in rt.alloc(); small, large]?);
+    has_two(&rt, &table, large);
+    same(&rt, table.into_vec().len(), 2);
+    Ok(())
+}
+
+#[test]
+fn writes_through_the_parts(rt: HostRuntime) -> Result<(), Fail> {
+    let mut words = [1, 2, 3, 4, 5, 6];
+    let parts = split(&mut words, &Layout { refs: 2, nums: 3 }).ok_or("not split")?;
+    same(&rt, parts.refs.len(), 2);
+    *parts.header = Header {
+        birth: 7,
+        layout: 0,
+    }
+    .write();
+    parts.refs.fill(8);
+    parts.data.fill(9);
+    same(&rt, words, [7, 8, 8, 9, 9, 9]);
+    Ok(())
+}
+
+/// Writes numbers that count up.
+fn count_up(words: &mut [u64], first: u64) {
+    let mut number = first;
+    for word in words {
+        *word = number;
+        number = number.wrapping_add(1);
+    }
+}
+
+/// Writes through each part of an object: 1, then from 11 on, then from 21 on.
+fn write_parts(part: &mut [u64], layout: &Layout) -> bool {
+    let Some(parts) = split(part, layout) else {
+        return false;
+    };
+    *parts.header = 1;
+    count_up(parts.refs, 11);
+    count_up(parts.data, 21);
+    true
+}
+
+#[test]
+fn each_part_is_at_its_place(rt: HostRuntime) -> Result<(), Fail> {
+    for (refs, nums, expected) in [
+        (0, 0, [1, 0, 0, 0]),
+        (1, 0, [1, 11, 0, 0]),
+        (0, 1, [1, 21, 0, 0]),
+        (2, 0, [1, 11, 12, 0]),
+        (1, 1, [1, 11, 21, 0]),
+        (0, 2, [1, 21, 22, 0]),
+        (3, 0, [1, 11, 12, 13]),
+        (2, 1, [1, 11, 12, 21]),
+        (1, 2, [1, 11, 21, 22]),
+        (0, 3, [1, 21, 22, 23]),
+    ] {
+        let layout = Layout { refs, nums };
+        let mut words = [0; 4];
+        let part = words
+            .get_mut(..layout.size() as usize)
+            .ok_or("no such part")?;
+        assert!(rt; write_parts(part, &layout));
+        same(&rt, words, expected);
+    }
+    Ok(())
+}
+
+#[test]
+fn writes_through_two_splits(rt: HostRuntime) -> Result<(), Fail> {
+    let mut words = [1, 2, 3, 4];
+    let (header, body) = split_header(&mut words).ok_or("no header")?;
+    *header = 5;
+    let (refs, data) = split_parts(body, Layout { refs: 1, nums: 2 }).ok_or("no references")?;
+    refs.fill(6);
+    data.fill(7);
+    same(&rt, words, [5, 6, 7, 7]);
+    Ok(())
+}

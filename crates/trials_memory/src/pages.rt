@@ -1,0 +1,318 @@
+//! A store of pages, and where its buffers are.
+
+use crate::same::{same, same_at};
+use forward::Side;
+use layout::{Layout, Layouts};
+use markbits::Row;
+use model::{Buffer, PageState, Room};
+use page::Store;
+use refword::Addr;
+use std::alloc::{AllocError, Global};
+use std::process::Abort;
+use std::test::Fail;
+
+/// A store that can be lent. A test hands its store on as one: to hold a `Store` over calls is dear to
+/// prove.
+trait HeldStore {
+    /// The store.
+    fn store(&mut self) -> &mut Store;
+}
+
+impl HeldStore for Store {
+    fn store(&mut self) -> &mut Store {
+        self
+    }
+}
+
+/// A side array that is held in the same way.
+trait HeldSide {
+    /// The side array.
+    fn side(&self) -> &Side;
+}
+
+impl HeldSide for Side {
+    fn side(&self) -> &Side {
+        self
+    }
+}
+
+/// Takes a buffer of a size that a page has.
+fn take(rt: &impl Abort, store: &mut Store, n: u32) -> Result<Buffer, Room> {
+    assert!(rt; 0 < n);
+    assert!(rt; n <= store.page_words());
+    store.take(n)
+}
+
+/// Writes one number over all words of a buffer.
+#[tactic(auto, unfolding(model::specs::Stores::state_at))]
+fn fill(rt: &impl Abort, store: &mut Store, buffer: &Buffer, value: u64) {
+    assert!(rt; matches!(store.state(buffer.page), PageState::Open));
+    let words = store.page_words();
+    assert!(rt; buffer.next <= buffer.end && buffer.end <= words);
+    store.part_mut(buffer).fill(value);
+}
+
+/// Takes buffers of the sizes that the rows begin with, and compares page and offset.
+fn takes(rt: &impl Abort, store: &mut Store, rows: &[(u32, u32, u32)]) -> Result<(), Room> {
+    for (n, page, next) in rows {
+        let buffer = take(rt, store, *n)?;
+        same_at(rt, n, (buffer.page, buffer.next), (*page, *next));
+    }
+    Ok(())
+}
+
+/// No word can be taken.
+fn is_full(rt: &impl Abort, store: &mut Store, room: Room, free: u32) {
+    same(rt, take(rt, store, 1), Err(room));
+    same(rt, store.free_frames(), free);
+}
+
+/// A new store of 8 pages in 2 frames.
+fn is_new(rt: &impl Abort, store: &Store) {
+    same(rt, (store.page_count(), store.pages().len()), (8, 4));
+    same(rt, (store.frame_count(), store.free_frames()), (2, 2));
+    for page in [0, 1, 8, 9] {
+        same_at(rt, page, store.state(page), PageState::Unused);
+    }
+}
+
+/// Pages 1 and 2 are open.
+fn has_two_open(rt: &impl Abort, store: &Store) {
+    for (page, state) in [
+        (0, PageState::Unused),
+        (1, PageState::Open),
+        (2, PageState::Open),
+        (3, PageState::Unused),
+    ] {
+        same_at(rt, page, store.state(page), state);
+    }
+}
+
+/// Buffers go into the lowest page that has room, until no frame is free.
+fn takes_lowest(rt: &impl Abort, mut held: impl HeldStore + Drop) -> Result<(), Room> {
+    let store = held.memory();
+    let rows = [(10, 1, 0), (7, 2, 0), (6, 1, 10), (9, 2, 7)];
+    is_new(rt, store);
+    takes(rt, store, &rows)?;
+    is_full(rt, store, Room::NoFrames, 0);
+    has_two_open(rt, store);
+    Ok(())
+}
+
+#[test]
+fn takes_in_the_lowest_page(rt: HostRuntime) -> Result<(), Fail> {
+    takes_lowest(&rt, Store::new(rt.alloc(), 16, 2, 8)?)?;
+    Ok(())
+}
+
+fn gives_back(rt: &impl Abort, mut held: impl HeldStore + Drop) -> Result<(), Room> {
+    let store = held.memory();
+    let buffer = take(rt, store, 9)?;
+    store.give_back(buffer);
+    takes(rt, store, &[(7, 1, 9)])?;
+    is_full(rt, store, Room::NoFrames, 0);
+    Ok(())
+}
+
+#[test]
+fn what_is_given_back_is_lost(rt: HostRuntime) -> Result<(), Fail> {
+    gives_back(&rt, Store::new(rt.alloc(), 16, 1, 1)?)?;
+    Ok(())
+}
+
+/// Takes buffers as `takes` does, after which no word can be taken.
+fn fills(
+    rt: &impl Abort,
+    mut held: impl HeldStore + Drop,
+    rows: &[(u32, u32, u32)],
+    room: Room,
+    free: u32,
+) -> Result<(), Room> {
+    let store = held.memory();
+    takes(rt, store, rows)?;
+    is_full(rt, store, room, free);
+    Ok(())
+}
+
+#[test]
+fn refuses_for_want_of_pages(rt: HostRuntime) -> Result<(), Fail> {
+    let rows = [(16, 1, 0)];
+    fills(
+        &rt,
+        Store::new(rt.alloc(), 16, 2, 1)?,
+        &rows,
+        Room::NoPages,
+        1,
+    )?;
+    Ok(())
+}
+
+/// Takes a buffer of so many words in each of the pages 1 to 300.
+fn takes_in_each(rt: &impl Abort, store: &mut Store, n: u32, next: u32) -> Result<(), Room> {
+    for page in 1..301 {
+        takes(rt, store, &[(n, page, next)])?;
+    }
+    Ok(())
+}
+
+/// Each first buffer leaves one word, so that the next needs a page of its own; then the words
+/// that were left are given out from the lowest page on.
+fn fills_pages(rt: &impl Abort, mut held: impl HeldStore + Drop) -> Result<(), Room> {
+    let store = held.memory();
+    takes_in_each(rt, store, 15, 0)?;
+    takes_in_each(rt, store, 1, 15)?;
+    is_full(rt, store, Room::NoFrames, 0);
+    Ok(())
+}
+
+#[test]
+fn fills_many_pages(rt: HostRuntime) -> Result<(), Fail> {
+    fills_pages(&rt, Store::new(rt.alloc(), 16, 300, 700)?)?;
+    Ok(())
+}
+
+#[test]
+fn takes_in_a_lower_page_that_has_room(rt: HostRuntime) -> Result<(), Fail> {
+    let rows = [
+        (10, 1, 0),
+        (12, 2, 0),
+        (14, 3, 0),
+        (5, 1, 10),
+        (4, 2, 12),
+        (2, 3, 14),
+        (1, 1, 15),
+        (1, 4, 0),
+        (16, 5, 0),
+        (15, 4, 1),
+    ];
+    fills(
+        &rt,
+        Store::new(rt.alloc(), 16, 5, 5)?,
+        &rows,
+        Room::NoFrames,
+        0,
+    )?;
+    Ok(())
+}
+
+/// Writes behind the ends of two buffers of page 1 too.
+fn writes(rt: &impl Abort, store: &mut Store) -> Result<(), Room> {
+    let first = take(rt, store, 3)?;
+    let second = take(rt, store, 2)?;
+    fill(rt, store, &second, 9);
+    fill(rt, store, &first, 7);
+    store.set_word(16 + 1, 8);
+    store.set_word(2 * 16, 6);
+    Ok(())
+}
+
+/// The words of page 1.
+fn written(rt: &impl Abort, store: &Store) {
+    let wanted = [7, 8, 7, 9, 9, 0, 0, 0, 0, 0, 0, 0, 0, 0, 0, 0];
+    same(rt, store.words(1), Some(wanted.as_slice()));
+}
+
+/// Words by their addresses.
+fn has_words(rt: &impl Abort, store: &Store) {
+    for (address, word) in [(15, None), (20, Some(9)), (21, Some(0)), (32, None)] {
+        same_at(rt, address, store.word(address), word);
+    }
+}
+
+fn writes_and_reads(rt: &impl Abort, mut held: impl HeldStore + Drop) -> Result<(), Room> {
+    let store = held.memory();
+    writes(rt, store)?;
+    written(rt, store);
+    has_words(rt, store);
+    Ok(())
+}
+
+#[test]
+fn writes_where_a_buffer_is(rt: HostRuntime) -> Result<(), Fail> {
+    writes_and_reads(&rt, Store::new(rt.alloc(), 16, 2, 8)?)?;
+    Ok(())
+}
+
+/// Pages 1 and 2 are taken whole, and the words 1 to 16 are written to page 1.
+fn counts(rt: &impl Abort, store: &mut Store) -> Result<(), Room> {
+    takes(rt, store, &[(16, 1, 0), (16, 2, 0)])?;
+    for offset in 0..16 {
+        store.set_word(16 + offset, offset + 1);
+    }
+    Ok(())
+}
+
+/// Places on page 2: past the end of it, inside, and further inside.
+fn places(alloc: Global) -> Result<Vec<Addr>, Fail> {
+    let mut places = Vec::with_capacity(alloc, 3)?;
+    for offset in [14, 1, 8] {
+        places.push(Addr::new(2 * 16 + offset).ok_or("no address")?)?;
+    }
+    Ok(places)
+}
+
+/// A row of 16 places, of which these are set.
+fn live(alloc: Global, offsets: &[usize]) -> Result<Row, AllocError> {
+    let mut live = Row::new(alloc, 16)?;
+    for offset in offsets {
+        live.put(*offset, true);
+    }
+    Ok(live)
+}
+
+/// A side array of such a row, with a place for each object.
+fn side_of(alloc: Global, live: Row, places: Vec<Addr>) -> Result<Side, Fail> {
+    if live.len() > 16 || live.count() != places.len() {
+        return Err("another row".into());
+    }
+    Ok(Side::new(alloc, live, places)?)
+}
+
+/// Objects that go to page 2: the first past the end of it, the last from past the end of its own.
+fn three(alloc: Global) -> Result<Side, Fail> {
+    let places = places(alloc)?;
+    side_of(alloc, live(alloc, &[0, 2, 14])?, places)
+}
+
+/// Objects of three words are copied between pages, as far as both go, and nowhere else.
+fn copies(rt: &impl Abort, store: &mut Store, side: &Side, layouts: &Layouts) {
+    assert!(rt; side.len() == 3);
+    store.copy_entries(1, 2, side, layouts, 0, 3);
+    store.copy_entries(1, 1, side, layouts, 0, 3);
+    store.copy_entries(3, 2, side, layouts, 0, 3);
+    store.copy_entries(1, 3, side, layouts, 0, 3);
+    let source = [1, 2, 3, 4, 5, 6, 7, 8, 9, 10, 11, 12, 13, 14, 15, 16];
+    same(rt, store.words(1), Some(source.as_slice()));
+    let target = [0, 3, 4, 5, 0, 0, 0, 0, 15, 16, 0, 0, 0, 0, 1, 2];
+    same(rt, store.words(2), Some(target.as_slice()));
+}
+
+/// Pages 1 and 2 are filled, and such objects are copied.
+fn counts_and_copies(
+    rt: &impl Abort,
+    mut held: impl HeldStore + Drop,
+    side: &Side,
+    layouts: &Layouts,
+) -> Result<(), Room> {
+    let store = held.memory();
+    counts(rt, store)?;
+    copies(rt, store, side, layouts);
+    Ok(())
+}
+
+/// They are copied in a store of their own.
+fn copied(
+    rt: &impl Abort,
+    alloc: Global,
+    side: impl HeldSide + Drop,
+    layouts: &Layouts,
+) -> Result<(), Fail> {
+    counts_and_copies(rt, Store::new(alloc, 16, 2, 8)?, side.side(), layouts)?;
+    Ok(())
+}
+
+#[test]
+fn objects_are_copied_between_pages(rt: HostRuntime) -> Result<(), Fail> {
+    let layouts = Layouts::new(vec![in rt.alloc(); Layout { refs: 0, nums: 2 }]?);
+    copied(&rt, rt.alloc(), three(rt.alloc())?, &layouts)
+}

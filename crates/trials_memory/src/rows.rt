@@ -1,0 +1,141 @@
+//! Rows of bits, and lists of copies, made where there is memory.
+
+use crate::same::{same, same_at};
+use markbits::{IndexedRows, Row, Rows};
+use page::many;
+use std::process::Abort;
+use std::test::Fail;
+
+#[test]
+fn a_row_of_clear_bits(rt: HostRuntime) -> Result<(), Fail> {
+    let mut row = Row::new(rt.alloc(), 16)?;
+    same(&rt, row.count(), 0);
+    for offset in 0..20 {
+        row.put(offset, true);
+    }
+    same(&rt, row.count(), 16);
+    Ok(())
+}
+
+/// How many bits are set in the first rows, and that there are no more.
+fn has_counts(rt: &impl Abort, rows: &Rows, counts: &[usize]) {
+    for (index, count) in counts.iter().enumerate() {
+        same_at(rt, index, rows.get(index).map(Row::count), Some(*count));
+    }
+    assert!(rt; rows.get(counts.len()).is_none());
+}
+
+#[test]
+fn rows_of_clear_bits(rt: HostRuntime) -> Result<(), Fail> {
+    let mut rows = Rows::new(rt.alloc(), 3, 16)?;
+    has_counts(&rt, &rows, &[0, 0, 0]);
+    for (index, offset) in [(0, 0), (1, 0), (1, 15), (1, 16), (2, 20), (3, 0)] {
+        rows.put(index, offset, true);
+    }
+    has_counts(&rt, &rows, &[1, 2, 0]);
+    rows.clear(1);
+    has_counts(&rt, &rows, &[1, 0, 0]);
+    Ok(())
+}
+
+/// How many bits are set in the first rows of a table with an index, and that there are no more.
+fn has_indexed_counts(rt: &impl Abort, rows: &IndexedRows, counts: &[usize]) {
+    for (index, count) in counts.iter().enumerate() {
+        same_at(rt, index, rows.get(index).map(Row::count), Some(*count));
+    }
+    assert!(rt; rows.get(counts.len()).is_none());
+}
+
+/// The rows that have a bit are found, up to the last and behind it.
+fn finds_busy_rows(rt: &impl Abort, rows: &IndexedRows, found: &[Option<u32>]) {
+    for (index, busy) in found.iter().enumerate() {
+        same_at(rt, index, rows.next_busy(index), *busy);
+    }
+}
+
+/// Bits of three rows, inside and behind their ends, are set and cleared.
+fn changes_rows(rt: &impl Abort, rows: &mut IndexedRows) {
+    has_indexed_counts(rt, rows, &[0, 0, 0]);
+    finds_busy_rows(rt, rows, &[None; 4]);
+    for (index, offset) in [(0, 0), (2, 15), (2, 16), (1, 20), (3, 0)] {
+        rows.put(index, offset, true);
+    }
+    has_indexed_counts(rt, rows, &[1, 0, 1]);
+    finds_busy_rows(rt, rows, &[Some(0), Some(2), Some(2), None]);
+    rows.clear(2);
+    finds_busy_rows(rt, rows, &[Some(0), None, None, None]);
+    rows.put(0, 0, false);
+    assert!(rt; rows.is_empty());
+}
+
+#[test]
+fn rows_with_an_index(rt: HostRuntime) -> Result<(), Fail> {
+    let mut rows = IndexedRows::new(rt.alloc(), 3, 16)?;
+    changes_rows(&rt, &mut rows);
+    Ok(())
+}
+
+/// A row gets a bit, is found from the first row and from itself on, and loses it again.
+fn finds_one_busy_row(rt: &impl Abort, rows: &mut IndexedRows, index: u32) {
+    let place = index as usize;
+    rows.put(place, 15, true);
+    same_at(rt, index, rows.next_busy(0), Some(index));
+    same_at(rt, index, rows.next_busy(place), Some(index));
+    same_at(rt, index, rows.next_busy(place + 1), None);
+    rows.put(place, 15, false);
+    assert!(rt; rows.is_empty(), "without row {index}");
+}
+
+/// The rows of a list have a bit: from each on it is found, and from behind it the next one.
+fn finds_each_busy_row(rt: &impl Abort, rows: &mut IndexedRows, busy: &[u32]) {
+    for index in busy {
+        rows.put(*index as usize, 0, true);
+    }
+    let mut from = 0;
+    for index in busy {
+        same_at(rt, from, rows.next_busy(from), Some(*index));
+        same(rt, rows.next_busy(*index as usize), Some(*index));
+        from = *index as usize + 1;
+    }
+    same(rt, rows.next_busy(from), None);
+}
+
+/// Rows are found one by one, and then all of them.
+fn finds_rows(rt: &impl Abort, rows: &mut IndexedRows, busy: &[u32]) {
+    for index in busy {
+        finds_one_busy_row(rt, rows, *index);
+    }
+    finds_each_busy_row(rt, rows, busy);
+}
+
+/// Nothing is found behind the last row, and the rows that are cleared no more.
+fn loses_rows(rt: &impl Abort, rows: &mut IndexedRows) {
+    rows.put(8_192, 0, true);
+    same(rt, rows.next_busy(8_192), None);
+    same(rt, rows.next_busy(usize::MAX), None);
+    for index in [0, 1, 63, 64, 4_096] {
+        rows.clear(index);
+    }
+    same(rt, rows.next_busy(0), Some(127));
+    same(rt, rows.next_busy(4_096), Some(4_159));
+}
+
+#[test]
+fn busy_rows_of_a_large_table(rt: HostRuntime) -> Result<(), Fail> {
+    let mut rows = IndexedRows::new(rt.alloc(), 8_192, 16)?;
+    let busy = [0, 1, 63, 64, 127, 128, 4_095, 4_096, 4_159, 8_191];
+    finds_rows(&rt, &mut rows, &busy);
+    loses_rows(&rt, &mut rows);
+    Ok(())
+}
+
+#[test]
+fn copies_of_an_item(rt: HostRuntime) -> Result<(), Fail> {
+    same(
+        &rt,
+        many(rt.alloc(), 3, 7u32)?.as_slice(),
+        [7, 7, 7].as_slice(),
+    );
+    same(&rt, many(rt.alloc(), 0, 7u32)?.len(), 0);
+    Ok(())
+}

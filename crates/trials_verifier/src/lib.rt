@@ -1,0 +1,13 @@
+//! The tests of the verifier: on images with faults, and on heaps.
+#![tactic(auto)]
+
+#[cfg(test)]
+mod images;
+#[cfg(test)]
+mod naive;
+#[cfg(test)]
+mod pictures;
+#[cfg(test)]
+mod same;
+#[cfg(test)]
+mod verified;
