@@ -56,7 +56,7 @@ run: pauseless
 
 try:
 	@$(needs_toolchain)
-	@echo "This build proves nothing ('make run' does), and takes less than a minute; $(LOG) has the rest."
+	@echo "This build proves nothing ('make run' does), and takes some minutes; $(LOG) has the rest."
 	@cd crates/report && $(RT) try --data first.script='$(CURDIR)/examples/first.script' -- run first.script \
 		2> '$(CURDIR)/$(LOG)' || { cd '$(CURDIR)'; $(show_log); }
 

@@ -46,7 +46,7 @@ pub fn load(
     let Some(ahead) = heap.field_behind(address, field) else {
         return Err(Refusal::BadIndex);
     };
-    let Some(bits) = heap.store().word_behind(address, ahead) else {
+    let Some(bits) = heap.memory().word_behind(address, ahead) else {
         return Err(Refusal::BadIndex);
     };
     let place = Place::Field {

@@ -3,7 +3,7 @@
 ghost use Rattle.std.specs.Prelude.{◌≡◌, true, None, IfOk, IfErr};
 ghost use Rattle.checking.specs.Ends.{IsClean};
 ghost use Rattle.parser.specs.Orders.{needs_threads};
-ghost use Rattle.script.specs.Faults.{is_line};
+ghost use Rattle.script.specs.Faults.{is_line, TellsLine};
 
 use crate::faults::FaultText;
 use crate::steps::{check_command, look};
@@ -84,7 +84,7 @@ fn tell_fault<W: io::Write>(
     fault: Fault,
     w: &mut W,
 ) -> Result<Checked, RunFault> {
-    put_fault(text, fault, book.heap().store().page_words())?;
+    put_fault(text, fault, book.heap().memory().page_words())?;
     tell(w, text)?;
     Ok(Checked::Faulty(fault))
 }
@@ -144,6 +144,7 @@ pub fn by_check<W: io::Write>(
     ensures clean { IfOk result IsClean }
     ensures line { IfErr result (λ fault. is_line fault ≡ true → needs_threads script.now.commands ≡ true) }
     ensures kept { IfErr result (λ fault. is_line fault ≡ true → w.new ≡ w.old) }
+    ensures told { needs_threads script.now.commands ≡ true → TellsLine result }
 {
     if needs_threads(script.commands()) {
         return Err(cycle_fault(script));

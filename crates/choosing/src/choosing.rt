@@ -15,8 +15,8 @@ use std::alloc::{AllocError, Global};
 fn room(heap: &Heap) -> u32
     ensures { result ≡ min (free_count heap.now.store) (unused_count heap.now.store) }
 {
-    let frames = heap.store().free_frames();
-    let pages = heap.store().unused_pages();
+    let frames = heap.memory().free_frames();
+    let pages = heap.memory().unused_pages();
     if frames < pages { frames } else { pages }
 }
 

@@ -66,7 +66,7 @@ fn pack_row(heap: &Heap, page: u32, row: &Row, before: Packing) -> Packing
     ensures value { result ≡ pack heap.now.store.words before (map (size_on heap.now page) (offsets_from 0 row.now)) }
     ensures offset { result.offset < 2 ^ 17 }
 {
-    let words = heap.store().page_words();
+    let words = heap.memory().page_words();
     let mut packing = before;
     let mut from = 0;
     while let Some(offset) = row.next_from(from) {

@@ -17,7 +17,7 @@ fn row_words(heap: &Heap, page: u32, row: &Row) -> u64
     ensures value { result ≡ sum_by (size_on heap.now page) (offsets_from 0 row.now) }
     ensures range { result ≤ 131071 * 32768 }
 {
-    let _ = heap.store().page_words();
+    let _ = heap.memory().page_words();
     let mut total = 0u64;
     let mut from = 0;
     while let Some(offset) = row.next_from(from) {
@@ -45,7 +45,7 @@ fn live_words(heap: &Heap, page: u32) -> u64
 fn is_closed(heap: &Heap, page: u32) -> bool
     ensures { result ≡ is_closed_at heap.now page }
 {
-    matches!(heap.store().state(page), PageState::Closed)
+    matches!(heap.memory().state(page), PageState::Closed)
 }
 
 /// A closed page of which at most so many words of a hundred are live, with its live words.
@@ -58,7 +58,7 @@ fn measured(heap: &Heap, percent: u32, page: u32) -> Option<(u64, u32)>
         return None;
     }
     let live = live_words(heap, page);
-    let words = heap.store().page_words();
+    let words = heap.memory().page_words();
     if live * 100 <= u64::from(percent) * u64::from(words) {
         Some((live, page))
     } else {
@@ -77,7 +77,7 @@ pub(crate) fn sparse(
     ensures { IfOk result (λ found. found.items ≡ sparse_pages heap.now percent) }
 {
     let mut found = Vec::new(alloc);
-    for index in 0..heap.store().page_count() {
+    for index in 0..heap.memory().page_count() {
         if let Some(page) = measured(heap, percent, index + 1) {
             found.push(page)?;
         }

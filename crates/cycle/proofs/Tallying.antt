@@ -1,7 +1,7 @@
 -- The tallies of threads, from one entry to the next.
-use Rattle.std.proofs.Common.{◌≡◌, ◌≢◌, ℕ, ◌+◌, ◌<◌, ◌≤◌, ◌==◌, ◌&&◌, Bool, true, false, cond, min, List, [], ◌∷◌, ◌++◌}
+use Rattle.std.proofs.Common.{◌≡◌, ℕ, ◌+◌, ◌<◌, ◌==◌, ◌&&◌, Bool, true, false, cond, List, [], ◌∷◌, ◌++◌}
 use Rattle.std.proofs.Common.{length, replicate, count_by, Option, Some, None, refl, sym, ◌∙◌, ap, subst, arith}
-use Rattle.std.specs.List.{slice_get, sum_by}
+use Rattle.std.specs.List.{slice_get}
 use Rattle.std.specs.Option.{option_map}
 use Rattle.std.proofs.lemmas.Bool.{eqb-true, eqb-false}
 use Rattle.std.proofs.lemmas.List.Sums.{sum_by-append, sum_by-cons, count_by-le-length}
@@ -16,11 +16,11 @@ use Rattle.model.specs.declared.steps.Answer.{Answer}
 use Rattle.model.specs.declared.steps.Step.{Step}
 use Rattle.model.specs.States.{HeapState, ThreadState}
 use Rattle.model.specs.First.{first_heap, blank_thread}
-use Rattle.model.specs.Tallies.{blank_tally, counted, counter_of, most_counted, one_more}
+use Rattle.model.specs.Tallies.{blank_tally, counter_of, most_counted, one_more}
 use Rattle.model.specs.Threads.{tally_in}
 use Rattle.model.proofs.Lists.{each_replicate}
 use Rattle.model.specs.Loads.{tally_of_thread}
-use Rattle.refinement.specs.Tallies.{counted_if, TalliesStay, CountsOne, CountsStep}
+use Rattle.refinement.specs.Tallies.{counted_if, CountsStep}
 use Rattle.entries.specs.declared.entry.Entry.{Entry}
 use Rattle.cycle.specs.Tallies.{is_thread, is_raised, raises, tally_of, TalliesAre}
 

@@ -6,6 +6,7 @@ use Rattle.model.specs.declared.steps.Refusal.{Refusal}
 use Rattle.model.specs.declared.steps.Refusal.TheVariants as refusals
 use Rattle.model.specs.Scans.{next_drain}
 use Rattle.cycle.specs.Books.{BookState, Reply, act_outcome}
+use Rattle.cycle.specs.Beginnings.{IsBeginning}
 use Rattle.cycle.specs.Loads.{Told, tell, step_then, Leaves}
 use Rattle.cycle.specs.Replays.{IsBook}
 
@@ -36,7 +37,7 @@ verdict [] = Ok tt
 verdict (Ok answer ∷ replies) = verdict replies
 verdict (Err e ∷ replies) = Err e
 
--- a call did the steps of a drain, and its result is what they come to; or memory was refused
-abbrev pub DrainsWhole : Result Unit Refusal → List Reply → BookState → List Reply → Told → Type 0
-DrainsWhole (Err refusals.Memory) before new all steps = Unit {0}
-DrainsWhole result before new all steps = Leaves steps before new all × (result ≡ verdict steps.replies)
+-- a call did the steps of a drain, and its result is what they come to; or memory was refused behind a beginning
+abbrev pub DrainsWhole : Result Unit Refusal → BookState → List Reply → BookState → List Reply → Told → Type 0
+DrainsWhole (Err refusals.Memory) old before new all whole = IsBeginning whole.book old before new all
+DrainsWhole result old before new all whole = Leaves whole before new all × (result ≡ verdict whole.replies)

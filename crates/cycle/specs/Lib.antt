@@ -1,5 +1,6 @@
 pub mod Books
 pub mod Mutating
+pub mod Beginnings
 pub mod Loads
 pub mod Drains
 pub mod Tallies

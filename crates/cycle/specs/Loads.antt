@@ -9,6 +9,7 @@ use Rattle.model.specs.declared.steps.Answer.TheVariants as answers
 use Rattle.model.specs.declared.steps.Refusal.{Refusal}
 use Rattle.model.specs.declared.steps.Refusal.TheVariants as refusals
 use Rattle.cycle.specs.Books.{BookState, BookOutcome, Reply, act_outcome}
+use Rattle.cycle.specs.Beginnings.{IsBeginning}
 use Rattle.cycle.specs.Replays.{IsBook}
 
 -- what steps did: the book after them, and their replies in order
@@ -85,7 +86,7 @@ abbrev pub IsVerdict : Result Unit Refusal → List Reply → Type 0
 IsVerdict (Ok u) replies = (answer : Answer) × EndsIn replies (Ok answer)
 IsVerdict (Err e) replies = EndsIn replies (Err e)
 
--- a load did the steps of a whole one, and its result is that of the last; or memory was refused
-abbrev pub LoadsWhole : Result Unit Refusal → List Reply → BookState → List Reply → Told → Type 0
-LoadsWhole (Err refusals.Memory) before new all steps = Unit {0}
-LoadsWhole result before new all steps = Leaves steps before new all × IsVerdict result all
+-- a load did the steps of a whole one, and its result is that of the last; or memory was refused behind a beginning
+abbrev pub LoadsWhole : Result Unit Refusal → BookState → List Reply → BookState → List Reply → Told → Type 0
+LoadsWhole (Err refusals.Memory) old before new all whole = IsBeginning whole.book old before new all
+LoadsWhole result old before new all whole = Leaves whole before new all × IsVerdict result all

@@ -1,6 +1,7 @@
 //! The steps of threads, each a call that makes its leading tests and gives a plain value.
 
-ghost use Rattle.std.specs.Prelude.{◌≡◌};
+ghost use Rattle.std.specs.Prelude.{◌≡◌, Some, IfOk};
+ghost use Rattle.model.specs.Buffers.{buffer_of_thread};
 ghost use Rattle.model.specs.Saying.{done, loaded, lent, trapped, healed, scrubbed};
 ghost use Rattle.model.specs.declared.steps.Step.TheVariants as steps;
 ghost use Rattle.model.specs.declared.steps.Answer.TheVariants as answers;
@@ -13,7 +14,8 @@ use model::{Buffer, Refusal, Step, Trap};
 #[inline(always)]
 #[tactic(auto, unfolding(model::specs::Outcome::outcome))]
 pub(crate) fn take(heap: &mut Heap, thread: u32, words: u32) -> Result<Buffer, Refusal>
-    ensures { DoesThread lent heap.old thread (steps.Take words) result heap.new }
+    ensures does { DoesThread lent heap.old thread (steps.Take words) result heap.new }
+    ensures buffer { IfOk result (λ buffer. buffer_of_thread heap.new thread ≡ Some buffer) }
 {
     thread_gate(heap, thread, &Step::Take(words))?;
     heap.take_row(thread, words)

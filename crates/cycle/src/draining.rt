@@ -1,9 +1,10 @@
 //! Drains: the steps of a worker that scan, until nothing is left to be scanned or one is refused.
 //! What is scanned is the paper's Mark phase; that a drain is one call is ours.
 
-ghost use Rattle.std.specs.Prelude.{◌≡◌, ◌<◌, ◌^◌, position, is_some, IfOk, IfSome, OnOk};
+ghost use Rattle.std.specs.Prelude.{◌≡◌, ◌<◌, ◌^◌, position, is_some, IfOk, IfSome, OnErr, OnOk};
 ghost use Rattle.model.specs.declared.records.Global.{Global};
 ghost use Rattle.model.specs.Scans.{scan_of, next_drain};
+ghost use Rattle.cycle.specs.Beginnings.{IsBeginning, NotMemory};
 ghost use Rattle.cycle.specs.Loads.{Leaves};
 ghost use Rattle.cycle.specs.Drains.{drain_within, drain, verdict, DrainsEnd, DrainsWhole};
 
@@ -53,8 +54,8 @@ pub fn next_drain(heap: &Heap, worker: u32) -> Option<Step>
     }
     let address = next_todo(heap)?;
     Some(Step::Pick {
-        page: heap.store().page_of(address) as u32,
-        offset: heap.store().offset_of(address),
+        page: heap.memory().page_of(address) as u32,
+        offset: heap.memory().offset_of(address),
     })
 }
 
@@ -71,7 +72,7 @@ pub fn verdict(replies: &[Reply]) -> Result<(), Refusal>
 }
 
 impl Book {
-    /// At most so many steps of a drain. The error is want of memory; the steps before it are done.
+    /// At most so many steps of a drain. The error is want of memory: a beginning of them is done then.
     fn drain_within(
         &mut self,
         most: u64,
@@ -81,6 +82,10 @@ impl Book {
         ensures steps { OnOk result
             (Leaves (drain_within most self.old worker) replies.old.items self.new replies.new.items) }
         ensures end { IfOk result (λ end. end ≡ verdict (drain_within most self.old worker).replies) }
+        ensures refused { IfOk result NotMemory }
+        ensures memory { OnErr result
+            (IsBeginning (drain_within most self.old worker).book self.old replies.old.items
+            self.new replies.new.items) }
     {
         for _ in 0..most {
             let Some(step) = next_drain(self.heap(), worker) else {
@@ -99,10 +104,11 @@ impl Book {
     /// to that end; else the first refusal, and `Memory` for want of memory. What the steps said is
     /// put behind other replies: all of them are accepted, or all but the last.
     ///
-    /// After `Memory` the steps before it are done, and the call may be made again. What is scanned
-    /// is the paper's Mark phase; the order is ours.
+    /// After `Memory` a beginning of these steps is done, each of them accepted, and what was put
+    /// behind others is what they said; the call may be made again. What is scanned is the paper's
+    /// Mark phase; the order is ours.
     pub fn drain(&mut self, worker: u32, replies: &mut Vec<Reply>) -> Result<(), Refusal>
-        ensures { DrainsWhole result replies.old.items self.new replies.new.items (drain self.old worker) }
+        ensures { DrainsWhole result self.old replies.old.items self.new replies.new.items (drain self.old worker) }
     {
         let heap = self.heap();
         heap.law();

@@ -43,7 +43,7 @@ fn has_bad_index(heap: &Heap, step: &Step) -> bool
     ensures { result ≡ has_bad_index heap.now step.now }
 {
     match step {
-        Step::Take(n) => *n == 0 || *n > heap.store().page_words(),
+        Step::Take(n) => *n == 0 || *n > heap.memory().page_words(),
         Step::New { target, layout } => no_register(heap, *target) || no_layout(heap, *layout),
         Step::Load { target, object, .. } => {
             no_register(heap, *target) || no_register(heap, *object)

@@ -2,6 +2,7 @@
 //! The barrier is the paper's (its section on the read barrier); that a load is one call is ours.
 
 ghost use Rattle.std.specs.Prelude.{◌≡◌, ◌++◌, ◌∷◌, [], false, IfOk, OnErr, OnOk};
+ghost use Rattle.cycle.specs.Beginnings.{IsBeginning, NotMemory};
 ghost use Rattle.cycle.specs.Books.{act_outcome};
 ghost use Rattle.cycle.specs.Loads.{EndsIn, Leaves, LoadsWhole, Says, ThreeTrapsServe};
 ghost use Rattle.cycle.specs.Loads.{finish_load, heal_load, is_clear, trap_load, end_load, whole_load};
@@ -13,14 +14,15 @@ use std::alloc::AllocError;
 
 /// The most traps of one load (ours). Behind one that forwards and one that marks none is due any
 /// more, so the third is clear.
-const MOST_TRAPS: u32 = 3;
+pub const MOST_TRAPS: u32 = 3;
 
 /// Of a book, no more than three traps are ever asked for. It does nothing: its contract is the law.
 pub fn three_traps()
     ensures { ThreeTrapsServe }
 {}
 
-fn is_clear(answer: Answer) -> bool
+/// Whether an answer to a trap says that none was due.
+pub fn is_clear(answer: Answer) -> bool
     ensures { result ≡ is_clear answer }
 {
     matches!(answer, Answer::Clear)
@@ -28,7 +30,8 @@ fn is_clear(answer: Answer) -> bool
 
 impl Book {
     /// One step, as `act` does it, whose reply is put behind others. The error is want of memory,
-    /// for the reply or in the step; then book and replies are as they were.
+    /// for the reply or in the step; then book and replies are as they were. So the reply is never
+    /// `Memory`.
     pub fn act_into(
         &mut self,
         actor: Actor,
@@ -37,6 +40,7 @@ impl Book {
     ) -> Result<Reply, AllocError>
         ensures says { IfOk result (λ reply. Says self.old reply self.new (act_outcome self.old actor step)) }
         ensures replies { IfOk result (λ reply. replies.new.items ≡ replies.old.items ++ reply ∷ []) }
+        ensures refused { IfOk result NotMemory }
         ensures same_book { OnErr result (self.new ≡ self.old) }
         ensures same_replies { OnErr result (replies.new.items ≡ replies.old.items) }
     {
@@ -53,6 +57,9 @@ impl Book {
     fn finish_load(&mut self, actor: Actor, replies: &mut Vec<Reply>) -> Result<Reply, AllocError>
         ensures steps { OnOk result (Leaves (finish_load self.old actor) replies.old.items self.new replies.new.items) }
         ensures last { IfOk result (EndsIn replies.new.items) }
+        ensures refused { IfOk result NotMemory }
+        ensures memory { OnErr result
+            (IsBeginning (finish_load self.old actor).book self.old replies.old.items self.new replies.new.items) }
     {
         self.act_into(actor, Step::Finish, replies)
     }
@@ -66,6 +73,9 @@ impl Book {
     ) -> Result<Reply, AllocError>
         ensures steps { OnOk result (Leaves (heal_load due self.old actor) replies.old.items self.new replies.new.items) }
         ensures last { IfOk result (EndsIn replies.new.items) }
+        ensures refused { IfOk result NotMemory }
+        ensures memory { OnErr result
+            (IsBeginning (heal_load due self.old actor).book self.old replies.old.items self.new replies.new.items) }
     {
         if due {
             match self.act_into(actor, Step::Heal, replies)? {
@@ -81,10 +91,16 @@ impl Book {
     /// where a trap was due, and finishes. A refusal is the end. Gives the reply of its last step,
     /// and puts all behind others.
     ///
-    /// The error is want of memory; the steps before it are done, and this call may be asked again.
+    /// The error is want of memory. What is done then is a beginning of these steps, each of them
+    /// accepted, and what was put behind others is what they said. This call may be asked again, but
+    /// it heals only where it comes upon a trap itself: behind one that was due before, and no heal,
+    /// a step `Heal` has to be asked first.
     pub fn end_load(&mut self, actor: Actor, replies: &mut Vec<Reply>) -> Result<Reply, AllocError>
         ensures steps { OnOk result (Leaves (end_load self.old actor) replies.old.items self.new replies.new.items) }
         ensures last { IfOk result (EndsIn replies.new.items) }
+        ensures refused { IfOk result NotMemory }
+        ensures memory { OnErr result
+            (IsBeginning (end_load self.old actor).book self.old replies.old.items self.new replies.new.items) }
     {
         let mut due = false;
         for _ in 0..MOST_TRAPS {
@@ -109,6 +125,9 @@ impl Book {
     ) -> Result<Reply, AllocError>
         ensures steps { OnOk result (Leaves (whole_load self.old actor load) replies.old.items self.new replies.new.items) }
         ensures last { IfOk result (EndsIn replies.new.items) }
+        ensures refused { IfOk result NotMemory }
+        ensures memory { OnErr result
+            (IsBeginning (whole_load self.old actor load).book self.old replies.old.items self.new replies.new.items) }
     {
         match self.act_into(actor, load, replies)? {
             Ok(_) => self.end_load(actor, replies),
@@ -120,14 +139,16 @@ impl Book {
     /// all that `end_load` does. `Ok` where the register has the reference; else the first refusal,
     /// and `Memory` for want of memory. What the steps said is put behind other replies.
     ///
-    /// After `Memory` the steps before it are done; where the load had begun, `end_load` ends it.
+    /// After `Memory` a beginning of these steps is done, each of them accepted, and what was put
+    /// behind others is what they said. Where the load had begun, `end_load` goes on with it.
     pub fn whole_load(
         &mut self,
         actor: Actor,
         load: Step,
         replies: &mut Vec<Reply>,
     ) -> Result<(), Refusal>
-        ensures { LoadsWhole result replies.old.items self.new replies.new.items (whole_load self.old actor load) }
+        ensures { LoadsWhole result self.old replies.old.items self.new replies.new.items
+            (whole_load self.old actor load) }
     {
         match self.begin_and_end_load(actor, load, replies) {
             Ok(Ok(_)) => Ok(()),

@@ -1,6 +1,7 @@
 //! Steps of threads by calls that give plain values.
 
-ghost use Rattle.std.specs.Prelude.{◌≡◌};
+ghost use Rattle.std.specs.Prelude.{◌≡◌, Some, IfOk};
+ghost use Rattle.model.specs.Buffers.{buffer_of_thread};
 ghost use Rattle.model.specs.Saying.{done, loaded, lent, trapped, healed, scrubbed};
 ghost use Rattle.model.specs.declared.steps.Step.TheVariants as steps;
 ghost use Rattle.model.specs.declared.steps.Answer.TheVariants as answers;
@@ -27,7 +28,7 @@ use model::{Buffer, Refusal, Trap};
 /// it does so after the call, whose value is the plain heap's.
 pub trait Mutating {
     /// Takes a buffer of 1 to the words of a page, in the lowest open page with room, else in a fresh
-    /// page, and gives it.
+    /// page, and gives it: it is the thread's then.
     ///
     /// Refused as `BadIndex` for a number of words that no page has; `HasBuffer` where there is one;
     /// `NoFrames` and `NoPages` where neither a page nor a frame has room.
@@ -134,6 +135,7 @@ impl Mutating for Heap {
     fn take(&mut self, thread: u32, words: u32) -> Result<Buffer, Refusal>
         ensures does { DoesThread lent self.old thread (steps.Take words) result self.new }
         ensures stands { ThreadStands lent self.old thread (steps.Take words) result self.new }
+        ensures buffer { IfOk result (λ buffer. buffer_of_thread self.new thread ≡ Some buffer) }
     {
         self.law();
         refinement::law();

@@ -13,7 +13,7 @@ use heap::Heap;
 pub(crate) fn no_page(heap: &Heap, page: u32) -> bool
     ensures { result ≡ no_page heap.now page }
 {
-    page == 0 || page > heap.store().page_count()
+    page == 0 || page > heap.memory().page_count()
 }
 
 /// Whether a list names a page that isn't there.

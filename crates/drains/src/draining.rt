@@ -1,8 +1,8 @@
 //! Objects are scanned, one after another (the paper's Mark phase; that it is one call, and the
 //! order, is ours).
 
-ghost use Rattle.std.specs.Prelude.{◌≡◌, ◌<◌, ◌≤◌, true, Some, None, IfSome, IfNone, slice_get};
-ghost use Rattle.model.specs.Scans.{is_scan_of, is_taken, is_free_todo, next_todo, next_drain};
+ghost use Rattle.std.specs.Prelude.{◌≡◌, ◌≢◌, ◌<◌, ◌≤◌, true, Ok, Some, None, IfSome, IfNone, MatchBool, slice_get};
+ghost use Rattle.model.specs.Scans.{is_scan_of, is_taken, is_free_todo, may_scan, next_todo, next_drain};
 ghost use Rattle.drains.specs.Drains.{IsDrained, IsReady, ObjectsDone, KeepsPlain};
 
 use crate::globals::mark_globals;
@@ -39,8 +39,8 @@ fn is_taken(heap: &Heap, address: u64) -> bool
 fn is_free_todo(heap: &Heap, address: Addr) -> bool
     ensures { result ≡ is_free_todo heap.now address }
 {
-    let page = heap.store().page_of(address);
-    let offset = heap.store().offset_of(address);
+    let page = heap.memory().page_of(address);
+    let offset = heap.memory().offset_of(address);
     heap.todo().bit_on(page, offset) && !is_taken(heap, address.number())
 }
 
@@ -74,7 +74,7 @@ fn next_free(heap: &Heap, hints: &mut Hints) -> Option<Addr>
 
 /// Whether a worker is there, and has no object.
 fn is_free(heap: &Heap, worker: u32) -> bool
-    ensures { result ≡ true → slice_get heap.now.workers worker ≡ Some None }
+    ensures { MatchBool result (slice_get heap.now.workers worker ≡ Some None) (slice_get heap.now.workers worker ≢ Some None) }
 {
     match heap.workers().get(worker as usize) {
         None => false,
@@ -82,16 +82,21 @@ fn is_free(heap: &Heap, worker: u32) -> bool
     }
 }
 
+/// Whether a mark runs that all threads have crossed.
+#[tactic(auto, unfolding(model::specs::Scans::may_scan))]
+fn may_scan(heap: &Heap) -> bool
+    ensures { MatchBool result (may_scan heap.now ≡ Ok tt) (may_scan heap.now ≢ Ok tt) }
+{
+    heap.phase().is_marking() && heap.all_crossed().is_ok()
+}
+
 /// Whether a worker may scan objects whole: a mark runs that all threads have crossed, nothing is
 /// left to be copied, and the worker is there and has no object.
 #[tactic(auto, using(crate::proofs::Drained::ready_is))]
 pub fn is_ready(heap: &Heap, worker: u32) -> bool
-    ensures { result ≡ true → IsReady heap.now worker }
+    ensures { MatchBool result (IsReady heap.now worker) (¬ IsReady heap.now worker) }
 {
-    if !heap.phase().is_marking() || heap.sides().uncopied() != 0 || !is_free(heap, worker) {
-        return false;
-    }
-    heap.all_crossed().is_ok()
+    may_scan(heap) && heap.sides().uncopied() == 0 && is_free(heap, worker)
 }
 
 /// What is left of a mark is drained by a worker that is ready, as one call: it marks the globals

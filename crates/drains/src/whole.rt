@@ -18,7 +18,7 @@ fn reference_behind(heap: &Heap, address: Addr, ahead: u64) -> Word
     requires { ahead < 2 ^ 17 }
     ensures { result ≡ reference_in (word_at heap.now.store (address + ahead)) }
 {
-    match heap.store().word_behind(address, ahead) {
+    match heap.memory().word_behind(address, ahead) {
         None => Word::null(),
         Some(bits) => read_reference(bits),
     }

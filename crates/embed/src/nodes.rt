@@ -69,7 +69,7 @@ impl NodeHeap for ManagedHeap {
     }
 
     fn free_frames(&self) -> u32 {
-        self.heap().store().free_frames()
+        self.heap().memory().free_frames()
     }
 }
 

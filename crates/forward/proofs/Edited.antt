@@ -16,21 +16,13 @@ use Rattle.model.specs.Cycles.{is_uncopied}
 use Rattle.model.specs.Moves.{set_copied_of}
 use Rattle.model.specs.States.{change_at, change_found}
 use Rattle.model.specs.Plans.{offsets_from}
-use Rattle.model.proofs.Lists.{get_set_same, get_set_other}
+use Rattle.model.proofs.Lists.{same_lists, get_set_same, get_set_other}
 use Rattle.markbits.specs.Ranks.{rank_of}
 use Rattle.forward.specs.Counts.{uncopied_in}
 use Rattle.forward.specs.Ranked.{numbered_entry, entries_of, AreEntries}
 use Rattle.forward.specs.Settling.{set_place_of}
 use Rattle.forward.proofs.Copies.{one_noted}
 use Rattle.forward.proofs.Ranked.{entry_read, entries_many, entries_rise, rank_within, ranked_offset, entry_ranked}
-
-same_lists : {X : Type 0} (xs ys : List X) → length xs ≡ length ys
-    → ((i : ℕ) → i < length xs → slice_get xs i ≡ slice_get ys i) → xs ≡ ys
-same_lists [] [] e h = refl
-same_lists [] (y ∷ ys) e h = absurd (omega (arith, e))
-same_lists (x ∷ xs) [] e h = absurd (omega (arith, e))
-same_lists (x ∷ xs) (y ∷ ys) e h = ap₂ (λ z zs. z ∷ zs) (same_Some _ _ (h zero (omega arith)))
-    (same_lists xs ys (omega (arith, e)) (λ i l. h (suc i) (omega (arith, l))))
 
 -- a list that differs from another in one element
 changed_one : (v w : List Forwarding) (i : ℕ) (y x : Forwarding) → length w ≡ length v → slice_get v i ≡ Some y

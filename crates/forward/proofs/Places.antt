@@ -2,7 +2,7 @@
 use Rattle.std.proofs.Common.{◌≡◌, ℕ, ◌+◌, ◌<◌, ◌≤◌, Bool, true, false, cond, List, [], ◌∷◌, ◌++◌, drop, length}
 use Rattle.std.proofs.Common.{get_or, nat_le, refl, sym, ◌∙◌, ap, ap₂, subst, arith, append_assoc, ◌⊎◌, inl, inr}
 use Rattle.std.specs.Prelude.{slice_index_or}
-use Rattle.std.proofs.lemmas.List.{drop_more}
+use Rattle.std.proofs.lemmas.List.{drop_more, drop_all, append-nil}
 use Rattle.std.proofs.lemmas.Bool.Decides.{nat_tests}
 use Rattle.model.specs.Plans.{places_from, target_count}
 
@@ -15,6 +15,12 @@ last_target (p ∷ q ∷ ps) t o = last_target (q ∷ ps) t o
 -- places so far, and those of the sizes from i on, are all of them
 pub record IsPlaced (words : ℕ) (sizes : List ℕ) (i target offset : ℕ) (ps : List (ℕ × ℕ)) : Type 0 where
   pub all : places_from words 0 0 sizes ≡ ps ++ places_from words target offset (drop i sizes)
+
+-- behind the last size these are all places
+pub placed_whole : (words i target offset : ℕ) (sizes : List ℕ) (ps : List (ℕ × ℕ))
+    → IsPlaced words sizes i target offset ps → length sizes ≤ i → ps ≡ places_from words 0 0 sizes
+placed_whole words i target offset sizes ps so_far past = sym (so_far.all
+    ∙ ap (λ ns. ps ++ places_from words target offset ns) (drop_all i sizes past) ∙ append-nil ps)
 
 placed_more : (words i target offset t o next n : ℕ) (sizes : List ℕ) (ps : List (ℕ × ℕ))
     → IsPlaced words sizes i target offset ps → i < length sizes → n ≡ get_or sizes i 0

@@ -1,4 +1,5 @@
 pub mod Counts
+pub mod Places
 pub mod Ranked
 pub mod Searching
 pub mod Settling

@@ -1,8 +1,10 @@
 //! Places for objects that move.
 
-ghost use Rattle.std.specs.Prelude.{◌≡◌, length, slice_get, IfOk};
+ghost use Rattle.std.specs.Prelude.{◌≡◌, ◌≤◌, length, slice_get, IfOk};
 ghost use Rattle.std.specs.Option.{option_copied};
+ghost use Rattle.model.specs.Owning.{Each};
 ghost use Rattle.model.specs.Plans.{places_from, target_count};
+ghost use Rattle.forward.specs.Places.{ArePlanned};
 
 use std::alloc::{AllocError, Global};
 use std::marker::Model;
@@ -60,11 +62,13 @@ impl Model for Plan {
 }
 
 impl Plan {
-    /// The places of objects of these sizes, in targets of so many words: each behind the one
-    /// before, or at the head of the next target where it doesn't fit. A size is 1 to the words of
-    /// a target. Fails only by memory.
+    /// The places of objects of these sizes, in targets of so many words: the first at the head of
+    /// the first target, each other directly behind the one before, or at the head of the next
+    /// target where it doesn't fit. So each lies in its target, and no two overlap. A size is 1 to
+    /// the words of a target. Fails only by memory.
     pub fn new(alloc: Global, words: u32, sizes: &[u32]) -> Result<Plan, AllocError>
-        ensures { IfOk result (λ p. p ≡ places_from words 0 0 sizes.now) }
+        ensures places { IfOk result (λ p. p ≡ places_from words 0 0 sizes.now) }
+        ensures planned { IfOk result (λ p. Each sizes.now (λ n. n ≤ words) → ArePlanned words sizes.now p) }
     {
         let mut slots = Vec::with_capacity(alloc, sizes.len())?;
         let mut target = 0;

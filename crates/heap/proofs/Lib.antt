@@ -4,3 +4,4 @@ pub mod Marking
 pub mod Writing
 pub mod Moving
 pub mod Runs
+pub mod TakenBuffers

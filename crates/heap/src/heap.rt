@@ -97,7 +97,7 @@ impl Heap {
     }
 
     /// Its pages and frames.
-    pub fn store(&self) -> &Store
+    pub fn memory(&self) -> &Store
         ensures { result.now ≡ self.now.store }
     {
         &self.store

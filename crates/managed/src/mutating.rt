@@ -1,6 +1,7 @@
 //! The steps of threads on a managed heap.
 
-ghost use Rattle.std.specs.Prelude.{◌≡◌};
+ghost use Rattle.std.specs.Prelude.{◌≡◌, Some, IfOk};
+ghost use Rattle.model.specs.Buffers.{buffer_of_thread};
 ghost use Rattle.model.specs.Saying.{done, loaded, lent, trapped, healed, scrubbed};
 ghost use Rattle.model.specs.declared.steps.Step.TheVariants as steps;
 ghost use Rattle.model.specs.declared.steps.Answer.TheVariants as answers;
@@ -16,6 +17,7 @@ impl Mutating for ManagedHeap {
     fn take(&mut self, thread: u32, words: u32) -> Result<Buffer, Refusal>
         ensures does { DoesThread lent self.old thread (steps.Take words) result self.new }
         ensures stands { ThreadStands lent self.old thread (steps.Take words) result self.new }
+        ensures buffer { IfOk result (λ buffer. buffer_of_thread self.new thread ≡ Some buffer) }
     {
         Mutating::take(&mut self.heap, thread, words)
     }

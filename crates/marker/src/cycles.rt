@@ -67,7 +67,7 @@ fn is_protected(page: &Page) -> bool
 fn retired_count(heap: &Heap) -> u64
     ensures { result ≡ retired_count heap.now }
 {
-    heap.store()
+    heap.memory()
         .pages()
         .iter()
         .filter(|page| is_protected(page))

@@ -16,7 +16,7 @@ use refword::Addr;
 fn next_free_on(heap: &Heap, row: &Row, page: u32) -> Option<u32>
     ensures { IsNextFree heap.now row.now page result }
 {
-    let words = u64::from(heap.store().page_words());
+    let words = u64::from(heap.memory().page_words());
     let mut from = 0;
     while let Some(place) = row.next_from(from) {
         let address = u64::from(page) * words + u64::from(place);

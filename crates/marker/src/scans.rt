@@ -48,7 +48,7 @@ pub(crate) fn is_taken(heap: &Heap, address: u64) -> bool
 fn reference_at(heap: &Heap, place: u64) -> Word
     ensures { result ≡ reference_in (word_at heap.now.store place) }
 {
-    match heap.store().word(place) {
+    match heap.memory().word(place) {
         None => Word::null(),
         Some(bits) => read_reference(bits),
     }
@@ -148,7 +148,7 @@ pub fn pick(heap: &mut Heap, worker: u32, page: u32, offset: u32) -> Reply
     ensures { Does heap.old result heap.new (pick_outcome heap.old worker page offset) }
 {
     may_scan(heap)?;
-    if offset >= heap.store().page_words() || !heap.todo().bit_on(u64::from(page), offset) {
+    if offset >= heap.memory().page_words() || !heap.todo().bit_on(u64::from(page), offset) {
         return Err(Refusal::NotTodo);
     }
     let object = heap.address_on(page, offset);

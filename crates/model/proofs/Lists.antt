@@ -1,7 +1,7 @@
--- Lists with one element replaced, and lists of equal elements.
+-- Lists that are equal, lists with one element replaced, and lists of equal elements.
 use Rattle.std.proofs.Common.{◌≡◌, ◌≢◌, ◌⊎◌, inl, inr, ℕ, zero, suc, ◌+◌, ◌<◌, Bool, true, false, List}
 use Rattle.std.proofs.Common.{[], ◌∷◌, length, Option, Some, None, replicate, set, count_by, cond, get_or}
-use Rattle.std.proofs.Common.{position, nat_lt, ◌*◌, ◌≤◌, ◌||◌, refl, sym, ◌∙◌, ap, subst, arith, is_some}
+use Rattle.std.proofs.Common.{position, nat_lt, ◌*◌, ◌≤◌, ◌||◌, refl, sym, ◌∙◌, ap, ap₂, subst, arith, is_some}
 use Rattle.std.specs.List.{slice_get, position_or_len, list_any}
 use Rattle.std.proofs.lemmas.Bool.{or_parts}
 use Rattle.std.proofs.lemmas.Option.{get_or_from_slice_get, slice_get_within, slice_get_read, same_Some}
@@ -11,6 +11,15 @@ use Rattle.std.proofs.lemmas.List.Quantifiers.{position-Some}
 use Rattle.std.proofs.lemmas.Bool.Decides.{nat_tests}
 use Rattle.model.specs.Owning.{Each}
 use Rattle.model.specs.States.{change_at, change_found}
+
+-- lists of one length that have the same in each place
+pub same_lists : {X : Type 0} (xs ys : List X) → length xs ≡ length ys
+    → ((i : ℕ) → i < length xs → slice_get xs i ≡ slice_get ys i) → xs ≡ ys
+same_lists [] [] e h = refl
+same_lists [] (y ∷ ys) e h = absurd (omega (arith, e))
+same_lists (x ∷ xs) [] e h = absurd (omega (arith, e))
+same_lists (x ∷ xs) (y ∷ ys) e h = ap₂ (λ z zs. z ∷ zs) (same_Some _ _ (h zero (omega arith)))
+    (same_lists xs ys (omega (arith, e)) (λ i l. h (suc i) (omega (arith, l))))
 
 pub get_set_same : {X : Type 0} (xs : List X) (i : ℕ) (x v : X) → slice_get xs i ≡ Some x
     → slice_get (set xs i v) i ≡ Some v

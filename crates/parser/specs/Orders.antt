@@ -1,5 +1,5 @@
 -- Commands.
-use Rattle.std.specs.Prelude.{◌≡◌, ℕ, zero, suc, ◌+◌, ◌==◌, nat_lt, not, Bool, true, false, List, [], ◌∷◌, length}
+use Rattle.std.specs.Prelude.{◌≡◌, ℕ, zero, suc, ◌+◌, ◌==◌, ◌&&◌, nat_lt, not, Bool, true, false, List, [], ◌∷◌, length}
 use Rattle.std.specs.Prelude.{Option, Some, None, Result, Ok, Err, if◌then◌else◌}
 use Rattle.std.specs.List.{list_any}
 use Rattle.model.specs.declared.steps.Actor.{Actor}
@@ -88,6 +88,15 @@ is_cycles other = false
 -- a run by threads alone does all these commands
 abbrev pub needs_threads : List Command → Bool
 needs_threads cs = list_any (λ (c : Command). is_cycles (then_of c.order)) cs
+
+-- a run by threads does what an actor is to do: all of a thread's, and of workers' the cycles of worker 0
+abbrev pub is_raced : Actor → Then → Bool
+is_raced (Thread t) next = true
+is_raced (Worker w) next = (w == 0) && is_cycles next
+
+-- a run by threads doesn't do all these commands
+abbrev pub needs_schedule : List Command → Bool
+needs_schedule cs = list_any (λ (c : Command). not (is_raced c.actor (then_of c.order))) cs
 
 -- an actor does a verb
 abbrev pub does : Actor → Verb → Bool

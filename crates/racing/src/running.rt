@@ -1,7 +1,10 @@
 //! Runs of scripts by threads.
 
-ghost use Rattle.std.specs.Prelude.{IfOk};
+ghost use Rattle.std.specs.Prelude.{◌≡◌, true, false, IfOk, IfErr};
+ghost use Rattle.parser.specs.Orders.{needs_schedule};
 ghost use Rattle.sharing.specs.Seats.{AreSettled};
+ghost use Rattle.racing.specs.Faults.{is_line, TellsLine};
+ghost use Rattle.racing.specs.declared.running.ThreadsFault.TheVariants.{Memory};
 
 use crate::collector::Collector;
 use crate::gate::Gate;
@@ -10,7 +13,7 @@ use crate::run::Run;
 use crate::scanning::Scanner;
 use cycle::{Actor, Book};
 use hints::{HintSeat, Hints};
-use parser::{Command, LineFault, Script};
+use parser::{Command, FaultKind, LineFault, Script, needs_schedule};
 use sharing::{Seat, Settled, Shared, settle};
 use std::alloc::{AllocError, AllocFailed, Global};
 use std::sync::Wait;
@@ -30,7 +33,7 @@ pub enum ThreadsFault {
 }
 
 impl From<AllocError> for ThreadsFault {
-    ghost from_gives = { λ _ _. Unit {0} };
+    ghost from_gives = { λ _ fault. fault ≡ Memory };
 
     fn from(_error: AllocError) -> ThreadsFault {
         ThreadsFault::Memory
@@ -38,7 +41,7 @@ impl From<AllocError> for ThreadsFault {
 }
 
 impl<T: Drop> From<AllocFailed<T>> for ThreadsFault {
-    ghost from_gives = { λ _ _. Unit {0} };
+    ghost from_gives = { λ _ fault. fault ≡ Memory };
 
     fn from(_error: AllocFailed<T>) -> ThreadsFault {
         ThreadsFault::Memory
@@ -174,7 +177,8 @@ fn raced<R: Threads + Wait + Sync, G: Gate + Sync>(
     commands: &[Command],
     gate: &G,
 ) -> Result<Settled, ThreadsFault>
-    ensures { IfOk result (λ s. AreSettled s.book.history s.seats.items) }
+    ensures settled { IfOk result (λ s. AreSettled s.book.history s.seats.items) }
+    ensures run { IfErr result (λ fault. is_line fault ≡ false) }
 {
     let config = book.heap().config();
     let sizes = Sizes {
@@ -197,7 +201,8 @@ fn settled_or_stray(
     shared: Shared,
     seats: Result<Vec<Seat>, AllocError>,
 ) -> Result<Settled, ThreadsFault>
-    ensures { IfOk result (λ s. AreSettled s.book.history s.seats.items) }
+    ensures settled { IfOk result (λ s. AreSettled s.book.history s.seats.items) }
+    ensures run { IfErr result (λ fault. is_line fault ≡ false) }
 {
     match seats {
         Ok(seats) => match settle(shared.into_book(), seats) {
@@ -208,19 +213,37 @@ fn settled_or_stray(
     }
 }
 
+/// The fault of a script's first command that a run by threads doesn't do.
+fn other_fault(script: &Script) -> ThreadsFault
+    ensures { is_line result ≡ true }
+{
+    ThreadsFault::Line(
+        script.spots().other.unwrap_or(LineFault {
+            line: 1,
+            column: 1,
+            kind: FaultKind::UnknownWord,
+        }),
+    )
+}
+
 /// Runs a script on a new heap by threads of the system, one for each actor: each does its own commands
 /// in the script's order, each step under one hold of the lock, and told to the gate. Then the seats and
 /// the history are settled.
+///
+/// The faults are want of memory, also where a thread couldn't be started; a stray actor; and, before any
+/// step, exactly where the script has one, a command that such a run doesn't do.
 pub fn by_threads<R: Threads + Wait + Sync, G: Gate + Sync>(
     rt: &R,
     alloc: Global,
     script: &Script,
     gate: &G,
 ) -> Result<Settled, ThreadsFault>
-    ensures { IfOk result (λ s. AreSettled s.book.history s.seats.items) }
+    ensures settled { IfOk result (λ s. AreSettled s.book.history s.seats.items) }
+    ensures line { IfErr result (λ fault. is_line fault ≡ true → needs_schedule script.now.commands ≡ true) }
+    ensures told { needs_schedule script.now.commands ≡ true → TellsLine result }
 {
-    if let Some(fault) = script.spots().other {
-        return Err(ThreadsFault::Line(fault));
+    if needs_schedule(script.commands()) {
+        return Err(other_fault(script));
     }
     let config = script.config().copy(alloc)?;
     let Ok(book) = Book::new(alloc, config) else {

@@ -22,7 +22,7 @@ fn field_of(heap: &Heap, object: Addr, field: u32) -> Option<Addr> {
     if field >= u32::from(MOST_FIELDS) {
         return None;
     }
-    let bits = heap.store().word_behind(object, u64::from(field) + 1)?;
+    let bits = heap.memory().word_behind(object, u64::from(field) + 1)?;
     Word::read(bits)?.addr()
 }
 

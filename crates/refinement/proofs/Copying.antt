@@ -18,7 +18,7 @@ use Rattle.model.specs.Registers.{register_of}
 use Rattle.model.specs.Bits.{of_page, bit_at, with_bit, put_bit}
 use Rattle.model.specs.Plans.{object_words}
 use Rattle.model.specs.Moves.{with_copy, with_copied_words, words_from, set_copied_of}
-use Rattle.model.proofs.Lists.{get_within, each_changed}
+use Rattle.model.proofs.Lists.{same_lists, get_within, each_changed}
 use Rattle.model.proofs.Memory.{words_sized, memory_words, length_overlaid}
 use Rattle.model.proofs.Tables.{length_changed, rows_changed}
 use Rattle.laws.specs.AddressHeap.{HeapObject, SideEntry, NoEntry, Planned, Copied, put}
@@ -28,7 +28,7 @@ use Rattle.laws.proofs.Basics.{put_all, put_after, put_same, put_other}
 use Rattle.refinement.specs.Worlds.{world_of, object_at, entry_of, entry_at, run}
 use Rattle.refinement.specs.Claims.{IsLaid, AreRowsOf, AreApart, Claim, OfObject, OfBuffer, OfPlan, OfEnd}
 use Rattle.refinement.specs.Claims.{Extent, extent, object_size, size_at, sized_extent, planned_extent}
-use Rattle.refinement.proofs.Slices.{Agree, same_lists, get_run, length_run, overlaid_in, overlaid_before}
+use Rattle.refinement.proofs.Slices.{Agree, get_run, length_run, overlaid_in, overlaid_before}
 use Rattle.refinement.proofs.Slices.{overlaid_behind}
 use Rattle.refinement.proofs.ObjectWords.{IsRead, read_fits, read_size, built}
 use Rattle.refinement.proofs.Objects.{Rewrites, IsThere, there, rewritten}

@@ -6,6 +6,7 @@ use Rattle.std.proofs.lemmas.List.{length-take-le}
 use Rattle.std.proofs.lemmas.Option.{same_Some}
 use Rattle.model.specs.Stores.{overlay}
 use Rattle.refinement.specs.Worlds.{run}
+use Rattle.model.proofs.Lists.{same_lists}
 
 pub get_take : {X : Type 0} (n : ℕ) (xs : List X) (i : ℕ) → i < n → slice_get (take n xs) i ≡ slice_get xs i
 get_take zero xs i h = absurd (omega arith)
@@ -34,15 +35,6 @@ get_second {X} xs ys i = at xs i (length xs + i) refl
     at [] i j e = ap (slice_get ys) (omega (arith, e))
     at (x ∷ xs) i zero e = absurd (omega (arith, e))
     at (x ∷ xs) i (suc j) e = at xs i j (omega (arith, e))
-
--- lists of one length that have the same in each place
-pub same_lists : {X : Type 0} (xs ys : List X) → length xs ≡ length ys
-    → ((i : ℕ) → i < length xs → slice_get xs i ≡ slice_get ys i) → xs ≡ ys
-same_lists [] [] e h = refl
-same_lists [] (y ∷ ys) e h = absurd (omega (arith, e))
-same_lists (x ∷ xs) [] e h = absurd (omega (arith, e))
-same_lists (x ∷ xs) (y ∷ ys) e h = ap₂ (λ z zs. z ∷ zs) (same_Some _ _ (h zero (omega arith)))
-    (same_lists xs ys (omega (arith, e)) (λ i l. h (suc i) (omega (arith, l))))
 
 pub get_run : (ws : List ℕ) (o n i : ℕ) → i < n → slice_get (run ws o n) i ≡ slice_get ws (o + i)
 get_run ws o n i h = get_take n (drop o ws) i h ∙ get_drop o ws i

@@ -17,13 +17,14 @@ use Rattle.model.specs.declared.records.Phase.TheVariants.{Idle, MarkCrossing, S
 use Rattle.model.specs.Checkpoints.{first_behind}
 use Rattle.laws.specs.Invariant.{Invariant}
 use Rattle.laws.specs.Promises.{ReachableIsLive, LiveWasReachable, PlannedIsUnreachable}
+use Rattle.laws.specs.Promises.{StandsForPlain, UsableHasMemory, UsableReadsPlain, SameAddressSameBirth, NullIsNone}
 use Rattle.refinement.specs.Worlds.{world_of}
 use Rattle.refinement.specs.PlainHeaps.{births_of, HasRootsOf}
 use Rattle.refinement.specs.Claims.{IsLaid, HasGiven}
 use Rattle.refinement.specs.Roots.{HasWords}
 use Rattle.refinement.specs.Tallies.{CountsStep}
 
--- a heap stands for a plain heap p; p0 is the plain heap as the last mark began
+-- the invariant between a heap and a plain heap p; p0 is the plain heap as the last mark began
 pub record Holds (h : HeapState) (p p0 : PlainHeap) : Type 0 where
   pub sizes : HasSizes h
   pub laid : IsLaid h
@@ -31,6 +32,19 @@ pub record Holds (h : HeapState) (p p0 : PlainHeap) : Type 0 where
   pub words : HasWords h
   pub roots : HasRootsOf h p
   pub invariant : Invariant (world_of h) (births_of p) (births_of p0)
+
+-- where the invariant holds, the heap stands for the plain heap, and no usable register names a page without memory
+abbrev pub HeapsStand : Type 0
+HeapsStand =
+    (h : HeapState) (p p0 : PlainHeap) → Holds h p p0
+    → StandsForPlain (world_of h) (births_of p) × UsableHasMemory (world_of h)
+
+-- and a thread learns from its usable registers what it would from the plain heap's
+abbrev pub HeapsRead : Type 0
+HeapsRead =
+    (h : HeapState) (p p0 : PlainHeap) → Holds h p p0
+    → UsableReadsPlain (world_of h) (births_of p) × SameAddressSameBirth (world_of h) (births_of p)
+    × NullIsNone (world_of h) (births_of p)
 
 -- an answer is the plain heap's, where that says anything
 abbrev pub AnswersPlain : Option Answer → Answer → Type 0

@@ -6,21 +6,28 @@
 //! `specs/Worlds.antt` reads the heap by addresses off the state: an object stands where a start
 //! bit says so, and is what the words of its page spell there. `specs/Claims.antt` says that the
 //! memory is in order: objects, lent buffers, planned places and the free ends of open pages don't
-//! overlap. `specs/Standing.antt` puts both together with the invariant of the laws: a state
-//! *stands for* a plain heap.
+//! overlap. `specs/Standing.antt` puts both together with the invariant of the laws: this is the
+//! *invariant* between a state and a plain heap, and where it holds the state *stands for* that plain
+//! heap.
 #![tactic(auto)]
 
-ghost use Rattle.refinement.specs.Standing.{FirstHolds, StepsHold, MarksFind, PhasesMove};
+ghost use Rattle.refinement.specs.Standing.{HeapsStand, HeapsRead, FirstHolds, StepsHold, MarksFind, PhasesMove};
 ghost use Rattle.refinement.specs.Tallies.{StepsCount};
 
 /// What joins the states of the code to the laws (ours). It is said of every state that has what
 /// all heaps have, `IsStore` and `IsHeap`, for each step of each actor. A refused step is not
 /// spoken of here: it changes nothing.
 pub fn law()
-    // the first state of a configuration stands for its first plain heap
+    // where the invariant holds between a state and a plain heap, the state stands for it: registers,
+    // loads and globals name what the plain heap has, and what can be reached has exactly one current
+    // copy, on a page with memory, with the plain heap's fields; and no register that may be used
+    // names a page without memory
+    ensures stands { HeapsStand }
+    // and what a register that may be used tells is what the plain heap's would
+    ensures reads { HeapsRead }
+    // the invariant holds between the first state of a configuration and its first plain heap
     ensures first { FirstHolds }
-    // where a state stands for a plain heap, it does after an accepted step, whose answer is the
-    // plain heap's
+    // where it holds, it does after an accepted step, whose answer is the plain heap's
     ensures steps { StepsHold }
     // where a mark has ended, what can be reached is live, and what is live could be reached as the
     // mark began, or is born since; and what wasn't copied from a protected page by then can't be

@@ -6,11 +6,9 @@ use Rattle.std.proofs.lemmas.Bool.{true≢false}
 use Rattle.std.specs.List.{slice_get}
 use Rattle.std.proofs.Common.{Some, None}
 use Rattle.model.proofs.OfPages.{of_page_none, of_page_some}
-use Rattle.model.specs.declared.limits.TheConstants.{MOST_WORDS}
-use Rattle.model.specs.Holding.{IsHeap, AreRising}
+use Rattle.model.specs.Holding.{IsHeap}
 use Rattle.model.specs.States.{HeapState}
 use Rattle.model.specs.Plans.{offsets_from, live_offsets}
-use Rattle.model.proofs.Plans.{side_rises}
 use Rattle.relocate.specs.Drafts.{address_of, draft_of, draft_entry, draft_size, draft_sizes}
 use Rattle.markbits.specs.Words.{IsFirstFrom}
 
@@ -89,7 +87,3 @@ module _ (h : HeapState) (n : ℕ) (low : 0 < n) where
   -- the row of a page has its words, and the draft of it rises
   pub row_sized : (r : List Bool) → IsHeap h → slice_get h.live (n - 1) ≡ Some r → length r ≡ h.store.words
   row_sized r i e = i.live.words (n - 1) r e ∙ sym i.sizes.words
-
-pub draft_rises : (h : HeapState) (n : ℕ) (r : List Bool) → length r ≤ MOST_WORDS
-    → AreRising MOST_WORDS 0 (map (draft_entry h n) (offsets_from 0 r))
-draft_rises h n r few = side_rises MOST_WORDS 0 r (address_of h n) (omega (arith, few))

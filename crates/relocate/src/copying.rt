@@ -27,7 +27,7 @@ fn copy_entry(heap: &mut Heap, page: u64, entry: u32)
         return;
     };
     if !found.copied {
-        let target = heap.store().page_of(found.to);
+        let target = heap.memory().page_of(found.to);
         heap.copy_run(page, target, entry, 1);
     }
 }
@@ -37,8 +37,8 @@ fn copy_entry(heap: &mut Heap, page: u64, entry: u32)
 fn copy_first(heap: &mut Heap, address: Addr)
     ensures { heap.new ≡ copied_first heap.old address }
 {
-    let page = heap.store().page_of(address);
-    let offset = heap.store().offset_of(address);
+    let page = heap.memory().page_of(address);
+    let offset = heap.memory().offset_of(address);
     if let Some(entry) = heap.sides().number_at(page, offset) {
         copy_entry(heap, page, entry);
     }
@@ -120,8 +120,8 @@ pub fn copy(heap: &mut Heap, worker: u32, page: u32, entry: u32) -> Reply
         return Err(Refusal::Copied);
     }
     let answer = Answer::MovedTo {
-        page: heap.store().page_of(found.to) as u32,
-        offset: heap.store().offset_of(found.to),
+        page: heap.memory().page_of(found.to) as u32,
+        offset: heap.memory().offset_of(found.to),
     };
     copy_entry(heap, u64::from(page), entry);
     Ok(answer)

@@ -10,5 +10,5 @@ use model::PageState;
 pub(crate) fn is_emptied(heap: &Heap, page: u32) -> bool
     ensures { result ≡ is_from (state_at heap.now.store page) }
 {
-    matches!(heap.store().state(page), PageState::From)
+    matches!(heap.memory().state(page), PageState::From)
 }

@@ -47,6 +47,6 @@ pub fn release(heap: &mut Heap, worker: u32, page: u32) -> Reply
     }
     heap.release_page(page);
     Ok(Answer::Released {
-        free: u64::from(heap.store().free_frames()),
+        free: u64::from(heap.memory().free_frames()),
     })
 }

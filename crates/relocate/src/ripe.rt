@@ -17,7 +17,7 @@ fn ripe(heap: &Heap, page: u32) -> Result<(), Refusal>
     ensures value { result ≡ ripe heap.now page }
     ensures closed { OnOk result (state_at heap.now.store page ≡ Closed) }
 {
-    let state = heap.store().state(page);
+    let state = heap.memory().state(page);
     if matches!(state, PageState::Open) && heap.is_lent(page) {
         return Err(Refusal::Lent { page });
     }
@@ -52,11 +52,11 @@ pub(crate) fn room_for(heap: &Heap, need: usize) -> Result<(), Refusal>
     ensures pages { OnOk result (need ≤ unused_count heap.now.store) }
 {
     let need = need as u64;
-    let free = u64::from(heap.store().free_frames());
+    let free = u64::from(heap.memory().free_frames());
     if free < need {
         return Err(Refusal::NoFrames { need, free });
     }
-    if u64::from(heap.store().unused_pages()) < need {
+    if u64::from(heap.memory().unused_pages()) < need {
         return Err(Refusal::NoPages);
     }
     Ok(())

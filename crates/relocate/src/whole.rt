@@ -31,7 +31,7 @@ fn target_of(heap: &Heap, page: u64, entry: u32) -> Option<u64>
 {
     match heap.sides().entry_numbered(page, entry) {
         None => None,
-        Some(found) => Some(heap.store().page_of(found.to)),
+        Some(found) => Some(heap.memory().page_of(found.to)),
     }
 }
 

@@ -1,5 +1,5 @@
 -- Faults of runs.
-use Rattle.std.specs.Prelude.{Bool, true, false}
+use Rattle.std.specs.Prelude.{◌≡◌, Bool, true, false, Result, Ok, Err}
 use Rattle.script.specs.declared.fault.RunFault.{RunFault}
 use Rattle.script.specs.declared.fault.RunFault.TheVariants.{Line}
 
@@ -7,3 +7,8 @@ use Rattle.script.specs.declared.fault.RunFault.TheVariants.{Line}
 abbrev pub is_line : RunFault → Bool
 is_line (Line fault) = true
 is_line other = false
+
+-- a run that wasn't done, since the script has such a command
+abbrev pub TellsLine : {X : Type 0} → Result X RunFault → Type 0
+TellsLine (Ok done) = ⊥
+TellsLine (Err fault) = is_line fault ≡ true

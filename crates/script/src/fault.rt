@@ -1,6 +1,6 @@
 //! Why a run ends before its end.
 
-ghost use Rattle.std.specs.Prelude.{◌≡◌, false};
+ghost use Rattle.std.specs.Prelude.{◌≡◌, true, false};
 ghost use Rattle.script.specs.Faults.{is_line};
 ghost use Rattle.script.specs.declared.fault.RunFault.TheVariants.{Memory};
 
@@ -51,7 +51,9 @@ impl RunFault {
 }
 
 /// The fault of a script's first cycle in a run without threads.
-pub fn cycle_fault(script: &Script) -> RunFault {
+pub fn cycle_fault(script: &Script) -> RunFault
+    ensures { is_line result ≡ true }
+{
     RunFault::Line(
         script.spots().cycle.unwrap_or(LineFault {
             line: 1,

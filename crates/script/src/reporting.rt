@@ -111,8 +111,8 @@ fn tell_head<W: io::Write>(heap: &Heap, text: &mut String, w: &mut W) -> Result<
         phase: heap.phase(),
         nmt: heap.nmt(),
         births: heap.births(),
-        used: heap.store().used_frames(),
-        frames: heap.store().frame_count(),
+        used: heap.memory().used_frames(),
+        frames: heap.memory().frame_count(),
     };
     tell_line(&line, text, w)
 }
@@ -190,7 +190,7 @@ fn tell_global<W: io::Write>(
 fn tell_pages<W: io::Write>(heap: &Heap, text: &mut String, w: &mut W) -> Result<(), RunFault>
     ensures { OnOk result (Appends (W.contents w.old) (W.contents w.new) (texts_from (page_line heap.now) 0 heap.now.store.pages)) }
 {
-    let pages = heap.store().pages();
+    let pages = heap.memory().pages();
     for (index, page) in pages.iter().enumerate() {
         tell_page(heap, index, *page, text, w)?;
     }
@@ -200,7 +200,7 @@ fn tell_pages<W: io::Write>(heap: &Heap, text: &mut String, w: &mut W) -> Result
 fn tell_threads<W: io::Write>(heap: &Heap, text: &mut String, w: &mut W) -> Result<(), RunFault>
     ensures { OnOk result (Appends (W.contents w.old) (W.contents w.new) (texts_from (thread_line heap.now.store.words) 0 heap.now.threads)) }
 {
-    let words = heap.store().page_words();
+    let words = heap.memory().page_words();
     let threads = heap.threads();
     for (number, thread) in threads.iter().enumerate() {
         tell_thread(words, number, thread, text, w)?;
@@ -211,7 +211,7 @@ fn tell_threads<W: io::Write>(heap: &Heap, text: &mut String, w: &mut W) -> Resu
 fn tell_globals<W: io::Write>(heap: &Heap, text: &mut String, w: &mut W) -> Result<(), RunFault>
     ensures { OnOk result (Appends (W.contents w.old) (W.contents w.new) (texts_from (global_line heap.now.store.words) 0 heap.now.globals)) }
 {
-    let words = heap.store().page_words();
+    let words = heap.memory().page_words();
     let globals = heap.globals();
     for (number, global) in globals.iter().enumerate() {
         tell_global(words, number, *global, text, w)?;

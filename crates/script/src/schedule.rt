@@ -5,7 +5,7 @@ ghost use Rattle.std.specs.Io.KnownBytes.{Appends};
 ghost use Rattle.cycle.specs.Books.{first_book};
 ghost use Rattle.cycle.specs.Drains.{verdict};
 ghost use Rattle.parser.specs.Orders.{needs_threads};
-ghost use Rattle.script.specs.Faults.{is_line};
+ghost use Rattle.script.specs.Faults.{is_line, TellsLine};
 ghost use Rattle.script.specs.Output.{output_text, lines_text, command_line, drain_line, book_after, told_text};
 
 use crate::doing::do_command;
@@ -134,6 +134,7 @@ pub fn by_schedule<W: io::Write>(alloc: Global, script: &Script, w: &mut W) -> R
     ensures ok { OnOk result (Appends (W.contents w.old) (W.contents w.new) (output_text script.now)) }
     ensures line { IfErr result (λ fault. is_line fault ≡ true → needs_threads script.now.commands ≡ true) }
     ensures kept { IfErr result (λ fault. is_line fault ≡ true → w.new ≡ w.old) }
+    ensures told { needs_threads script.now.commands ≡ true → TellsLine result }
 {
     if needs_threads(script.commands()) {
         return Err(cycle_fault(script));

@@ -117,7 +117,7 @@ fn starts(alloc: Global, heap: &Heap, number: u32) -> Result<Vec<bool>, AllocErr
     heap.law();
     match heap.starts().get((number - 1) as usize) {
         None => Ok(Vec::new(alloc)),
-        Some(row) => places(alloc, row, heap.store().page_words()),
+        Some(row) => places(alloc, row, heap.memory().page_words()),
     }
 }
 
@@ -147,8 +147,8 @@ fn page(alloc: Global, heap: &Heap, number: u32) -> Result<PageImage, AllocError
     ensures { IfOk result (λ p. p ≡ page_data heap.now number) }
 {
     Ok(PageImage {
-        state: heap.store().state(number),
-        frame: frame(heap.store(), number),
+        state: heap.memory().state(number),
+        frame: frame(heap.memory(), number),
         starts: starts(alloc, heap, number)?,
         side: side(alloc, heap, number)?,
     })
@@ -160,7 +160,7 @@ fn pages(alloc: Global, heap: &Heap) -> Result<Vec<PageImage>, AllocError>
     ensures { IfOk result (λ v. v.items ≡ pages_of heap.now) }
 {
     heap.law();
-    let count = heap.store().pages().len();
+    let count = heap.memory().pages().len();
     let mut pages = Vec::with_capacity(alloc, count)?;
     for index in 0..count {
         pages.push(page(alloc, heap, index as u32 + 1)?)?;
@@ -176,7 +176,7 @@ impl Image {
         ensures { IfOk result (λ image. image ≡ image_of heap.now) }
     {
         heap.law();
-        let store = heap.store();
+        let store = heap.memory();
         let config = heap.config();
         Ok(Image {
             words: store.page_words(),

@@ -1,6 +1,6 @@
 //! Buffers of threads.
 
-ghost use Rattle.std.specs.Prelude.{◌≡◌, ◌≤◌, ◌<◌, slice_get, Some, None, IfSome};
+ghost use Rattle.std.specs.Prelude.{◌≡◌, ◌≤◌, ◌<◌, length, slice_get, Some, None, IfOk, IfSome};
 ghost use Rattle.model.specs.Owning.{LiesIn};
 ghost use Rattle.model.specs.Buffers.{buffer_of_thread, opened_rows, with_opened_rows, with_buffer, lend_buffer, take_outcome, give_back_outcome};
 ghost use Rattle.model.specs.Refusing.{Does};
@@ -50,24 +50,27 @@ impl Heap {
     }
 
     /// Gives a thread a buffer that was taken of the store.
-    #[tactic(auto, unfolding(model::specs::Buffers::lend_buffer), using(crate::proofs::Keeping::thread_keeps))]
+    #[tactic(auto, unfolding(model::specs::Buffers::lend_buffer), using(crate::proofs::Keeping::thread_keeps, crate::proofs::TakenBuffers::threads_lent))]
     fn lend(&mut self, thread: u32, buffer: Buffer)
-        requires { LiesIn self.old.store buffer }
-        ensures { self.new ≡ lend_buffer self.old thread self.old.store buffer }
+        requires lies { LiesIn self.old.store buffer }
+        requires there { thread < length self.old.threads }
+        ensures value { self.new ≡ lend_buffer self.old thread self.old.store buffer }
+        ensures lent { buffer_of_thread self.new thread ≡ Some buffer }
     {
         self.open_rows(buffer);
         self.threads.set_buffer(thread, Some(buffer));
     }
 
     /// A thread takes a buffer of 1 to the words of a page, in the lowest open page with room,
-    /// else in a fresh page (ours). Gives the buffer.
+    /// else in a fresh page (ours). Gives the buffer, which is the thread's then.
     ///
     /// Refused where it has one (`HasBuffer`); where no page has room and no frame is free
     /// (`NoFrames`); where no page number is unused (`NoPages`).
-    #[tactic(auto, unfolding(model::specs::Buffers::take_outcome, model::specs::Buffers::lend_buffer), using(model::proofs::Passing::take_low, model::proofs::Passing::take_high))]
+    #[tactic(auto, unfolding(model::specs::Buffers::take_outcome, model::specs::Buffers::lend_buffer), using(model::proofs::Passing::take_low, model::proofs::Passing::take_high, crate::proofs::TakenBuffers::thread_there))]
     pub fn take_row(&mut self, thread: u32, words: u32) -> Result<Buffer, Refusal>
         requires { Passes self.old thread (steps.Take words) }
-        ensures { Does self.old (said lent result) self.new (take_outcome self.old thread words) }
+        ensures does { Does self.old (said lent result) self.new (take_outcome self.old thread words) }
+        ensures buffer { IfOk result (λ buffer. buffer_of_thread self.new thread ≡ Some buffer) }
     {
         if self.buffer(thread).is_some() {
             return Err(Refusal::HasBuffer);

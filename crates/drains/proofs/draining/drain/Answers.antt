@@ -1,4 +1,4 @@
-use Rattle.drains.proofs.Drained.{whole_drained, whole_stands, whole_end}
+use Rattle.drains.proofs.Ended.{whole_drained, whole_stands, whole_end}
 use Rattle.drains.proofs.draining.drain.Goals as goal
 
 pub returns-clause-drained : goal.returns-clause-drained

@@ -1,4 +1,4 @@
-use Rattle.drains.proofs.Drained.{objects_next}
+use Rattle.drains.proofs.Ended.{objects_next}
 use Rattle.drains.proofs.draining.scan_objects.Goals as goal
 
 pub loop-done-preserved : goal.loop-done-preserved

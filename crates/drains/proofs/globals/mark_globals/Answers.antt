@@ -1,4 +1,4 @@
-use Rattle.drains.proofs.Drained.{globals_next}
+use Rattle.drains.proofs.Ended.{globals_next}
 use Rattle.drains.proofs.globals.mark_globals.Goals as goal
 
 pub loop-number-preserved : goal.loop-number-preserved

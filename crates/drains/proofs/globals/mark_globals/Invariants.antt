@@ -1,4 +1,4 @@
-use Rattle.drains.proofs.Drained.{GlobalsDone}
+use Rattle.drains.proofs.Ended.{GlobalsDone}
 use Rattle.drains.proofs.globals.mark_globals.Given as goal
 
 abbrev pub invariant-loop-number : goal.invariant-loop-number

@@ -12,7 +12,7 @@ loop-index-preserved g c = told_next (page_line c.args.heap.now) c.loop-index.in
 
 pub returns : goal.returns
 returns g c =
-    let pages = c.pages-pages.ensures ∙ ap (λ (s : StoreState). s.pages) c.store.ensures in
+    let pages = c.pages-pages.ensures ∙ ap (λ (s : StoreState). s.pages) c.memory.ensures in
     let told = told_end (page_line c.args.heap.now) c.loop-index.index c.pages-pages.result.now
     _ _ _ c.loop-index.invariant c.loop-index-test.false in
     subst (λ ps. Appends (g.W.Write.contents c.args.w.now) (g.W.Write.contents c.loop-index.w)

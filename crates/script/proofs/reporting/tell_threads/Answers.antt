@@ -13,7 +13,7 @@ loop-number-preserved g c = told_item (thread_line c.page_words-words.result) c.
 
 pub returns : goal.returns
 returns g c =
-    let words = c.page_words-words.ensures.value ∙ ap (λ (s : StoreState). s.words) c.store.ensures in
+    let words = c.page_words-words.ensures.value ∙ ap (λ (s : StoreState). s.words) c.memory.ensures in
     let told = told_end (thread_line c.page_words-words.result) c.loop-number.number c.threads-threads.result.now
     _ _ _ c.loop-number.invariant c.loop-number-test.false in
     let with_words = subst (λ n. Appends (g.W.Write.contents c.args.w.now) (g.W.Write.contents c.loop-number.w)

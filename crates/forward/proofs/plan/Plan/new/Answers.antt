@@ -1,5 +1,6 @@
 use Rattle.std.proofs.Common.{arith, inl, inr, refl}
-use Rattle.forward.proofs.Places.{placed_next}
+use Rattle.forward.proofs.Places.{placed_next, placed_whole}
+use Rattle.forward.proofs.Planned.{planned_so}
 use Rattle.forward.proofs.plan.Plan.new.Goals as goal
 use Rattle.forward.proofs.plan.Plan.new.Goals.{then-from, else-from}
 
@@ -32,3 +33,9 @@ loop-index-preserved c =
         w.offset-is,
       )
     ]) c.in_ok-push.ensures.items
+
+pub returns-clause-planned : goal.returns-clause-planned
+returns-clause-planned c = planned_so c.args.words c.args.sizes.now _ (
+    placed_whole c.args.words c.loop-index.index c.loop-index.target c.loop-index.offset c.args.sizes.now
+    c.loop-index.slots.items c.loop-index.invariant.0 (omega (arith, c.loop-index-test.false))
+    )

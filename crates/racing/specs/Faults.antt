@@ -1,0 +1,14 @@
+-- Faults of runs by threads.
+use Rattle.std.specs.Prelude.{◌≡◌, Bool, true, false, Result, Ok, Err}
+use Rattle.racing.specs.declared.running.ThreadsFault.{ThreadsFault}
+use Rattle.racing.specs.declared.running.ThreadsFault.TheVariants.{Line}
+
+-- the fault of a command that a run by threads doesn't do
+abbrev pub is_line : ThreadsFault → Bool
+is_line (Line fault) = true
+is_line other = false
+
+-- a run that wasn't done, since the script has such a command
+abbrev pub TellsLine : {X : Type 0} → Result X ThreadsFault → Type 0
+TellsLine (Ok done) = ⊥
+TellsLine (Err fault) = is_line fault ≡ true
