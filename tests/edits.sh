@@ -60,7 +60,8 @@ check() {
 told() {
     "$@" > "$kept/output" 2>&1
     status=$?
-    sed -nE -e 's/: note: .*$//' -e 's/, in [0-9]+ s$//' -e '/^rt: (must-fail |FAILED)/p' \
+    sed -nE -e 's/: note: .*$//' -e 's/(: NOT REFUSED: [^(]*[^ (]) \(.*$/\1/' -e 's/, in [0-9]+ s$//' \
+        -e '/^rt: (must-fail |FAILED)/p' \
         -e '/edits refused$/p' -e '/^failed: /p' -e '$p' "$kept/output" > "$kept/got"
 }
 
@@ -127,9 +128,10 @@ is 'a run of the proofs tries the edits that are left' 1 \
     'rt: must-fail high/two_more.edit: refused, as it must be' \
     'rt: FAILED: high/as_it_was.edit' \
     '3 passed, 1 failed, 1 skipped'
-awk '{ print $1 } END { print }' "$kept/proved.table" > "$kept/got"
+# A crate that is proved between two looks at the prover isn't in it.
+awk '{ print $1 } END { print }' "$kept/proved.table" | sed -E 's/^(high|low)$/a crate/' | uniq > "$kept/got"
 status=0
-is 'a table of what each crate took' 0 seconds high low all edits: 'edits: 2 tried, 1 stand by tests/refused.txt'
+is 'a table of what each crate took' 0 seconds 'a crate' all edits: 'edits: 2 tried, 1 stand by tests/refused.txt'
 
 echo "$passed passed, $failed failed"
 [ "$failed" = 0 ]

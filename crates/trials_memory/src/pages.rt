@@ -90,7 +90,7 @@ fn has_two_open(rt: &impl Abort, store: &Store) {
 
 /// Buffers go into the lowest page that has room, until no frame is free.
 fn takes_lowest(rt: &impl Abort, mut held: impl HeldStore + Drop) -> Result<(), Room> {
-    let store = held.memory();
+    let store = held.store();
     let rows = [(10, 1, 0), (7, 2, 0), (6, 1, 10), (9, 2, 7)];
     is_new(rt, store);
     takes(rt, store, &rows)?;
@@ -106,7 +106,7 @@ fn takes_in_the_lowest_page(rt: HostRuntime) -> Result<(), Fail> {
 }
 
 fn gives_back(rt: &impl Abort, mut held: impl HeldStore + Drop) -> Result<(), Room> {
-    let store = held.memory();
+    let store = held.store();
     let buffer = take(rt, store, 9)?;
     store.give_back(buffer);
     takes(rt, store, &[(7, 1, 9)])?;
@@ -128,7 +128,7 @@ fn fills(
     room: Room,
     free: u32,
 ) -> Result<(), Room> {
-    let store = held.memory();
+    let store = held.store();
     takes(rt, store, rows)?;
     is_full(rt, store, room, free);
     Ok(())
@@ -158,7 +158,7 @@ fn takes_in_each(rt: &impl Abort, store: &mut Store, n: u32, next: u32) -> Resul
 /// Each first buffer leaves one word, so that the next needs a page of its own; then the words
 /// that were left are given out from the lowest page on.
 fn fills_pages(rt: &impl Abort, mut held: impl HeldStore + Drop) -> Result<(), Room> {
-    let store = held.memory();
+    let store = held.store();
     takes_in_each(rt, store, 15, 0)?;
     takes_in_each(rt, store, 1, 15)?;
     is_full(rt, store, Room::NoFrames, 0);
@@ -220,7 +220,7 @@ fn has_words(rt: &impl Abort, store: &Store) {
 }
 
 fn writes_and_reads(rt: &impl Abort, mut held: impl HeldStore + Drop) -> Result<(), Room> {
-    let store = held.memory();
+    let store = held.store();
     writes(rt, store)?;
     written(rt, store);
     has_words(rt, store);
@@ -294,7 +294,7 @@ fn counts_and_copies(
     side: &Side,
     layouts: &Layouts,
 ) -> Result<(), Room> {
-    let store = held.memory();
+    let store = held.store();
     counts(rt, store)?;
     copies(rt, store, side, layouts);
     Ok(())
