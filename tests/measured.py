@@ -69,9 +69,9 @@ class Watch:
 
 
 def table_of(sums):
-    """The dearest crate first, and the sum of all."""
+    """The dearest crate last, where the output ends, and then the sum of all."""
     whole = {kind: sum(row[kind] for row in sums.values()) for kind in KINDS}
-    rows = sorted(sums.items(), key=lambda row: -sum(row[1].values())) + [("all", whole)]
+    rows = sorted(sums.items(), key=lambda row: sum(row[1].values())) + [("all", whole)]
     lines = [f"{name:<14}" + "".join(f"{row[kind]:>8.0f}" for kind in KINDS) for name, row in rows]
     return "\n".join([f"{'seconds':<14}" + "".join(f"{kind:>8}" for kind in KINDS)] + lines) + "\n"
 

@@ -6,7 +6,8 @@ ghost use Rattle.model.specs.Refusing.{Does};
 ghost use Rattle.model.specs.Saying.{said, done, healed};
 ghost use Rattle.model.specs.Outcome.{Passes};
 ghost use Rattle.model.specs.declared.steps.Step.TheVariants as steps;
-ghost use Rattle.model.specs.Loads.{are_bits_of, set_healed, heal_place, heal_outcome, may_finish, end_load, finish_outcome};
+ghost use Rattle.model.specs.Loads.{are_bits_of, set_healed, heal_place, heal_outcome, may_finish, end_load};
+ghost use Rattle.model.specs.Loads.{finish_outcome};
 
 use crate::traps::trap_due;
 use heap::{Edits, Heap};
@@ -69,9 +70,10 @@ pub fn heal(heap: &mut Heap, thread: u32) -> Result<bool, Refusal>
     Ok(heal_place(heap, thread, barrier))
 }
 
-/// Whether a load may end: its word is the one that was loaded, or its place is healed.
+/// Whether a load may end: its word is the one that was loaded, or its place is healed. Else its
+/// heal is still to come.
 #[inline(always)]
-fn may_finish(barrier: &Barrier) -> bool
+pub fn may_finish(barrier: &Barrier) -> bool
     ensures { result ≡ may_finish barrier.entry.now }
 {
     barrier.healed || barrier.now.bits() == barrier.raw.bits()

@@ -10,6 +10,6 @@ mod ending;
 mod loading;
 mod traps;
 
-pub use ending::{finish, heal};
+pub use ending::{finish, heal, may_finish};
 pub use loading::{load, load_global};
 pub use traps::{trap, trap_due};

@@ -10,7 +10,8 @@ ghost use Rattle.model.specs.Saying.{said, done, scrubbed};
 ghost use Rattle.model.specs.Outcome.{Passes, WorkerPasses};
 ghost use Rattle.model.specs.declared.steps.Step.TheVariants as steps;
 ghost use Rattle.model.specs.declared.steps.Answer.TheVariants as answers;
-ghost use Rattle.model.specs.Checkpoints.{with_marked_register, with_marked_registers, marked_at_crossing, cross_thread, may_cross, cross_for_outcome};
+ghost use Rattle.model.specs.Checkpoints.{with_marked_register, with_marked_registers, marked_at_crossing};
+ghost use Rattle.model.specs.Checkpoints.{cross_thread, may_cross, cross_for_outcome};
 ghost use Rattle.model.specs.Checkpoints.{cross_outcome, park_outcome, unpark_outcome};
 ghost use Rattle.model.specs.Traps.{scrub_word, scrub_outcome};
 

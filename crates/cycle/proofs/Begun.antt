@@ -14,7 +14,7 @@ use Rattle.model.specs.Scans.{next_drain}
 use Rattle.entries.specs.declared.entry.Entry.{Entry}
 use Rattle.cycle.specs.Books.{BookState, BookOutcome, Reply, act_outcome, enter_accepted, is_full}
 use Rattle.cycle.specs.Beginnings.{IsBeginning, replies_to}
-use Rattle.cycle.specs.Loads.{Told, tell, step_then, finish_load, heal_load, is_clear, trap_load, end_load, whole_load}
+use Rattle.cycle.specs.Loads.{Told, tell, step_then, finish_load, heal_load, is_clear, trap_load, whole_load}
 use Rattle.cycle.specs.Loads.{Says}
 use Rattle.cycle.specs.Drains.{drain_step, drain_within}
 use Rattle.cycle.proofs.WholeLoads.{accepted}
@@ -91,7 +91,7 @@ trap_goes (suc n) due b actor = then_goes b actor steps.Trap
 
 pub whole_goes : (b : BookState) (actor : Actor) (load : Step) → GoesOn b (whole_load b actor load).book
 whole_goes b actor load =
-    then_goes b actor load (λ c a. end_load c actor) (λ c a. trap_goes 3 false c actor)
+    then_goes b actor load (λ c a. trap_load 3 false c actor) (λ c a. trap_goes 3 false c actor)
 
 pub drain_goes : (n : ℕ) (b : BookState) (w : ℕ) → GoesOn b (drain_within n b w).book
 unfolding drain_within

@@ -86,7 +86,16 @@ pub new_book : (c : Config) → Holds (first_heap c) (before_entries c).now (bef
     → IsStore (first_heap c).store → IsHeap (first_heap c) → IsBook (first_book c)
 unfolding replayed first_book first_heap
 new_book c k store heap =
-    record { store = store; heap = heap; holds = k; answers = tt; limit = omega arith; marks = tt; tallies = first_tallies c }
+    record {
+      store = store;
+      heap = heap;
+      holds = k;
+      answers = tt;
+      limit = omega arith;
+      marks = tt;
+      tallies =
+          first_tallies c;
+    }
 
 -- what the law promises
 pub promises : (b : BookState) → IsBook b → KeepsPromises b

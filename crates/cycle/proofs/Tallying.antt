@@ -138,7 +138,8 @@ tallies_more h g actor step answer es are few counts t y is = by_actor actor cou
       where
         by_same : (b : Bool) → (u == t) ≡ b → y ≡ tally_of t (es ++ entry (Thread u) ∷ [])
         by_same true e = own (Thread u) e (tally_of_thread h t) refl
-            (subst (λ v. option_map (counted_if (counter_of step answer)) (tally_of_thread h v) ≡ Some y) (eqb-true u t e)
+            (subst (λ v. option_map (counted_if (counter_of step answer)) (tally_of_thread h v)
+            ≡ Some y) (eqb-true u t e)
             (sym c.own ∙ subst (λ v. tally_of_thread g v ≡ Some y) (sym (eqb-true u t e)) is))
         by_same false e = other (Thread u) e (sym (c.others t (λ k. eqb-false u t e (sym k))) ∙ is)
 

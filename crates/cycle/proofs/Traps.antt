@@ -48,7 +48,8 @@ abbrev allow : HeapState × Answer → Outcome
 allow x = Ok x
 
 -- a barrier that is changed is there
-barrier_there : (threads : List ThreadState) (t : ℕ) (b c : Barrier) (n : Counter) → barrier_of (slice_get threads t) ≡ Some b
+barrier_there : (threads : List ThreadState) (t : ℕ) (b c : Barrier) (n : Counter) → barrier_of (slice_get threads t)
+    ≡ Some b
     → barrier_of (slice_get (change_at threads t (set_barrier_of c n)) t) ≡ Some c
 barrier_there threads t b c n e = by_thread (slice_get threads t) refl e
   where
@@ -138,7 +139,8 @@ clear_behind h p p0 t b k first free due y f =
     let there : barrier_of (slice_get g.threads t) ≡ Some b =
     ap (λ ts. barrier_of (slice_get ts t)) (for_threads h b.now) ∙ first in
     clear_by (marked_heap h t b) t c y (never_due g t b)
-    (unguarded (marked_heap h t b) t c y (barrier_there g.threads t b c counters.Nmt there) (marked_free k t b c free due) f)
+    (unguarded (marked_heap h t b) t c y (barrier_there g.threads t b c counters.Nmt there)
+    (marked_free k t b c free due) f)
 
 -- a trap is clear, or marks and the next one is clear
 abbrev ClearNext : Actor → HeapState × Answer → Type 0
@@ -210,7 +212,8 @@ module _ (h : HeapState) (p p0 : PlainHeap) (s : IsStore h.store) (d : IsHeap h)
       by_now (Some w) f z = by_phase (is_protect_crossing h.phase) z
         where
           by_phase : (c : Bool) → (if c then Err refusals.Stall else allow
-              (with_barrier (copied_first h w.0) t (set_now_of (Some (moved_word h w)) b) counters.Gc, answers.Moved)) ≡ Ok x
+              (with_barrier (copied_first h w.0) t (set_now_of (Some (moved_word h w)) b) counters.Gc, answers.Moved))
+              ≡ Ok x
               → ClearSoon (Thread t) x
           by_phase true z = absurd cc
           by_phase false z = behind_it w f (same_outcome _ x z)
@@ -278,22 +281,22 @@ after_next : (n m : ℕ) (due : Bool) (actor : Actor) (c : BookState) (a : Answe
 after_next n m due actor c a (inl e) = after_clear (suc n) (suc m) due actor c a e
 after_next n m due actor c a (inr (e, clear)) = after_marked n m due actor c a e clear
 
-after_soon : (n m : ℕ) (actor : Actor) (c : BookState) (a : Answer) → ClearSoon actor (c.heap, a)
-    → after_trap (suc (suc n)) false actor c a ≡ after_trap (suc (suc m)) false actor c a
-after_soon n m actor c a (inl soon) = after_next (suc n) (suc m) false actor c a soon
-after_soon n m actor c a (inr (e, next)) = ap (after_trap (suc (suc n)) false actor c) e
+after_soon : (n m : ℕ) (due : Bool) (actor : Actor) (c : BookState) (a : Answer) → ClearSoon actor (c.heap, a)
+    → after_trap (suc (suc n)) due actor c a ≡ after_trap (suc (suc m)) due actor c a
+after_soon n m due actor c a (inl soon) = after_next (suc n) (suc m) due actor c a soon
+after_soon n m due actor c a (inr (e, next)) = ap (after_trap (suc (suc n)) due actor c) e
     ∙ trapped_next (suc (suc n)) (suc n) true c actor refl
     ∙ stepped_same c (act_outcome c actor steps.Trap) (after_trap (suc n) true actor) (after_trap (suc m) true actor)
     (λ d o f. after_next n m true actor d o (next (d.heap, o) (acted_heap c actor (d, o) f)))
     ∙ sym (trapped_next (suc (suc m)) (suc m) true c actor refl)
-    ∙ sym (ap (after_trap (suc (suc m)) false actor c) e)
+    ∙ sym (ap (after_trap (suc (suc m)) due actor c) e)
 
 pub three_traps_serve : ThreeTrapsServe
-three_traps_serve b k actor more =
+three_traps_serve b k due actor more =
     let left : 3 + more ≡ suc (suc (suc more)) = omega arith in
-    trapped_next (3 + more) (suc (suc more)) false b actor left
-    ∙ stepped_same b (act_outcome b actor steps.Trap) (after_trap (suc (suc more)) false actor)
-    (after_trap (suc (suc 0)) false actor) (λ c a e. after_soon more 0 actor c a
+    trapped_next (3 + more) (suc (suc more)) due b actor left
+    ∙ stepped_same b (act_outcome b actor steps.Trap) (after_trap (suc (suc more)) due actor)
+    (after_trap (suc (suc 0)) due actor) (λ c a e. after_soon more 0 due actor c a
     (outcome_clear b.heap (replayed b).now (replayed b).at_mark k.store k.heap k.holds actor (c.heap, a)
     (acted_heap b actor (c, a) e)))
-    ∙ sym (trapped_next 3 2 false b actor refl)
+    ∙ sym (trapped_next 3 2 due b actor refl)

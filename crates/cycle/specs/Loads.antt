@@ -1,13 +1,17 @@
 -- Whole loads: the steps of one load, one after another, up to its end or the first refusal.
-use Rattle.std.specs.Prelude.{◌≡◌, ℕ, zero, suc, ◌+◌, Bool, true, false, List, [], ◌∷◌, ◌++◌, Result, Ok, Err}
-use Rattle.std.specs.Prelude.{if◌then◌else◌}
+use Rattle.std.specs.Prelude.{◌≡◌, ℕ, zero, suc, ◌+◌, Bool, true, false, not, List, [], ◌∷◌, ◌++◌}
+use Rattle.std.specs.Prelude.{Option, Some, None, Result, Ok, Err, if◌then◌else◌}
 use Rattle.model.specs.declared.steps.Actor.{Actor}
+use Rattle.model.specs.declared.steps.Actor.TheVariants.{Thread, Worker}
 use Rattle.model.specs.declared.steps.Step.{Step}
 use Rattle.model.specs.declared.steps.Step.TheVariants as steps
 use Rattle.model.specs.declared.steps.Answer.{Answer}
 use Rattle.model.specs.declared.steps.Answer.TheVariants as answers
 use Rattle.model.specs.declared.steps.Refusal.{Refusal}
 use Rattle.model.specs.declared.steps.Refusal.TheVariants as refusals
+use Rattle.model.specs.declared.records.Barrier.{Barrier}
+use Rattle.model.specs.Loads.{barrier_of_thread, may_finish}
+use Rattle.model.specs.States.{HeapState}
 use Rattle.cycle.specs.Books.{BookState, BookOutcome, Reply, act_outcome}
 use Rattle.cycle.specs.Beginnings.{IsBeginning}
 use Rattle.cycle.specs.Replays.{IsBook}
@@ -50,19 +54,29 @@ trap_load zero due b actor = heal_load due b actor
 trap_load (suc n) due b actor = step_then b (act_outcome b actor steps.Trap) (λ c answer.
     if is_clear answer then heal_load due c actor else trap_load n true c actor)
 
--- What follows the step that begins a load. Three traps are enough: behind one that forwards and one that marks none is
--- due any more.
-abbrev pub end_load : BookState → Actor → Told
-end_load b actor = trap_load 3 false b actor
+-- the word of an open load was corrected, and its place isn't healed yet
+abbrev pub waits_for_heal : Option Barrier → Bool
+waits_for_heal None = false
+waits_for_heal (Some barrier) = not (may_finish barrier)
 
--- a whole load, from the step that begins it
+-- the same of an actor's load
+abbrev pub heal_is_due : HeapState → Actor → Bool
+heal_is_due h (Thread t) = waits_for_heal (barrier_of_thread h t)
+heal_is_due h (Worker w) = false
+
+-- What ends a load that has begun, also one that stopped behind a trap that was due. Three traps are enough: behind one
+-- that forwards and one that marks none is due any more.
+abbrev pub end_load : BookState → Actor → Told
+end_load b actor = trap_load 3 (heal_is_due b.heap actor) b actor
+
+-- a whole load, from the step that begins it, behind which no heal is due
 abbrev pub whole_load : BookState → Actor → Step → Told
-whole_load b actor load = step_then b (act_outcome b actor load) (λ c answer. end_load c actor)
+whole_load b actor load = step_then b (act_outcome b actor load) (λ c answer. trap_load 3 false c actor)
 
 -- of a book, no more than three traps are ever asked for: to allow more changes nothing
 abbrev pub ThreeTrapsServe : Type 0
-ThreeTrapsServe = (b : BookState) → IsBook b → (actor : Actor) (more : ℕ)
-    → trap_load (3 + more) false b actor ≡ trap_load 3 false b actor
+ThreeTrapsServe = (b : BookState) → IsBook b → (due : Bool) (actor : Actor) (more : ℕ)
+    → trap_load (3 + more) due b actor ≡ trap_load 3 due b actor
 
 -- a step has the reply of its outcome; a refused one leaves the book
 abbrev pub Says : BookState → Reply → BookState → BookOutcome → Type 0

@@ -1,7 +1,8 @@
 //! The tests that come before those of a step's own row.
 
 ghost use Rattle.std.specs.Prelude.{◌≡◌, length, nat_le, slice_get};
-ghost use Rattle.model.specs.Outcome.{no_register, no_global, has_bad_index, is_for_workers, is_for_parked, is_for_loading, is_loading_in, thread_gate, worker_gate};
+ghost use Rattle.model.specs.Outcome.{no_register, no_global, has_bad_index, is_for_workers, is_for_parked};
+ghost use Rattle.model.specs.Outcome.{is_for_loading, is_loading_in, thread_gate, worker_gate};
 
 use crate::pages::{are_bad_pages, no_page};
 use heap::Heap;

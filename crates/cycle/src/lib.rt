@@ -55,7 +55,7 @@ mod stepping;
 pub use book::Book;
 pub use draining::{drains_end, next_drain, verdict};
 pub use entries::{Entry, EntryRef, History};
-pub use loading::{MOST_TRAPS, is_clear, three_traps};
+pub use loading::{MOST_TRAPS, heal_is_due, is_clear, three_traps};
 pub use model::{Actor, Answer, Buffer, PageList, Reply, Step, Trap};
 pub use mutating::Mutating;
 pub use relocate::PieceGate;

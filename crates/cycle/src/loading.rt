@@ -2,14 +2,18 @@
 //! The barrier is the paper's (its section on the read barrier); that a load is one call is ours.
 
 ghost use Rattle.std.specs.Prelude.{◌≡◌, ◌++◌, ◌∷◌, [], false, IfOk, OnErr, OnOk};
+ghost use Rattle.model.specs.declared.steps.Actor.TheVariants.{Thread};
 ghost use Rattle.cycle.specs.Beginnings.{IsBeginning, NotMemory};
 ghost use Rattle.cycle.specs.Books.{act_outcome};
 ghost use Rattle.cycle.specs.Loads.{EndsIn, Leaves, LoadsWhole, Says, ThreeTrapsServe};
-ghost use Rattle.cycle.specs.Loads.{finish_load, heal_load, is_clear, trap_load, end_load, whole_load};
+ghost use Rattle.cycle.specs.Loads.{finish_load, heal_load, is_clear, heal_is_due, waits_for_heal};
+ghost use Rattle.cycle.specs.Loads.{trap_load, end_load, whole_load};
 
 use crate::book::Book;
 use crate::running::add;
-use model::{Actor, Answer, Refusal, Reply, Step};
+use barrier::may_finish;
+use heap::Heap;
+use model::{Actor, Answer, Barrier, Refusal, Reply, Step};
 use std::alloc::AllocError;
 
 /// The most traps of one load (ours). Behind one that forwards and one that marks none is due any
@@ -26,6 +30,34 @@ pub fn is_clear(answer: Answer) -> bool
     ensures { result ≡ is_clear answer }
 {
     matches!(answer, Answer::Clear)
+}
+
+/// Whether the word of an open load was corrected, and its place isn't healed yet.
+fn waits_for_heal(barrier: Option<Barrier>) -> bool
+    ensures { result ≡ waits_for_heal barrier }
+{
+    match barrier {
+        Some(barrier) => !may_finish(&barrier),
+        None => false,
+    }
+}
+
+/// Whether a thread's load is behind a trap that was due, and before its heal. Threads count from 0;
+/// of one that isn't there it is false.
+pub fn heal_is_due(heap: &Heap, thread: u32) -> bool
+    ensures { result ≡ heal_is_due heap.now (Thread thread) }
+{
+    waits_for_heal(heap.barrier(thread))
+}
+
+/// Whether an actor's load is behind a trap that was due, and before its heal.
+fn is_due_for(heap: &Heap, actor: Actor) -> bool
+    ensures { result ≡ heal_is_due heap.now actor }
+{
+    match actor {
+        Actor::Thread(thread) => heal_is_due(heap, thread),
+        Actor::Worker(_) => false,
+    }
 }
 
 impl Book {
@@ -71,7 +103,8 @@ impl Book {
         due: bool,
         replies: &mut Vec<Reply>,
     ) -> Result<Reply, AllocError>
-        ensures steps { OnOk result (Leaves (heal_load due self.old actor) replies.old.items self.new replies.new.items) }
+        ensures steps { OnOk result (Leaves (heal_load due self.old actor) replies.old.items self.new
+            replies.new.items) }
         ensures last { IfOk result (EndsIn replies.new.items) }
         ensures refused { IfOk result NotMemory }
         ensures memory { OnErr result
@@ -87,22 +120,20 @@ impl Book {
         }
     }
 
-    /// Goes on with a load that has begun, to its end: traps until one is clear, heals the place
-    /// where a trap was due, and finishes. A refusal is the end. Gives the reply of its last step,
-    /// and puts all behind others.
-    ///
-    /// The error is want of memory. What is done then is a beginning of these steps, each of them
-    /// accepted, and what was put behind others is what they said. This call may be asked again, but
-    /// it heals only where it comes upon a trap itself: behind one that was due before, and no heal,
-    /// a step `Heal` has to be asked first.
-    pub fn end_load(&mut self, actor: Actor, replies: &mut Vec<Reply>) -> Result<Reply, AllocError>
-        ensures steps { OnOk result (Leaves (end_load self.old actor) replies.old.items self.new replies.new.items) }
+    /// Traps until one is clear, heals the place where a trap was due, and finishes.
+    fn trap_load(
+        &mut self,
+        actor: Actor,
+        mut due: bool,
+        replies: &mut Vec<Reply>,
+    ) -> Result<Reply, AllocError>
+        ensures steps { OnOk result (Leaves (trap_load 3 due self.old actor) replies.old.items self.new
+            replies.new.items) }
         ensures last { IfOk result (EndsIn replies.new.items) }
         ensures refused { IfOk result NotMemory }
         ensures memory { OnErr result
-            (IsBeginning (end_load self.old actor).book self.old replies.old.items self.new replies.new.items) }
+            (IsBeginning (trap_load 3 due self.old actor).book self.old replies.old.items self.new replies.new.items) }
     {
-        let mut due = false;
         for _ in 0..MOST_TRAPS {
             match self.act_into(actor, Step::Trap, replies)? {
                 Err(refusal) => return Ok(Err(refusal)),
@@ -117,20 +148,39 @@ impl Book {
         self.heal_load(actor, due, replies)
     }
 
+    /// Goes on with a load that has begun, to its end: traps until one is clear, heals the place
+    /// where a trap was due, and finishes. A refusal is the end. Gives the reply of its last step,
+    /// and puts all behind others.
+    ///
+    /// The error is want of memory. What is done then is a beginning of these steps, each of them
+    /// accepted, and what was put behind others is what they said. This call may be asked again, and
+    /// goes on from there: a trap that was due before has its place healed.
+    pub fn end_load(&mut self, actor: Actor, replies: &mut Vec<Reply>) -> Result<Reply, AllocError>
+        ensures steps { OnOk result (Leaves (end_load self.old actor) replies.old.items self.new replies.new.items) }
+        ensures last { IfOk result (EndsIn replies.new.items) }
+        ensures refused { IfOk result NotMemory }
+        ensures memory { OnErr result
+            (IsBeginning (end_load self.old actor).book self.old replies.old.items self.new replies.new.items) }
+    {
+        let due = is_due_for(self.heap(), actor);
+        self.trap_load(actor, due, replies)
+    }
+
     fn begin_and_end_load(
         &mut self,
         actor: Actor,
         load: Step,
         replies: &mut Vec<Reply>,
     ) -> Result<Reply, AllocError>
-        ensures steps { OnOk result (Leaves (whole_load self.old actor load) replies.old.items self.new replies.new.items) }
+        ensures steps { OnOk result (Leaves (whole_load self.old actor load) replies.old.items self.new
+            replies.new.items) }
         ensures last { IfOk result (EndsIn replies.new.items) }
         ensures refused { IfOk result NotMemory }
         ensures memory { OnErr result
             (IsBeginning (whole_load self.old actor load).book self.old replies.old.items self.new replies.new.items) }
     {
         match self.act_into(actor, load, replies)? {
-            Ok(_) => self.end_load(actor, replies),
+            Ok(_) => self.trap_load(actor, false, replies),
             Err(refusal) => Ok(Err(refusal)),
         }
     }

@@ -1,6 +1,8 @@
 -- What is scanned whole is what steps of a drain do.
-use Rattle.std.proofs.Common.{◌≡◌, ◌≢◌, ◌⊎◌, inl, inr, ℕ, zero, suc, ◌+◌, ◌*◌, ◌/◌, ◌%◌, ◌<◌, ◌≤◌, ◌&&◌, ◌||◌, not, Bool, true, false}
-use Rattle.std.proofs.Common.{cond, nat_lt, nat_le, nat_eq, is_some, List, [], ◌∷◌, ◌++◌, get_or, length, Option, Some, None, refl, sym, ◌∙◌, ap, arith, subst}
+use Rattle.std.proofs.Common.{◌≡◌, ◌≢◌, ◌⊎◌, inl, inr, ℕ, zero, suc, ◌+◌, ◌*◌, ◌/◌, ◌%◌, ◌<◌, ◌≤◌, ◌&&◌, ◌||◌, not}
+use Rattle.std.proofs.Common.{Bool, true, false}
+use Rattle.std.proofs.Common.{cond, nat_lt, nat_le, nat_eq, is_some, List, [], ◌∷◌, ◌++◌, get_or, length, Option, Some}
+use Rattle.std.proofs.Common.{None, refl, sym, ◌∙◌, ap, arith, subst}
 use Rattle.std.specs.List.{slice_get, list_all, find, range_with_len}
 use Rattle.std.specs.Prelude.{Result, Ok, Err, if◌then◌else◌}
 use Rattle.std.proofs.Math.Nat.{mod-lt}
@@ -23,7 +25,8 @@ use Rattle.model.specs.Holding.{IsHeap}
 use Rattle.model.specs.Outcome.{outcome, worker_gate, no_page}
 use Rattle.model.specs.Owning.{IsStore}
 use Rattle.model.specs.Refusing.{◌>>=◌, or_refuse, Outcome}
-use Rattle.model.specs.Scans.{scan_of, with_scan, first_field, is_taken, may_scan, pick_outcome, scan_next, scan_field_outcome, is_free_todo, next_todo}
+use Rattle.model.specs.Scans.{scan_of, with_scan, first_field, is_taken, may_scan, pick_outcome, scan_next}
+use Rattle.model.specs.Scans.{scan_field_outcome, is_free_todo, next_todo}
 use Rattle.model.specs.References.{field_at, field_address}
 use Rattle.model.specs.States.{HeapState, flat}
 use Rattle.model.specs.Stores.{record_count}
@@ -32,12 +35,16 @@ use Rattle.layout.specs.declared.shape.Layout.{Layout}
 use Rattle.model.specs.Data.{layout_at}
 use Rattle.refinement.specs.Standing.{Holds, StepsHold, kept_at_mark}
 use Rattle.model.specs.Plain.{PlainHeap, plain_step}
-use Rattle.drains.specs.Drains.{drains, is_pick, picks, after_steps, AreInOrder, IsDrained, KeepsPlain, refs_in, marked_field, field_steps, object_steps, IsReady, HasDrained, refs_at, marked_fields, without_todo, scanned}
-use Rattle.drains.proofs.Scanned.{MayScan, scan_heap, field_keeps, one_field, layout_stays, fields_keep, at_field, scans, fields_scanned}
+use Rattle.drains.specs.Drains.{drains, is_pick, picks, after_steps, AreInOrder, IsDrained, KeepsPlain, refs_in}
+use Rattle.drains.specs.Drains.{marked_field, field_steps, object_steps, IsReady, HasDrained, refs_at, marked_fields}
+use Rattle.drains.specs.Drains.{without_todo, scanned}
+use Rattle.drains.proofs.Scanned.{MayScan, scan_heap, field_keeps, one_field, layout_stays, fields_keep, at_field}
+use Rattle.drains.proofs.Scanned.{scans, fields_scanned}
 
 -- ---- drains one behind the other
 
-after_both : (h : HeapState) (w : ℕ) (ss ts : List Step) → after_steps h w (ss ++ ts) ≡ after_steps (after_steps h w ss) w ts
+after_both : (h : HeapState) (w : ℕ) (ss ts : List Step) → after_steps h w (ss ++ ts)
+    ≡ after_steps (after_steps h w ss) w ts
 after_both h w [] ts = refl
 after_both h w (s ∷ ss) ts = after_both (heap_after h (outcome h (Worker w) s)) w ss ts
 
@@ -248,7 +255,8 @@ unfolding scanned without_todo may_scan all_crossed
 ready_still h g w a s i r e = subst (λ k. IsReady k w) (sym e) (after (fields_keep h w a 0 (refs_at h a)
     (record { scan = r.scan; none = r.none; worker = r.worker; store = s; heap = i })))
   where
-    after : MayScan (marked_fields h a 0 (refs_at h a)) w → IsReady (without_todo (marked_fields h a 0 (refs_at h a)) a) w
+    after : MayScan (marked_fields h a 0 (refs_at h a)) w → IsReady (without_todo (marked_fields h a 0 (refs_at h a)) a)
+        w
     after m = record { scan = m.scan; none = m.none; worker = m.worker }
 
 -- what is found passes
@@ -256,7 +264,8 @@ pub found_passes : (p : ℕ → Bool) (xs : List ℕ) (x : ℕ) → find p xs �
 found_passes p [] x e = absurd (cc)
 found_passes p (y ∷ xs) x e = by_test (p y) refl e (found_passes p xs x)
   where
-    by_test : (b : Bool) → p y ≡ b → cond b (Some y) (find p xs) ≡ Some x → (find p xs ≡ Some x → p x ≡ true) → p x ≡ true
+    by_test : (b : Bool) → p y ≡ b → cond b (Some y) (find p xs) ≡ Some x → (find p xs ≡ Some x → p x ≡ true) → p x
+        ≡ true
     by_test true z k rest = ap p (sym (same_Some _ _ k)) ∙ z
     by_test false z k rest = rest k
 

@@ -1,6 +1,7 @@
 -- Globals and objects are drained, one after another, and nothing is left at the end.
 use Rattle.std.proofs.Common.{◌≡◌, ◌≢◌, ◌⊎◌, inl, inr, ℕ, ◌+◌, ◌<◌, ◌≤◌, Bool, true, false}
-use Rattle.std.proofs.Common.{nat_le, is_some, List, [], ◌∷◌, length, Option, Some, None, refl, sym, ◌∙◌, ap, arith, subst}
+use Rattle.std.proofs.Common.{nat_le, is_some, List, [], ◌∷◌, length, Option, Some, None, refl, sym, ◌∙◌, ap, arith}
+use Rattle.std.proofs.Common.{subst}
 use Rattle.std.specs.List.{slice_get, position}
 use Rattle.std.specs.Prelude.{Result, Ok, Err, if◌then◌else◌}
 use Rattle.std.proofs.lemmas.Bool.{cases_lt, true≢false}
@@ -21,11 +22,13 @@ use Rattle.model.specs.Holding.{IsHeap}
 use Rattle.model.specs.Outcome.{outcome, worker_gate, no_global}
 use Rattle.model.specs.Owning.{IsStore}
 use Rattle.model.specs.Refusing.{◌>>=◌}
-use Rattle.model.specs.Scans.{may_scan, is_free_todo, next_todo, next_drain, pick_step, global_step_or, is_todo_in, set_marked_of, with_marked_global, mark_global, scan_global_outcome}
+use Rattle.model.specs.Scans.{may_scan, is_free_todo, next_todo, next_drain, pick_step, global_step_or, is_todo_in}
+use Rattle.model.specs.Scans.{set_marked_of, with_marked_global, mark_global, scan_global_outcome}
 use Rattle.model.specs.References.{global_of}
 use Rattle.model.specs.States.{HeapState, Reference, flat, change_at, change_found}
 use Rattle.refinement.specs.Standing.{StepsHold}
-use Rattle.drains.specs.Drains.{IsDrained, KeepsPlain, IsReady, HasDrained, ObjectsDone, NoneTodo, with_global_done, scanned}
+use Rattle.drains.specs.Drains.{IsDrained, KeepsPlain, IsReady, HasDrained, ObjectsDone, NoneTodo, with_global_done}
+use Rattle.drains.specs.Drains.{scanned}
 use Rattle.drains.proofs.Scanned.{mark_heap, none_copied, scanned_globals}
 use Rattle.drains.proofs.Drained.{lt-not-le, drained_then, gate_is, first_drained, more_drained, drained_stands}
 
@@ -67,7 +70,8 @@ none_marked h g n v k e = subst (λ x. NoneTodo x (n + 1)) (sym e)
     (none_next (with_marked_global h n v) n before (changed_same h.globals n (marked_word h v)))
   where
     before : NoneTodo (with_marked_global h n v) n
-    before i l = ap is_todo_in (changed_other h.globals n i (marked_word h v) (λ z. absurd (omega (arith, z, l)))) ∙ k i l
+    before i l = ap is_todo_in (changed_other h.globals n i (marked_word h v) (λ z. absurd (omega (arith, z, l))))
+        ∙ k i l
 
 -- as many as there were
 pub globals_many : (h g : HeapState) (n : ℕ) (v : Reference) → g ≡ with_marked_global h n v

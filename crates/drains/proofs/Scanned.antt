@@ -28,7 +28,8 @@ use Rattle.model.specs.Refusing.{◌>>=◌, or_refuse, Outcome}
 use Rattle.model.specs.Scans.{scan_of, with_scan, next_field, may_scan, reference_in}
 use Rattle.model.specs.Scans.{with_marked_place, mark_place, with_scan_end, scan_next, scan_field_outcome}
 use Rattle.model.specs.States.{Reference, HeapState, flat}
-use Rattle.model.specs.Stores.{StoreState, page_at, frame_in, at_offset, spot_of, word_in, word_at, with_word, with_words, changed_in, changed_frame}
+use Rattle.model.specs.Stores.{StoreState, page_at, frame_in, at_offset, spot_of, word_in, word_at, with_word}
+use Rattle.model.specs.Stores.{with_words, changed_in, changed_frame}
 use Rattle.model.proofs.Lists.{get_set_same, get_set_other}
 use Rattle.model.proofs.Memory.{own_frame}
 use Rattle.forward.specs.Counts.{uncopied_count}
@@ -75,7 +76,8 @@ word_stays s a place v h apart =
 
     by_place : (x y : ℕ) → frame_in (page_at s (place / s.words)) ≡ Some x → frame_in (page_at s (a / s.words)) ≡ Some y
         → (y ≡ x) ⊎ (y ≢ x)
-        → option_and_then (λ ws. slice_get ws (a % s.words)) (slice_get (changed_frame s.frames x (slice_get s.frames x) f) y)
+        → option_and_then (λ ws. slice_get ws (a % s.words))
+        (slice_get (changed_frame s.frames x (slice_get s.frames x) f) y)
         ≡ option_and_then (λ ws. slice_get ws (a % s.words)) (slice_get s.frames y)
     by_place x y p q (inr d) = beside x y (slice_get s.frames x) d
     by_place x y p q (inl e) =
@@ -112,7 +114,8 @@ unfolding with_mark
 mark_heap h None i = marks_keep h h.live h.mark h.todo i i.live i.mark i.todo
 mark_heap h (Some x) i = marks_keep h h.live _ _ i i.live
     (bit_keeps h.config h.mark _ h.store.words (resolve h x.0) true i.mark refl)
-    (bit_kept h.config h.todo _ h.store.words (resolve h x.0) true (bit_at h.mark h.store.words (resolve h x.0)) i.todo refl)
+    (bit_kept h.config h.todo _ h.store.words (resolve h x.0) true (bit_at h.mark h.store.words (resolve h x.0)) i.todo
+    refl)
 
 marked_heap : (h : HeapState) (place : ℕ) → IsHeap h → IsHeap (marked_field h place)
 unfolding marked_field with_marked_place with_mark
@@ -160,7 +163,8 @@ field_keeps h w place m = record {
 pub layout_stays : (h : HeapState) (a place : ℕ) → IsStore h.store → a ≢ place
     → layout_at (marked_field h place) a ≡ layout_at h a
 unfolding marked_field with_marked_place with_mark layout_at
-layout_stays h a place s apart = ap (λ v. layout_in h.config.layouts (header_layout v)) (word_stays h.store a place _ s apart)
+layout_stays h a place s apart = ap (λ v. layout_in h.config.layouts (header_layout v))
+    (word_stays h.store a place _ s apart)
 
 -- ---- one field
 

@@ -1,5 +1,6 @@
 -- Drains: steps of a worker that scan, many at once (the paper's Mark phase).
-use Rattle.std.specs.Prelude.{◌≡◌, ℕ, zero, suc, ◌+◌, ◌<◌, true, false, Bool, List, [], ◌∷◌, Option, Some, None, Ok, slice_get, if◌then◌else◌}
+use Rattle.std.specs.Prelude.{◌≡◌, ℕ, zero, suc, ◌+◌, ◌<◌, true, false, Bool, List, [], ◌∷◌, Option, Some, None, Ok}
+use Rattle.std.specs.Prelude.{slice_get, if◌then◌else◌}
 use Rattle.std.specs.List.{list_all}
 use Rattle.forward.specs.Counts.{uncopied_count}
 use Rattle.layout.specs.declared.shape.Layout.{Layout}

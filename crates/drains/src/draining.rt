@@ -74,7 +74,8 @@ fn next_free(heap: &Heap, hints: &mut Hints) -> Option<Addr>
 
 /// Whether a worker is there, and has no object.
 fn is_free(heap: &Heap, worker: u32) -> bool
-    ensures { MatchBool result (slice_get heap.now.workers worker ≡ Some None) (slice_get heap.now.workers worker ≢ Some None) }
+    ensures { MatchBool result (slice_get heap.now.workers worker ≡ Some None)
+        (slice_get heap.now.workers worker ≢ Some None) }
 {
     match heap.workers().get(worker as usize) {
         None => false,

@@ -1,13 +1,16 @@
 -- Entries whose places and flags change.
-use Rattle.std.proofs.Common.{◌≡◌, ◌≢◌, ◌⊎◌, inl, inr, ℕ, zero, suc, ◌+◌, ◌<◌, ◌≤◌, Bool, true, false, not, cond, List, [], ◌∷◌, ◌++◌, take}
-use Rattle.std.proofs.Common.{length, map, set, replicate, get_or, count_by, Option, Some, None, refl, sym, ◌∙◌, ap, ap₂, arith}
+use Rattle.std.proofs.Common.{◌≡◌, ◌≢◌, ◌⊎◌, inl, inr, ℕ, zero, suc, ◌+◌, ◌<◌, ◌≤◌, Bool, true, false, not, cond, List}
+use Rattle.std.proofs.Common.{[], ◌∷◌, ◌++◌, take}
+use Rattle.std.proofs.Common.{length, map, set, replicate, get_or, count_by, Option, Some, None, refl, sym, ◌∙◌, ap}
+use Rattle.std.proofs.Common.{ap₂, arith}
 use Rattle.std.specs.List.{slice_get}
 use Rattle.std.specs.Prelude.{option_map, nat_eq, ◌==◌}
 use Rattle.std.proofs.lemmas.Bool.Decides.{nat_tests}
 use Rattle.std.proofs.Math.ListN.{length-set}
 use Rattle.std.proofs.lemmas.List.{get_or-set_same, get_or-set_other, length-map, get_or-replicate, take_more, take_all}
 use Rattle.std.proofs.lemmas.List.Sums.{sum_by-cons}
-use Rattle.std.proofs.lemmas.Option.{slice_get-get_or, slice_get-map, slice_get_within, get_or_from_slice_get, same_Some}
+use Rattle.std.proofs.lemmas.Option.{slice_get-get_or, slice_get-map, slice_get_within, get_or_from_slice_get}
+use Rattle.std.proofs.lemmas.Option.{same_Some}
 use Rattle.std.proofs.lemmas.Bool.{cases_eq}
 use Rattle.model.specs.declared.limits.TheConstants.{MOST_WORDS}
 use Rattle.model.specs.declared.records.Forwarding.{Forwarding}
@@ -77,7 +80,8 @@ module _ (live : List Bool) (places : List ℕ) (copied : List Bool) where
     noted o e =
         changed_one v w r (numbered_entry live places copied r)
         (entry_by (get_or (offsets_from 0 live) r 0) (get_or places r 0) true)
-        (entries_many live places (set copied r true) ∙ sym (entries_many live places copied)) (entry_read live places copied r l)
+        (entries_many live places (set copied r true) ∙ sym (entries_many live places copied))
+        (entry_read live places copied r l)
         here others
         ∙ one_noted MOST_WORDS 0 o r v (numbered_entry live places copied r) (entries_rise live places copied is)
         (entry_read live places copied r l) (ranked_offset 0 live o e ∙ omega arith)

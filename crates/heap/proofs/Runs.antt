@@ -1,5 +1,6 @@
 -- Runs of entries whose objects are copied: the words are written at once, and then it is noted.
-use Rattle.std.proofs.Common.{◌≡◌, ◌≢◌, ℕ, zero, suc, ◌+◌, ◌-◌, ◌*◌, ◌/◌, ◌%◌, ◌<◌, ◌≤◌, ◌||◌, Bool, true, false, cond, nat_eq}
+use Rattle.std.proofs.Common.{◌≡◌, ◌≢◌, ℕ, zero, suc, ◌+◌, ◌-◌, ◌*◌, ◌/◌, ◌%◌, ◌<◌, ◌≤◌, ◌||◌, Bool, true, false, cond}
+use Rattle.std.proofs.Common.{nat_eq}
 use Rattle.std.proofs.Common.{List, [], ◌∷◌, length, map, set, take, drop, get_or, Option, Some, None}
 use Rattle.std.proofs.Common.{refl, sym, ◌∙◌, ap, subst, arith, ne_eqb, eq-eqb}
 use Rattle.std.specs.List.{slice_get}
@@ -25,7 +26,8 @@ use Rattle.pieces.proofs.Cuts.{length_all}
 use Rattle.page.specs.Runs.{known, source_with, with_run}
 use Rattle.page.proofs.Copied.{nothing_over}
 use Rattle.page.proofs.Runs.{unchanged, words_keep, words_twice, words_alike}
-use Rattle.heap.specs.Runs.{with_entry, with_entries, GoTo, Notes, notes, noted_starts, noted_sides, noted_by, noted_from}
+use Rattle.heap.specs.Runs.{with_entry, with_entries, GoTo, Notes, notes, noted_starts, noted_sides, noted_by}
+use Rattle.heap.specs.Runs.{noted_from}
 use Rattle.heap.proofs.Moving.{copy_keeps}
 
 -- what is noted
@@ -213,7 +215,8 @@ module _ (h : HeapState) (n target : ℕ) (side : List Forwarding) where
         starts = noted_starts h.store.words o h.starts;
         sides = noted_sides n o h.sides;
       } ≡ with_entry h n o
-  entry_is None there low = ap (λ (s : StoreState). record h { store = s }) (sym (unchanged h.store target (step None) same))
+  entry_is None there low = ap (λ (s : StoreState). record h { store = s })
+      (sym (unchanged h.store target (step None) same))
     where
       same : (ws : List ℕ) → step None ws ≡ ws
       same ws = by_page (nat_eq n target)
@@ -298,8 +301,10 @@ module _ (n target : ℕ) (side : List Forwarding) (ls : List Layout) where
   runs h e (suc k) c s r agree to =
       (λ i. record h {
         store = more i;
-        starts = (noted_from h.store.words n (e + 1) k (noted_by h.store.words n (now i) (notes h.starts h.sides))).starts;
-        sides = (noted_from h.store.words n (e + 1) k (noted_by h.store.words n (now i) (notes h.starts h.sides))).sides;
+        starts = (noted_from h.store.words n (e + 1) k (noted_by h.store.words n (now i)
+            (notes h.starts h.sides))).starts;
+        sides = (noted_from h.store.words n (e + 1) k (noted_by h.store.words n (now i)
+            (notes h.starts h.sides))).sides;
       })
       ∙ runs next (e + 1) k c (words_keep h.store target _ long s) r
       (behind_stay h.sides n h.store.words side e o r refl agree)

@@ -191,7 +191,8 @@ mark_registers_keeps w p p0 i t m e (suc n) =
         → IsClean u (put_at u.register t n (marked_word u v) t r)
     clean u v h r l =
         subst (IsClean u) (sym (ap (λ f. f r) (put_same u.register t (put (u.register t) n (marked_word u v)))))
-        (put_all (λ r y. r < suc n → IsClean u y) (u.register t) n (marked_word u v) (λ _. marked_clean (copy_word v u) v)
+        (put_all (λ r y. r < suc n → IsClean u y) (u.register t) n (marked_word u v)
+        (λ _. marked_clean (copy_word v u) v)
         (λ r x l. h r (omega arith)) r l)
 
 -- Cross at the mark checkpoint: of n registers, and the phase f after it

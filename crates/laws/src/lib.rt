@@ -25,7 +25,8 @@
 //! transitions, or that a mark ever ends.
 #![tactic(auto)]
 
-ghost use Rattle.laws.specs.Promises.{RunsKeepInvariant, RunsStandForPlain, RunsAnswerPlain, MarksEndLive, MarksLeaveUnreachable, MarksCanEnd};
+ghost use Rattle.laws.specs.Promises.{RunsKeepInvariant, RunsStandForPlain, RunsAnswerPlain, MarksEndLive};
+ghost use Rattle.laws.specs.Promises.{MarksLeaveUnreachable, MarksCanEnd};
 
 /// The laws. A run is a list of transitions of any threads and workers, in any order. A heap
 /// *stands for* a plain heap where

@@ -124,7 +124,8 @@ pub start_refused : (w : ℕ) (h g : HeapState) (e : Refusal) (reply : Result An
     → DoesStep h steps.StartMark reply g (outcome h (Worker w) steps.StartMark) → IsStopped w g e
 start_refused w h g e reply is does =
     let d : DoesStep h steps.StartMark (Err e) g (outcome h (Worker w) steps.StartMark) =
-    subst (λ (r : Result Answer Refusal). DoesStep h steps.StartMark r g (outcome h (Worker w) steps.StartMark)) is does in
+    subst (λ (r : Result Answer Refusal). DoesStep h steps.StartMark r g (outcome h (Worker w) steps.StartMark)) is
+    does in
     subst (λ (x : HeapState). IsStopped w x e) (sym d.1) (inl (steps.StartMark, d.0, tt))
 
 pub crossing_refused : (w : ℕ) (g : HeapState) (e : Refusal) (r : Result Unit Refusal) → r ≡ Err e → r ≡ all_crossed g

@@ -207,7 +207,8 @@ whole h m g t begin u (Err e) does keeps ends = inr (m, runs_one h m (Thread t) 
 
 -- what it leaves stands for the plain heap whose register has the reference
 pub whole_stands : (h g : HeapState) (t : ℕ) (begin : Step) (result : Result Unit Refusal)
-    → ((p p0 : PlainHeap) → kept_at_mark p p0 begin ≡ p0) → LoadsWhole h t begin result g → LoadStands h t begin result g
+    → ((p p0 : PlainHeap) → kept_at_mark p p0 begin ≡ p0) → LoadsWhole h t begin result g
+    → LoadStands h t begin result g
 whole_stands h g t begin (Ok u) kept w =
     λ p p0 k.
     let m = w.0 in

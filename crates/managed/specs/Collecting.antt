@@ -36,8 +36,10 @@ abbrev pub live_told : Result Answer Refusal → Result ℕ Refusal
 live_told (Ok a) = Ok (live_in a)
 live_told (Err e) = Err e
 
--- a mark has ended: its last step was EndMark, whose answer told how many live; and where heap h stood for a plain heap,
--- g stands for the same, all that can be reached is live, and what is live could be reached as the mark began, or is born
+-- a mark has ended: its last step was EndMark, whose answer told how many live; and where heap h stood for a plain
+-- heap,
+-- g stands for the same, all that can be reached is live, and what is live could be reached as the mark began, or is
+-- born
 -- since
 pub record EndsWell (w : ℕ) (h : HeapState) (live : ℕ) (g : HeapState) : Type 0 where
   pub before : HeapState
@@ -53,7 +55,8 @@ IsOfMark steps.StartMark = Unit {0}
 IsOfMark steps.EndMark = Unit {0}
 IsOfMark step = Scans step
 
--- a mark stopped: such a step of worker w is refused so as the heap stands, or not all have crossed, or too much was left
+-- a mark stopped: such a step of worker w is refused so as the heap stands, or not all have crossed, or too much was
+-- left
 abbrev pub IsStopped : ℕ → HeapState → Refusal → Type 0
 IsStopped w g e =
     ((step : Step) × (outcome g (Worker w) step ≡ Err e) × IsOfMark step)

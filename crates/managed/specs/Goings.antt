@@ -62,7 +62,8 @@ IsOfLoad _ = ⊥
 abbrev pub IsRefused : HeapState → ℕ → Refusal → Type 0
 IsRefused g t e = (step : Step) × (outcome g (Thread t) step ≡ Err e) × IsOfLoad step
 
--- a load that had begun is ended: by traps and heals, and then Finish; where a step is refused, those before it are done
+-- a load that had begun is ended: by traps and heals, and then Finish; where a step is refused, those before it are
+-- done
 abbrev pub EndsLoad : HeapState → ℕ → Result Unit Refusal → HeapState → Type 0
 EndsLoad h t (Ok u) g = (m : HeapState) × Goes (IsInBarrier t) h m × Steps (Thread t) steps.Finish answers.Done m g
 EndsLoad h t (Err e) g = Goes (IsInBarrier t) h g × IsRefused g t e

@@ -5,7 +5,7 @@ ghost use Rattle.model.specs.declared.steps.Step.TheVariants as steps;
 ghost use Rattle.managed.specs.Goings.{EndsLoad, LoadsWhole, LoadStands};
 
 use crate::managed::ManagedHeap;
-use cycle::Mutating;
+use cycle::{Mutating, heal_is_due};
 use model::{Refusal, Trap};
 
 impl ManagedHeap {
@@ -23,12 +23,13 @@ impl ManagedHeap {
         }
     }
 
-    /// Ends a load that has begun: traps until one is clear, heals where one wasn't, and finishes. It
-    /// stops at the first refusal; the steps before it are done, and it may be asked again.
+    /// Ends a load that has begun: traps until one is clear, heals where one wasn't or where a trap was
+    /// due before, and finishes. It stops at the first refusal; the steps before it are done, and it
+    /// may be asked again.
     pub fn end_read(&mut self, thread: u32) -> Result<(), Refusal>
         ensures { EndsLoad self.old thread result self.new }
     {
-        let mut due = false;
+        let mut due = heal_is_due(self.heap(), thread);
         for _ in 0..3 {
             match self.trap(thread)? {
                 Trap::Clear => return self.finish_read(thread, due),

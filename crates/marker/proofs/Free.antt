@@ -225,7 +225,14 @@ pub on_page : (h : HeapState) (from i k a : ℕ) → IsHeap h → IsFirstFrom (m
     → k < h.store.words → a ≡ (i + 1) * h.store.words + k → a / h.store.words ≤ MOST_PAGES
 on_page h from i k a d busy within is =
     let e : a / h.store.words ≡ i + 1 = ap (λ n. n / h.store.words) is ∙ div-mul-add (i + 1) h.store.words k within in
-    omega (arith, e, busy_there h.todo i busy.here, d.todo.pages, few h.config.frames h.config.pages d.config.pages_high)
+    omega (
+      arith,
+      e,
+      busy_there h.todo i busy.here,
+      d.todo.pages,
+      few h.config.frames h.config.pages
+          d.config.pages_high,
+    )
   where
     few : (frames count : ℕ) → count ≤ MOST_PAGES → record_count frames count ≤ MOST_PAGES
     few frames count k = grind (arith, nat_tests)

@@ -7,7 +7,8 @@ ghost use Rattle.std.specs.Option.{option_copied};
 ghost use Rattle.model.specs.References.{field_at};
 ghost use Rattle.model.specs.Refusing.{Does};
 ghost use Rattle.model.specs.Outcome.{WorkerPasses};
-ghost use Rattle.model.specs.Scans.{scan_of, is_scan_of, is_taken, reference_in, mark_place, mark_global, is_todo_in, scan_next, pick_outcome, scan_field_outcome, scan_global_outcome};
+ghost use Rattle.model.specs.Scans.{scan_of, is_scan_of, is_taken, reference_in, mark_place, mark_global, is_todo_in};
+ghost use Rattle.model.specs.Scans.{scan_next, pick_outcome, scan_field_outcome, scan_global_outcome};
 ghost use Rattle.model.specs.Stores.{word_at};
 ghost use Rattle.model.specs.declared.steps.Step.TheVariants as steps;
 

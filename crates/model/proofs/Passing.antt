@@ -1,5 +1,6 @@
 -- What is known of a step's numbers, once the tests before its row are passed.
-use Rattle.std.proofs.Common.{◌≡◌, ℕ, ◌<◌, ◌≤◌, ◌||◌, Bool, true, false, not, nat_le, nat_lt, nat_eq, length, refl, arith}
+use Rattle.std.proofs.Common.{◌≡◌, ℕ, ◌<◌, ◌≤◌, ◌||◌, Bool, true, false, not, nat_le, nat_lt, nat_eq, length, refl}
+use Rattle.std.proofs.Common.{arith}
 use Rattle.std.specs.Prelude.{Result, Ok, Err, if◌then◌else◌}
 use Rattle.std.proofs.lemmas.Bool.{or_parts, ltb-false}
 use Rattle.model.specs.declared.steps.Refusal.{Refusal}

@@ -138,7 +138,8 @@ counted_head t o (q ∷ ps) from below = omega (arith, from zero q refl, below z
 pub places_counted : (w t o : ℕ) (ns : List ℕ) (i : ℕ) (p : ℕ × ℕ) → slice_get (places_from w t o ns) i ≡ Some p
     → p.0 < target_count (places_from w t o ns)
 places_counted w t o [] i p e = absurd (cc)
-places_counted w t o (n ∷ ns) i p e = by_test (nat_le (o + n) w) i e (places_counted w t (o + n) ns) (places_counted w (t + 1) n ns)
+places_counted w t o (n ∷ ns) i p e = by_test (nat_le (o + n) w) i e (places_counted w t (o + n) ns)
+    (places_counted w (t + 1) n ns)
   where
     behind : (t2 o2 : ℕ) (ps : List (ℕ × ℕ)) → ((i : ℕ) (p : ℕ × ℕ) → slice_get ps i ≡ Some p → t2 ≤ p.0)
         → ((i : ℕ) (p : ℕ × ℕ) → slice_get ps i ≡ Some p → p.0 < target_count ps) → (i : ℕ)

@@ -48,12 +48,18 @@ load_outcome h t target object i = do
   address ← usable h t object
   place ← or_refuse (field_at h address i) refusals.BadIndex
   bits ← or_refuse (word_at h.store place) refusals.BadIndex
-  Ok (with_barrier h t (new_barrier target (places.Field address i) (read_reference bits)) counters.Loads, answers.Loaded)
+  Ok (
+    with_barrier h t (new_barrier target (places.Field address i) (read_reference bits)) counters.Loads,
+    answers.Loaded,
+  )
 
 -- the row of LoadGlobal
 unfoldable pub load_global_outcome : HeapState → ℕ → ℕ → ℕ → Outcome
 load_global_outcome h t target global =
-    Ok (with_barrier h t (new_barrier target (places.Global global) (global_of h global)) counters.Loads, answers.Loaded)
+    Ok (
+      with_barrier h t (new_barrier target (places.Global global) (global_of h global)) counters.Loads,
+      answers.Loaded,
+    )
 
 -- whether something is refused
 abbrev pub is_refused : Result Unit Refusal → Bool

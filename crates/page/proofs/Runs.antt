@@ -128,7 +128,8 @@ pub run_lent : (s : StoreState) (page target size : ℕ) (side : List Forwarding
 unfolding with_run
 run_lent s page target size side ls e k from to new h a b c d =
     let apart : (page == target) ≡ false = not-true (page == target) (and_parts _ _ h).0 in
-    let run : ℕ → List ℕ → List ℕ = λ n ws. laid_from (record { size = n; words = from; side = side; layouts = ls }) 0 e k ws in
+    let run : ℕ → List ℕ → List ℕ = λ n ws. laid_from (record { size = n; words = from; side = side; layouts = ls }) 0 e
+    k ws in
     let laid : run size to ≡ run s.words to = ap (λ n. run n to) a in
     rw (apart, b) (same_words s target (λ ws. overlay ws 0 new) (run s.words) to c
     (overlaid_all to new (ap length d ∙ length_all _ 0 e k to) ∙ d ∙ laid))
@@ -144,7 +145,8 @@ pub page_short : (s : StoreState) (n : ℕ) (ws : List ℕ) → IsStore s → wo
 page_short s n ws h e = omega (arith, words_sized s n ws h e, h.sized.words)
 
 -- other words in a page, as many as before, leave what holds of the store
-pub words_keep : (s : StoreState) (n : ℕ) (f : List ℕ → List ℕ) → ((ws : List ℕ) → length (f ws) ≡ length ws) → IsStore s
+pub words_keep : (s : StoreState) (n : ℕ) (f : List ℕ → List ℕ) → ((ws : List ℕ) → length (f ws) ≡ length ws)
+    → IsStore s
     → IsStore (with_words s n f)
 unfolding with_words
 words_keep s n f same h = by_frame (frame_in (page_at s n))

@@ -1,6 +1,7 @@
 //! The memory of a page.
 
-ghost use Rattle.std.specs.Prelude.{◌≡◌, ◌+◌, ◌≤◌, ◌<◌, ◌^◌, length, slice_get, slice_set, slice_range, replicate, take, drop, [], IfOk};
+ghost use Rattle.std.specs.Prelude.{◌≡◌, ◌+◌, ◌≤◌, ◌<◌, ◌^◌, length, slice_get, slice_set, slice_range, replicate};
+ghost use Rattle.std.specs.Prelude.{take, drop, [], IfOk};
 ghost use Rattle.std.specs.Borrow.{sem};
 ghost use Rattle.page.specs.Lending.{LendsRun};
 

@@ -1,6 +1,7 @@
 //! Where the first number of a list stands that is great enough.
 
-ghost use Rattle.std.specs.Prelude.{◌≡◌, ◌<◌, ◌≤◌, ◌*◌, ◌^◌, ◌+◌, ◌/◌, length, slice_set, slice_index, replicate, drop, position, nat_le, IfOk};
+ghost use Rattle.std.specs.Prelude.{◌≡◌, ◌<◌, ◌≤◌, ◌*◌, ◌^◌, ◌+◌, ◌/◌, length, slice_set, slice_index, replicate, drop};
+ghost use Rattle.std.specs.Prelude.{position, nat_le, IfOk};
 ghost use Rattle.page.specs.Tournaments.{IsTree, IsTreeBut, IsFirstFrom};
 
 use std::alloc::{AllocError, Global};

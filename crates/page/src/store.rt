@@ -4,10 +4,13 @@ mod lending;
 mod relocating;
 mod runs;
 
-ghost use Rattle.std.specs.Prelude.{◌≡◌, ◌≤◌, ◌<◌, ◌+◌, ◌-◌, ◌/◌, ◌%◌, ◌^◌, length, slice_get, slice_set, slice_range, replicate, IfOk, IfSome, count_by, is_some, is_none, Some, None, true};
+ghost use Rattle.std.specs.Prelude.{◌≡◌, ◌≤◌, ◌<◌, ◌+◌, ◌-◌, ◌/◌, ◌%◌, ◌^◌, length, slice_get, slice_set, slice_range};
+ghost use Rattle.std.specs.Prelude.{replicate, IfOk, IfSome, count_by, is_some, is_none, Some, None, true};
 ghost use Rattle.std.specs.Option.{option_map};
 ghost use Rattle.std.specs.Borrow.{sem};
-ghost use Rattle.model.specs.Stores.{first_store, page_at, state_at, state_in, spot_of, word_in, word_at, changed_in, with_word, words_at, take_buffer, Takes, give_words, open_fresh, top_in, is_open, page_with_room, free_frame, unused_page, frame_in, record_count, take_fresh};
+ghost use Rattle.model.specs.Stores.{first_store, page_at, state_at, state_in, spot_of, word_in, word_at, changed_in};
+ghost use Rattle.model.specs.Stores.{with_word, words_at, take_buffer, Takes, give_words, open_fresh, top_in, is_open};
+ghost use Rattle.model.specs.Stores.{page_with_room, free_frame, unused_page, frame_in, record_count, take_fresh};
 ghost use Rattle.model.specs.Configs.{is_page_size};
 ghost use Rattle.model.specs.declared.limits.TheConstants.{MOST_WORDS, MOST_FRAMES, MOST_PAGES};
 ghost use Rattle.model.specs.Owning.{IsStore, LiesIn, TakesWell};
@@ -315,7 +318,10 @@ impl Store {
     /// Writes the word at an offset of a frame, if it is there.
     #[inline(always)]
     fn set_word_in(&mut self, frame: u32, offset: usize, value: u64)
-        ensures { self.new ≡ record self.old { frames = changed_in self.old.frames (Some frame) (λ ws. slice_set ws offset value) } }
+        ensures { self.new ≡ record self.old {
+          frames = changed_in self.old.frames (Some frame)
+              (λ ws. slice_set ws offset value);
+        } }
     {
         if (frame as usize) < self.frames.len() {
             let frame = self.frames.frame_mut(frame as usize);
@@ -352,7 +358,8 @@ impl Store {
     /// Lends the free rest of a buffer that lies in an open page, to be written.
     pub fn part_mut(&mut self, buffer: &Buffer) -> &mut [u64]
         requires { LiesIn self.old buffer.now }
-        ensures value { IfSome (words_at self.old buffer.now.page) (λ ws. result.now ≡ slice_range ws buffer.now.next buffer.now.end) }
+        ensures value { IfSome (words_at self.old buffer.now.page) (λ ws. result.now
+            ≡ slice_range ws buffer.now.next buffer.now.end) }
         ensures len { length result.now ≡ buffer.now.end - buffer.now.next }
         ensures* after { sem 𝓛 (LendsPart self.entry buffer.now.page buffer.now.next result) }
     {
@@ -467,7 +474,8 @@ impl Store {
     /// The first `n` words of a fresh page.
     fn take_fresh(&mut self, n: u32) -> Result<Buffer, Room>
         requires { n ≤ self.old.words }
-        ensures { Takes self.old result self.new (take_fresh self.old n (free_frame self.old.owners) (unused_page self.old.count self.old.pages)) }
+        ensures { Takes self.old result self.new (take_fresh self.old n (free_frame self.old.owners)
+            (unused_page self.old.count self.old.pages)) }
     {
         let Some(frame) = self.free_frame() else {
             return Err(Room::NoFrames);

@@ -18,7 +18,8 @@ use Rattle.parser.specs.Headings.{config_of}
 use Rattle.parser.specs.Reading.{ScriptValue, script_of, ReadSoFar, nothing, line_in, closed, whole}
 use Rattle.parser.specs.Reading.{finished}
 use Rattle.parser.specs.Spelling.{line_of, layout_line_of, size_words, SpellsHeap, Part, Times, part_lines}
-use Rattle.parser.specs.Spelling.{part_commands, with_newline, IsPart, says_something, Spells, IsLayout, IsCommand, IsScript}
+use Rattle.parser.specs.Spelling.{part_commands, with_newline, IsPart, says_something, Spells, IsLayout, IsCommand}
+use Rattle.parser.specs.Spelling.{IsScript}
 use Rattle.parser.specs.Faults.{text_of, BeginsScript, EndInBlock, HaveNoFault}
 use Rattle.parser.proofs.HeapLines.{IsSizes}
 use Rattle.parser.proofs.Plain.{no_newlines, words_no_newlines, number_plain, sizes_plain}

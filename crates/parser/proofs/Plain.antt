@@ -19,7 +19,8 @@ use Rattle.parser.specs.Words.{is_digit, page_in, offset_in}
 use Rattle.parser.specs.Verbs.{row_of}
 use Rattle.parser.specs.Headings.{config_of}
 use Rattle.parser.specs.Reading.{newline}
-use Rattle.parser.specs.Spelling.{line_of, actor_word, address_word, operand_word, order_words, SpellsLimit, with_newline}
+use Rattle.parser.specs.Spelling.{line_of, actor_word, address_word, operand_word, order_words, SpellsLimit}
+use Rattle.parser.specs.Spelling.{with_newline}
 use Rattle.std.proofs.lemmas.List.Folds.{list_all-append}
 use Rattle.parser.specs.Spelling.{IsActor, IsOperand, AreMore, IsOrder}
 use Rattle.parser.proofs.Lists.{HasNoNewlines, all_both, all_from, all_to}

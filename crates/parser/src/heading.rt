@@ -3,7 +3,8 @@
 ghost use Rattle.std.specs.Prelude.{◌≡◌, ◌==◌, ◌≤◌, IfOk};
 ghost use Rattle.model.specs.declared.limits.TheConstants.{MOST_WORDS};
 ghost use Rattle.model.specs.Configs.{is_page_size};
-ghost use Rattle.parser.specs.Headings.{field_at, page_size_at, limit_at, memory_at, actors_at, limits_at, sizes_at, heap_in, layout_in, config_of};
+ghost use Rattle.parser.specs.Headings.{field_at, page_size_at, limit_at, memory_at, actors_at, limits_at, sizes_at};
+ghost use Rattle.parser.specs.Headings.{heap_in, layout_in, config_of};
 
 use crate::fault::{FaultKind, Flaw};
 use crate::words::{end_at, fixed_at, number_at, word_at};

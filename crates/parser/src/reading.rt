@@ -2,7 +2,10 @@
 
 ghost use Rattle.std.specs.Prelude.{◌≡◌, ◌<◌, ◌==◌, ◌++◌, length, Ok, IfSome, IfNone, OnOk, position, nat_lt, ◌+◌, ◌*◌};
 ghost use Rattle.std.specs.List.{repeat};
-ghost use Rattle.parser.specs.Reading.{nothing, is_idle, is_full, with_command, first_word, heap_line, layout_line, command_line, times_line, end_line, part_line, later_line, line_in, in_line, finished, last_line, script_in, script_of, Gives, Follows, IsFlawAtStart, CutsLine, HasNoNewline};
+ghost use Rattle.parser.specs.Reading.{nothing, is_idle, is_full, with_command, first_word, heap_line, layout_line};
+ghost use Rattle.parser.specs.Reading.{command_line, times_line, end_line, part_line, later_line, line_in, in_line};
+ghost use Rattle.parser.specs.Reading.{finished, last_line, script_in, script_of, Gives, Follows, IsFlawAtStart};
+ghost use Rattle.parser.specs.Reading.{CutsLine, HasNoNewline};
 
 use crate::commands::{actor_at, order_at};
 use crate::fault::{FaultKind, Flaw, LineFault, ParseFault, Stop};

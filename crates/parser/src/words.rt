@@ -4,7 +4,8 @@
 ghost use Rattle.std.specs.Prelude.{◌==◌, position, ◌≡◌, ◌+◌, ◌-◌, ◌*◌, ◌^◌, ◌≤◌, ◌<◌, length, min, true, IfOk, IfSome};
 ghost use Rattle.std.specs.Option.{option_map};
 ghost use Rattle.std.specs.List.{list_all};
-ghost use Rattle.parser.specs.Words.{seen, word_at, word_or, is_digit, is_number, capped_from, number_at, small_at, named_at, named_in, end_at, fixed_at};
+ghost use Rattle.parser.specs.Words.{seen, word_at, word_or, is_digit, is_number, capped_from, number_at, small_at};
+ghost use Rattle.parser.specs.Words.{named_at, named_in, end_at, fixed_at};
 ghost use Rattle.parser.specs.Words.{number_in, point_parts, address_at};
 
 use crate::fault::{FaultKind, Flaw};

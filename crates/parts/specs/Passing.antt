@@ -1,5 +1,6 @@
 -- A list against a history, entry by entry.
-use Rattle.std.specs.Prelude.{◌≡◌, ◌≢◌, ◌≤◌, ◌+◌, ◌⊎◌, ℕ, true, false, List, length, take, Option, Some, None, slice_get}
+use Rattle.std.specs.Prelude.{◌≡◌, ◌≢◌, ◌≤◌, ◌+◌, ◌⊎◌, ℕ, true, false, List, length, take, Option, Some, None}
+use Rattle.std.specs.Prelude.{slice_get}
 use Rattle.model.specs.declared.steps.Actor.{Actor}
 use Rattle.entries.specs.declared.entry.Entry.{Entry}
 use Rattle.parts.specs.Parts.{is_same, part_of}

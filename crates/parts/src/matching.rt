@@ -24,7 +24,8 @@ fn is_entry(left: &Entry, right: &Entry) -> bool
 /// Whether a list has an entry at a place.
 #[tactic(auto, using(crate::proofs::Entries::here, crate::proofs::Entries::another, crate::proofs::Entries::past))]
 fn has_at(list: &History, place: usize, entry: &Entry) -> bool
-    ensures { MatchBool result (slice_get list.now.entries place ≡ Some entry.now) (slice_get list.now.entries place ≢ Some entry.now) }
+    ensures { MatchBool result (slice_get list.now.entries place ≡ Some entry.now)
+        (slice_get list.now.entries place ≢ Some entry.now) }
 {
     match list.get(place) {
         Some(found) => is_entry(found.entry(), entry),
@@ -72,7 +73,8 @@ fn next_place(
 /// Whether a list is what a history has of an actor, in order. It takes no memory.
 #[tactic(auto, using(crate::proofs::Parts::whole, crate::proofs::Parts::too_long))]
 pub fn is_part(list: &History, actor: Actor, history: &History) -> bool
-    ensures { MatchBool result (list.now.entries ≡ part_of actor history.now.entries) (list.now.entries ≢ part_of actor history.now.entries) }
+    ensures { MatchBool result (list.now.entries ≡ part_of actor history.now.entries)
+        (list.now.entries ≢ part_of actor history.now.entries) }
 {
     let mut place = 0;
     for index in 0..history.len() {

@@ -1,5 +1,6 @@
 -- Entries whose objects are written into pieces of the target, one behind the other.
-use Rattle.std.proofs.Common.{◌≡◌, ℕ, suc, ◌+◌, ◌-◌, ◌%◌, ◌≤◌, List, ◌++◌, length, take, drop, Some, Bool, true, false, cond}
+use Rattle.std.proofs.Common.{◌≡◌, ℕ, suc, ◌+◌, ◌-◌, ◌%◌, ◌≤◌, List, ◌++◌, length, take, drop, Some, Bool, true, false}
+use Rattle.std.proofs.Common.{cond}
 use Rattle.std.proofs.Common.{sym, ap, ◌∙◌, arith}
 use Rattle.std.specs.List.{slice_get}
 use Rattle.std.proofs.lemmas.List.{append_assoc, length-append, take-append-drop}
@@ -62,20 +63,23 @@ pub laid_stretch : (s : SourceState) (f : Forwarding) (at base e k r place n : �
     → ((before : List ℕ) → place + length words ≡ at + length before
     → laid_from s at (e + 1) r (before ++ behind) ≡ before ++ more)
     → laid_from s at e k (front ++ ws) ≡ front ++ (gap ++ (new ++ more))
-laid_stretch s f at base e k r place n front ws gap rest here behind words new more z h there p low q fits a b long c d w
+laid_stretch s f at base e k r place n front ws gap rest here behind words new more z h there p low q fits a b long c d
+    w
     fill others =
     let cut : length gap ≡ n = ap length a ∙ length_cut n ws fits in
     let same : length here ≡ length words = ap length c ∙ length_cut (length words) rest long in
     let new_long : length new ≡ length words = length_filled f.copied here words new same fill in
     let at_gap : length (front ++ gap) ≡ length front + length gap = length-append front gap in
-    let at_new : length ((front ++ gap) ++ new) ≡ length (front ++ gap) + length new = length-append (front ++ gap) new in
+    let at_new : length ((front ++ gap) ++ new) ≡ length (front ++ gap) + length new = length-append (front ++ gap)
+    new in
     ap (λ l. laid_from s at e k (front ++ l)) (parted n (length words) ws gap rest here behind a b c d)
     ∙ laid_next s f at e k r front gap here behind new more h there (omega (arith, z, p, low, q, cut, at_gap))
     (same ∙ ap length w) (fill ∙ ap (λ l. cond f.copied here l) w)
     (others ((front ++ gap) ++ new) (omega (arith, z, low, q, cut, at_gap, at_new, new_long)))
 
 -- none was written
-pub laid_none_yet : (s : SourceState) (base e k : ℕ) (ws new : List ℕ) → k ≡ 0 → laid_from s base e k ws ≡ new → new ≡ ws
+pub laid_none_yet : (s : SourceState) (base e k : ℕ) (ws new : List ℕ) → k ≡ 0 → laid_from s base e k ws ≡ new → new
+    ≡ ws
 laid_none_yet s base e k ws new h z = sym z ∙ ap (λ m. laid_from s base e m ws) h
 
 -- so many are copied, and others behind them

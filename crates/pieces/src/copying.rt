@@ -76,7 +76,8 @@ fn copy_pieces(
     requires size { 0 < source.now.size }
     requires within { first + count ≤ length source.now.side.now }
     ensures count { result ≤ count }
-    ensures laid { (front : List ℕ) → (at : ℕ) → base ≡ at + length front → laid_from (source_of source.now) at first result (front ++ target.old) ≡ front ++ target.new }
+    ensures laid { (front : List ℕ) → (at : ℕ) → base ≡ at + length front
+        → laid_from (source_of source.now) at first result (front ++ target.old) ≡ front ++ target.new }
 {
     let _entries = source.side.len();
     if count == 0 {

@@ -1,6 +1,7 @@
 //! Objects are copied by halves, each on a thread of its own (ours).
 
-ghost use Rattle.std.specs.Prelude.{◌≡◌, ◌+◌, ◌-◌, ◌*◌, ◌/◌, ◌<◌, ◌≤◌, ◌^◌, ◌++◌, ℕ, List, true, length, take, drop, slice_get, IfSome};
+ghost use Rattle.std.specs.Prelude.{◌≡◌, ◌+◌, ◌-◌, ◌*◌, ◌/◌, ◌<◌, ◌≤◌, ◌^◌, ◌++◌, ℕ, List, true, length, take, drop};
+ghost use Rattle.std.specs.Prelude.{slice_get, IfSome};
 ghost use Rattle.std.specs.Thread.{IsSync};
 ghost use Rattle.model.specs.declared.limits.TheConstants.{MOST_WORDS};
 ghost use Rattle.pieces.specs.Pieces.{source_of, laid_from, AreInOrder, Follows, end_by};
@@ -73,8 +74,11 @@ fn cut_at(source: &Source<'_>, first: usize, count: usize, base: usize, len: usi
     requires order { AreInOrder (source_of source.now) base (base + len) first count }
     ensures within { result ≤ len }
     ensures low { AreInOrder (source_of source.now) base (base + result) first (count / 2) }
-    ensures high { AreInOrder (source_of source.now) (base + result) (base + len) (first + count / 2) (count - count / 2) }
-    ensures laid { (ws : List ℕ) → length ws ≡ len → laid_from (source_of source.now) base first (count / 2) (take result ws) ++ laid_from (source_of source.now) (base + result) (first + count / 2) (count - count / 2) (drop result ws) ≡ laid_from (source_of source.now) base first count ws }
+    ensures high { AreInOrder (source_of source.now) (base + result) (base + len) (first + count / 2)
+        (count - count / 2) }
+    ensures laid { (ws : List ℕ) → length ws ≡ len → laid_from (source_of source.now) base first (count / 2)
+        (take result ws) ++ laid_from (source_of source.now) (base + result) (first + count / 2) (count - count / 2)
+        (drop result ws) ≡ laid_from (source_of source.now) base first count ws }
 {
     let _entries = source.side.len();
     if count == 0 {
@@ -124,11 +128,16 @@ fn copy_by<R: Threads + Sync, G: PieceGate + Sync>(
     join_mut(
         rt,
         &mut ||
-            requires { IsSync R.row × IsSync G.row × (0 < source.now.size) × (first + low ≤ length source.now.side.now) × AreInOrder (source_of source.now) base (base + length front.now) first low × (0 < left) × (piece + left ≤ 2 ^ 20) × (base + length front.now ≤ MOST_WORDS) }
+            requires { IsSync R.row × IsSync G.row × (0 < source.now.size) × (first + low ≤ length source.now.side.now)
+                × AreInOrder (source_of source.now) base (base + length front.now) first low × (0 < left)
+                × (piece + left ≤ 2 ^ 20) × (base + length front.now ≤ MOST_WORDS) }
             ensures { front.exit.now ≡ laid_from (source_of source.entry.now) base first low front.entry.now }
         { copy_by(rt, gate, source, first, low, base, left, piece, front) },
         &mut ||
-            requires { IsSync R.row × IsSync G.row × (0 < source.now.size) × (middle + high ≤ length source.now.side.now) × AreInOrder (source_of source.now) behind (behind + length back.now) middle high × (0 < right) × (second + right ≤ 2 ^ 20) × (behind + length back.now ≤ MOST_WORDS) }
+            requires { IsSync R.row × IsSync G.row × (0 < source.now.size)
+                × (middle + high ≤ length source.now.side.now)
+                × AreInOrder (source_of source.now) behind (behind + length back.now) middle high × (0 < right)
+                × (second + right ≤ 2 ^ 20) × (behind + length back.now ≤ MOST_WORDS) }
             ensures { back.exit.now ≡ laid_from (source_of source.entry.now) behind middle high back.entry.now }
         { copy_by(rt, gate, source, middle, high, behind, right, second, back) },
     );

@@ -107,7 +107,8 @@ module _ {h : HeapState} (s : IsStore h.store) (l : IsLaid h) (o : SoundObjects 
   }
 
   -- an object is copied that a word names
-  changed : (a n : ℕ) (bit : Bool) → (world_of h).side_entry a ≡ Planned n → IsCopied h (Some (a, bit)) (with_copy h a n)
+  changed : (a n : ℕ) (bit : Bool) → (world_of h).side_entry a ≡ Planned n
+      → IsCopied h (Some (a, bit)) (with_copy h a n)
   unfolding with_copy
   changed a n bit plan =
       let (q, here) = o.planned_object a n plan in

@@ -16,7 +16,8 @@ use Rattle.model.specs.Registers.{register_of, with_register}
 use Rattle.model.specs.Marks.{with_mark, marked_word}
 use Rattle.model.specs.Moves.{copied_for}
 use Rattle.model.specs.Checkpoints.{first_behind, phase_behind, with_crossed}
-use Rattle.model.specs.Checkpoints.{with_marked_word, with_marked_register, with_marked_registers, marked_at_crossing, cross_thread}
+use Rattle.model.specs.Checkpoints.{with_marked_word, with_marked_register, with_marked_registers, marked_at_crossing}
+use Rattle.model.specs.Checkpoints.{cross_thread}
 use Rattle.model.specs.Plain.{PlainHeap}
 use Rattle.model.proofs.Lists.{get_within, each_changed, position_none, position_passes, position_finds}
 use Rattle.model.proofs.Tables.{length_changed}
@@ -53,7 +54,8 @@ register_marked {g} t n x s l i phase at low =
     let within : n < c.config.registers =
     subst (λ (z : Config). n < z.registers) (sym m.copied.carries.size.config) low in (
       becomes (and_then m.carries (register_carries (with_mark c v) t x there n (marked_word c v) (m.carries.laid l)
-          m.word within)) (mark_register t n) (ap (λ u. set_register t n u (mark_word (as_word v) (world_of g))) m.same),
+          m.word within)) (mark_register t n) (ap (λ u. set_register t n u (mark_word (as_word v) (world_of g)))
+          m.same),
       m.copied.store,
     )
 

@@ -106,9 +106,11 @@ plain_field (Some o) i m =
 -- the barrier of a load that begins
 load_carries : (h : HeapState) (t : ℕ) (x : ThreadState) → slice_get h.threads t ≡ Some x → (r : ℕ) (z : Place)
     → (w : Reference) (v : Word) → as_word w ≡ v → IsWord w → r < h.config.registers
-    → Carries h (with_barrier h t (new_barrier r z w) counters.Loads) (set_barrier t (effects.new_barrier r (as_place z) v))
+    → Carries h (with_barrier h t (new_barrier r z w) counters.Loads)
+    (set_barrier t (effects.new_barrier r (as_place z) v))
 load_carries h t x at r z w v same word low =
-    subst (λ v. Carries h (with_barrier h t (new_barrier r z w) counters.Loads) (set_barrier t (effects.new_barrier r (as_place z) v)))
+    subst (λ v. Carries h (with_barrier h t (new_barrier r z w) counters.Loads)
+    (set_barrier t (effects.new_barrier r (as_place z) v)))
     same (barrier_carries h t x at (new_barrier r z w) counters.Loads (record { target = low; raw = word; now = word }))
 
 module _ {h : HeapState} {p p0 : PlainHeap} (s : IsStore h.store) (d : IsHeap h) (k : Holds h p p0) (t : ℕ) where
@@ -235,7 +237,8 @@ module _ {h : HeapState} {p p0 : PlainHeap} (s : IsStore h.store) (d : IsHeap h)
     still_load = record { target = load.target; raw = load.raw; now = load.now }
 
     -- the place has another word by now
-    other_word : StepHolds h p p0 (Thread t) steps.Heal (with_barrier h t (set_healed b) counters.Changed) answers.Changed
+    other_word : StepHolds h p p0 (Thread t) steps.Heal (with_barrier h t (set_healed b) counters.Changed)
+        answers.Changed
     unfolding plain_step plain_answer
     other_word = row_by k (barrier_carries h t x at (set_healed b) counters.Changed still_load) (stays h p)
         (HealChanged t (as_barrier b) in_world) tt
@@ -255,7 +258,8 @@ module _ {h : HeapState} {p p0 : PlainHeap} (s : IsStore h.store) (d : IsHeap h)
         field_is h s k.laid a q here i (bits_of b.raw) there.within (ap (word_at h.store) spot ∙ bits)
         ∙ ap as_read (reads_back b.raw load.raw) in
         row_by k (and_then (field_carries h s k.laid a q here i (field_address a i) b.now load.now there.within spot)
-        (barrier_carries (with_place h (places.Field a i) b.now) t x at (set_healed b) counters.Healed still_load)) (stays h p)
+        (barrier_carries (with_place h (places.Field a i) b.now) t x at (set_healed b) counters.Healed still_load))
+        (stays h p)
         (HealField t (as_barrier b) a i q in_world (ap as_place place) here same (unmarked clear)) tt
 
     -- a global is healed

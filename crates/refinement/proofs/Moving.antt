@@ -171,7 +171,8 @@ module _ {h : HeapState} {p p0 : PlainHeap} (s : IsStore h.store) (k : Holds h p
       ∙ entry_numbered h.store.words 0 (of_page h.sides page) e f (rising page) at
       ∙ ap (λ b. worlds.entry_of b f.to) fresh in
       let (q, here) = k.invariant.objects.planned_object (page * h.store.words + f.offset) f.to plan in
-      row_by k (copy_carries s k.laid k.invariant.objects (page * h.store.words + f.offset) f.to q plan here) (stays h p)
+      row_by k (copy_carries s k.laid k.invariant.objects (page * h.store.words + f.offset) f.to q plan here)
+      (stays h p)
       (Copy (page * h.store.words + f.offset) f.to q (closed_checkpoint all) plan here) tt))))
 
   -- where the object at an address is, once it is copied
@@ -243,7 +244,8 @@ module _ {h : HeapState} {p p0 : PlainHeap} (s : IsStore h.store) (k : Holds h p
             let z = leads a bit open_load.pending.1 (ap (names (world_of h)) (sym word) ∙ open_load.barrier.now.names)
             (pending_kept (world_of h) (births_of p) t (as_barrier b) open_load) (held_protected h t a f) in
             subst (λ n. StepHolds h p p0 (Thread t) steps.Trap
-            (with_barrier (copied_first h a) t (set_now_of (Some (n, bit)) b) counters.Gc) answers.Moved) (sym z.word) (elim z.how [
+            (with_barrier (copied_first h a) t (set_now_of (Some (n, bit)) b) counters.Gc) answers.Moved) (sym z.word)
+            (elim z.how [
               | inl (copied, same) ↦ subst (λ g. StepHolds h p p0 (Thread t) steps.Trap
                   (with_barrier g t (set_now_of (Some (z.place, bit)) b) counters.Gc) answers.Moved) (sym same)
                   (row_by k (barrier_carries h t x at (set_now_of (Some (z.place, bit)) b) counters.Gc
@@ -287,7 +289,8 @@ module _ {h : HeapState} {p p0 : PlainHeap} (s : IsStore h.store) (k : Holds h p
                   (with_register g t r (Some (z.place, bit))) answers.Moved) (sym same)
                   (row_by k (and_then (copy_carries s k.laid k.invariant.objects a z.place q plan here)
                   (register_carries (with_copy h a z.place) t x at r (Some (z.place, bit))
-                  ((copy_carries s k.laid k.invariant.objects a z.place q plan here).laid k.laid) z.is_address low)) (stays h p)
+                  ((copy_carries s k.laid k.invariant.objects a z.place q plan here).laid k.laid) z.is_address low))
+                  (stays h p)
                   (ScrubCopied t r a z.place bit q closed word plan here (not_protecting h.phase phase)) tt)
             ])
 

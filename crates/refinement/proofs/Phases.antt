@@ -45,7 +45,8 @@ use Rattle.model.specs.Moves.{copied_for}
 use Rattle.model.specs.Checkpoints.{with_marked_registers, marked_at_crossing, cross_thread, may_cross, cross_outcome}
 use Rattle.model.specs.Checkpoints.{cross_for_outcome, park_outcome, unpark_outcome}
 use Rattle.model.specs.Scans.{scan_of, with_scan, is_taken, may_scan, with_marked_place, with_scan_end, scan_next}
-use Rattle.model.specs.Scans.{mark_place, is_todo_in, with_marked_global, mark_global, pick_outcome, scan_field_outcome, scan_global_outcome}
+use Rattle.model.specs.Scans.{mark_place, is_todo_in, with_marked_global, mark_global, pick_outcome, scan_field_outcome}
+use Rattle.model.specs.Scans.{scan_global_outcome}
 use Rattle.model.specs.Cycles.{start_mark, start_mark_outcome, end_mark, end_mark_outcome}
 use Rattle.model.specs.Traps.{trap_outcome, scrub_outcome}
 use Rattle.model.specs.Outcome.{outcome, thread_gate, thread_row, worker_gate, worker_row}

@@ -1,6 +1,7 @@
 -- Workers scan: objects are picked, and fields and globals are marked and written back.
 use Rattle.std.proofs.Common.{◌≡◌, ◌≢◌, inr, ℕ, ◌+◌, ◌*◌, ◌%◌, ◌<◌, ◌&&◌, ◌||◌, true, false, not}
-use Rattle.std.proofs.Common.{nat_lt, length, set, List, Option, Some, None, refl, sym, ◌∙◌, ap, ap₂, subst, arith, is_some}
+use Rattle.std.proofs.Common.{nat_lt, length, set, List, Option, Some, None, refl, sym, ◌∙◌, ap, ap₂, subst, arith}
+use Rattle.std.proofs.Common.{is_some}
 use mathlib.Core.Path.{fun_ext}
 use Rattle.std.specs.List.{slice_get}
 use Rattle.std.specs.Option.{option_map}

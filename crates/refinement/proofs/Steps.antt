@@ -105,9 +105,11 @@ pub marks_find : (h : HeapState) (p p0 : PlainHeap) (actor : Actor) (step : Step
     → Finds g (plain_step h.config.layouts p actor step) (kept_at_mark p p0 step) step × Leaves h p step
 unfolding plain_step
 marks_find h p p0 (Thread t) steps.EndMark g answer s d k e = of_accepted
-    (λ (z : HeapState × Answer). FindsLive z.0 p p0 × PlannedIsUnreachable (world_of h) (births_of p)) (outcome h (Thread t) steps.EndMark) (g, answer)
+    (λ (z : HeapState × Answer). FindsLive z.0 p p0 × PlannedIsUnreachable (world_of h) (births_of p))
+    (outcome h (Thread t) steps.EndMark) (g, answer)
     (ended_holds h p p0 (Thread t) s k) e
 marks_find h p p0 (Worker w) steps.EndMark g answer s d k e = of_accepted
-    (λ (z : HeapState × Answer). FindsLive z.0 p p0 × PlannedIsUnreachable (world_of h) (births_of p)) (outcome h (Worker w) steps.EndMark) (g, answer)
+    (λ (z : HeapState × Answer). FindsLive z.0 p p0 × PlannedIsUnreachable (world_of h) (births_of p))
+    (outcome h (Worker w) steps.EndMark) (g, answer)
     (ended_holds h p p0 (Worker w) s k) e
 marks_find h p p0 actor _ g answer s d k e = (tt, tt)

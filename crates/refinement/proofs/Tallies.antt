@@ -40,7 +40,8 @@ use Rattle.model.specs.Births.{place_object, hand_object, used_buffer, new_outco
 use Rattle.model.specs.Bits.{bit_on, of_page}
 use Rattle.model.specs.Marks.{with_mark, marked_word, entry_at}
 use Rattle.model.specs.Loads.{with_barrier, with_loaded, barrier_of_thread, load_outcome, load_global_outcome}
-use Rattle.model.specs.Loads.{tally_of_thread, gc_trap_due, nmt_trap_due, trap_due, bits_at, are_bits_of, set_healed, set_now_of}
+use Rattle.model.specs.Loads.{tally_of_thread, gc_trap_due, nmt_trap_due, trap_due, bits_at, are_bits_of, set_healed}
+use Rattle.model.specs.Loads.{set_now_of}
 use Rattle.model.specs.Loads.{is_refused, heal_place, heal_outcome, may_finish, end_load, finish_outcome}
 use Rattle.model.specs.Checkpoints.{with_parked, with_crossed, with_marked_word, with_marked_register}
 use Rattle.model.specs.Checkpoints.{with_marked_registers}

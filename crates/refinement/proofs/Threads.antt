@@ -92,7 +92,8 @@ module _ (h : HeapState) (t : ℕ) (x : ThreadState) (at : slice_get h.threads t
       (register_world r w (omega (arith, low, l.registers t x at)))
 
   -- a barrier is opened or changed; the heap by addresses has no tallies
-  barrier_world : (b : Barrier) (c : Counter) → world_of (with_barrier h t b c) ≡ set_barrier t (as_barrier b) (world_of h)
+  barrier_world : (b : Barrier) (c : Counter) → world_of (with_barrier h t b c)
+      ≡ set_barrier t (as_barrier b) (world_of h)
   unfolding with_barrier register_of
   barrier_world b c = λ z. record (world_of h) {
     register = fun_ext (λ u. fun_ext

@@ -72,7 +72,8 @@ copies_keep h p p0 w page e (suc k) s l =
 pub copy_page_holds : (h : HeapState) (p p0 : PlainHeap) (w page : ℕ) → IsStore h.store → Holds h p p0
     → RowHolds h p p0 (Worker w) (steps.CopyPage page) (copy_page_outcome h page)
 unfolding copy_page_outcome copy_page plain_step plain_answer
-copy_page_holds h p p0 w page s k = on_unless (is_idle h.phase) _ _ _ (λ u. on_bind (crossed_if_protecting h) _ _ (λ v f.
+copy_page_holds h p p0 w page s k = on_unless (is_idle h.phase) _ _ _
+    (λ u. on_bind (crossed_if_protecting h) _ _ (λ v f.
     on_unless (not (is_from (state_at h.store page))) _ _ _ (λ x.
     let all = copies_keep h p p0 w page 0 (length (of_page h.sides page)) s k in
     record { config = all.config; holds = all.holds; answers = tt })))

@@ -120,7 +120,8 @@ PhasesMove =
     → IsStore h.store → IsHeap h → Holds h p p0 → outcome h actor step ≡ Ok (g, answer) → MovesPhase h step g
 
 -- what an accepted step has, from a heap that stood for the plain heap p: it stands for the plain heap after its step,
--- and answers as that does; a mark that has ended has found what lives, and left nothing behind that can be reached; the
+-- and answers as that does; a mark that has ended has found what lives, and left nothing behind that can be reached;
+-- the
 -- phase has moved as it may; and the tallies count the step
 pub record StepKeeps (old : HeapState) (p p0 : PlainHeap) (actor : Actor) (step : Step) (new : HeapState)
     (answer : Answer) : Type 0 where

@@ -1,5 +1,6 @@
 -- The copies of a whole page: what they come to, and when they are refused.
-use Rattle.std.proofs.Common.{◌≡◌, ℕ, zero, suc, ◌+◌, ◌*◌, ◌/◌, ◌%◌, Bool, true, false, cond, not, length, count_by, Option, Some, None}
+use Rattle.std.proofs.Common.{◌≡◌, ℕ, zero, suc, ◌+◌, ◌*◌, ◌/◌, ◌%◌, Bool, true, false, cond, not, length, count_by}
+use Rattle.std.proofs.Common.{Option, Some, None}
 use Rattle.std.proofs.Common.{refl, sym, ◌∙◌, ap}
 use Rattle.std.specs.List.{slice_get}
 use Rattle.std.specs.Prelude.{Result, Ok, Err}
@@ -43,7 +44,8 @@ may_copy h n e = by_tests (is_idle h.phase) (crossed_if_protecting h) (is_from (
 copied_one : (h : HeapState) (n e : ℕ) → MayCopy h n
     → heap_after h (copy_outcome h n e) ≡ with_entry h n (slice_get (of_page h.sides n) e)
 unfolding copy_outcome entry_on
-copied_one h n e m = by_tests (is_idle h.phase) (crossed_if_protecting h) (is_from (state_at h.store n)) m.busy m.crossed
+copied_one h n e m = by_tests (is_idle h.phase) (crossed_if_protecting h) (is_from (state_at h.store n)) m.busy
+    m.crossed
     m.emptied
   where
     row : Option Forwarding → Outcome

@@ -129,11 +129,14 @@ drafts_rise h (n ∷ ns) d (suc i) fs e = drafts_rise h ns d i fs e
 
 -- what is put is what is settled
 put_is : (h : HeapState) (ts pages : List ℕ) (ps : List (ℕ × ℕ)) (sides : List (List Forwarding))
-    → with_placed_drafts h.store.words ts pages (map (draft_of h) pages) ps sides ≡ with_placed_sides h ts pages ps sides
+    → with_placed_drafts h.store.words ts pages (map (draft_of h) pages) ps sides
+    ≡ with_placed_sides h ts pages ps sides
 put_is h ts [] ps sides = refl
 put_is h ts (n ∷ ns) ps sides =
-    put_is h ts ns (drop (length (draft_of h n)) ps) (set sides (n - 1) (with_places h.store.words ts ps (draft_of h n)))
-    ∙ ap (λ k. with_placed_sides h ts ns (drop k ps) (set sides (n - 1) (with_places h.store.words ts ps (draft_of h n))))
+    put_is h ts ns (drop (length (draft_of h n)) ps) (set sides (n - 1)
+    (with_places h.store.words ts ps (draft_of h n)))
+    ∙ ap (λ k. with_placed_sides h ts ns (drop k ps) (set sides (n - 1)
+    (with_places h.store.words ts ps (draft_of h n))))
     (length-map (live_offsets h n) (draft_entry h n))
 
 pub put_moves : (h : HeapState) (ts pages : List ℕ) (sides : List (List Forwarding)) → IsHeap h

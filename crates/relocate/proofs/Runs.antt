@@ -1,6 +1,8 @@
 -- Runs of entries that go to one target, and entries by their addresses.
-use Rattle.std.proofs.Common.{◌≡◌, ℕ, zero, suc, ◌+◌, ◌*◌, ◌/◌, ◌%◌, ◌<◌, ◌≤◌, Bool, true, false, cond, nat_eq, List, [], ◌∷◌}
-use Rattle.std.proofs.Common.{length, map, Option, Some, None, refl, sym, ◌∙◌, ap, subst, arith, div-add-mod', ◌-◌, get_or}
+use Rattle.std.proofs.Common.{◌≡◌, ℕ, zero, suc, ◌+◌, ◌*◌, ◌/◌, ◌%◌, ◌<◌, ◌≤◌, Bool, true, false, cond, nat_eq, List}
+use Rattle.std.proofs.Common.{[], ◌∷◌}
+use Rattle.std.proofs.Common.{length, map, Option, Some, None, refl, sym, ◌∙◌, ap, subst, arith, div-add-mod', ◌-◌}
+use Rattle.std.proofs.Common.{get_or}
 use Rattle.std.specs.List.{slice_get}
 use Rattle.std.specs.Option.{IsSome}
 use Rattle.std.proofs.lemmas.Bool.{eqb-true}
@@ -177,7 +179,8 @@ entries_on h n e (suc j) k =
     let z : suc j + k ≡ suc (j + k) = omega arith in
     let y : (e + 1) + j ≡ e + suc j = omega arith in
     let g : HeapState = with_entry h n (slice_get (of_page h.sides n) e) in
-    ap (λ m. with_entries h n e m) z ∙ entries_on g n (e + 1) j k ∙ ap (λ m. with_entries (with_entries g n (e + 1) j) n m k) y
+    ap (λ m. with_entries h n e m) z ∙ entries_on g n (e + 1) j k
+    ∙ ap (λ m. with_entries (with_entries g n (e + 1) j) n m k) y
 
 -- a loop over runs
 pub record IsDone (h g : HeapState) (n first count : ℕ) : Type 0 where

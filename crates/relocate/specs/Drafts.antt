@@ -28,10 +28,12 @@ draft_sizes h n = map (draft_size h n) (live_offsets h n)
 abbrev pub with_places : ℕ → List ℕ → List (ℕ × ℕ) → List Forwarding → List Forwarding
 with_places words targets ps [] = []
 with_places words targets [] (f ∷ fs) = f ∷ with_places words targets [] fs
-with_places words targets (p ∷ ps) (f ∷ fs) = record f { to = address_in words targets p } ∷ with_places words targets ps fs
+with_places words targets (p ∷ ps) (f ∷ fs) = record f { to = address_in words targets p }
+    ∷ with_places words targets ps fs
 
 -- side arrays of which those of these pages are settled, one page's places behind the other's
-abbrev pub with_placed_sides : HeapState → List ℕ → List ℕ → List (ℕ × ℕ) → List (List Forwarding) → List (List Forwarding)
+abbrev pub with_placed_sides : HeapState → List ℕ → List ℕ → List (ℕ × ℕ) → List (List Forwarding)
+    → List (List Forwarding)
 with_placed_sides h targets [] ps sides = sides
 with_placed_sides h targets (n ∷ ns) ps sides = with_placed_sides h targets ns (drop (length (live_offsets h n)) ps)
     (slice_set sides (n - 1) (with_places h.store.words targets ps (draft_of h n)))
@@ -42,4 +44,5 @@ abbrev pub with_placed_drafts : ℕ → List ℕ → List ℕ → List (List For
 with_placed_drafts words targets [] drafts ps sides = sides
 with_placed_drafts words targets (n ∷ ns) [] ps sides = sides
 with_placed_drafts words targets (n ∷ ns) (d ∷ ds) ps sides =
-    with_placed_drafts words targets ns ds (drop (length d) ps) (slice_set sides (n - 1) (with_places words targets ps d))
+    with_placed_drafts words targets ns ds (drop (length d) ps)
+    (slice_set sides (n - 1) (with_places words targets ps d))

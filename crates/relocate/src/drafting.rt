@@ -25,7 +25,8 @@ fn draft_places(
     requires high { page ≤ heap.now.store.count }
     requires size { length row.now ≡ heap.now.store.words }
     ensures places { IfOk result (λ v. v.items ≡ map (address_of heap.now page) (offsets_from 0 row.now)) }
-    ensures sizes { OnOk result (sizes.new.items ≡ sizes.old.items ++ map (draft_size heap.now page) (offsets_from 0 row.now)) }
+    ensures sizes { OnOk result (sizes.new.items ≡ sizes.old.items ++ map (draft_size heap.now page)
+        (offsets_from 0 row.now)) }
 {
     let mut places = Vec::with_capacity(alloc, row.count())?;
     let mut from = 0;

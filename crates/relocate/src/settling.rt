@@ -26,7 +26,8 @@ fn settle_one(
     requires high { Each targets.now (λ n. n ≤ heap.now.store.count) }
     requires counted { Each plan.now (λ p. p.0 < length targets.now) }
     requires within { Each plan.now (λ p. p.1 < heap.now.store.words) }
-    ensures { (p : ℕ × ℕ) → slice_get plan.now number ≡ Some p → side.new ≡ change_at side.old index (set_place_of (address_in heap.now.store.words targets.now p)) }
+    ensures { (p : ℕ × ℕ) → slice_get plan.now number ≡ Some p → side.new
+        ≡ change_at side.old index (set_place_of (address_in heap.now.store.words targets.now p)) }
 {
     if let Some(slot) = plan.place(number) {
         let to = heap.address_on(targets[slot.target()], slot.offset());
@@ -66,7 +67,10 @@ fn settle_page(
     requires high { Each targets.now (λ n. n ≤ heap.old.store.count) }
     requires counted { Each plan.now (λ p. p.0 < length targets.now) }
     requires within { Each plan.now (λ p. p.1 < heap.old.store.words) }
-    ensures heap { heap.new ≡ record heap.old { sides = slice_set heap.old.sides (page - 1) (with_places heap.old.store.words targets.now (drop first plan.now) side) } }
+    ensures heap { heap.new ≡ record heap.old {
+      sides = slice_set heap.old.sides (page - 1)
+          (with_places heap.old.store.words targets.now (drop first plan.now) side);
+    } }
     ensures next { result ≡ first + length side }
 {
     heap.law();
@@ -94,7 +98,10 @@ pub(crate) fn settle_pages(
     requires high { Each targets.now (λ n. n ≤ heap.old.store.count) }
     requires counted { Each plan.now (λ p. p.0 < length targets.now) }
     requires within { Each plan.now (λ p. p.1 < heap.old.store.words) }
-    ensures { heap.new ≡ record heap.old { sides = with_placed_drafts heap.old.store.words targets.now pages.now sides.old.items plan.now heap.old.sides } }
+    ensures { heap.new ≡ record heap.old {
+      sides = with_placed_drafts heap.old.store.words targets.now pages.now
+          sides.old.items plan.now heap.old.sides;
+    } }
 {
     let alloc = *sides.allocator();
     let mut first = 0;

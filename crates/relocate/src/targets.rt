@@ -12,7 +12,8 @@ use heap::Heap;
 fn open_next(heap: &mut Heap) -> u32
     requires frame { 0 < free_count heap.old.store }
     requires page { 0 < unused_count heap.old.store }
-    ensures first { (k : ℕ) → with_targets (suc k) heap.old ≡ ((with_targets k heap.new).0, result ∷ (with_targets k heap.new).1) }
+    ensures first { (k : ℕ) → with_targets (suc k) heap.old
+        ≡ ((with_targets k heap.new).0, result ∷ (with_targets k heap.new).1) }
     ensures frames { free_count heap.new.store + 1 ≡ free_count heap.old.store }
     ensures pages { unused_count heap.new.store + 1 ≡ unused_count heap.old.store }
     ensures low { 0 < result }

@@ -37,7 +37,8 @@ fn target_of(heap: &Heap, page: u64, entry: u32) -> Option<u64>
 
 /// Whether the object of an entry goes to a target.
 fn is_going_to(heap: &Heap, page: u64, entry: u32, target: u64) -> bool
-    ensures { result ≡ true → goes_to heap.now.store.words (slice_get (of_page heap.now.sides page) entry) ≡ Some target }
+    ensures { result ≡ true → goes_to heap.now.store.words (slice_get (of_page heap.now.sides page) entry)
+        ≡ Some target }
 {
     match target_of(heap, page, entry) {
         None => false,

@@ -191,7 +191,8 @@ impl<'a> fmt::Display for ThreadLine<'a> {
     ghost use Rattle.std.specs.Prelude.{Some};
     ghost use Rattle.text.specs.Reports.{thread_line};
 
-    ghost output = { λ l. Some (thread_line l.number l.activity l.buffer l.registers.page_words l.registers.words.now) };
+    ghost output = { λ l. Some (thread_line l.number l.activity l.buffer l.registers.page_words
+        l.registers.words.now) };
 
     fn fmt<W: fmt::Write>(&self, f: &mut fmt::Formatter<W>) -> fmt::Result {
         let (number, activity, registers) = (self.number, self.activity, self.registers);

@@ -3,7 +3,8 @@
 
 ghost use Rattle.std.specs.Prelude.{◌≡◌, ◌<◌, length, slice_get, slice_set, replicate, None, IfOk};
 ghost use Rattle.model.specs.States.{flat};
-ghost use Rattle.model.specs.Threads.{set_register_of, set_buffer_of, set_barrier_of, set_loaded_of, set_parked_of, set_crossed_of};
+ghost use Rattle.model.specs.Threads.{set_register_of, set_buffer_of, set_barrier_of, set_loaded_of, set_parked_of};
+ghost use Rattle.model.specs.Threads.{set_crossed_of};
 ghost use Rattle.model.specs.First.{blank_thread};
 ghost use Rattle.threads.specs.Counting.{counted_behind};
 
@@ -28,7 +29,15 @@ impl Model for Thread {
 
     ghost Value = { ThreadState };
 
-    ghost view = { λ t. record { registers = t.registers.items; buffer = t.buffer; crossed = t.crossed; parked = t.parked; barrier = t.barrier; tally = t.tally } };
+    ghost view = { λ t. record {
+      registers = t.registers.items;
+      buffer = t.buffer;
+      crossed = t.crossed;
+      parked =
+          t.parked;
+      barrier = t.barrier;
+      tally = t.tally;
+    } };
 }
 
 /// So many registers, which are null. Fails only by memory.

@@ -8,7 +8,8 @@ ghost use Rattle.model.specs.Cycles.{first_pending, is_buffer_on, is_lent};
 ghost use Rattle.model.specs.First.{blank_thread};
 ghost use Rattle.model.specs.States.{change_at};
 ghost use Rattle.model.specs.Threads.{has_crossed, is_parked_in, register_in, buffer_in, barrier_of, tally_in};
-ghost use Rattle.model.specs.Threads.{set_register_of, set_buffer_of, set_barrier_of, set_loaded_of, set_parked_of, set_crossed_of};
+ghost use Rattle.model.specs.Threads.{set_register_of, set_buffer_of, set_barrier_of, set_loaded_of, set_parked_of};
+ghost use Rattle.model.specs.Threads.{set_crossed_of};
 
 use crate::thread::Thread;
 use model::{Barrier, Buffer, Counter, Tally};

@@ -65,6 +65,51 @@ fn have_replied(rt: &impl Abort, replies: &[Result<Answer, Refusal>]) {
     same(rt, replies, wanted.as_slice());
 }
 
+/// The object's page is marked, and a load of its reference has met one trap, whose answer this is.
+fn begin(book: &mut Book) -> Result<Answer, Refusal> {
+    act(book, Actor::Worker(0), Step::StartMark)?;
+    act(book, THREAD, Step::Cross)?;
+    let (target, object, field) = (1, 0, 0);
+    let load = Step::Load {
+        target,
+        object,
+        field,
+    };
+    act(book, THREAD, load)?;
+    act(book, THREAD, Step::Trap)
+}
+
+/// A load goes on behind a trap that was due.
+fn try_end(
+    rt: &impl Abort,
+    mut held: impl HeldBook + Drop,
+    replies: &mut Vec<Result<Answer, Refusal>>,
+) {
+    let book = held.book();
+    same(rt, make(book), Ok(()));
+    same(rt, begin(book), Ok(Answer::Marked));
+    same(
+        rt,
+        book.end_load(THREAD, replies).ok(),
+        Some(Ok(Answer::Done)),
+    );
+}
+
+/// What the steps behind that trap said: the place of the load is healed.
+fn have_healed(rt: &impl Abort, replies: &[Result<Answer, Refusal>]) {
+    let wanted = [Ok(Answer::Clear), Ok(Answer::Healed), Ok(Answer::Done)];
+    same(rt, replies, wanted.as_slice());
+}
+
+#[test]
+fn a_load_goes_on_behind_a_trap(rt: HostRuntime) -> Result<(), Fail> {
+    let alloc: Global = rt.alloc();
+    let mut replies = Vec::new(alloc);
+    try_end(&rt, Book::new(alloc, linked(alloc)?)?, &mut replies);
+    have_healed(&rt, &replies);
+    Ok(())
+}
+
 #[test]
 fn a_whole_load(rt: HostRuntime) -> Result<(), Fail> {
     let alloc: Global = rt.alloc();

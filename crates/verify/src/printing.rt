@@ -38,6 +38,7 @@ fn put_layouts<W: Write>(f: &mut Formatter<W>, layouts: &[Layout]) -> Result {
 }
 
 fn put_starts<W: Write>(f: &mut Formatter<W>, starts: &[bool]) -> Result {
+    f.write_str(" starts")?;
     for offset in 0..starts.len() {
         if starts[offset] {
             write!(f, " {offset}")?;
@@ -46,13 +47,16 @@ fn put_starts<W: Write>(f: &mut Formatter<W>, starts: &[bool]) -> Result {
     Ok(())
 }
 
+fn put_entry<W: Write>(f: &mut Formatter<W>, entry: &Forwarding) -> Result {
+    let (offset, to) = (entry.offset, entry.to.number());
+    write!(f, " {offset}>{to}")?;
+    f.write_str(if entry.copied { "*" } else { "" })
+}
+
 fn put_side<W: Write>(f: &mut Formatter<W>, side: &[Forwarding]) -> Result {
+    f.write_str(" side")?;
     for entry in side {
-        let (offset, to) = (entry.offset, entry.to.number());
-        write!(f, " {offset}>{to}")?;
-        if entry.copied {
-            f.write_str("*")?;
-        }
+        put_entry(f, entry)?;
     }
     Ok(())
 }
@@ -67,16 +71,18 @@ fn name_of(state: PageState) -> &'static str {
     }
 }
 
-fn put_page<W: Write>(f: &mut Formatter<W>, number: usize, page: &PageImage) -> Result {
+fn put_state<W: Write>(f: &mut Formatter<W>, number: usize, page: &PageImage) -> Result {
     write!(f, "page {number} ")?;
     f.write_str(name_of(page.state))?;
     match page.frame {
-        None => f.write_str(" frame -")?,
-        Some(frame) => write!(f, " frame {frame}")?,
+        None => f.write_str(" frame -"),
+        Some(frame) => write!(f, " frame {frame}"),
     }
-    f.write_str(" starts")?;
+}
+
+fn put_page<W: Write>(f: &mut Formatter<W>, number: usize, page: &PageImage) -> Result {
+    put_state(f, number, page)?;
     put_starts(f, &page.starts)?;
-    f.write_str(" side")?;
     put_side(f, &page.side)?;
     writeln!(f)
 }
@@ -88,14 +94,25 @@ fn put_pages<W: Write>(f: &mut Formatter<W>, pages: &[PageImage]) -> Result {
     Ok(())
 }
 
+fn put_frame<W: Write>(f: &mut Formatter<W>, frame: usize, memory: &Words) -> Result {
+    write!(f, "frame {frame}")?;
+    put_words(f, &memory.words)?;
+    writeln!(f)
+}
+
 fn put_frames<W: Write>(f: &mut Formatter<W>, frames: &[Words]) -> Result {
     for frame in 0..frames.len() {
-        let memory = &frames[frame];
-        write!(f, "frame {frame}")?;
-        put_words(f, &memory.words)?;
-        writeln!(f)?;
+        put_frame(f, frame, &frames[frame])?;
     }
     Ok(())
+}
+
+fn put_load<W: Write>(f: &mut Formatter<W>, thread: usize, load: Option<u64>) -> Result {
+    write!(f, "thread {thread} load ")?;
+    match load {
+        None => f.write_str("-"),
+        Some(word) => write!(f, "{word:x}"),
+    }
 }
 
 fn put_thread<W: Write>(
@@ -104,11 +121,7 @@ fn put_thread<W: Write>(
     load: Option<u64>,
     registers: &[u64],
 ) -> Result {
-    write!(f, "thread {thread} load ")?;
-    match load {
-        None => f.write_str("-")?,
-        Some(word) => write!(f, "{word:x}")?,
-    }
+    put_load(f, thread, load)?;
     f.write_str(" registers")?;
     put_words(f, registers)?;
     writeln!(f)
@@ -131,6 +144,13 @@ impl Image {
         }
     }
 
+    fn put_sizes<W: Write>(&self, f: &mut Formatter<W>) -> Result {
+        let (words, frames) = (self.words, self.frame_count);
+        write!(f, "image words {words} frames {frames} free")?;
+        put_free(f, &self.free)?;
+        writeln!(f)
+    }
+
     fn put_threads<W: Write>(&self, f: &mut Formatter<W>) -> Result {
         for thread in 0..self.registers.len().max(self.loads.len()) {
             let load = self.loads.get(thread).copied().flatten();
@@ -142,10 +162,7 @@ impl Image {
 
 impl Display for Image {
     fn fmt<W: Write>(&self, f: &mut Formatter<W>) -> Result {
-        let (words, frames) = (self.words, self.frame_count);
-        write!(f, "image words {words} frames {frames} free")?;
-        put_free(f, &self.free)?;
-        writeln!(f)?;
+        self.put_sizes(f)?;
         put_layouts(f, &self.layouts)?;
         put_pages(f, &self.pages)?;
         put_frames(f, &self.frames)?;

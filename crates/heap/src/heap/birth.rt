@@ -1,6 +1,7 @@
 //! New objects.
 
-ghost use Rattle.std.specs.Prelude.{◌≡◌, ◌≤◌, ◌<◌, ◌+◌, ◌-◌, ◌*◌, ◌∷◌, ◌++◌, length, drop, replicate, slice_get, Some, true};
+ghost use Rattle.std.specs.Prelude.{◌≡◌, ◌≤◌, ◌<◌, ◌+◌, ◌-◌, ◌*◌, ◌∷◌, ◌++◌, length, drop, replicate, slice_get, Some};
+ghost use Rattle.std.specs.Prelude.{true};
 ghost use Rattle.layout.specs.Objects.{size_of};
 ghost use Rattle.model.specs.Stores.{overlay, with_words};
 ghost use Rattle.model.specs.Owning.{LiesIn};
@@ -35,7 +36,8 @@ fn write_object(part: &mut [u64], header: u64, others: usize)
 fn write_new(store: &mut Store, buffer: Buffer, header: u64, others: u32)
     requires lies { LiesIn store.old buffer }
     requires room { others < buffer.end - buffer.next }
-    ensures { store.new ≡ with_words store.old buffer.page (λ ws. overlay ws buffer.next (header ∷ replicate others 0)) }
+    ensures { store.new ≡ with_words store.old buffer.page
+        (λ ws. overlay ws buffer.next (header ∷ replicate others 0)) }
 {
     store.law();
     let part = store.part_mut(&buffer);
@@ -126,7 +128,10 @@ impl Heap {
     #[tactic(auto, using(crate::proofs::Keeping::thread_keeps))]
     fn hand_over(&mut self, thread: u32, target: u32, word: Word, rest: Buffer)
         requires { LiesIn self.old.store rest }
-        ensures { self.new ≡ record self.old { threads = change_at self.old.threads thread (hand_object target word rest) } }
+        ensures { self.new ≡ record self.old {
+          threads = change_at self.old.threads thread
+              (hand_object target word rest);
+        } }
     {
         self.threads.hand_object(thread, target, word, rest);
     }

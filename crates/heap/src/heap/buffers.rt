@@ -2,7 +2,8 @@
 
 ghost use Rattle.std.specs.Prelude.{◌≡◌, ◌≤◌, ◌<◌, length, slice_get, Some, None, IfOk, IfSome};
 ghost use Rattle.model.specs.Owning.{LiesIn};
-ghost use Rattle.model.specs.Buffers.{buffer_of_thread, opened_rows, with_opened_rows, with_buffer, lend_buffer, take_outcome, give_back_outcome};
+ghost use Rattle.model.specs.Buffers.{buffer_of_thread, opened_rows, with_opened_rows, with_buffer, lend_buffer};
+ghost use Rattle.model.specs.Buffers.{take_outcome, give_back_outcome};
 ghost use Rattle.model.specs.Refusing.{Does};
 ghost use Rattle.model.specs.Saying.{said, done, lent};
 ghost use Rattle.model.specs.Outcome.{Passes};

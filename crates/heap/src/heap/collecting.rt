@@ -58,7 +58,8 @@ pub trait CollectorEdits {
 #[inline(always)]
 fn mark_at(mark: &mut Rows, todo: &mut IndexedRows, store: &Store, address: Addr) -> bool
     ensures mark { mark.new ≡ with_bit mark.old store.now.words address true }
-    ensures todo { todo.new ≡ (if bit_at mark.old store.now.words address then todo.old else with_bit todo.old store.now.words address true) }
+    ensures todo { todo.new ≡ (if bit_at mark.old store.now.words address then todo.old else with_bit todo.old
+        store.now.words address true) }
 {
     let is_new = !bit_at(mark, store, address);
     if is_new {

@@ -1,7 +1,8 @@
 //! Registers, and the steps on them alone.
 
 ghost use Rattle.std.specs.Prelude.{◌≡◌, is_none, Ok};
-ghost use Rattle.model.specs.Registers.{register_of, with_register, let_through, usable, usable_or_null, same_outcome, is_null_outcome, copy_register_outcome, clear_register_outcome};
+ghost use Rattle.model.specs.Registers.{register_of, with_register, let_through, usable, usable_or_null, same_outcome};
+ghost use Rattle.model.specs.Registers.{is_null_outcome, copy_register_outcome, clear_register_outcome};
 ghost use Rattle.model.specs.Refusing.{Does};
 ghost use Rattle.model.specs.Saying.{said};
 ghost use Rattle.model.specs.Outcome.{Passes};

@@ -100,7 +100,11 @@ impl Store {
     fn release_at(&mut self, index: usize)
         requires there { index < length self.old.pages }
         requires from { state_in (slice_get self.old.pages index) ≡ From }
-        ensures { self.new ≡ record self.old { pages = change_at self.old.pages index set_gone_of; owners = with_free self.old.owners (frame_in (slice_get self.old.pages index)) } }
+        ensures { self.new ≡ record self.old {
+          pages = change_at self.old.pages index set_gone_of;
+          owners = with_free
+              self.old.owners (frame_in (slice_get self.old.pages index));
+        } }
     {
         let page = self.pages[index];
         self.pages[index] = Page {

@@ -6,6 +6,7 @@ use Rattle.parts.proofs.matching.next_place.Goals as goal
 
 pub returns : goal.returns
 returns c =
-    passes_at c.args.list.now.entries c.args.place c.args.actor c.args.history.now.entries c.args.index c.entry.result.now
+    passes_at c.args.list.now.entries c.args.place c.args.actor c.args.history.now.entries c.args.index
+    c.entry.result.now
     c.passed.result (ap Some c.entry.ensures ∙ sym (ap (option_map entry_of) c.in-Some.is) ∙ c.get.ensures)
     c.requires.before c.passed.ensures

@@ -11,5 +11,6 @@ pub returns-clause-laid : goal.returns-clause-laid
 returns-clause-laid c =
     let s = source_of c.args.source.now in
     c.copy_entry.ensures ∙ ap (laid_by s c.args.base (slice_get c.args.source.now.side.now c.args.first))
-    (laid_none_yet s c.args.base c.args.first c.copy_pieces-copied.result c.args.target.now c.copy_pieces-copied.new.target (omega (arith, c.if-copied-gt0.false))
+    (laid_none_yet s c.args.base c.args.first c.copy_pieces-copied.result c.args.target.now
+    c.copy_pieces-copied.new.target (omega (arith, c.if-copied-gt0.false))
     (c.copy_pieces-copied.ensures.laid [] c.args.base (omega arith)))

@@ -15,7 +15,8 @@ pub draft_places-requires-clause-size : goal.draft_places-requires-clause-size
 draft_places-requires-clause-size c =
     let h = c.args.heap.now in
     row_sized h c.args.page c.requires.low c.in-Some.row.now c.law.ensures.heap
-    (ap (λ rows. slice_get rows (c.args.page - 1)) (sym c.live.ensures) ∙ sym c.get.ensures ∙ ap option_copied c.in-Some.is)
+    (ap (λ rows. slice_get rows (c.args.page - 1)) (sym c.live.ensures) ∙ sym c.get.ensures
+    ∙ ap option_copied c.in-Some.is)
 
 pub returns-in-None-clause-side : goal.returns-in-None-clause-side
 returns-in-None-clause-side c = c.empty.ensures

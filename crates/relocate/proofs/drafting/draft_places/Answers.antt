@@ -14,7 +14,8 @@ loop-offset-preserved c =
     let left = left_next row c.loop-offset.from k (subst (IsNextPlace row c.loop-offset.from) c.in-Some.is
     c.next_from.ensures) in (
       taken_over (address_of h n) c.loop-offset.places.items c.push.new.self.items _ _ _ k left
-          (c.in_ok-push.ensures.items ∙ ap (λ a. c.loop-offset.places.items ++ a ∷ []) c.address_on-to.ensures) c.loop-offset.invariant.0,
+          (c.in_ok-push.ensures.items ∙ ap (λ a. c.loop-offset.places.items ++ a ∷ []) c.address_on-to.ensures)
+          c.loop-offset.invariant.0,
       taken_over (draft_size h n) c.loop-offset.sizes.items c.push-in-Some.new.self.items _ _ _ k left
           (c.in_ok-push-2.ensures.items ∙ ap (λ w. c.loop-offset.sizes.items ++ w ∷ [])
           (c.object_words.ensures.value ∙ ap (object_words h) c.address_on-to.ensures)) c.loop-offset.invariant.1,

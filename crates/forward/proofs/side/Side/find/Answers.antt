@@ -6,7 +6,8 @@ use Rattle.forward.proofs.Ranked.{none_ranked, rank_within}
 use Rattle.forward.proofs.side.Side.find.Goals as goal
 
 pub returns-then-not-test : goal.returns-then-not-test
-returns-then-not-test c = sym (none_ranked c.self.inside.live c.self.inside.places.items c.self.inside.copied c.self.invariant
+returns-then-not-test c = sym (none_ranked c.self.inside.live c.self.inside.places.items c.self.inside.copied
+    c.self.invariant
     c.args.offset (sym c.test.ensures ∙ c.if-not-test.true)) ∙ ap (λ s. entry_of s c.args.offset) c.self.view_is
 
 pub returns : goal.returns

@@ -11,7 +11,8 @@ pub returns-in_default : goal.returns-in_default
 returns-in_default c =
     let g : HeapState = heap_of c.self.inside in
     entries_none c.args.self.now c.args.page c.args.first c.args.count
-    (no_side g.sides c.args.page (c.args.page - 1) c.args.first c.args.count c.if-page-eq0.false refl c.in_default.ensures
+    (no_side g.sides c.args.page (c.args.page - 1) c.args.first c.args.count c.if-page-eq0.false refl
+    c.in_default.ensures
     (subst (λ (h : HeapState). c.args.first + c.args.count ≤ length (of_page h.sides c.args.page)) (sym c.self.view_is)
     c.requires.within))
 

@@ -10,6 +10,8 @@ invariant_of-self c =
     let h = heap_of c.self.inside in
     let sized = subst (AreSized h.store) (sym c.set_word_behind.ensures)
     (word_sized_alike h.store (c.args.address + c.args.ahead) c.args.value) in
-    store_keeps h c.set_word_behind.new.self c.self.invariant sized (λ b lies. subst (λ s. LiesIn s b) (sym c.set_word_behind.ensures)
+    store_keeps h c.set_word_behind.new.self c.self.invariant sized
+    (λ b lies. subst (λ s. LiesIn s b) (sym c.set_word_behind.ensures)
     (word_lies h.store (c.args.address + c.args.ahead) c.args.value b lies))
-    (λ k. subst NoneProtected (sym c.set_word_behind.ensures) (word_unprotected h.store (c.args.address + c.args.ahead) c.args.value k))
+    (λ k. subst NoneProtected (sym c.set_word_behind.ensures)
+    (word_unprotected h.store (c.args.address + c.args.ahead) c.args.value k))

@@ -6,5 +6,6 @@ use Rattle.managed.proofs.managed.ManagedHeap.empty_steps.Goals as goal
 
 pub returns-in-Ok : goal.returns-in-Ok
 returns-in-Ok c = goes_then (IsCollecting c.args.worker) c.args.self.now c.step.new.self c.empty_listed.new.self
-    (collect_step c.args.worker c.args.self.now c.step.new.self (steps.Protect c.new.result) c.step.result c.step.ensures.does
+    (collect_step c.args.worker c.args.self.now c.step.new.self (steps.Protect c.new.result) c.step.result
+    c.step.ensures.does
     c.step.ensures.stands) c.empty_listed.ensures

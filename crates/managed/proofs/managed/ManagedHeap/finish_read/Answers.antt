@@ -14,5 +14,6 @@ returns-in-Ok c = ends_after c.args.self.now c.heal.new.self c.finish.new.self c
     c.finish.ensures.stands)
 
 pub returns-else-due : goal.returns-else-due
-returns-else-due c = finish_ends c.args.self.now c.finish-else-due.new.self c.args.thread c.finish-else-due.result c.finish-else-due.ensures.does
+returns-else-due c = finish_ends c.args.self.now c.finish-else-due.new.self c.args.thread c.finish-else-due.result
+    c.finish-else-due.ensures.does
     c.finish-else-due.ensures.stands

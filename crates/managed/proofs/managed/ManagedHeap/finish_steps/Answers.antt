@@ -2,7 +2,8 @@ use Rattle.managed.proofs.Gathering.{crossings_collect, crossing_refused, marks_
 use Rattle.managed.proofs.managed.ManagedHeap.finish_steps.Goals as goal
 
 pub returns-in-Ok : goal.returns-in-Ok
-returns-in-Ok c = marks_after c.args.worker c.args.self.now c.cross_all.new.self c.drain_and_end.new.self c.drain_and_end.result
+returns-in-Ok c = marks_after c.args.worker c.args.self.now c.cross_all.new.self c.drain_and_end.new.self
+    c.drain_and_end.result
     (crossings_collect c.args.worker c.args.self.now c.cross_all.new.self
     c.cross_all.ensures.goes) c.drain_and_end.ensures
 
