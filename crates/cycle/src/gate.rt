@@ -123,7 +123,7 @@ fn is_loading(heap: &Heap, thread: u32) -> bool
 
 /// The tests of every step of a thread, in their order: no such thread, or no step of a thread;
 /// a number that names nothing; a parked thread, unless it is to run again; an open barrier, unless
-/// the step is one of its own.
+/// the step is one of its own. Its Ok is what a call asks that does the step's row.
 #[inline(always)]
 #[tactic(auto, unfolding(model::specs::Outcome::thread_gate))]
 pub fn thread_gate(heap: &Heap, thread: u32, step: &Step) -> Result<(), Refusal>
@@ -145,7 +145,7 @@ pub fn thread_gate(heap: &Heap, thread: u32, step: &Step) -> Result<(), Refusal>
 }
 
 /// The tests of every step of a worker, in their order: no such worker, or no step of a worker; a
-/// number that names nothing.
+/// number that names nothing. Its Ok is what a call asks that does the step's row.
 #[tactic(auto, unfolding(model::specs::Outcome::worker_gate))]
 pub fn worker_gate(heap: &Heap, worker: u32, step: &Step) -> Result<(), Refusal>
     ensures { result ≡ worker_gate heap.now worker step.now }

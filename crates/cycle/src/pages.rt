@@ -61,7 +61,7 @@ fn has_pair(pages: &[u32]) -> bool
 /// Whether a page stands in a list twice. A list that rises names none twice, which one pass tells;
 /// of all others each two are compared.
 #[tactic(auto, using(crate::proofs::NamedOnce::rising_once))]
-fn has_twice(pages: &[u32]) -> bool
+pub fn has_twice(pages: &[u32]) -> bool
     ensures { result ≡ has_twice pages.now }
 {
     !rises(pages) && has_pair(pages)

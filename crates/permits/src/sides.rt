@@ -1,0 +1,59 @@
+//! Side arrays that a page may be given.
+
+ghost use Rattle.std.specs.Prelude.{◌≡◌, MatchBool, slice_get};
+ghost use Rattle.permits.specs.Permits.{IsSideFor, are_entries, is_entry, next_low};
+
+use forward::Side;
+use heap::Heap;
+use model::Forwarding;
+
+/// Whether an entry's offset is at least a lowest one, and its object goes to a page.
+fn is_entry(heap: &Heap, low: u32, entry: Forwarding) -> bool
+    ensures { result ≡ is_entry heap.now.config low entry }
+{
+    heap.law();
+    let config = heap.config();
+    let end = u64::from(config.pages + 1) * u64::from(config.words);
+    low <= entry.offset && entry.to.number() < end
+}
+
+/// The lowest offset of the next entry, where this one is as it has to be and lies in a page.
+fn next_low(heap: &Heap, low: u32, entry: Option<Forwarding>) -> Option<u32>
+    ensures { result ≡ next_low heap.now.config low entry }
+{
+    match entry {
+        None => None,
+        Some(entry) => {
+            let offset = entry.offset;
+            if offset < heap.config().words && is_entry(heap, low, entry) {
+                Some(offset + 1)
+            } else {
+                None
+            }
+        }
+    }
+}
+
+/// Whether all entries are as they have to be.
+#[tactic(auto, using(crate::proofs::Entries::entries_more, crate::proofs::Entries::entries_stop))]
+fn are_entries(heap: &Heap, side: &Side) -> bool
+    ensures { result ≡ are_entries heap.now.config 0 side.now }
+{
+    let mut low = 0;
+    for index in 0..side.len() {
+        match next_low(heap, low, side.entry(index)) {
+            None => return false,
+            Some(next) => low = next,
+        }
+    }
+    true
+}
+
+/// Whether the offsets of entries rise and lie in a page, and each entry goes to a page, which is what
+/// `Heap::set_side` asks.
+#[tactic(auto, using(crate::proofs::Entries::side_told))]
+pub fn can_set_side(heap: &Heap, side: &Side) -> bool
+    ensures { MatchBool result (IsSideFor heap.now side.now) (¬ IsSideFor heap.now side.now) }
+{
+    are_entries(heap, side)
+}
