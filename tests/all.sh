@@ -2,7 +2,8 @@
 # The whole test command: 'rt ci', then the programs of README.md; the program on
 # all scripts and faults, on long scripts, and with words, files and outputs that
 # fail; then the program and the library's calls with each of their requests for
-# memory refused, and the trying of edits itself. 'make test' runs it at the top of the repository.
+# memory refused, and the program with each start of a thread refused; and the
+# trying of edits itself. 'make test' runs it at the top of the repository.
 # The last line is 'N passed, M failed, K skipped', and the exit status is 0
 # where M is 0: K edits that must fail weren't tried, as tests/refused.txt says
 # that they were refused. What each crate took stands before it.
@@ -50,6 +51,7 @@ if "$INSTALL" -m 755 "$proved/crates/report/out/report" pauseless; then
     count 'the faults' sh tests/faults.sh
     count 'the program' sh tests/program.sh
     count 'the threads' sh tests/threads.sh
+    count 'threads that lack memory' sh tests/starved.sh
     count 'long scripts' sh tests/long.sh
     count 'refused memory' sh tests/memory.sh
     count 'refused memory of calls' sh tests/calls.sh "$proved/crates"

@@ -1,8 +1,9 @@
 #!/bin/sh
-# Runs the program on each script of tests/faults.txt. Where a fault is due, it
-# has to stand alone on standard error, with status 2 and no output; else the
-# status is 0 and standard error empty. The program is ./pauseless, or the one
-# that the first argument names.
+# Runs the program on each script of tests/faults.txt, in its modes 'run' and
+# 'check', and on each of tests/faults_of_threads.txt in its mode 'threads'. Where
+# a fault is due, it has to stand alone on standard error, with status 2 and no
+# output; else the status is 0 and standard error empty. The program is
+# ./pauseless, or the one that the first argument names.
 
 cd "$(dirname "$0")/.." || exit 1
 . tests/begin.sh
@@ -12,17 +13,8 @@ sizes='heap words 16 frames 1 pages 1 threads 1 workers 1 registers 2 globals 0'
 head="$sizes\\nlayout 0 2\\n"
 block="${head}times 100000\\nt0 give\\nt0 give\\n"
 
-while IFS="$tab" read -r script fault; do
-    case $script in
-    '#'* | '') continue ;;
-    NOTHING*) text=${script#NOTHING} ;;
-    SIZES*) text=$sizes${script#SIZES} ;;
-    HEAD*) text=$head${script#HEAD} ;;
-    THREE*) text="${block}t0 give\\n${script#THREE}" ;;
-    TWO*) text="${block}end\\n${script#TWO}" ;;
-    *) text=$script ;;
-    esac
-    printf '%b' "$text" > "$kept/script"
+# tells MODE: the script in $kept/script has the fault $fault, or none, in this mode.
+tells() {
     if [ "$fault" = none ]; then
         wanted=0
         : > "$kept/error"
@@ -30,16 +22,37 @@ while IFS="$tab" read -r script fault; do
         wanted=2
         echo "pauseless: $fault" > "$kept/error"
     fi
-    "$program" run "$kept/script" > "$kept/output_got" 2> "$kept/error_got"
+    timeout 60 "$program" "$1" "$kept/script" > "$kept/output_got" 2> "$kept/error_got"
     status=$?
     if [ "$status" = "$wanted" ] && cmp -s "$kept/error" "$kept/error_got" \
         && { [ "$wanted" = 0 ] || [ ! -s "$kept/output_got" ]; }; then
         passed=$((passed + 1))
     else
-        echo "failed: $script: status $status, $(cat "$kept/error_got")"
+        echo "failed: $1: $script: status $status, $(cat "$kept/error_got")"
         failed=$((failed + 1))
     fi
-done < tests/faults.txt
+}
 
+# all_told TABLE MODE..: each script of the table has its fault in each of these modes.
+all_told() {
+    table=$1
+    shift
+    while IFS="$tab" read -r script fault; do
+        case $script in
+        '#'* | '') continue ;;
+        NOTHING*) text=${script#NOTHING} ;;
+        SIZES*) text=$sizes${script#SIZES} ;;
+        HEAD*) text=$head${script#HEAD} ;;
+        THREE*) text="${block}t0 give\\n${script#THREE}" ;;
+        TWO*) text="${block}end\\n${script#TWO}" ;;
+        *) text=$script ;;
+        esac
+        printf '%b' "$text" > "$kept/script"
+        for mode; do tells "$mode"; done
+    done < "$table"
+}
+
+all_told tests/faults.txt run check
+all_told tests/faults_of_threads.txt threads
 echo "$passed passed, $failed failed"
 [ "$failed" = 0 ]

@@ -25,24 +25,61 @@ counts() {
     fi
 }
 
-# is_so BASE: the run has ended as the files of its script say.
-is_so() {
-    [ "$status" = "$wanted" ] && cmp -s "$1.expected" "$kept/output" && cmp -s "$kept/error" "$kept/errors"
+# repeats SCRIPT BASE RUNS WHAT: runs the script so often. Each run has to end as the files of BASE say.
+repeats() {
+    if [ -f "$2.error" ]; then cp "$2.error" "$kept/error"; else : > "$kept/error"; fi
+    if [ -f "$2.status" ]; then wanted=$(cat "$2.status"); else wanted=0; fi
+    run=1
+    while [ "$run" -le "$3" ]; do
+        races "$1"
+        [ "$status" = "$wanted" ] && cmp -s "$2.expected" "$kept/output" && cmp -s "$kept/error" "$kept/errors" || break
+        run=$((run + 1))
+    done
+    [ "$run" -gt "$3" ]
+    counts "run $run of $4" $?
 }
 
 for script in examples/threads/*.script tests/threads/*.script; do
     base=${script%.script}
-    if [ -f "$base.error" ]; then cp "$base.error" "$kept/error"; else : > "$kept/error"; fi
-    if [ -f "$base.status" ]; then wanted=$(cat "$base.status"); else wanted=0; fi
     if [ -f "$base.runs" ]; then runs=$(cat "$base.runs"); else runs=1; fi
-    run=1
-    while [ "$run" -le "$runs" ]; do
-        races "$script"
-        is_so "$base" || break
-        run=$((run + 1))
-    done
-    [ "$run" -gt "$runs" ]
-    counts "run $run of $script" $?
+    repeats "$script" "$base" "$runs" "$script"
+done
+
+# The two lists among 64 threads and 16 workers. A thread without commands parks at once.
+{
+    head -n 2 tests/threads/two_lists.expected
+    for thread in $(seq 2 63); do echo "thread $thread births 0 data 0"; done
+    echo settled
+} > "$kept/among.expected"
+for name in two_lists rolling_lists; do
+    sed 's/threads 2 workers 2/threads 64 workers 16/' "tests/threads/$name.script" > "$kept/among.script"
+    repeats "$kept/among.script" "$kept/among" 50 "$name among many"
+done
+
+# crowd COMMAND: 64 threads each link a list of 20 objects and read it back, with their own number in each datum,
+# while worker 0 has the command three times, and 15 others scan.
+crowd() {
+    awk -v command="$1" '
+        function all(what) { for (t = 0; t < 64; t++) { line = what; gsub(/T/, t, line); print line } }
+        BEGIN {
+            print "heap words 512 frames 64 pages 128 threads 64 workers 16 registers 4 globals 64\nlayout 1 1"
+            all("tT take 60")
+            print "times 20"
+            all("tT new r1 0\ntT set r1 0 T\ntT store r1 0 r0\ntT mov r0 r1\ntT storeg T r0")
+            print "end"
+            all("tT give")
+            print "times 20"
+            all("tT datum r0 0\ntT get r0 r0 0")
+            print "end\ntimes 3\nw0 " command " 100\nend"
+        }'
+}
+{
+    for thread in $(seq 0 63); do echo "thread $thread births 20 data $((20 * thread))"; done
+    echo settled
+} > "$kept/crowd.expected"
+for command in cycle roll; do
+    crowd "$command" > "$kept/crowd.script"
+    repeats "$kept/crowd.script" "$kept/crowd" 50 "64 lists and $command"
 done
 
 # A history of 1,000 entries ends the two lists anywhere. A thread reads its list when all of it is made, and each of
