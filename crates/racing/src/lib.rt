@@ -7,8 +7,6 @@ mod mutator;
 mod run;
 mod running;
 mod scanning;
-mod telling;
 
 pub use gate::{Gate, OpenGate};
 pub use running::{ThreadsFault, by_threads};
-pub use telling::{tell_stray, tell_threads};

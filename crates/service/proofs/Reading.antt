@@ -2,11 +2,13 @@
 use Rattle.std.proofs.Common.{◌≡◌, ℕ, ◌+◌, ◌≤◌, List, [], ◌++◌, length, take, Option}
 use Rattle.std.proofs.Common.{Some, None, IfSome, inl, inr, ◌∙◌, ap, subst, arith, rules}
 use Rattle.std.specs.Option.{option_map}
-use Rattle.std.specs.Prelude.{Result, Ok, Err, IfErr, OnOk}
+use Rattle.std.specs.Prelude.{Result, Ok, Err, IfErr, IfOk, OnOk}
 use Rattle.std.specs.declared.io.buffered.BufWriter.{BufWriter}
 use Rattle.std.proofs.lemmas.List.{length-take, take_all}
 use Rattle.std.proofs.lemmas.Bool.{cases_lt}
-use Rattle.service.specs.Serving.{HasFault, Prints, ReadsUpTo}
+use Rattle.parser.specs.Reading.{ScriptValue, script_in}
+use Rattle.parser.specs.Scripts.{IsTooLong}
+use Rattle.service.specs.Serving.{HasFault, HoldsScript, IsNoScript, Prints, ReadsUpTo}
 
 -- what is shorter than what was asked for is all
 pub whole : (limit : ℕ) (all bytes : List ℕ) → bytes ≡ take (limit + 1) all → length bytes ≤ limit → bytes ≡ all
@@ -33,17 +35,38 @@ read_up_to limit n (Some all) inner old bytes e i o h =
     subst (λ k. IfSome (option_map (take n) k) (λ xs. bytes ≡ old ++ xs)) i h in
     there ∙ ap (λ xs. xs ++ take n all) o ∙ ap (λ k. take k all) e
 
--- a fault of what was read is one of all: of too many bytes, or of the same bytes
-pub fault_all : (known : Option (List ℕ)) (bytes : List ℕ) → IfSome known (λ all. bytes ≡ take (4194304 + 1) all)
-    → HasFault bytes → IfSome known HasFault
-fault_all None bytes h k = search rules
-fault_all (Some all) bytes h k = elim (cases_lt 4194304 (length all)) [
-  | inl long ↦ inl long
-  | inr short ↦ subst HasFault (h ∙ take_all (4194304 + 1) all (omega (arith, short))) k
+-- what holds of what was read holds of all: of too many bytes it holds, and else they are the same
+pub fault_all : (Q : List ℕ → Type 0) (known : Option (List ℕ)) (bytes : List ℕ)
+    → ((all : List ℕ) → IsTooLong all → Q all) → IfSome known (λ all. bytes ≡ take (4194304 + 1) all)
+    → Q bytes → IfSome known Q
+fault_all Q None bytes too_long h k = search rules
+fault_all Q (Some all) bytes too_long h k = elim (cases_lt 4194304 (length all)) [
+  | inl long ↦ too_long all long
+  | inr short ↦ subst Q (h ∙ take_all (4194304 + 1) all (omega (arith, short))) k
 ]
 
-pub faults_all : {X E : Type 0} (r : Result X E) (P : E → Type 0) (known : Option (List ℕ)) (bytes : List ℕ)
+faults_all : {X E : Type 0} (Q : List ℕ → Type 0) (r : Result X E) (P : E → Type 0) (known : Option (List ℕ))
+    (bytes : List ℕ) → ((all : List ℕ) → IsTooLong all → Q all) → ReadsUpTo known bytes
+    → IfErr r (λ e. P e → Q bytes) → IfErr r (λ e. P e → IfSome known Q)
+faults_all Q (Ok u) P known bytes too_long h k = search rules
+faults_all Q (Err e) P known bytes too_long h k = λ p. fault_all Q known bytes too_long h (k p)
+
+-- the same of the faults of a run, and of a text alone
+pub run_faults : {X E : Type 0} (r : Result X E) (P : E → Type 0) (known : Option (List ℕ)) (bytes : List ℕ)
     → ReadsUpTo known bytes
     → IfErr r (λ e. P e → HasFault bytes) → IfErr r (λ e. P e → IfSome known HasFault)
-faults_all (Ok u) P known bytes h k = search rules
-faults_all (Err e) P known bytes h k = λ p. fault_all known bytes h (k p)
+run_faults r P known bytes h k = faults_all HasFault r P known bytes (λ all long. inl (inl long)) h k
+
+pub text_faults : {X E : Type 0} (r : Result X E) (P : E → Type 0) (known : Option (List ℕ)) (bytes : List ℕ)
+    → ReadsUpTo known bytes
+    → IfErr r (λ e. P e → IsNoScript bytes) → IfErr r (λ e. P e → IfSome known IsNoScript)
+text_faults r P known bytes h k = faults_all IsNoScript r P known bytes (λ all long. inl long) h k
+
+-- the script that was read is that of all
+pub script_all : {E : Type 0} (r : Result ScriptValue E) (known : Option (List ℕ)) (bytes : List ℕ)
+    → ReadsUpTo known bytes → IfOk r (λ s. length bytes ≤ 4194304) → IfOk r (λ s. script_in bytes ≡ Ok s)
+    → IfOk r (λ s. IfSome known (HoldsScript s))
+script_all (Err e) known bytes h fits read = search rules
+script_all (Ok s) None bytes h fits read = search rules
+script_all (Ok s) (Some all) bytes h fits read =
+    subst (HoldsScript s) (whole 4194304 all bytes h fits) (record { fits = fits; read = read })

@@ -25,13 +25,22 @@ pub record Prints {T A : Type 0} (contents : T → Option (List ℕ)) (old new :
   pub read : script_in bytes ≡ Ok script
   pub written : Appends (writer_contents contents old) (writer_contents contents new) (output_text script)
 
+-- the bytes are no more than a script may have, and they are this script
+pub record HoldsScript (script : ScriptValue) (bytes : List ℕ) : Type 0 where
+  pub fits : length bytes ≤ MOST_BYTES
+  pub read : script_in bytes ≡ Ok script
+
+-- the bytes are too many for a script, or no script
+abbrev pub IsNoScript : List ℕ → Type 0
+IsNoScript bytes = IsTooLong bytes ⊎ IsErr (script_in bytes)
+
 -- the bytes are a script with a command that only a run by threads does
 abbrev pub NeedsThreads : List ℕ → Type 0
 NeedsThreads bytes = (s : ScriptValue) × (script_in bytes ≡ Ok s) × (needs_threads s.commands ≡ true)
 
--- the bytes are too many for a script, or no script, or one that needs threads
+-- the bytes are no script, or one that needs threads
 abbrev pub HasFault : List ℕ → Type 0
-HasFault bytes = IsTooLong bytes ⊎ (IsErr (script_in bytes) ⊎ NeedsThreads bytes)
+HasFault bytes = IsNoScript bytes ⊎ NeedsThreads bytes
 
 -- the exit status: 2 for a fault of the script
 abbrev pub fault_status : ServeFault → ℕ

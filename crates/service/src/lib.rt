@@ -6,4 +6,4 @@ mod asking;
 mod serving;
 
 pub use asking::{AskFault, Asked, Mode, ask};
-pub use serving::{ServeFault, not_opened, read_script, serve};
+pub use serving::{ServeFault, flushed, not_opened, read_script, serve};

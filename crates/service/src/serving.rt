@@ -8,7 +8,7 @@ ghost use Rattle.service.specs.declared.asking.Mode.TheVariants.{Run, Threads};
 ghost use Rattle.std.specs.Io.Buffered.{writer_buffer, writer_contents};
 ghost use Rattle.std.specs.Io.KnownBytes.{Appends, Keeps};
 ghost use Rattle.script.specs.Output.{output_text};
-ghost use Rattle.service.specs.Serving.{HasFault, IsStatus, Prints, ReadsUpTo, fault_status};
+ghost use Rattle.service.specs.Serving.{HasFault, HoldsScript, IsNoScript, IsStatus, Prints, ReadsUpTo, fault_status};
 
 use crate::asking::{Asked, Mode};
 use checking::{Checked, by_check};
@@ -77,7 +77,7 @@ fn read_bytes<R: io::Read>(alloc: Global, reader: &mut R) -> Result<Vec<u8>, Ser
 fn script_in(alloc: Global, bytes: &[u8]) -> Result<Script, ServeFault>
     ensures fits { IfOk result (λ script. length bytes.now ≤ MOST_BYTES) }
     ensures read { IfOk result (λ script. script_in bytes.now ≡ Ok script) }
-    ensures faults { IfErr result (λ fault. fault_status fault ≡ 2 → HasFault bytes.now) }
+    ensures faults { IfErr result (λ fault. fault_status fault ≡ 2 → IsNoScript bytes.now) }
 {
     if bytes.len() > MOST_BYTES {
         return Err(ServeFault::Parse(ParseFault::TooLong));
@@ -90,7 +90,8 @@ fn script_in(alloc: Global, bytes: &[u8]) -> Result<Script, ServeFault>
 
 /// The script that is read. A fault is told by `ServeFault::tell`.
 pub fn read_script<R: io::Read>(alloc: Global, reader: &mut R) -> Result<Script, ServeFault>
-    ensures faults { IfErr result (λ fault. fault_status fault ≡ 2 → IfSome (R.remaining reader.old) HasFault) }
+    ensures read { IfOk result (λ script. IfSome (R.remaining reader.old) (HoldsScript script)) }
+    ensures faults { IfErr result (λ fault. fault_status fault ≡ 2 → IfSome (R.remaining reader.old) IsNoScript) }
 {
     let bytes = read_bytes(alloc, reader)?;
     script_in(alloc, &bytes)
@@ -130,7 +131,7 @@ fn run_script<W: io::Write + Drop>(
 }
 
 /// Writes out what the buffer still has.
-fn flushed<W: io::Write + Drop>(output: &mut BufWriter<W>) -> Result<(), ServeFault>
+pub fn flushed<W: io::Write + Drop>(output: &mut BufWriter<W>) -> Result<(), ServeFault>
     ensures keeps { OnOk result
         (Keeps (writer_contents W.contents output.old) (writer_contents W.contents output.new)) }
     ensures empty { OnOk result (writer_buffer output.new ≡ []) }

@@ -1,14 +1,22 @@
 use Rattle.std.proofs.Common.{List, ℕ, subst}
-use Rattle.std.specs.Prelude.{◌≡◌, IfErr}
-use Rattle.service.specs.Serving.{HasFault, fault_status}
-use Rattle.service.proofs.Reading.{faults_all}
+use Rattle.std.specs.Prelude.{◌≡◌, ◌≤◌, Ok, IfErr, IfOk, length}
+use Rattle.parser.specs.Reading.{script_in}
+use Rattle.service.specs.Serving.{IsNoScript, fault_status}
+use Rattle.service.proofs.Reading.{script_all, text_faults}
 use Rattle.service.proofs.serving.read_script.Goals as goal
 
-pub returns : goal.returns
-returns g c =
-    let faults = subst (λ (b : List ℕ). IfErr c.script_in.result (λ fault. fault_status fault ≡ 2 → HasFault b))
+pub returns-clause-read : goal.returns-clause-read
+returns-clause-read g c =
+    let fits = subst (λ (b : List ℕ). IfOk c.script_in.result (λ s. length b ≤ 4194304))
+    c.deref.ensures.value c.script_in.ensures.fits in
+    let read = subst (λ (b : List ℕ). IfOk c.script_in.result (λ s. script_in b ≡ Ok s))
+    c.deref.ensures.value c.script_in.ensures.read in
+    script_all c.script_in.result (g.R.Read.remaining c.args.reader.now) c.in_ok-bytes.bytes.items
+    c.in_ok-bytes.ensures.bytes fits read
+
+pub returns-clause-faults : goal.returns-clause-faults
+returns-clause-faults g c =
+    let faults = subst (λ (b : List ℕ). IfErr c.script_in.result (λ fault. fault_status fault ≡ 2 → IsNoScript b))
     c.deref.ensures.value c.script_in.ensures.faults in
-    record {
-      faults = faults_all c.script_in.result (λ fault. fault_status fault ≡ 2)
-          (g.R.Read.remaining c.args.reader.now) c.in_ok-bytes.bytes.items c.in_ok-bytes.ensures.bytes faults;
-    }
+    text_faults c.script_in.result (λ fault. fault_status fault ≡ 2)
+    (g.R.Read.remaining c.args.reader.now) c.in_ok-bytes.bytes.items c.in_ok-bytes.ensures.bytes faults

@@ -2,7 +2,7 @@ use Rattle.std.proofs.Common.{List, ℕ, subst}
 use Rattle.std.specs.Result.{OnOk}
 use Rattle.std.specs.Prelude.{◌≡◌, IfErr}
 use Rattle.service.specs.Serving.{HasFault, Prints, fault_status}
-use Rattle.service.proofs.Reading.{faults_all, prints_all}
+use Rattle.service.proofs.Reading.{run_faults, prints_all}
 use Rattle.service.proofs.serving.run.Goals as goal
 
 pub returns-clause-prints : goal.returns-clause-prints
@@ -16,5 +16,5 @@ pub returns-clause-faults : goal.returns-clause-faults
 returns-clause-faults g c =
     let faults = subst (λ (b : List ℕ). IfErr c.run_bytes.result (λ fault. fault_status fault ≡ 2 → HasFault b))
     c.deref.ensures.value c.run_bytes.ensures.faults in
-    faults_all c.run_bytes.result (λ fault. fault_status fault ≡ 2)
+    run_faults c.run_bytes.result (λ fault. fault_status fault ≡ 2)
     (g.R.Read.remaining c.args.reader.now) c.in_ok-bytes.bytes.items c.in_ok-bytes.ensures.bytes faults
