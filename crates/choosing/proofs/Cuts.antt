@@ -1,6 +1,8 @@
 -- The longest beginning of pages for which there is room.
-use Rattle.std.proofs.Common.{◌≡◌, ℕ, zero, suc, ◌+◌, ◌-◌, ◌^◌, ◌<◌, ◌≤◌, ◌&&◌, Bool, true, false, List, [], ◌∷◌, ◌++◌, cond}
-use Rattle.std.proofs.Common.{length, get_or, map, min, take, drop, nat_le, refl, sym, ap, ap₂, ◌∙◌, subst, arith, append-nil}
+use Rattle.std.proofs.Common.{◌≡◌, ℕ, zero, suc, ◌+◌, ◌-◌, ◌^◌, ◌<◌, ◌≤◌, ◌&&◌, Bool, true, false, List, [], ◌∷◌, ◌++◌}
+use Rattle.std.proofs.Common.{cond}
+use Rattle.std.proofs.Common.{length, get_or, map, min, take, drop, nat_le, refl, sym, ap, ap₂, ◌∙◌, subst, arith}
+use Rattle.std.proofs.Common.{append-nil}
 use Rattle.std.specs.List.{flat_map}
 use Rattle.std.proofs.lemmas.Bool.{leb-true, leb-false, le-leb}
 use Rattle.std.proofs.lemmas.List.{take_more, take_all, take-append-drop, length-map}
@@ -20,7 +22,8 @@ behind h ns = pack h.store.words first_packing (flat_map (sizes_on h) ns)
 
 -- it counts the targets of their plan
 targets_behind : (h : HeapState) (ns : List ℕ) → target_count (plan_of h ns) ≡ (behind h ns).count
-targets_behind h ns = ap target_count (sym (sizes_planned h ns)) ∙ targets_counted h.store.words (flat_map (sizes_on h) ns)
+targets_behind h ns = ap target_count (sym (sizes_planned h ns))
+    ∙ targets_counted h.store.words (flat_map (sizes_on h) ns)
 
 abbrev pub room_in : HeapState → ℕ
 room_in h = min (free_count h.store) (unused_count h.store)
@@ -50,7 +53,8 @@ behind_more h ns ms =
     let first = grown w first_packing (flat_map (sizes_on h) ns) (omega arith) (omega arith) in
     let rest = grown w s (flat_map (sizes_on h) ms) first.last first.there in
     let is : behind h (ns ++ ms) ≡ pack w s (flat_map (sizes_on h) ms) =
-    ap (pack w first_packing) (flat_map-append (sizes_on h) ns ms) ∙ pack_behind w first_packing (flat_map (sizes_on h) ns) (flat_map (sizes_on h) ms) in
+    ap (pack w first_packing) (flat_map-append (sizes_on h) ns ms)
+    ∙ pack_behind w first_packing (flat_map (sizes_on h) ns) (flat_map (sizes_on h) ms) in
     omega (arith, rest.more, ap (λ (z : Packing). z.count) is)
 
 -- a list up to a place is one up to an earlier place, and more
@@ -62,7 +66,11 @@ longer (suc k) j [] less = ([], take_none j)
     take_none zero = refl
     take_none (suc j) = refl
 longer (suc k) zero (x ∷ xs) less = absurd (omega (arith, less))
-longer (suc k) (suc j) (x ∷ xs) less = let rest = longer k j xs (omega (arith, less)) in (rest.0, ap (λ l. x ∷ l) rest.1)
+longer (suc k) (suc j) (x ∷ xs) less = let rest = longer k j xs (omega (arith, less)) in (
+  rest.0,
+  ap (λ l. x
+      ∷ l) rest.1,
+)
 
 -- what is chosen so far: the first i pages, for which there is room
 pub record IsBeginning (h : HeapState) (ns : List ℕ) (i : ℕ) (xs : List ℕ) (s : Packing) : Type 0 where
@@ -72,12 +80,14 @@ pub record IsBeginning (h : HeapState) (ns : List ℕ) (i : ℕ) (xs : List ℕ)
   pub offset : s.offset < 2 ^ 17
   pub target : s.target ≤ s.count
 
-one_behind : (h : HeapState) (ns : List ℕ) (i n : ℕ) (s : Packing) → s ≡ behind h (take i ns) → take (i + 1) ns ≡ take i ns ++ n ∷ []
+one_behind : (h : HeapState) (ns : List ℕ) (i n : ℕ) (s : Packing) → s ≡ behind h (take i ns) → take (i + 1) ns
+    ≡ take i ns ++ n ∷ []
     → pack h.store.words s (sizes_on h n) ≡ behind h (take (i + 1) ns)
 one_behind h ns i n s so next =
     ap (λ z. pack h.store.words z (sizes_on h n)) so
     ∙ sym (pack_behind h.store.words first_packing (flat_map (sizes_on h) (take i ns)) (sizes_on h n))
-    ∙ sym (ap (pack h.store.words first_packing) (ap (flat_map (sizes_on h)) next ∙ flat_map-append (sizes_on h) (take i ns) (n ∷ [])
+    ∙ sym (ap (pack h.store.words first_packing) (ap (flat_map (sizes_on h)) next
+    ∙ flat_map-append (sizes_on h) (take i ns) (n ∷ [])
     ∙ ap (λ l. flat_map (sizes_on h) (take i ns) ++ l) (append-nil (sizes_on h n))))
 
 -- the page of the next pair
@@ -95,7 +105,8 @@ begins h ns = record { chosen = refl; packed = refl; room = omega arith; offset 
 
 -- there is room for one more page
 pub goes_on : (h : HeapState) (ns : List ℕ) (i n : ℕ) (xs new : List ℕ) (s t : Packing) → IsBeginning h ns i xs s
-    → take (i + 1) ns ≡ take i ns ++ n ∷ [] → t ≡ pack h.store.words s (sizes_on h n) → t.count ≤ room_in h → t.offset < 2 ^ 17
+    → take (i + 1) ns ≡ take i ns ++ n ∷ [] → t ≡ pack h.store.words s (sizes_on h n) → t.count ≤ room_in h
+    → t.offset < 2 ^ 17
     → new ≡ xs ++ n ∷ [] → IsBeginning h ns (i + 1) new t
 goes_on h ns i n xs new s t b next is few low more =
     let all : t ≡ behind h (take (i + 1) ns) = is ∙ one_behind h ns i n s b.packed next in
@@ -110,11 +121,13 @@ goes_on h ns i n xs new s t b next is few low more =
 
 -- there is no room for one more page
 pub is_cut : (h : HeapState) (ns : List ℕ) (i : ℕ) (n : ℕ) (xs : List ℕ) (s t : Packing) → IsBeginning h ns i xs s
-    → take (i + 1) ns ≡ take i ns ++ n ∷ [] → t ≡ pack h.store.words s (sizes_on h n) → room_in h < t.count → IsLongest h ns xs
+    → take (i + 1) ns ≡ take i ns ++ n ∷ [] → t ≡ pack h.store.words s (sizes_on h n) → room_in h < t.count
+    → IsLongest h ns xs
 is_cut h ns i n xs s t b next is many = (
   i,
   b.chosen,
-  subst (λ l. has_room_for h l ≡ true) (sym b.chosen) (has_room h (take i ns) (omega (arith, b.room, ap (λ (z : Packing). z.count) b.packed))),
+  subst (λ l. has_room_for h l ≡ true) (sym b.chosen) (has_room h (take i ns)
+      (omega (arith, b.room, ap (λ (z : Packing). z.count) b.packed))),
   λ j later most. let rest = longer (i + 1) j ns (omega (arith, later)) in
       no_room h (take j ns) (omega (
         arith,
@@ -126,10 +139,12 @@ is_cut h ns i n xs s t b next is many = (
 )
 
 -- there is room for all
-pub is_whole : (h : HeapState) (ns : List ℕ) (i : ℕ) (xs : List ℕ) (s : Packing) → IsBeginning h ns i xs s → length ns ≤ i → IsLongest h ns xs
+pub is_whole : (h : HeapState) (ns : List ℕ) (i : ℕ) (xs : List ℕ) (s : Packing) → IsBeginning h ns i xs s
+    → length ns ≤ i → IsLongest h ns xs
 is_whole h ns i xs s b ends = (
   i,
   b.chosen,
-  subst (λ l. has_room_for h l ≡ true) (sym b.chosen) (has_room h (take i ns) (omega (arith, b.room, ap (λ (z : Packing). z.count) b.packed))),
+  subst (λ l. has_room_for h l ≡ true) (sym b.chosen) (has_room h (take i ns)
+      (omega (arith, b.room, ap (λ (z : Packing). z.count) b.packed))),
   λ j later most. absurd (omega (arith, ends, later, most)),
 )

@@ -16,18 +16,21 @@ pub pack_next : (w : ℕ) (f : ℕ → ℕ) (s new whole : Packing) (left rest :
 pack_next w f s new whole left rest k is so more =
     ap (λ z. pack w z (map f rest)) more ∙ sym (ap (λ l. pack w s (map f l)) is) ∙ so
 
-pub pack_all : (w : ℕ) (f : ℕ → ℕ) (s whole : Packing) (left : List ℕ) → left ≡ [] → pack w s (map f left) ≡ whole → s ≡ whole
+pub pack_all : (w : ℕ) (f : ℕ → ℕ) (s whole : Packing) (left : List ℕ) → left ≡ [] → pack w s (map f left) ≡ whole → s
+    ≡ whole
 pack_all w f s whole left none so = sym (ap (λ l. pack w s (map f l)) none) ∙ so
 
 module _ (h : HeapState) (n : ℕ) (low : 0 < n) (s : Packing) where
   pub none_packed : slice_get h.live (n - 1) ≡ None → s ≡ pack h.store.words s (sizes_on h n)
   unfolding live_offsets
-  none_packed e = ap (λ row. pack h.store.words s (map (size_on h n) (offsets_from 0 row))) (sym (of_page_none h.live n low e))
+  none_packed e = ap (λ row. pack h.store.words s (map (size_on h n) (offsets_from 0 row)))
+      (sym (of_page_none h.live n low e))
 
   pub row_packed : (r : List Bool) → slice_get h.live (n - 1) ≡ Some r
       → pack h.store.words s (map (size_on h n) (offsets_from 0 r)) ≡ pack h.store.words s (sizes_on h n)
   unfolding live_offsets
-  row_packed r e = ap (λ row. pack h.store.words s (map (size_on h n) (offsets_from 0 row))) (sym (of_page_some h.live n r low e))
+  row_packed r e = ap (λ row. pack h.store.words s (map (size_on h n) (offsets_from 0 row)))
+      (sym (of_page_some h.live n r low e))
 
 -- objects behind others
 pub pack_behind : (w : ℕ) (s : Packing) (ms ns : List ℕ) → pack w s (ms ++ ns) ≡ pack w (pack w s ms) ns
@@ -50,7 +53,8 @@ fits s n = record { target = s.target; offset = s.offset + n; count = s.target +
 abbrev opens : Packing → ℕ → Packing
 opens s n = record { target = s.target + 1; offset = n; count = s.target + 2 }
 
-counted : (w : ℕ) (s : Packing) (ns : List ℕ) → count_or s.count (places_from w s.target s.offset ns) ≡ (pack w s ns).count
+counted : (w : ℕ) (s : Packing) (ns : List ℕ) → count_or s.count (places_from w s.target s.offset ns)
+    ≡ (pack w s ns).count
 unfolding pack_one
 counted w s [] = refl
 counted w s (n ∷ ns) = by (nat_le (s.offset + n) w) (counted w (fits s n) ns) (counted w (opens s n) ns)

@@ -1,6 +1,7 @@
 -- Live words are added up, object by object, and sparse pages listed, page by page.
 use Rattle.std.proofs.Common.{◌≡◌, ℕ, zero, suc, ◌+◌, ◌*◌, ◌-◌, ◌<◌, ◌≤◌, ◌&&◌, Bool, true, false, List, [], ◌∷◌, ◌++◌}
-use Rattle.std.proofs.Common.{length, get_or, map, nat_le, refl, sym, ap, ◌∙◌, subst, arith, Option, Some, None, if◌then◌else◌}
+use Rattle.std.proofs.Common.{length, get_or, map, nat_le, refl, sym, ap, ◌∙◌, subst, arith, Option, Some, None}
+use Rattle.std.proofs.Common.{if◌then◌else◌}
 use Rattle.std.specs.List.{All, slice_get, sum_by}
 use Rattle.std.proofs.lemmas.Bool.{true≢false}
 use Rattle.std.proofs.lemmas.Option.{same_Some}
@@ -9,15 +10,18 @@ use Rattle.std.proofs.lemmas.List.Elements.{All-append, All-cons, All-nil}
 use Rattle.model.specs.States.{HeapState}
 use Rattle.model.specs.Plans.{offsets_from, live_offsets}
 use Rattle.model.proofs.OfPages.{of_page_none, of_page_some}
-use Rattle.choosing.specs.Choices.{ArePages, is_sparse, live_words, measured, measured_if, size_on, sparse_to, sparse_pages}
+use Rattle.choosing.specs.Choices.{ArePages, is_sparse, live_words, measured, measured_if, size_on, sparse_to}
+use Rattle.choosing.specs.Choices.{sparse_pages}
 
 -- one more object is added to the total
-pub total_next : (f : ℕ → ℕ) (left rest : List ℕ) (k total new whole : ℕ) → left ≡ k ∷ rest → total + sum_by f left ≡ whole
+pub total_next : (f : ℕ → ℕ) (left rest : List ℕ) (k total new whole : ℕ) → left ≡ k ∷ rest → total + sum_by f left
+    ≡ whole
     → new ≡ total + f k → new + sum_by f rest ≡ whole
 total_next f left rest k total new whole is so more =
     omega (arith, ap (sum_by f) is, sum_by-cons f k rest, so, more)
 
-pub total_all : (f : ℕ → ℕ) (left : List ℕ) (total whole : ℕ) → left ≡ [] → total + sum_by f left ≡ whole → total ≡ whole
+pub total_all : (f : ℕ → ℕ) (left : List ℕ) (total whole : ℕ) → left ≡ [] → total + sum_by f left ≡ whole → total
+    ≡ whole
 total_all f left total whole none so = omega (arith, ap (sum_by f) none, so)
 
 -- a bit that is set stands in its row
@@ -31,24 +35,29 @@ module _ (h : HeapState) (n : ℕ) (low : 0 < n) where
   unfolding live_offsets
   none_live e = ap (λ row. sum_by (size_on h n) (offsets_from 0 row)) (sym (of_page_none h.live n low e))
 
-  pub row_live : (r : List Bool) → slice_get h.live (n - 1) ≡ Some r → sum_by (size_on h n) (offsets_from 0 r) ≡ live_words h n
+  pub row_live : (r : List Bool) → slice_get h.live (n - 1) ≡ Some r → sum_by (size_on h n) (offsets_from 0 r)
+      ≡ live_words h n
   unfolding live_offsets
   row_live r e = ap (λ row. sum_by (size_on h n) (offsets_from 0 row)) (sym (of_page_some h.live n r low e))
 
 next_is : (h : HeapState) (percent i : ℕ) → sparse_to h percent (i + 1)
     ≡ (if is_sparse h percent (i + 1) then sparse_to h percent i ++ measured h (i + 1) ∷ [] else sparse_to h percent i)
 next_is h percent i = let at : suc i ≡ i + 1 = omega arith in
-    subst (λ (k : ℕ). sparse_to h percent k ≡ (if is_sparse h percent k then sparse_to h percent i ++ measured h k ∷ [] else sparse_to h percent i)) at refl
+    subst (λ (k : ℕ). sparse_to h percent k ≡ (if is_sparse h percent k then sparse_to h percent i ++ measured h k
+    ∷ [] else sparse_to h percent i)) at refl
 
 -- one more page was looked at, which is sparse, or not
-pub sparse_more : (h : HeapState) (percent i : ℕ) (m : ℕ × ℕ) (found new : List (ℕ × ℕ)) → Some m ≡ measured_if h percent (i + 1)
+pub sparse_more : (h : HeapState) (percent i : ℕ) (m : ℕ × ℕ) (found new : List (ℕ × ℕ)) → Some m
+    ≡ measured_if h percent (i + 1)
     → found ≡ sparse_to h percent i → new ≡ found ++ m ∷ [] → new ≡ sparse_to h percent (i + 1)
 sparse_more h percent i m found new is so more = by (is_sparse h percent (i + 1)) refl is
   where
     by : (b : Bool) → is_sparse h percent (i + 1) ≡ b → Some m ≡ (if b then Some (measured h (i + 1)) else None)
         → new ≡ sparse_to h percent (i + 1)
-    by true e at = more ∙ ap (λ l. l ++ m ∷ []) so ∙ ap (λ (z : ℕ × ℕ). sparse_to h percent i ++ z ∷ []) (same_Some _ _ at)
-        ∙ sym (next_is h percent i ∙ ap (λ (c : Bool). if c then sparse_to h percent i ++ measured h (i + 1) ∷ [] else sparse_to h percent i) e)
+    by true e at = more ∙ ap (λ l. l ++ m ∷ []) so ∙ ap (λ (z : ℕ × ℕ). sparse_to h percent i ++ z
+        ∷ []) (same_Some _ _ at)
+        ∙ sym (next_is h percent i ∙ ap (λ (c : Bool). if c then sparse_to h percent i ++ measured h (i + 1)
+        ∷ [] else sparse_to h percent i) e)
     by false e at = absurd (cc)
 
 pub sparse_same : (h : HeapState) (percent i : ℕ) (found : List (ℕ × ℕ)) → None ≡ measured_if h percent (i + 1)
@@ -58,7 +67,8 @@ sparse_same h percent i found is so = by (is_sparse h percent (i + 1)) refl is
     by : (b : Bool) → is_sparse h percent (i + 1) ≡ b → None ≡ (if b then Some (measured h (i + 1)) else None)
         → found ≡ sparse_to h percent (i + 1)
     by true e at = absurd (cc)
-    by false e at = so ∙ sym (next_is h percent i ∙ ap (λ (c : Bool). if c then sparse_to h percent i ++ measured h (i + 1) ∷ [] else sparse_to h percent i) e)
+    by false e at = so ∙ sym (next_is h percent i ∙ ap (λ (c : Bool). if c then sparse_to h percent i ++ measured h
+        (i + 1) ∷ [] else sparse_to h percent i) e)
 
 -- each of them is a page
 pages_to : (h : HeapState) (percent n : ℕ) → n ≤ h.store.count → All (ArePages h) (sparse_to h percent n)

@@ -1,10 +1,13 @@
 //! The report: the heap as it stands, and what each mark has found.
 
-ghost use Rattle.std.specs.Prelude.{◌≡◌, ◌++◌, ◌∷◌, [], IfSome, ◌+◌, ◌<◌, ◌≤◌, ◌^◌, OnOk, string_bytes, length, slice_get};
+ghost use Rattle.std.specs.Prelude.{◌≡◌, ◌++◌, ◌∷◌, [], IfSome, ◌+◌, ◌<◌, ◌≤◌, ◌^◌, OnOk, string_bytes, length};
+ghost use Rattle.std.specs.Prelude.{slice_get};
 ghost use Rattle.std.specs.Io.KnownBytes.{Appends};
 ghost use Rattle.model.specs.Stores.{is_protected, is_unused};
 ghost use Rattle.text.specs.Reports.{texts_from};
-ghost use Rattle.script.specs.Output.{head_line, page_line, thread_line, global_line, barrier_line, cycle_line, cycles_from, next_cycle, report_text, bits_in, copied_in, copies_in, copies_of, activity_of};
+ghost use Rattle.script.specs.Output.{head_line, page_line, thread_line, global_line, barrier_line, cycle_line};
+ghost use Rattle.script.specs.Output.{cycles_from, next_cycle, report_text, bits_in, copied_in, copies_in, copies_of};
+ghost use Rattle.script.specs.Output.{activity_of};
 
 use crate::fault::RunFault;
 use cycle::{Answer, History};
@@ -31,7 +34,8 @@ pub fn tell<W: io::Write>(w: &mut W, text: &String) -> Result<(), RunFault>
 
 /// Puts a line and its newline at the end of a text.
 fn put_line<D: Display>(line: &D, text: &mut String) -> Result<(), AllocError>
-    ensures { OnOk result (IfSome (D.output line.now) (λ bytes. string_bytes text.new ≡ string_bytes text.old ++ bytes ++ 10 ∷ [])) }
+    ensures { OnOk result (IfSome (D.output line.now) (λ bytes. string_bytes text.new
+        ≡ string_bytes text.old ++ bytes ++ 10 ∷ [])) }
 {
     writeln!(text, "{line}")
 }
@@ -42,7 +46,8 @@ fn tell_line<D: Display, W: io::Write>(
     text: &mut String,
     w: &mut W,
 ) -> Result<(), RunFault>
-    ensures { OnOk result (IfSome (D.output line.now) (λ bytes. Appends (W.contents w.old) (W.contents w.new) (bytes ++ 10 ∷ []))) }
+    ensures { OnOk result (IfSome (D.output line.now)
+        (λ bytes. Appends (W.contents w.old) (W.contents w.new) (bytes ++ 10 ∷ []))) }
 {
     text.clear();
     put_line(line, text)?;
@@ -188,7 +193,8 @@ fn tell_global<W: io::Write>(
 }
 
 fn tell_pages<W: io::Write>(heap: &Heap, text: &mut String, w: &mut W) -> Result<(), RunFault>
-    ensures { OnOk result (Appends (W.contents w.old) (W.contents w.new) (texts_from (page_line heap.now) 0 heap.now.store.pages)) }
+    ensures { OnOk result (Appends (W.contents w.old) (W.contents w.new)
+        (texts_from (page_line heap.now) 0 heap.now.store.pages)) }
 {
     let pages = heap.memory().pages();
     for (index, page) in pages.iter().enumerate() {
@@ -198,7 +204,8 @@ fn tell_pages<W: io::Write>(heap: &Heap, text: &mut String, w: &mut W) -> Result
 }
 
 fn tell_threads<W: io::Write>(heap: &Heap, text: &mut String, w: &mut W) -> Result<(), RunFault>
-    ensures { OnOk result (Appends (W.contents w.old) (W.contents w.new) (texts_from (thread_line heap.now.store.words) 0 heap.now.threads)) }
+    ensures { OnOk result (Appends (W.contents w.old) (W.contents w.new)
+        (texts_from (thread_line heap.now.store.words) 0 heap.now.threads)) }
 {
     let words = heap.memory().page_words();
     let threads = heap.threads();
@@ -209,7 +216,8 @@ fn tell_threads<W: io::Write>(heap: &Heap, text: &mut String, w: &mut W) -> Resu
 }
 
 fn tell_globals<W: io::Write>(heap: &Heap, text: &mut String, w: &mut W) -> Result<(), RunFault>
-    ensures { OnOk result (Appends (W.contents w.old) (W.contents w.new) (texts_from (global_line heap.now.store.words) 0 heap.now.globals)) }
+    ensures { OnOk result (Appends (W.contents w.old) (W.contents w.new)
+        (texts_from (global_line heap.now.store.words) 0 heap.now.globals)) }
 {
     let words = heap.memory().page_words();
     let globals = heap.globals();

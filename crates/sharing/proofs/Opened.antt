@@ -19,5 +19,6 @@ pub one_more : (f : ℕ → Actor) (es : List Entry) (old now new : List SeatSta
     → now ≡ old ++ map (seat_from es) (map f (range_with_len 0 n)) → s ≡ seat_from es (f n) → new ≡ now ++ s ∷ []
     → new ≡ old ++ map (seat_from es) (map f (range_with_len 0 (n + 1)))
 one_more f es old now new n s so is more =
-    more ∙ (λ i. so i ++ is i ∷ []) ∙ append_assoc old (map (seat_from es) (map f (range_with_len 0 n))) (seat_from es (f n) ∷ [])
+    more ∙ (λ i. so i ++ is i ∷ []) ∙ append_assoc old (map (seat_from es) (map f (range_with_len 0 n)))
+    (seat_from es (f n) ∷ [])
     ∙ ap (λ l. old ++ l) (sym (seats_more f es n))

@@ -97,7 +97,8 @@ fn first_stray(history: &History, seats: &[Seat]) -> Option<Actor>
 pub fn settle(book: Book, seats: Vec<Seat>) -> Result<Settled, Stray>
     ensures same { IfOk result (λ s. (s.book ≡ book) × (s.seats.items ≡ seats.items)) }
     ensures settled { IfOk result (λ s. AreSettled s.book.history s.seats.items) }
-    ensures stray { IfErr result (λ s. ¬ Agrees book.history seats.items s.actor × ((a : Actor) → is_before a s.actor ≡ true → Agrees book.history seats.items a)) }
+    ensures stray { IfErr result (λ s. ¬ Agrees book.history seats.items s.actor
+        × ((a : Actor) → is_before a s.actor ≡ true → Agrees book.history seats.items a)) }
 {
     match first_stray(book.history(), seats.as_slice()) {
         Some(actor) => Err(Stray { actor }),

@@ -7,9 +7,11 @@ use Rattle.choosing.proofs.packing.pack_page.Goals as goal
 pub returns-in-None-clause-value : goal.returns-in-None-clause-value
 returns-in-None-clause-value c =
     none_packed c.args.heap.now c.args.page c.requires.low c.args.before
-    (ap (λ rows. slice_get rows (c.args.page - 1)) (sym c.live.ensures) ∙ sym c.get.ensures ∙ ap option_copied c.in-None.is)
+    (ap (λ rows. slice_get rows (c.args.page - 1)) (sym c.live.ensures) ∙ sym c.get.ensures
+    ∙ ap option_copied c.in-None.is)
 
 pub returns-in-Some-clause-value : goal.returns-in-Some-clause-value
 returns-in-Some-clause-value c = c.pack_row.ensures.value
     ∙ row_packed c.args.heap.now c.args.page c.requires.low c.args.before c.in-Some.row.now
-    (ap (λ rows. slice_get rows (c.args.page - 1)) (sym c.live.ensures) ∙ sym c.get.ensures ∙ ap option_copied c.in-Some.is)
+    (ap (λ rows. slice_get rows (c.args.page - 1)) (sym c.live.ensures) ∙ sym c.get.ensures
+    ∙ ap option_copied c.in-Some.is)

@@ -18,7 +18,8 @@ loop-offset-preserved c =
     let near = within row k first.here in (
       pack_next h.store.words (size_on h c.args.page) c.loop-offset.packing c.pack_one-packing.result _ _ _ k
           (left_next row c.loop-offset.from k first) c.loop-offset.invariant.0
-          (c.pack_one-packing.ensures.value ∙ (λ i. pack_one ((c.page_words-words.ensures.value ∙ ap (λ (s : StoreState). s.words) c.memory.ensures) i) c.loop-offset.packing
+          (c.pack_one-packing.ensures.value ∙ (λ i. pack_one ((c.page_words-words.ensures.value
+          ∙ ap (λ (s : StoreState). s.words) c.memory.ensures) i) c.loop-offset.packing
           ((c.object_words-size.ensures.value ∙ ap (object_words h) c.address_on.ensures) i))),
       omega (arith, c.loop-offset.invariant.1, c.pack_one-packing.ensures.targets, first.low),
       c.pack_one-packing.ensures.offset,

@@ -6,7 +6,8 @@ use Rattle.choosing.proofs.packing.pack_row.Given as goal
 
 abbrev pub invariant-loop-offset : goal.invariant-loop-offset
 invariant-loop-offset l =
-    (pack l.fn.heap.store.words l.packing (map (size_on l.fn.heap l.fn.page) (offsets_from l.from (drop l.from l.fn.row)))
+    (pack l.fn.heap.store.words l.packing (map (size_on l.fn.heap l.fn.page)
+    (offsets_from l.from (drop l.from l.fn.row)))
     ≡ pack l.fn.heap.store.words l.fn.before (map (size_on l.fn.heap l.fn.page) (offsets_from 0 l.fn.row)))
     × (l.packing.target ≤ l.fn.before.target + l.from) × (l.packing.offset < 2 ^ 17) × (l.from ≤ length l.fn.row)
 

@@ -7,9 +7,11 @@ use Rattle.choosing.proofs.sparse.live_words.Goals as goal
 pub returns-in-None-clause-value : goal.returns-in-None-clause-value
 returns-in-None-clause-value c =
     none_live c.args.heap.now c.args.page c.requires.low
-    (ap (λ rows. slice_get rows (c.args.page - 1)) (sym c.live.ensures) ∙ sym c.get.ensures ∙ ap option_copied c.in-None.is)
+    (ap (λ rows. slice_get rows (c.args.page - 1)) (sym c.live.ensures) ∙ sym c.get.ensures
+    ∙ ap option_copied c.in-None.is)
 
 pub returns-in-Some-clause-value : goal.returns-in-Some-clause-value
 returns-in-Some-clause-value c = c.row_words.ensures.value
     ∙ row_live c.args.heap.now c.args.page c.requires.low c.in-Some.row.now
-    (ap (λ rows. slice_get rows (c.args.page - 1)) (sym c.live.ensures) ∙ sym c.get.ensures ∙ ap option_copied c.in-Some.is)
+    (ap (λ rows. slice_get rows (c.args.page - 1)) (sym c.live.ensures) ∙ sym c.get.ensures
+    ∙ ap option_copied c.in-Some.is)

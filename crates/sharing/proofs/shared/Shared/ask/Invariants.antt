@@ -3,4 +3,5 @@ use Rattle.sharing.proofs.shared.Shared.ask.Given as goal
 
 abbrev pub invariant-loop : goal.invariant-loop
 invariant-loop g l =
-    (goal.iterator-loop g).can_next l.iterator' × (goal.iterator-loop g).is_finite l.iterator' × (l.seat ≡ l.initial.seat)
+    (goal.iterator-loop g).can_next l.iterator' × (goal.iterator-loop g).is_finite l.iterator'
+    × (l.seat ≡ l.initial.seat)
