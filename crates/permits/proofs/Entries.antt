@@ -1,5 +1,6 @@
 -- Entries of side arrays, each as it has to be.
-use Rattle.std.proofs.Common.{◌≡◌, ℕ, zero, suc, ◌+◌, ◌*◌, ◌≤◌, ◌<◌, ◌&&◌, Bool, true, false, cond, List, [], ◌∷◌, length, drop}
+use Rattle.std.proofs.Common.{◌≡◌, ℕ, zero, suc, ◌+◌, ◌*◌, ◌≤◌, ◌<◌, ◌&&◌, Bool, true, false, cond}
+use Rattle.std.proofs.Common.{List, [], ◌∷◌, length, drop}
 use Rattle.std.proofs.Common.{Some, None, nat_le, nat_lt, refl, sym, ◌∙◌, ap, subst, arith}
 use Rattle.std.specs.Prelude.{MatchBool}
 use Rattle.std.specs.List.{slice_get}
@@ -19,7 +20,8 @@ one : (c : Config) (low : ℕ) (f : Forwarding) → is_fine c low f ≡ true
 one c low f e =
     let first = and_parts (nat_lt f.offset c.words) (is_entry c low f) e in
     let second = and_parts (nat_le low f.offset) (nat_lt f.to ((c.pages + 1) * c.words)) first.1 in
-    (leb-true low f.offset second.0, ltb-true f.offset c.words first.0, ltb-true f.to ((c.pages + 1) * c.words) second.1)
+    let to = ltb-true f.to ((c.pages + 1) * c.words) second.1 in
+    (leb-true low f.offset second.0, ltb-true f.offset c.words first.0, to)
 
 -- what is said of one entry
 one_is : (c : Config) (low : ℕ) (f : Forwarding) → low ≤ f.offset → f.offset < c.words → f.to < (c.pages + 1) * c.words
