@@ -1,8 +1,10 @@
 #!/bin/sh
 # That 'check' looks at the heap each time that it says so: a verification asks
 # for memory, so 'check' makes so many more requests than 'run'. One of the
-# script's first heap, which has no page with memory yet, asks least often. The
-# program is ./pauseless, or the one that the first argument names.
+# script's first heap, which has no page with memory yet, asks least often. A
+# verification that takes the image and doesn't look at it can be proved, and
+# fails here with each script. The program is ./pauseless, or the one that the
+# first argument names.
 
 cd "$(dirname "$0")/.." || exit 1
 . tests/begin.sh
@@ -36,12 +38,13 @@ more() {
     echo $(($(requests check "$1") - $(requests run "$1")))
 }
 
+# In the least of these heaps it takes 14 requests, and 11 where the image is taken alone.
 for script in examples/first examples/list examples/mark examples/moving examples/copying_thread; do
     grep -E '^(heap|layout) ' "$script.script" > "$kept/first.script"
     once=$(more "$kept/first.script")
     all=$(more "$script.script")
     count=$("$program" check "$script.script" | sed -n '$s/^verified //p')
-    if [ "$once" -ge 4 ] && [ "$count" -gt 1 ] && [ "$all" -ge $((once * count)) ]; then
+    if [ "$once" -ge 14 ] && [ "$count" -gt 1 ] && [ "$all" -ge $((once * count)) ]; then
         passed=$((passed + 1))
     else
         echo "failed: $script: $all requests more for $count verifications, $once for one"
