@@ -1,9 +1,10 @@
 #!/bin/sh
 # The whole test command: 'rt ci', then the programs of README.md; the program on
-# all scripts and faults, on long scripts, and with words, files and outputs that
-# fail; then the program and the library's calls with each of their requests for
-# memory refused, and the program with each start of a thread refused; and the
-# trying of edits itself. 'make test' runs it at the top of the repository.
+# all scripts and faults, on scripts that are cut or changed, on long scripts, and
+# with words, files and outputs that fail; then the program and the library's calls
+# with each of their requests for memory refused, and the program with each start
+# of a thread refused; and the trying of edits itself. 'make test' runs it at the
+# top of the repository.
 # The last line is 'N passed, M failed, K skipped', and the exit status is 0
 # where M is 0: K edits that must fail weren't tried, as tests/refused.txt says
 # that they were refused. What each crate took stands before it.
@@ -49,6 +50,7 @@ if "$INSTALL" -m 755 "$proved/crates/report/out/report" pauseless; then
     count 'the checks' sh tests/check.sh
     count 'looks of checks' sh tests/looks.sh
     count 'the faults' sh tests/faults.sh
+    count 'cut and changed scripts' sh tests/cuts.sh
     count 'the program' sh tests/program.sh
     count 'the threads' sh tests/threads.sh
     count 'threads that lack memory' sh tests/starved.sh

@@ -1,0 +1,154 @@
+#!/usr/bin/env python3
+"""Runs the program on every beginning of each script, and on scripts of which one byte is changed: tests/cuts.py PROGRAM
+
+Each beginning of a script that has no fault ends as its lines say: where it is whole lines, with a heap line and a
+layout line and no open block, it is run, and the lines of its commands are the first ones of NAME.expected; else it is
+one fault that SCRIPT.md names, in its last line or at its end. A beginning of another script, and a script with one
+byte changed to any other, is run or is one such fault, which doesn't stand before the changed byte's line. Nothing is
+printed where there is a fault, and no run ends otherwise. The last line is 'N passed, M failed': each script is one
+test, and its changed bytes are another one. The line before says how many runs there were.
+"""
+
+import glob
+import os
+import re
+import sys
+import tempfile
+from multiprocessing import Pool
+
+KINDS = (
+    "heap line expected", "layout line expected", "unknown word", "number expected", "number out of range",
+    "layout too large", "no such actor", "no such register", "end of line expected", "newline expected",
+    "cycle needs threads", "end without times", "times without end", "too many commands",
+)
+FAULT = re.compile(r"pauseless: line (\d+) column (\d+): (.*)\n")
+# The scripts of which each byte is changed to each other one.
+CHANGED = ("examples/first.script",)
+NEW = os.O_WRONLY | os.O_CREAT | os.O_TRUNC
+
+
+def read(path):
+    with open(path, "rb") as file:
+        return file.read()
+
+
+class Runs:
+    """Runs of the program, with files for its script and its outputs."""
+
+    def __init__(self, program, mode):
+        self.program, self.mode = program, mode
+        self.folder = tempfile.TemporaryDirectory(prefix="cuts-")
+        self.script, self.output, self.errors = (f"{self.folder.name}/{it}" for it in ("script", "output", "errors"))
+
+    def end(self, text):
+        """How the program ends on a text: its status, its output and its errors."""
+        with open(self.script, "wb") as file:
+            file.write(text)
+        files = [(os.POSIX_SPAWN_OPEN, 1, self.output, NEW, 0o600), (os.POSIX_SPAWN_OPEN, 2, self.errors, NEW, 0o600)]
+        words = [self.program, self.mode, self.script]
+        _, status = os.waitpid(os.posix_spawn(self.program, words, os.environ, file_actions=files), 0)
+        return os.waitstatus_to_exitcode(status), read(self.output), read(self.errors).decode("ascii", "replace")
+
+
+def fault_of(end):
+    """The line, the column and the kind of a run's fault, or None of a run without one. Another end is an error."""
+    status, output, errors = end
+    if status == 0 and errors == "":
+        return None
+    found = FAULT.fullmatch(errors)
+    if status != 2 or output or not found or found[3] not in KINDS:
+        raise ValueError(f"status {status}, {len(output)} bytes, {errors!r}")
+    return int(found[1]), int(found[2]), found[3]
+
+
+def due_at_end(lines):
+    """The kind of the fault that is due behind whole lines without a fault, or None."""
+    said = [line for line in lines if line and not line.startswith(b"#")]
+    if not said:
+        return "heap line expected"
+    if not any(line.startswith(b"layout ") for line in said):
+        return "layout line expected"
+    opened = sum(line.startswith(b"times ") for line in said) - said.count(b"end")
+    return "times without end" if opened else None
+
+
+def commands_of(output):
+    """The lines of commands in an output."""
+    return [line for line in output.split(b"\n") if re.match(rb"\d+ ", line)]
+
+
+def look_at_beginning(text, end, expected):
+    """Whether a beginning of a script without a fault ends as its lines say."""
+    *lines, last = text.split(b"\n")
+    fault = fault_of(end)
+    if last:
+        wanted = fault is not None and fault[0] == len(lines) + 1 and fault[1] <= len(last) + 1
+    else:
+        kind = due_at_end(lines)
+        wanted = fault == (None if kind is None else (len(lines) + 1, 1, kind))
+    told = commands_of(end[1])
+    if not wanted or told != commands_of(expected)[:len(told)]:
+        raise ValueError(f"fault {fault}, {len(told)} lines of commands")
+
+
+def cut(program, mode, script):
+    """Runs each beginning of a script. Gives how many runs there were."""
+    base, runs = script.removesuffix(".script"), Runs(program, mode)
+    whole = read(script)
+    is_right = not os.path.exists(f"{base}.error")
+    expected = read(f"{base}.expected")
+    for length in range(len(whole) + 1):
+        text = whole[:length]
+        try:
+            if is_right:
+                look_at_beginning(text, runs.end(text), expected)
+            else:
+                fault_of(runs.end(text))
+        except ValueError as error:
+            raise ValueError(f"its first {length} bytes: {error}") from None
+    return len(whole) + 1
+
+
+def change(program, mode, script):
+    """Runs a script with each of its bytes changed to each other one. Gives how many runs there were."""
+    whole, runs = read(script), Runs(program, mode)
+    for at, byte in enumerate(whole):
+        line = whole.count(b"\n", 0, at) + 1
+        for other in set(range(256)) - {byte}:
+            try:
+                fault = fault_of(runs.end(whole[:at] + bytes([other]) + whole[at + 1:]))
+                if fault and fault[0] < line:
+                    raise ValueError(f"line {fault[0]}")
+            except ValueError as error:
+                raise ValueError(f"byte {at} changed to {other}: {error}") from None
+    return 255 * len(whole)
+
+
+def try_one(what):
+    """One test: how many runs it took, and what is wrong, if anything."""
+    kind, *words = what
+    try:
+        return kind(*words), None
+    except (OSError, ValueError) as error:
+        return 0, f"failed: {kind.__name__} {words[-1]}: {error}"
+
+
+def main(program):
+    program = os.path.abspath(program)
+    tests = [(change, program, "run", script) for script in CHANGED]
+    for mode, pattern in (("run", "examples/"), ("run", "tests/scripts/"), ("threads", "examples/threads/")):
+        tests += [(cut, program, mode, script) for script in sorted(glob.glob(f"{pattern}*.script"))]
+    runs = failed = 0
+    with Pool(len(os.sched_getaffinity(0))) as pool:
+        for count, wrong in pool.imap_unordered(try_one, tests):
+            runs += count
+            if wrong:
+                print(wrong)
+                failed += 1
+    print(f"{runs} beginnings and changed scripts were run")
+    print(f"{len(tests) - failed} passed, {failed} failed")
+    return 1 if failed else 0
+
+
+if __name__ == "__main__":
+    sys.exit(main(*sys.argv[1:]))
