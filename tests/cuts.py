@@ -1,5 +1,5 @@
 #!/usr/bin/env python3
-"""Runs the program on every beginning of each script, and on scripts of which one byte is changed: tests/cuts.py PROGRAM
+"""Runs a program on every beginning of each script, and on scripts of which one byte is changed: tests/cuts.py PROGRAM
 
 Each beginning of a script that has no fault ends as its lines say: where it is whole lines, with a heap line and a
 layout line and no open block, it is run, and the lines of its commands are the first ones of NAME.expected; else it is
@@ -22,6 +22,8 @@ KINDS = (
     "cycle needs threads", "end without times", "times without end", "too many commands",
 )
 FAULT = re.compile(r"pauseless: line (\d+) column (\d+): (.*)\n")
+# The scripts that are cut, by the mode in which they are run.
+CUT = {"run": ("examples/*", "tests/scripts/*"), "threads": ("examples/threads/*", "tests/threads/two_lists")}
 # The scripts of which each byte is changed to each other one.
 CHANGED = ("examples/first.script",)
 NEW = os.O_WRONLY | os.O_CREAT | os.O_TRUNC
@@ -136,8 +138,9 @@ def try_one(what):
 def main(program):
     program = os.path.abspath(program)
     tests = [(change, program, "run", script) for script in CHANGED]
-    for mode, pattern in (("run", "examples/"), ("run", "tests/scripts/"), ("threads", "examples/threads/")):
-        tests += [(cut, program, mode, script) for script in sorted(glob.glob(f"{pattern}*.script"))]
+    for mode, patterns in CUT.items():
+        scripts = sorted(script for it in patterns for script in glob.glob(f"{it}.script"))
+        tests += [(cut, program, mode, script) for script in scripts]
     runs = failed = 0
     with Pool(len(os.sched_getaffinity(0))) as pool:
         for count, wrong in pool.imap_unordered(try_one, tests):
