@@ -1,5 +1,4 @@
 -- How a run ends in which the heap is verified.
-use Rattle.std.specs.Prelude.{ℕ}
 use Rattle.checking.specs.declared.schedule.Checked.{Checked}
 use Rattle.checking.specs.declared.schedule.Checked.TheVariants.{Sound, Faulty}
 

@@ -1,23 +1,21 @@
 -- Entries that are noted as copied, and how many have still to be.
-use Rattle.std.proofs.Common.{◌≡◌, ◌≢◌, ℕ, zero, suc, ◌+◌, ◌-◌, ◌<◌, ◌≤◌, Bool, true, false, not, cond, ◌||◌}
-use Rattle.std.proofs.Common.{List, [], ◌∷◌, length, map, get_or, set, Some, None}
-use Rattle.std.proofs.Common.{refl, sym, ◌∙◌, ap, ap₂, subst, arith, eq-eqb, ne_eqb, inl, inr}
+use Rattle.std.proofs.Common.{◌≡◌, ◌≢◌, ℕ, zero, suc, ◌+◌, Bool, true, false, not, cond, ◌||◌}
+use Rattle.std.proofs.Common.{List, [], ◌∷◌, map, set, Some, None}
+use Rattle.std.proofs.Common.{refl, sym, ◌∙◌, ap, ap₂, arith, eq-eqb, ne_eqb, inl, inr}
 use Rattle.std.specs.List.{slice_get, list_any}
 use Rattle.std.specs.Prelude.{◌==◌}
-use Rattle.std.proofs.lemmas.List.Sums.{sum_by-cons, count_by-le-length}
+use Rattle.std.proofs.lemmas.List.Sums.{sum_by-cons}
 use Rattle.std.proofs.lemmas.Option.{same_Some}
 use Rattle.std.proofs.lemmas.Bool.{cases_eq}
-use Rattle.model.specs.declared.limits.TheConstants.{MOST_WORDS}
 use Rattle.model.specs.declared.records.Forwarding.{Forwarding}
 use Rattle.model.specs.Holding.{AreRising}
 use Rattle.model.specs.Owning.{Each}
 use Rattle.model.specs.Marks.{entry_of}
 use Rattle.model.specs.Cycles.{is_uncopied}
 use Rattle.model.specs.Moves.{set_copied_of}
-use Rattle.model.proofs.Lists.{count_set, as_number, get_read}
+use Rattle.model.proofs.Lists.{as_number}
 use Rattle.forward.specs.Counts.{uncopied_in}
 use Rattle.model.proofs.Plans.{rising_within}
-use Rattle.forward.proofs.Entries.{no_more}
 
 abbrev copied_one : Forwarding → Forwarding
 copied_one f = record { offset = f.offset; to = f.to; copied = true }

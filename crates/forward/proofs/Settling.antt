@@ -1,14 +1,9 @@
 -- An entry that there is not gets no other place.
-use Rattle.std.proofs.Common.{◌≡◌, ℕ, zero, suc, ◌+◌, ◌<◌, ◌≤◌, List, [], ◌∷◌, length, set, get_or, Option, Some, None}
-use Rattle.std.proofs.Common.{refl, sym, ◌∙◌, ap, arith}
+use Rattle.std.proofs.Common.{◌≡◌, ℕ, zero, suc, ◌≤◌, List, [], ◌∷◌, length, Option, Some, None}
+use Rattle.std.proofs.Common.{refl, ap, arith}
 use Rattle.std.specs.List.{slice_get}
-use Rattle.std.proofs.lemmas.Option.{same_Some}
-use Rattle.model.specs.declared.limits.TheConstants.{MOST_WORDS}
 use Rattle.model.specs.declared.records.Forwarding.{Forwarding}
-use Rattle.model.specs.Cycles.{is_uncopied}
-use Rattle.model.specs.Holding.{AreRising}
 use Rattle.model.specs.States.{change_at, change_found}
-use Rattle.model.proofs.Lists.{get_read, count_set}
 use Rattle.forward.specs.Settling.{set_place_of}
 
 -- where there is no such entry, none is changed

@@ -1,8 +1,7 @@
 -- Marks keep what holds of a heap.
-use Rattle.std.proofs.Common.{None, Some, ◌<◌, arith}
-use Rattle.std.proofs.Common.{◌≡◌, ℕ, zero, suc, ◌+◌, ◌&&◌, ◌-◌, ◌/◌, ◌%◌, Bool, true, false, List}
+use Rattle.std.proofs.Common.{◌≡◌, ℕ, ◌-◌, ◌/◌, ◌%◌, Bool, true, false, List}
 use Rattle.std.proofs.Common.{refl}
-use Rattle.std.proofs.Common.{◌∙◌, sym, ap, subst}
+use Rattle.std.proofs.Common.{◌∙◌, sym, subst}
 use Rattle.std.specs.Prelude.{if◌then◌else◌}
 use Rattle.model.specs.declared.config.Config.{Config}
 use Rattle.model.specs.declared.records.Phase.{Phase}
@@ -11,9 +10,7 @@ use Rattle.model.specs.Checkpoints.{phase_behind}
 use Rattle.model.specs.States.{HeapState}
 use Rattle.model.specs.Holding.{IsHeap, AreRowsFor}
 use Rattle.model.proofs.Tables.{rows_put}
-use Rattle.model.specs.Bits.{of_page, with_bit}
-use Rattle.std.specs.List.{list_any}
-use Rattle.model.specs.Stores.{state_at, is_from}
+use Rattle.model.specs.Bits.{with_bit}
 
 -- rows of marks are put in the place of others, as many and as long
 pub marks_keep : (h : HeapState) (live mark todo : List (List Bool)) → IsHeap h → AreRowsFor h.config live

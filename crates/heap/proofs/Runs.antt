@@ -1,7 +1,7 @@
 -- Runs of entries whose objects are copied: the words are written at once, and then it is noted.
 use Rattle.std.proofs.Common.{◌≡◌, ◌≢◌, ℕ, zero, suc, ◌+◌, ◌-◌, ◌*◌, ◌/◌, ◌%◌, ◌<◌, ◌≤◌, ◌||◌, Bool, true, false, cond}
 use Rattle.std.proofs.Common.{nat_eq}
-use Rattle.std.proofs.Common.{List, [], ◌∷◌, length, map, set, take, drop, get_or, Option, Some, None}
+use Rattle.std.proofs.Common.{List, [], ◌∷◌, length, map, take, drop, get_or, Option, Some, None}
 use Rattle.std.proofs.Common.{refl, sym, ◌∙◌, ap, subst, arith, ne_eqb, eq-eqb}
 use Rattle.std.specs.List.{slice_get}
 use Rattle.std.specs.Option.{option_and_then}
@@ -10,15 +10,15 @@ use Rattle.std.proofs.lemmas.Nat.{div-mul-add, mod-mul-add}
 use Rattle.std.proofs.lemmas.Option.{same_Some}
 use Rattle.layout.specs.declared.shape.Layout.{Layout}
 use Rattle.model.specs.declared.records.Forwarding.{Forwarding}
-use Rattle.model.specs.Stores.{StoreState, with_words, words_at, overlay, word_at}
+use Rattle.model.specs.Stores.{StoreState, with_words, words_at, overlay}
 use Rattle.model.specs.Owning.{IsStore}
 use Rattle.model.specs.Holding.{IsHeap, AreRising}
 use Rattle.model.specs.States.{HeapState, change_at, change_found}
 use Rattle.model.specs.Bits.{of_page, with_bit}
 use Rattle.model.specs.Data.{layout_at, layout_in, header_layout}
 use Rattle.model.specs.Plans.{object_words, words_of}
-use Rattle.model.specs.Moves.{with_copy, with_copied_words, words_from, copied_by, set_copied_of}
-use Rattle.model.proofs.Memory.{word_on_page, words_kept, length_overlaid}
+use Rattle.model.specs.Moves.{with_copy, with_copied_words, words_from, set_copied_of}
+use Rattle.model.proofs.Memory.{word_on_page, words_kept}
 use Rattle.model.proofs.Plans.{rising_within}
 use Rattle.pieces.specs.Pieces.{SourceState, size_at, laid_by, laid_from}
 use Rattle.pieces.specs.Pieces.{words_at as object_at}

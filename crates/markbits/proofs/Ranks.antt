@@ -1,15 +1,15 @@
 -- Set bits counted from one number and one word, and found by their numbers.
-use Rattle.std.proofs.Common.{◌≡◌, ◌⊎◌, inl, inr, ℕ, zero, suc, ◌+◌, ◌*◌, ◌-◌, ◌/◌, ◌%◌, ◌^◌, ◌<◌, ◌≤◌, Bool, true}
+use Rattle.std.proofs.Common.{◌≡◌, ◌⊎◌, inl, inr, ℕ, zero, suc, ◌+◌, ◌*◌, ◌-◌, ◌/◌, ◌%◌, ◌^◌, ◌<◌, ◌≤◌, Bool}
 use Rattle.std.proofs.Common.{false}
-use Rattle.std.proofs.Common.{cond, List, [], ◌∷◌, ◌++◌, length, take, get_or, Option, Some, None, refl, sym, ◌∙◌, ap}
+use Rattle.std.proofs.Common.{cond, List, [], ◌∷◌, ◌++◌, length, take, get_or, refl, sym, ◌∙◌, ap}
 use Rattle.std.proofs.Common.{arith}
 use Rattle.std.specs.Prelude.{bit_and, count_ones, count_by}
 use Rattle.std.proofs.Math.Seq.{get_or-append_seam}
 use Rattle.std.proofs.lemmas.List.{get_or_append_left, get_or_read, take_all}
 use Rattle.std.proofs.lemmas.List.Sums.{sum_by-cons}
 use Rattle.std.proofs.lemmas.Bool.{cases_lt}
-use Rattle.markbits.specs.Words.{bits_of, set_count, IsRow, IsNextPlace, IsFirstFrom}
-use Rattle.markbits.specs.Ranks.{rank_of, IsRanked, IsPlaceOf}
+use Rattle.markbits.specs.Words.{bits_of, set_count, IsRow, IsFirstFrom}
+use Rattle.markbits.specs.Ranks.{rank_of, IsRanked}
 use Rattle.markbits.proofs.RowBits.{take-bits_of}
 use Rattle.markbits.proofs.RowWords.{row_length, rank_rest, rank_more}
 

@@ -1,11 +1,11 @@
 -- Lists against what a history has of an actor, entry by entry.
 use Rattle.std.proofs.Common.{◌≡◌, ◌≢◌, ◌<◌, ◌≤◌, ◌+◌, ℕ, Bool, true, false, true≢false, List, [], ◌∷◌, ◌++◌, get_or}
-use Rattle.std.proofs.Common.{length, length-append, append-nil, take, drop, sym, refl, ap, ◌∙◌, subst, arith}
+use Rattle.std.proofs.Common.{length, append-nil, take, drop, sym, refl, ap, ◌∙◌, subst, arith}
 use Rattle.std.proofs.Common.{if◌then◌else◌}
 use Rattle.std.proofs.Common.{Option, Some, None, slice_get, zero, suc, ⊎_elim, IfSome, MatchOption}
 use Rattle.std.proofs.lemmas.List.{drop_more, take_more, take_all, take-append-drop, length-take-le}
 use Rattle.std.proofs.lemmas.List.Elements.{filter-append}
-use Rattle.std.proofs.lemmas.Option.{slice_get_within, get_or_from_slice_get, slice_get-get_or}
+use Rattle.std.proofs.lemmas.Option.{slice_get_within, get_or_from_slice_get}
 use Rattle.model.specs.declared.steps.Actor.{Actor}
 use Rattle.entries.specs.declared.entry.Entry.{Entry}
 use Rattle.parts.specs.Parts.{is_same, part_of}

@@ -1,6 +1,6 @@
 -- Accepted steps count in the tallies of threads: each opening or change of a barrier one, and no other step any.
-use Rattle.std.proofs.Common.{◌≡◌, ◌≢◌, ℕ, zero, suc, ◌-◌, ◌&&◌, ◌||◌, ◌*◌, ◌+◌, Bool, true, false, cond, not}
-use Rattle.std.proofs.Common.{nat_le, nat_lt, is_some, Option, Some, None, length, refl, sym, ap, ◌∙◌, List}
+use Rattle.std.proofs.Common.{◌≡◌, ℕ, zero, suc, ◌-◌, ◌&&◌, ◌||◌, ◌*◌, ◌+◌, Bool, true, false, cond, not}
+use Rattle.std.proofs.Common.{nat_le, nat_lt, is_some, Option, Some, None, length, refl, ap, ◌∙◌, List}
 use Rattle.std.specs.List.{slice_get, list_any}
 use Rattle.std.specs.Option.{option_map}
 use Rattle.std.specs.Prelude.{Result, Ok, Err}
@@ -27,7 +27,7 @@ use Rattle.model.specs.Phases.{is_idle, is_protect_crossing, may_start_mark}
 use Rattle.model.specs.Stores.{StoreState, take_buffer, word_at, state_at, is_from}
 use Rattle.model.specs.Refusing.{Outcome}
 use Rattle.model.specs.States.{HeapState, ThreadState, Reference, change_at}
-use Rattle.model.specs.Tallies.{counted, counter_of}
+use Rattle.model.specs.Tallies.{counter_of}
 use Rattle.model.specs.Threads.{set_crossed_of, set_register_of, set_buffer_of, set_barrier_of, set_loaded_of}
 use Rattle.model.specs.Threads.{set_parked_of, is_parked_in, tally_in}
 use Rattle.model.specs.Registers.{register_of, usable, usable_or_null, let_through, with_register, same_outcome}
@@ -59,11 +59,11 @@ use Rattle.model.specs.Protections.{all_ripe, room_for, protect_outcome}
 use Rattle.model.specs.Moves.{with_copy, copied_by, copied_first, copied_for, moved_word}
 use Rattle.model.specs.Emptying.{crossed_if_protecting, entry_on, copy_outcome, heap_after, copies_from, copy_page}
 use Rattle.model.specs.Emptying.{copy_page_outcome, release_outcome}
-use Rattle.model.specs.Traps.{gc_trap, scrub_word, trap_outcome, scrub_outcome}
+use Rattle.model.specs.Traps.{gc_trap, trap_outcome, scrub_outcome}
 use Rattle.model.specs.Outcome.{outcome, thread_gate, thread_row, worker_gate, worker_row}
 use Rattle.laws.proofs.Basics.{put_same, put_other}
 use Rattle.refinement.specs.Tallies.{counted_if, TalliesStay, CountsOne, CountsStep}
-use Rattle.refinement.proofs.Accepted.{OnAccepted, accepted, of_accepted, on_accepted, on_bind, on_some}
+use Rattle.refinement.proofs.Accepted.{OnAccepted, accepted, of_accepted, on_bind, on_some}
 use Rattle.refinement.proofs.Accepted.{on_test, on_truth, on_either, on_unless}
 use Rattle.refinement.proofs.Changes.{get_changed, kept_of}
 use Rattle.refinement.proofs.StartMarks.{kept_of_all}

@@ -1,12 +1,9 @@
 -- All objects of a page are copied: it is as Copy of each of its entries, one after the other.
-use Rattle.std.proofs.Common.{◌≡◌, ℕ, zero, suc, ◌+◌, ◌*◌, ◌/◌, ◌%◌, List, [], length, not, cond, nat_eq, refl, ◌∙◌, ap}
-use Rattle.std.specs.Prelude.{Result, Ok, Err}
+use Rattle.std.proofs.Common.{◌≡◌, ℕ, zero, suc, ◌+◌, ◌*◌, ◌/◌, ◌%◌, List, [], length, not, cond, nat_eq, refl, ◌∙◌}
+use Rattle.std.specs.Prelude.{Ok, Err}
 use Rattle.model.specs.declared.steps.Actor.TheVariants.{Worker}
 use Rattle.model.specs.declared.steps.Step.TheVariants as steps
 use Rattle.model.specs.declared.steps.Answer.{Answer}
-use Rattle.model.specs.declared.steps.Answer.TheVariants as answers
-use Rattle.model.specs.declared.steps.Refusal.TheVariants as refusals
-use Rattle.model.specs.declared.config.Config.{Config}
 use Rattle.model.specs.Bits.{of_page}
 use Rattle.model.specs.Emptying.{crossed_if_protecting, entry_on, copy_outcome, heap_after, copies_from, copy_page}
 use Rattle.model.specs.Emptying.{copy_page_outcome}
@@ -20,7 +17,7 @@ use Rattle.model.specs.Plans.{object_words}
 use Rattle.model.specs.Stores.{StoreState, state_at, is_from, words_at, overlay}
 use Rattle.model.proofs.Memory.{length_overlaid}
 use Rattle.page.proofs.Runs.{words_keep}
-use Rattle.refinement.specs.Standing.{Holds, StepHolds}
+use Rattle.refinement.specs.Standing.{Holds}
 use Rattle.refinement.proofs.Accepted.{OnAccepted, on_bind, on_some, on_unless}
 use Rattle.refinement.proofs.Carrying.{RowHolds}
 use Rattle.refinement.proofs.MovingPhases.{Stays, copy_stays}

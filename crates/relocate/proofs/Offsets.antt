@@ -9,7 +9,7 @@ use Rattle.model.proofs.OfPages.{of_page_none, of_page_some}
 use Rattle.model.specs.Holding.{IsHeap}
 use Rattle.model.specs.States.{HeapState}
 use Rattle.model.specs.Plans.{offsets_from, live_offsets}
-use Rattle.relocate.specs.Drafts.{address_of, draft_of, draft_entry, draft_size, draft_sizes}
+use Rattle.relocate.specs.Drafts.{draft_of, draft_entry, draft_size, draft_sizes}
 use Rattle.markbits.specs.Words.{IsFirstFrom}
 
 -- from a place on, the first that is set comes before those behind it

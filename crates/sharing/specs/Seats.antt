@@ -1,5 +1,5 @@
 -- Seats of actors, and what it means that they agree with a history.
-use Rattle.std.specs.Prelude.{◌≡◌, ◌+◌, ℕ, List, [], ◌∷◌, ◌++◌, All, filter, length, map, Ok, Err}
+use Rattle.std.specs.Prelude.{◌≡◌, List, [], ◌∷◌, ◌++◌, All, filter, length, map, Ok, Err}
 use Rattle.std.specs.List.{range_with_len}
 use Rattle.model.specs.declared.steps.Actor.{Actor}
 use Rattle.model.specs.declared.steps.Actor.TheVariants.{Thread, Worker}

@@ -1,4 +1,4 @@
-use Rattle.std.proofs.Common.{◌≡◌, ◌-◌, ◌++◌, ◌∙◌, ap, ap₂, sym, append-nil, length, replicate, false, Some}
+use Rattle.std.proofs.Common.{◌-◌, ◌++◌, ◌∙◌, ap, ap₂, sym, append-nil, length, replicate, false}
 use Rattle.std.specs.Prelude.{count_by}
 use Rattle.std.proofs.lemmas.List.{length-map}
 use Rattle.std.specs.List.{slice_get}

@@ -1,4 +1,4 @@
-use Rattle.std.proofs.Common.{◌-◌, ◌≤◌}
+use Rattle.std.proofs.Common.{◌-◌}
 use Rattle.relocate.proofs.Runs.{IsDone}
 use Rattle.relocate.proofs.whole.copy_runs.Given as goal
 

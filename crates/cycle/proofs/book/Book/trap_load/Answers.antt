@@ -1,4 +1,4 @@
-use Rattle.std.proofs.Common.{◌≡◌, suc, ◌-◌, ◌+◌, false, ap, sym, ◌∙◌, arith}
+use Rattle.std.proofs.Common.{◌≡◌, suc, ◌-◌, ◌+◌, ap, sym, ◌∙◌, arith}
 use Rattle.model.specs.declared.steps.Step.TheVariants as steps
 use Rattle.cycle.specs.Loads.{Told, behind, heal_load, trap_load}
 use Rattle.cycle.proofs.Begun.{trap_goes, none_begun, step_begun, leads_more, same_goes, same_whole}

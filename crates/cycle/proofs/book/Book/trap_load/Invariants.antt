@@ -1,4 +1,4 @@
-use Rattle.std.proofs.Common.{◌≡◌, ◌-◌, false}
+use Rattle.std.proofs.Common.{◌≡◌, ◌-◌}
 use Rattle.cycle.specs.Loads.{behind, trap_load}
 use Rattle.cycle.proofs.Begun.{LeadsOn}
 use Rattle.cycle.proofs.book.Book.trap_load.Given as goal

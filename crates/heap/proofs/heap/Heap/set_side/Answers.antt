@@ -1,5 +1,4 @@
-use Rattle.std.proofs.Common.{◌∙◌, sym, subst, ap}
-use Rattle.std.specs.Prelude.{slice_set}
+use Rattle.std.proofs.Common.{sym, subst}
 use Rattle.model.specs.Holding.{AreRising, GoesToPage}
 use Rattle.model.specs.Owning.{Each}
 use Rattle.model.specs.States.{HeapState}

@@ -1,4 +1,4 @@
-use Rattle.std.proofs.Common.{◌+◌, ◌-◌, ◌∙◌, sym, ap, arith}
+use Rattle.std.proofs.Common.{◌+◌, ◌-◌, ◌∙◌, sym, arith}
 use Rattle.heap.specs.Runs.{notes, noted_from}
 use Rattle.heap.proofs.Runs.{noted_more}
 use Rattle.heap.proofs.heap.runs.note_copies.Goals as goal

@@ -1,4 +1,4 @@
-use Rattle.std.proofs.Common.{◌≡◌, ℕ, List, [], refl, arith, rules}
+use Rattle.std.proofs.Common.{◌≡◌, [], refl, arith, rules}
 use Rattle.markbits.proofs.RowBits.{blank_row_is}
 use Rattle.markbits.proofs.rows.Row.empty.Goals as goal
 
