@@ -17,6 +17,10 @@ pub const SCRIPT: &str =
 pub const OUTPUT: &str =
     "1 t0 lent 1.0\n2 t0 refused Null\nphase idle nmt 0 births 0 frames 1/1\npage 1 open frame 0 top 4 objects 0 live 0\nthread 0 running buffer 1.0-4 r0 - r1 -\nbarrier 0 loads 0 gc 0 nmt 0 healed 0 changed 0\n";
 
+/// What `check` writes: the same, and that the heap was verified twice.
+pub const CHECKED: &str =
+    "1 t0 lent 1.0\n2 t0 refused Null\nphase idle nmt 0 births 0 frames 1/1\npage 1 open frame 0 top 4 objects 0 live 0\nthread 0 running buffer 1.0-4 r0 - r1 -\nbarrier 0 loads 0 gc 0 nmt 0 healed 0 changed 0\nverified 2\n";
+
 pub fn words_asked(alloc: Global, line: &str) -> Result<Asked, AskFault> {
     let mut words = Vec::new(alloc);
     for word in line.split_whitespace() {
