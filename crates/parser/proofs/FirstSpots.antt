@@ -76,7 +76,7 @@ counted s n line lines (Some i) =
     ap (λ k. Some (fault_at (fault_of s) k (get_or lines i []))) e
 
 -- a first line that isn't sought is passed
-passed : (s : Sought) (n : ℕ) (line : List ℕ) (lines : List (List ℕ)) → is_sought s line ≡ false
+pub passed : (s : Sought) (n : ℕ) (line : List ℕ) (lines : List (List ℕ)) → is_sought s line ≡ false
     → first_from s n (line ∷ lines) ≡ first_from s (n + 1) lines
 unfolding first_from
 passed s n line lines h =
@@ -84,7 +84,7 @@ passed s n line lines h =
     (position_later (is_sought s) line lines h) ∙ counted s n line lines (position (is_sought s) lines)
 
 -- a first line that is sought is the first of all
-met : (s : Sought) (n : ℕ) (line : List ℕ) (lines : List (List ℕ)) → is_sought s line ≡ true
+pub met : (s : Sought) (n : ℕ) (line : List ℕ) (lines : List (List ℕ)) → is_sought s line ≡ true
     → first_from s n (line ∷ lines) ≡ Some (fault_at (fault_of s) n line)
 unfolding first_from
 met s n line lines h =
@@ -92,7 +92,7 @@ met s n line lines h =
     ap (option_map (λ i. fault_at (fault_of s) (i + n) (get_or (line ∷ lines) i [])))
     (position_met (is_sought s) line lines h) ∙ ap (λ k. Some (fault_at (fault_of s) k line)) e
 
-no_line : (s : Sought) (n : ℕ) → first_from s n [] ≡ None
+pub no_line : (s : Sought) (n : ℕ) → first_from s n [] ≡ None
 unfolding first_from
 no_line s n = refl
 
