@@ -3,7 +3,7 @@ use Rattle.parser.specs.Reading.{script_in}
 use Rattle.parser.specs.Scripts.{IsReadOf}
 use Rattle.parser.proofs.SpelledIsRead.{spelled_is_read}
 use Rattle.parser.proofs.FirstFault.{first_told}
-use Rattle.parser.proofs.Promises.{read_valid, spelled_read}
+use Rattle.parser.proofs.Promises.{read_parsed, read_valid, spelled_read}
 use Rattle.parser.proofs.script.parse.Goals as goal
 
 pub returns-in_err-config-clause-only : goal.returns-in_err-config-clause-only
@@ -17,7 +17,7 @@ returns-in_err-config-clause-first c = let h : IsReadOf c.from_residual.result
     first_told c.args.bytes.now c.from_residual.result h
 
 pub invariant_of-result : goal.invariant_of-result
-invariant_of-result c = read_valid c.args.bytes.now _ c.in_ok-config.ensures
+invariant_of-result c = read_parsed c.args.bytes.now _ c.in_ok-config.ensures c.find_spots.ensures
 
 pub returns-clause-valid : goal.returns-clause-valid
 returns-clause-valid c = read_valid c.args.bytes.now _ c.in_ok-config.ensures
