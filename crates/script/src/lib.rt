@@ -6,7 +6,7 @@ mod fault;
 mod reporting;
 mod schedule;
 
-pub use fault::{RunFault, cycle_fault};
+pub use fault::RunFault;
 pub use parser::{
     Command, FaultKind, LineFault, MOST_BYTES, Order, ParseFault, Script, Then, Verb,
     needs_threads, parse,

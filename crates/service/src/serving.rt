@@ -3,6 +3,7 @@
 ghost use Rattle.std.specs.Prelude.{◌≡◌, ◌≢◌, ◌≤◌, ◌+◌, [], true, length, Ok, IfErr, IfSome, OnOk, IfOk};
 ghost use Rattle.parser.specs.Reading.{script_in};
 ghost use Rattle.parser.specs.Orders.{needs_threads};
+ghost use Rattle.parser.specs.Scripts.{script_alone};
 ghost use Rattle.parser.specs.declared.script.TheConstants.{MOST_BYTES};
 ghost use Rattle.service.specs.declared.asking.Mode.TheVariants.{Run, Threads};
 ghost use Rattle.std.specs.Io.Buffered.{writer_buffer, writer_contents};
@@ -76,7 +77,7 @@ fn read_bytes<R: io::Read>(alloc: Global, reader: &mut R) -> Result<Vec<u8>, Ser
 /// The script that bytes spell.
 fn script_in(alloc: Global, bytes: &[u8]) -> Result<Script, ServeFault>
     ensures fits { IfOk result (λ script. length bytes.now ≤ MOST_BYTES) }
-    ensures read { IfOk result (λ script. script_in bytes.now ≡ Ok script) }
+    ensures read { IfOk result (λ script. script_in bytes.now ≡ Ok (script_alone script)) }
     ensures faults { IfErr result (λ fault. fault_status fault ≡ 2 → IsNoScript bytes.now) }
 {
     if bytes.len() > MOST_BYTES {
@@ -90,7 +91,7 @@ fn script_in(alloc: Global, bytes: &[u8]) -> Result<Script, ServeFault>
 
 /// The script that is read. A fault is told by `ServeFault::tell`.
 pub fn read_script<R: io::Read>(alloc: Global, reader: &mut R) -> Result<Script, ServeFault>
-    ensures read { IfOk result (λ script. IfSome (R.remaining reader.old) (HoldsScript script)) }
+    ensures read { IfOk result (λ script. IfSome (R.remaining reader.old) (HoldsScript (script_alone script))) }
     ensures faults { IfErr result (λ fault. fault_status fault ≡ 2 → IfSome (R.remaining reader.old) IsNoScript) }
 {
     let bytes = read_bytes(alloc, reader)?;
@@ -119,7 +120,7 @@ fn run_script<W: io::Write + Drop>(
 ) -> Result<(), ServeFault>
     ensures prints { OnOk result
         (Appends (writer_contents W.contents output.old) (writer_contents W.contents output.new)
-        (output_text script.now)) }
+        (output_text (script_alone script.now))) }
     ensures flushed { OnOk result (writer_buffer output.new ≡ []) }
     ensures faults { IfErr result (λ fault. fault_status fault ≡ 2 → needs_threads script.now.commands ≡ true) }
     ensures kept { IfErr result (λ fault. fault_status fault ≡ 2 → output.new ≡ output.old) }
