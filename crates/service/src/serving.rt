@@ -1,7 +1,6 @@
 //! Serving what was asked for.
 
-ghost use Rattle.std.specs.Prelude.{◌≡◌, ◌≢◌, ◌≤◌, ◌+◌, [], true, length, Ok, IfErr, IfSome, OnOk, IfOk};
-ghost use Rattle.parser.specs.Reading.{script_in};
+ghost use Rattle.std.specs.Prelude.{◌≡◌, ◌≢◌, ◌+◌, [], true, IfErr, IfSome, OnOk, IfOk};
 ghost use Rattle.parser.specs.Orders.{needs_threads};
 ghost use Rattle.parser.specs.Scripts.{script_alone};
 ghost use Rattle.parser.specs.declared.script.TheConstants.{MOST_BYTES};
@@ -76,8 +75,7 @@ fn read_bytes<R: io::Read>(alloc: Global, reader: &mut R) -> Result<Vec<u8>, Ser
 
 /// The script that bytes spell.
 fn script_in(alloc: Global, bytes: &[u8]) -> Result<Script, ServeFault>
-    ensures fits { IfOk result (λ script. length bytes.now ≤ MOST_BYTES) }
-    ensures read { IfOk result (λ script. script_in bytes.now ≡ Ok (script_alone script)) }
+    ensures read { IfOk result (λ script. HoldsScript script bytes.now) }
     ensures faults { IfErr result (λ fault. fault_status fault ≡ 2 → IsNoScript bytes.now) }
 {
     if bytes.len() > MOST_BYTES {
@@ -91,7 +89,7 @@ fn script_in(alloc: Global, bytes: &[u8]) -> Result<Script, ServeFault>
 
 /// The script that is read. A fault is told by `ServeFault::tell`.
 pub fn read_script<R: io::Read>(alloc: Global, reader: &mut R) -> Result<Script, ServeFault>
-    ensures read { IfOk result (λ script. IfSome (R.remaining reader.old) (HoldsScript (script_alone script))) }
+    ensures read { IfOk result (λ script. IfSome (R.remaining reader.old) (HoldsScript script)) }
     ensures faults { IfErr result (λ fault. fault_status fault ≡ 2 → IfSome (R.remaining reader.old) IsNoScript) }
 {
     let bytes = read_bytes(alloc, reader)?;
