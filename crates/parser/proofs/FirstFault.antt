@@ -13,7 +13,7 @@ use Rattle.parser.specs.declared.fault.ParseFault.{ParseFault}
 use Rattle.parser.specs.declared.fault.ParseFault.TheVariants as faults
 use Rattle.layout.specs.declared.shape.Layout.{Layout}
 use Rattle.parser.specs.declared.heading.Sizes.{Sizes}
-use Rattle.parser.specs.Reading.{ScriptValue, ReadSoFar, nothing, newline, closed, whole, finished, lines_in, script_in}
+use Rattle.parser.specs.Reading.{ReadSoFar, nothing, newline, closed, whole, finished, lines_in, script_in}
 use Rattle.parser.specs.Reading.{fault_at_start}
 use Rattle.parser.specs.Scripts.{IsReadOf, ParsedScript}
 use Rattle.parser.specs.Spelling.{says_something}

@@ -1,5 +1,5 @@
 -- The first line that is sought is found line by line.
-use Rattle.std.proofs.Common.{◌≡◌, ℕ, suc, ◌+◌, ◌≤◌, Bool, true, false, cond, nat_lt, List, [], ◌∷◌, length, take, drop}
+use Rattle.std.proofs.Common.{◌≡◌, ℕ, suc, ◌+◌, ◌≤◌, Bool, true, false, cond, nat_lt, List, [], ◌∷◌, length, drop}
 use Rattle.std.proofs.Common.{Option, Some, None, position, refl, ap, sym, ◌∙◌, arith, get_or}
 use Rattle.std.specs.Option.{option_map}
 use Rattle.std.specs.List.{slice_split, position_or_len}

@@ -1,10 +1,10 @@
 -- The line of a command is one that is sought exactly where the command is.
-use Rattle.std.proofs.Common.{◌≡◌, ℕ, ◌^◌, ◌<◌, Bool, true, false, List, [], ◌∷◌, ◌++◌, refl, ap, sym, ◌∙◌, arith}
-use Rattle.std.proofs.Common.{inl, inr, length, get_or, subst}
-use Rattle.std.specs.Prelude.{◌==◌, ◌&&◌, not, codes}
+use Rattle.std.proofs.Common.{◌≡◌, ℕ, ◌^◌, ◌<◌, Bool, true, false, List, [], ◌∷◌, refl, ap, sym, ◌∙◌, arith}
+use Rattle.std.proofs.Common.{inl, inr, get_or, subst}
+use Rattle.std.specs.Prelude.{◌==◌, not, codes}
 use Rattle.std.specs.Fmt.{decimal}
 use Rattle.std.specs.Str.{bytes_eq}
-use Rattle.std.proofs.lemmas.Bool.{cases_lt, eq-eqb, ne_eqb}
+use Rattle.std.proofs.lemmas.Bool.{cases_lt, ne_eqb}
 use Rattle.std.proofs.lemmas.Fmt.{decimal_digit, first_decimal}
 use Rattle.model.specs.declared.steps.Actor.{Actor}
 use Rattle.model.specs.declared.steps.Actor.TheVariants.{Thread, Worker}

@@ -1,11 +1,9 @@
 -- Where the first commands stand that not every run does, worked out for small texts.
-use Rattle.std.proofs.Common.{◌≡◌, ℕ, List, [], ◌∷◌, Option, Some, None, refl}
+use Rattle.std.proofs.Common.{◌≡◌, ℕ, [], ◌∷◌, Option, Some, None, refl}
 use Rattle.std.specs.Prelude.{codes}
-use Rattle.std.specs.List.{flat_map}
 use Rattle.parser.specs.declared.fault.FaultKind.{FaultKind}
 use Rattle.parser.specs.declared.fault.FaultKind.TheVariants as kinds
 use Rattle.parser.specs.declared.fault.LineFault.{LineFault}
-use Rattle.parser.specs.declared.spots.Sought.TheVariants as sought
 use Rattle.parser.specs.declared.spots.Spots.{Spots}
 use Rattle.parser.specs.Words.{word_at}
 use Rattle.parser.specs.Reading.{first_word}

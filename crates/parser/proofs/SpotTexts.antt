@@ -4,7 +4,6 @@ use Rattle.std.proofs.Common.{subst}
 use Rattle.std.specs.Prelude.{◌==◌, ◌||◌, not, map, filter, codes}
 use Rattle.std.specs.Option.{is_some}
 use Rattle.std.specs.List.{AllByRecursion, list_any, slice_split, flat_map, repeat}
-use Rattle.std.proofs.lemmas.Bool.{and_parts}
 use Rattle.std.proofs.lemmas.Bool.Decides.{nat_tests}
 use Rattle.std.proofs.lemmas.List.Folds.{list_any-append}
 use Rattle.std.proofs.lemmas.Map.Views.{any-filter_same}
@@ -13,10 +12,9 @@ use Rattle.model.specs.declared.config.Config.{Config}
 use Rattle.parser.specs.declared.heading.Sizes.{Sizes}
 use Rattle.parser.specs.declared.order.Command.{Command}
 use Rattle.parser.specs.declared.spots.Sought.{Sought}
-use Rattle.parser.specs.declared.spots.Sought.TheVariants as sought
 use Rattle.parser.specs.Headings.{config_of}
 use Rattle.parser.specs.Orders.{first_byte}
-use Rattle.parser.specs.Reading.{ScriptValue, newline, is_idle}
+use Rattle.parser.specs.Reading.{ScriptValue, newline}
 use Rattle.parser.specs.Spelling.{Part, One, Times, IsPart, part_lines, part_commands, command_line_of, layout_line_of}
 use Rattle.parser.specs.Spelling.{times_line_of, says_something, SpellsHeap, Spells, IsCommand, IsScript}
 use Rattle.parser.specs.Spots.{is_sought, first_spot}

@@ -1,6 +1,6 @@
 -- Where commands stand that not every run does, said of the lines of a text. The lines of a script's text are read so:
 -- a line that begins with `w` is a command of a worker, its first word is the actor's, and its second one the verb's.
-use Rattle.std.specs.Prelude.{ℕ, ◌+◌, ◌==◌, ◌&&◌, ◌||◌, not, Bool, List, [], Option, codes, position, if◌then◌else◌}
+use Rattle.std.specs.Prelude.{ℕ, ◌+◌, ◌==◌, ◌&&◌, ◌||◌, not, Bool, List, [], Option, codes, position}
 use Rattle.std.specs.Option.{option_map}
 use Rattle.std.specs.List.{slice_split, slice_index_or}
 use Rattle.std.specs.Str.{bytes_eq}
