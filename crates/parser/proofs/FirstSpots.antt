@@ -97,7 +97,7 @@ unfolding first_from
 no_line s n = refl
 
 -- one line alone
-one_line : (s : Sought) (n : ℕ) (line : List ℕ) → first_from s n (line ∷ []) ≡ line_or s n line
+pub one_line : (s : Sought) (n : ℕ) (line : List ℕ) → first_from s n (line ∷ []) ≡ line_or s n line
 one_line s n line = by_test (is_sought s line) refl
   where
     by_test : (b : Bool) → is_sought s line ≡ b

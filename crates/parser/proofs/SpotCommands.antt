@@ -1,5 +1,5 @@
 -- The line of a command is one that is sought exactly where the command is.
-use Rattle.std.proofs.Common.{◌≡◌, ℕ, ◌^◌, ◌<◌, Bool, true, false, List, [], ◌∷◌, refl, ap, sym, ◌∙◌, arith}
+use Rattle.std.proofs.Common.{◌≡◌, ℕ, ◌^◌, ◌<◌, true, false, List, [], ◌∷◌, refl, ap, sym, ◌∙◌, arith}
 use Rattle.std.proofs.Common.{inl, inr, get_or, subst}
 use Rattle.std.specs.Prelude.{◌==◌, not, codes}
 use Rattle.std.specs.Fmt.{decimal}
@@ -18,17 +18,12 @@ use Rattle.parser.specs.Headings.{config_of}
 use Rattle.parser.specs.Orders.{first_byte, then_of, then_with, is_cycles, is_raced, does}
 use Rattle.parser.specs.Reading.{first_word, first_word_in}
 use Rattle.parser.specs.Spelling.{actor_word, order_words, operand_words, command_line_of, IsActor, IsCommand}
-use Rattle.parser.specs.Spots.{second_word, is_cycle_word, is_sought}
+use Rattle.parser.specs.Spots.{second_word, is_cycle_word, is_sought, is_sought_command}
 use Rattle.parser.proofs.Places.{found_word}
 use Rattle.parser.proofs.Operands.{AreFew}
 use Rattle.parser.proofs.ActorsAndOrders.{first_is}
 use Rattle.parser.proofs.Plain.{actor_plain, order_plain}
 use Rattle.parser.proofs.TakenLines.{HasWords, words_are, not_equal, tail_is}
-
--- a command is of the kind that is sought
-abbrev pub is_sought_command : Sought → Command → Bool
-is_sought_command sought.Cycle c = is_cycles (then_of c.order)
-is_sought_command sought.Other c = not (is_raced c.actor (then_of c.order))
 
 -- the word of a verb is a cycle's exactly where a cycle follows the verb's step
 cycle_word : (verb : Verb) → is_cycle_word (row_of verb).text ≡ is_cycles (then_with verb)

@@ -17,7 +17,7 @@ use Rattle.parser.specs.Orders.{first_byte}
 use Rattle.parser.specs.Reading.{ScriptValue, newline}
 use Rattle.parser.specs.Spelling.{Part, One, Times, IsPart, part_lines, part_commands, command_line_of, layout_line_of}
 use Rattle.parser.specs.Spelling.{times_line_of, says_something, SpellsHeap, Spells, IsCommand, IsScript}
-use Rattle.parser.specs.Spots.{is_sought, first_spot}
+use Rattle.parser.specs.Spots.{is_sought, is_sought_command, first_spot}
 use Rattle.parser.proofs.FirstSpots.{first_from, spot_is, passed, met, no_line}
 use Rattle.parser.proofs.Lists.{all_to, all_front, lines_to}
 use Rattle.parser.proofs.Operands.{AreFew}
@@ -26,7 +26,7 @@ use Rattle.parser.proofs.Plain.{lines_split}
 use Rattle.parser.proofs.Ranges.{sizes_in, config_tells}
 use Rattle.parser.proofs.ReadIsSpelled.{few_actors}
 use Rattle.parser.proofs.SpelledIsRead.{commands_of}
-use Rattle.parser.proofs.SpotCommands.{is_sought_command, command_sought, other_start}
+use Rattle.parser.proofs.SpotCommands.{command_sought, other_start}
 
 -- ---- lines
 
@@ -50,11 +50,11 @@ or_same : (b : Bool) → (b || b) ≡ b
 or_same true = refl
 or_same false = refl
 
-empty_line : (s : Sought) → is_sought s [] ≡ false
+pub empty_line : (s : Sought) → is_sought s [] ≡ false
 empty_line s = other_start s [] refl
 
 -- a line that is sought says something
-sought_says : (s : Sought) (line : List ℕ) → is_sought s line ≡ true → says_something line ≡ true
+pub sought_says : (s : Sought) (line : List ℕ) → is_sought s line ≡ true → says_something line ≡ true
 sought_says s [] h = absurd (both (empty_line s) h)
   where
     both : {b : Bool} → b ≡ false → b ≡ true → ⊥
@@ -134,7 +134,7 @@ layouts_none s (l ∷ ls) =
     let first : is_sought s (layout_line_of l) ≡ false = other_start s (layout_line_of l) refl in
     rw (first, layouts_none s ls) refl
 
-heap_none : (s : Sought) (heap : List ℕ) (c : Config) → SpellsHeap heap c → is_sought s heap ≡ false
+pub heap_none : (s : Sought) (heap : List ℕ) (c : Config) → SpellsHeap heap c → is_sought s heap ≡ false
 heap_none s heap c h = other_start s heap (ap (λ (x : List ℕ). first_byte x == 119) h.line_is)
 
 -- ---- a whole text

@@ -1,18 +1,23 @@
 -- Where commands stand that not every run does, said of the lines of a text. The lines of a script's text are read so:
 -- a line that begins with `w` is a command of a worker, its first word is the actor's, and its second one the verb's.
-use Rattle.std.specs.Prelude.{ℕ, ◌+◌, ◌==◌, ◌&&◌, ◌||◌, not, Bool, List, [], Option, codes, position}
+use Rattle.std.specs.Prelude.{◌≡◌, ℕ, ◌+◌, ◌==◌, ◌&&◌, ◌||◌, not, Bool, true, false, List, [], ◌∷◌, ◌++◌, length}
+use Rattle.std.specs.Prelude.{Option, codes, position}
 use Rattle.std.specs.Option.{option_map}
-use Rattle.std.specs.List.{slice_split, slice_index_or}
+use Rattle.std.specs.List.{slice_split, slice_index_or, All}
 use Rattle.std.specs.Str.{bytes_eq}
+use Rattle.model.specs.declared.config.Config.{Config}
 use Rattle.parser.specs.declared.fault.FaultKind.{FaultKind}
 use Rattle.parser.specs.declared.fault.FaultKind.TheVariants as kinds
 use Rattle.parser.specs.declared.fault.LineFault.{LineFault}
+use Rattle.parser.specs.declared.order.Command.{Command}
 use Rattle.parser.specs.declared.spots.Sought.{Sought}
 use Rattle.parser.specs.declared.spots.Sought.TheVariants as sought
 use Rattle.parser.specs.declared.spots.Spots.{Spots}
 use Rattle.parser.specs.Words.{word_at}
-use Rattle.parser.specs.Orders.{first_byte}
+use Rattle.parser.specs.Orders.{first_byte, then_of, is_cycles, is_raced}
 use Rattle.parser.specs.Reading.{newline, first_word, first_word_in}
+use Rattle.parser.specs.Spelling.{actor_word, command_line_of, IsLine, IsCommand}
+use Rattle.parser.specs.Faults.{text_of}
 
 -- a line is a command of a worker
 abbrev pub is_workers : List ℕ → Bool
@@ -60,3 +65,27 @@ spots_in bytes = record {
   cycle = first_spot sought.Cycle (slice_split newline bytes);
   other = first_spot sought.Other (slice_split newline bytes);
 }
+
+-- a command is of the kind that is sought
+abbrev pub is_sought_command : Sought → Command → Bool
+is_sought_command sought.Cycle c = is_cycles (then_of c.order)
+is_sought_command sought.Other c = not (is_raced c.actor (then_of c.order))
+
+-- no command of the configuration that is spelled by this line is sought
+abbrev pub SpellsNone : Sought → Config → List ℕ → Type 0
+SpellsNone s config line =
+    (c : Command) → IsCommand config c → line ≡ command_line_of c → is_sought_command s c ≡ false
+
+-- The fault stands at the verb's word of a line that spells a command which is sought, and no line before it spells one.
+pub record IsFirstSpot (s : Sought) (config : Config) (bytes : List ℕ) (fault : LineFault) : Type 0 where
+  pub before : List (List ℕ)
+  pub command : Command
+  pub behind : List ℕ
+  pub each : All IsLine before
+  pub bytes_are : bytes ≡ text_of before ++ (command_line_of command ++ 10 ∷ behind)
+  pub own : IsCommand config command
+  pub is : is_sought_command s command ≡ true
+  pub number : fault.line ≡ length before + 1
+  pub column : fault.column ≡ length (actor_word command.actor) + 2
+  pub kind : fault.kind ≡ fault_of s
+  pub first : All (SpellsNone s config) before

@@ -1,15 +1,16 @@
 //! A script as a whole.
 
-ghost use Rattle.std.specs.Prelude.{◌≡◌, ◌↔◌, ℕ, List, IfOk};
+ghost use Rattle.std.specs.Prelude.{◌≡◌, ◌↔◌, ℕ, List, IfOk, IfSome};
 ghost use Rattle.std.specs.Option.{is_some};
 ghost use Rattle.std.specs.List.{All};
 ghost use Rattle.model.specs.Configs.{IsConfig};
 ghost use Rattle.parser.specs.declared.fault.LineFault.{LineFault};
+ghost use Rattle.parser.specs.declared.spots.Sought.TheVariants as sought;
 ghost use Rattle.parser.specs.Reading.{ScriptValue, script_of, script_in};
 ghost use Rattle.parser.specs.Spelling.{IsCommand, IsScript, Spells};
 ghost use Rattle.parser.specs.Orders.{needs_schedule, needs_threads};
 ghost use Rattle.parser.specs.Scripts.{IsReadOf, IsTooLong, script_alone};
-ghost use Rattle.parser.specs.Spots.{spots_in};
+ghost use Rattle.parser.specs.Spots.{IsFirstSpot, spots_in};
 ghost use Rattle.parser.specs.Faults.{FaultsShareLine, TellsFirst};
 
 use crate::fault::ParseFault;
@@ -97,8 +98,11 @@ pub fn parse(alloc: Global, bytes: &[u8]) -> Result<Script, ParseFault>
     ensures valid { IfOk result (λ s. IsScript (script_alone s)) }
     ensures spelled { IfOk result (λ s. Spells bytes.now (script_alone s)) }
 
-    // Where its first commands stand that not every run does is said by the lines.
+    // Where its first commands stand that not every run does is said by the lines: at the verb's word of a command, and
+    // no line before is such a command.
     ensures spots { IfOk result (λ s. s.spots ≡ spots_in bytes.now) }
+    ensures cycle { IfOk result (λ s. IfSome s.spots.cycle (IsFirstSpot sought.Cycle s.config bytes.now)) }
+    ensures other { IfOk result (λ s. IfSome s.spots.other (IsFirstSpot sought.Other s.config bytes.now)) }
 
     // What the bytes spell within all limits is read, unless they are too many or memory is refused.
     ensures only { (s : ScriptValue) → IsScript s → Spells bytes.now s → IsReadOf result (Ok s) }
