@@ -8,8 +8,8 @@ ghost use Rattle.script.specs.Faults.{is_line, TellsLine};
 use crate::faults::FaultText;
 use crate::steps::{check_command, look};
 use cycle::Book;
-use parser::{Command, Script, needs_threads};
-use script::{RunFault, cycle_fault, new_book, report, tell, tell_command};
+use parser::{Command, Script};
+use script::{RunFault, new_book, report, tell, tell_command};
 use std::alloc::{AllocError, Global};
 use std::fmt::Write as _;
 use std::io;
@@ -144,10 +144,10 @@ pub fn by_check<W: io::Write>(
     ensures clean { IfOk result IsClean }
     ensures line { IfErr result (λ fault. is_line fault ≡ true → needs_threads script.now.commands ≡ true) }
     ensures kept { IfErr result (λ fault. is_line fault ≡ true → w.new ≡ w.old) }
-    ensures told { needs_threads script.now.commands ≡ true → TellsLine result }
+    ensures told { needs_threads script.now.commands ≡ true → TellsLine script.now.spots.cycle result }
 {
-    if needs_threads(script.commands()) {
-        return Err(cycle_fault(script));
+    if let Some(fault) = script.spots().cycle {
+        return Err(RunFault::Line(fault));
     }
     match run_checked(alloc, script, w) {
         Ok(checked) => Ok(checked),

@@ -1,19 +1,23 @@
 -- What serving a script by threads promises.
-use Rattle.std.specs.Prelude.{◌≡◌, ◌⊎◌, ℕ, true, false, List, Option, Result, Ok, Err}
+use Rattle.std.specs.Prelude.{◌≡◌, ◌⊎◌, ℕ, true, false, List, Option, Some, Result, Ok, Err}
 use Rattle.std.specs.Io.KnownBytes.{Appends}
 use Rattle.model.specs.declared.steps.Actor.{Actor}
 use Rattle.cycle.specs.Books.{BookState}
 use Rattle.cycle.specs.Replays.{IsBook}
+use Rattle.parser.specs.declared.fault.LineFault.{LineFault}
+use Rattle.parser.specs.declared.fault.ParseFault.TheVariants.{Line}
 use Rattle.parser.specs.Orders.{needs_schedule}
 use Rattle.parser.specs.Reading.{ScriptValue, script_in}
+use Rattle.parser.specs.Scripts.{ParsedScript}
 use Rattle.sharing.specs.Seats.{AreSettled, SeatState}
 use Rattle.telling.specs.Settled.{settled_text, stray_text}
-use Rattle.service.specs.Serving.{HoldsScript, IsNoScript, fault_status}
+use Rattle.service.specs.Serving.{HoldsScript, IsNoScript}
 use Rattle.service.specs.declared.serving.ServeFault.{ServeFault}
+use Rattle.service.specs.declared.serving.ServeFault.TheVariants.{Parse}
 
 -- the bytes are no more than a script may have, and a script of which threads do all commands
 abbrev pub IsRaced : List ℕ → Type 0
-IsRaced bytes = (s : ScriptValue) × HoldsScript s bytes × (needs_schedule s.commands ≡ false)
+IsRaced bytes = (s : ParsedScript) × HoldsScript s bytes × (needs_schedule s.commands ≡ false)
 
 -- the bytes are a script with a command that a run by threads doesn't do
 abbrev pub NeedsSchedule : List ℕ → Type 0
@@ -35,7 +39,7 @@ pub record TellsSettled (old new : Option (List ℕ)) : Type 0 where
 abbrev pub TellsStray : Option (List ℕ) → Option (List ℕ) → Type 0
 TellsStray old new = (actor : Actor) × Appends old new (stray_text actor)
 
--- a run that wasn't done, since the script has a fault
-abbrev pub TellsFault : {X : Type 0} → Result X ServeFault → Type 0
-TellsFault (Ok done) = ⊥
-TellsFault (Err fault) = fault_status fault ≡ 2
+-- a run that wasn't done, since the script has a command that such a run doesn't do: the first one is told
+abbrev pub TellsFault : {X : Type 0} → Option LineFault → Result X ServeFault → Type 0
+TellsFault first (Err (Parse (Line fault))) = first ≡ Some fault
+TellsFault first other = ⊥

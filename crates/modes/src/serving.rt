@@ -79,7 +79,7 @@ fn race_script<S: Threads + Wait + Sync, W: io::Write + Drop>(
     script: &Script,
     output: &mut BufWriter<W>,
 ) -> Result<u8, ServeFault>
-    ensures raced { needs_schedule script.now.commands ≡ true → TellsFault result }
+    ensures raced { needs_schedule script.now.commands ≡ true → TellsFault script.now.spots.other result }
     ensures settled { result ≡ Ok 0
         → TellsSettled (writer_contents W.contents output.old) (writer_contents W.contents output.new) }
     ensures stray { result ≡ Ok 1

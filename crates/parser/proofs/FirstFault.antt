@@ -13,9 +13,9 @@ use Rattle.parser.specs.declared.fault.ParseFault.{ParseFault}
 use Rattle.parser.specs.declared.fault.ParseFault.TheVariants as faults
 use Rattle.layout.specs.declared.shape.Layout.{Layout}
 use Rattle.parser.specs.declared.heading.Sizes.{Sizes}
-use Rattle.parser.specs.Reading.{ScriptValue, ReadSoFar, nothing, newline, closed, whole, finished, lines_in, script_in}
+use Rattle.parser.specs.Reading.{ReadSoFar, nothing, newline, closed, whole, finished, lines_in, script_in}
 use Rattle.parser.specs.Reading.{fault_at_start}
-use Rattle.parser.specs.Scripts.{IsReadOf}
+use Rattle.parser.specs.Scripts.{IsReadOf, ParsedScript}
 use Rattle.parser.specs.Spelling.{says_something}
 use Rattle.parser.specs.Faults.{text_of, IsLineEnd, StandsInLine, StandsAtEnd, LacksNewline, IsFirstFault}
 use Rattle.parser.specs.Faults.{IsMissingBehind, IsWrongWord, TellsFirst}
@@ -245,7 +245,7 @@ is_first bytes fault h =
     }
 
 -- where a fault is told, it is the first one
-pub first_told : (bytes : List ℕ) (r : Result ScriptValue ParseFault) → IsReadOf r (script_in bytes)
+pub first_told : (bytes : List ℕ) (r : Result ParsedScript ParseFault) → IsReadOf r (script_in bytes)
     → TellsFirst bytes r
 first_told bytes (Ok s) h = tt
 first_told bytes (Err faults.TooLong) h = tt

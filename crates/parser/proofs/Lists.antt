@@ -23,7 +23,7 @@ pub all_to : {A : Type 0} (P : A → Type 0) (xs : List A) → All P xs → AllB
 all_to P [] h = tt
 all_to P (x ∷ xs) h = (h 0 x (omega arith), all_to P xs (λ k d lt. h (suc k) d (omega arith)))
 
-all_weaker : {A : Type 0} (P Q : A → Type 0) → ((x : A) → P x → Q x) → (xs : List A) → AllByRecursion P xs
+pub all_weaker : {A : Type 0} (P Q : A → Type 0) → ((x : A) → P x → Q x) → (xs : List A) → AllByRecursion P xs
     → AllByRecursion Q xs
 all_weaker P Q f [] h = tt
 all_weaker P Q f (x ∷ xs) h = (f x h.0, all_weaker P Q f xs h.1)

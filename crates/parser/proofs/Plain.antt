@@ -34,7 +34,7 @@ use Rattle.parser.proofs.HeapLines.{SpellsSizes}
 abbrev pub IsPlain : List ℕ → Type 0
 IsPlain w = list_all (λ b. nat_lt 32 b) w ≡ true
 
-no_spaces : (w : List ℕ) → IsPlain w → AllByRecursion (λ b. space b ≡ false) w
+pub no_spaces : (w : List ℕ) → IsPlain w → AllByRecursion (λ b. space b ≡ false) w
 no_spaces [] h = tt
 no_spaces (b ∷ bs) h =
     let p = and_parts (nat_lt 32 b) (list_all (λ c. nat_lt 32 c) bs) h in

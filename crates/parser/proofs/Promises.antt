@@ -1,24 +1,66 @@
 -- What `parse` promises, from what reading gives.
-use Rattle.std.proofs.Common.{◌≡◌, ℕ, List, subst}
+use Rattle.std.proofs.Common.{◌≡◌, ℕ, List, Option, Some, None, IfSome, ap, sym, subst, ◌∙◌}
 use Rattle.std.specs.Prelude.{Result, Ok}
+use Rattle.std.specs.Option.{is_some}
+use Rattle.std.specs.List.{slice_split}
 use Rattle.parser.specs.declared.fault.LineFault.{LineFault}
 use Rattle.parser.specs.declared.fault.ParseFault.{ParseFault}
-use Rattle.parser.specs.Reading.{ScriptValue, script_in}
-use Rattle.parser.specs.Scripts.{IsReadOf}
+use Rattle.parser.specs.declared.spots.Sought.{Sought}
+use Rattle.parser.specs.declared.spots.Sought.TheVariants as sought
+use Rattle.parser.specs.declared.spots.Spots.{Spots}
+use Rattle.parser.specs.Reading.{ScriptValue, newline, script_in}
+use Rattle.parser.specs.Scripts.{IsReadOf, ParsedScript, IsParsed, script_alone}
 use Rattle.parser.specs.Spelling.{IsScript, Spells}
+use Rattle.parser.specs.Spots.{first_spot, IsFirstSpot, spots_in}
 use Rattle.parser.proofs.ScriptIsSpelled.{read_is_spelled}
 use Rattle.parser.proofs.SpelledIsRead.{spelled_is_read}
+use Rattle.parser.proofs.SpotPlaces.{spot_stands}
+use Rattle.parser.proofs.SpotTexts.{text_sought}
 
 -- what is read keeps to all limits
 pub read_valid : (bytes : List ℕ) (s : ScriptValue) → script_in bytes ≡ Ok s → IsScript s
 read_valid bytes s h = (read_is_spelled bytes s h).script
+
+-- what is read is parsed, with the spots of the bytes
+pub read_parsed : (bytes : List ℕ) (s : ParsedScript) → script_in bytes ≡ Ok (script_alone s)
+    → s.spots ≡ spots_in bytes → IsParsed s
+unfolding spots_in
+read_parsed bytes s h e =
+    let all = read_is_spelled bytes (script_alone s) h in
+    record {
+      script = all.script;
+      cycle = ap (λ (x : Spots). is_some x.cycle) e
+          ∙ text_sought sought.Cycle bytes (script_alone s) all.script all.spelled;
+      other = ap (λ (x : Spots). is_some x.other) e
+          ∙ text_sought sought.Other bytes (script_alone s) all.script all.spelled;
+    }
+
+-- where a spot is found in a text that spells a script, it is the first one
+spot_first : (k : Sought) (bytes : List ℕ) (s : ParsedScript) → script_in bytes ≡ Ok (script_alone s)
+    → (o : Option LineFault) → first_spot k (slice_split newline bytes) ≡ o → IfSome o (IsFirstSpot k s.config bytes)
+spot_first k bytes s h None e = tt
+spot_first k bytes s h (Some fault) e =
+    let all = read_is_spelled bytes (script_alone s) h in
+    spot_stands k bytes (script_alone s) fault all.script all.spelled e
+
+pub cycle_first : (bytes : List ℕ) (s : ParsedScript) → script_in bytes ≡ Ok (script_alone s) → s.spots ≡ spots_in bytes
+    → IfSome s.spots.cycle (IsFirstSpot sought.Cycle s.config bytes)
+unfolding spots_in
+cycle_first bytes s h e =
+    spot_first sought.Cycle bytes s h s.spots.cycle (ap (λ (x : Spots). x.cycle) (sym e))
+
+pub other_first : (bytes : List ℕ) (s : ParsedScript) → script_in bytes ≡ Ok (script_alone s) → s.spots ≡ spots_in bytes
+    → IfSome s.spots.other (IsFirstSpot sought.Other s.config bytes)
+unfolding spots_in
+other_first bytes s h e =
+    spot_first sought.Other bytes s h s.spots.other (ap (λ (x : Spots). x.other) (sym e))
 
 -- what is read is spelled so
 pub read_spelled : (bytes : List ℕ) (s : ScriptValue) → script_in bytes ≡ Ok s → Spells bytes s
 read_spelled bytes s h = (read_is_spelled bytes s h).spelled
 
 -- what is spelled is read
-pub spelled_read : (bytes : List ℕ) (r : Result ScriptValue ParseFault) (s : ScriptValue)
+pub spelled_read : (bytes : List ℕ) (r : Result ParsedScript ParseFault) (s : ScriptValue)
     → IsReadOf r (script_in bytes) → IsScript s → Spells bytes s → IsReadOf r (Ok s)
 spelled_read bytes r s h valid spells = subst (λ x. IsReadOf r x) (spelled_is_read bytes s valid spells) h
 

@@ -317,7 +317,7 @@ heap_read n z heap (line ∷ lines) ls parts all range h next are said =
           (n + 1) z lines t ls parts all (record { sizes_is = refl; range = range }) fresh after are heads.1
     ]
 
-commands_of : (c : Config) (cs : List Command) → AllByRecursion (IsCommand c) cs
+pub commands_of : (c : Config) (cs : List Command) → AllByRecursion (IsCommand c) cs
     → AllByRecursion (IsCommand (config_of (sizes_in c) [])) cs
 commands_of c [] h = tt
 commands_of c (x ∷ xs) h =

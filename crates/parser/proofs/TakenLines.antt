@@ -33,12 +33,12 @@ use Rattle.parser.proofs.ReadIsSpelled.{first_words, few_actors}
 use Rattle.parser.proofs.Plain.{IsPlain, words_split, number_plain, actor_plain, order_plain, sizes_plain}
 
 -- a line of plain words has this first word and these behind it
-record HasWords (line w : List ℕ) (ws : List (List ℕ)) : Type 0 where
-  all : words_from line 0 ≡ w ∷ ws
-  first : (first_word line).0 ≡ w
-  rest : words_from line (first_word line).1 ≡ ws
+pub record HasWords (line w : List ℕ) (ws : List (List ℕ)) : Type 0 where
+  pub all : words_from line 0 ≡ w ∷ ws
+  pub first : (first_word line).0 ≡ w
+  pub rest : words_from line (first_word line).1 ≡ ws
 
-words_are : (line w : List ℕ) (ws : List (List ℕ)) → line ≡ line_of (w ∷ ws) → IsPlain w → AllByRecursion IsPlain ws
+pub words_are : (line w : List ℕ) (ws : List (List ℕ)) → line ≡ line_of (w ∷ ws) → IsPlain w → AllByRecursion IsPlain ws
     → HasWords line w ws
 words_are line w ws is first rest =
     let all : words_from line 0 ≡ w ∷ ws = words_whole line ∙ ap (slice_split space) is ∙ words_split w ws first rest in
@@ -56,14 +56,14 @@ record IsNoLineWord (w : List ℕ) : Type 0 where
   times : bytes_eq w (codes "times") ≡ false
   end : bytes_eq w (codes "end") ≡ false
 
-not_equal : (v w : List ℕ) → (v ≡ w → ⊥) → bytes_eq v w ≡ false
+pub not_equal : (v w : List ℕ) → (v ≡ w → ⊥) → bytes_eq v w ≡ false
 not_equal v w h = by_test (bytes_eq v w) refl
   where
     by_test : (b : Bool) → bytes_eq v w ≡ b → bytes_eq v w ≡ false
     by_test true e = absurd (h ((bytes_eq-Decides v w).0 e))
     by_test false e = e
 
-tail_is : (b : ℕ) (v w : List ℕ) → b ∷ v ≡ b ∷ w → v ≡ w
+pub tail_is : (b : ℕ) (v w : List ℕ) → b ∷ v ≡ b ∷ w → v ≡ w
 tail_is b v w e = cc
 
 -- digits follow an actor's letter

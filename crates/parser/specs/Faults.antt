@@ -166,7 +166,7 @@ pub record IsFirstFault (bytes : List ℕ) (fault : LineFault) : Type 0 where
   pub no_script : (s : ScriptValue) → IsScript s → Spells bytes s → ⊥
 
 -- where a fault is told, it is the first one
-abbrev pub TellsFirst : List ℕ → Result ScriptValue ParseFault → Type 0
+abbrev pub TellsFirst : {X : Type 0} → List ℕ → Result X ParseFault → Type 0
 TellsFirst bytes (Err (faults.Line fault)) = IsFirstFault bytes fault
 TellsFirst bytes (Err faults.TooLong) = Unit {0}
 TellsFirst bytes (Err faults.Memory) = Unit {0}

@@ -8,3 +8,4 @@ pub mod Views
 pub mod NumberLists
 pub mod Spelling
 pub mod Faults
+pub mod Spots

@@ -1,7 +1,8 @@
 -- A script, and what was read of one, as contracts see them.
 use Rattle.parser.specs.declared.reading.Reading.TheInside as reading
 use Rattle.parser.specs.declared.script.Script.TheInside as script
-use Rattle.parser.specs.Reading.{ReadSoFar, ScriptValue}
+use Rattle.parser.specs.Reading.{ReadSoFar}
+use Rattle.parser.specs.Scripts.{ParsedScript}
 
 -- what was read so far, by its fields
 abbrev pub read_so_far : reading.Inside → ReadSoFar
@@ -15,5 +16,5 @@ read_so_far r = record {
 }
 
 -- a script by its fields
-abbrev pub script_value : script.Inside → ScriptValue
-script_value s = record { config = s.config; commands = s.commands.items }
+abbrev pub script_value : script.Inside → ParsedScript
+script_value s = record { config = s.config; commands = s.commands.items; spots = s.spots }

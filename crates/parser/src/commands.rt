@@ -52,7 +52,7 @@ fn first_named(
     named_in(word, after, 0, letter, count, FaultKind::NoSuchActor)
 }
 
-fn begins_with_w(line: &[u8]) -> bool
+pub fn begins_with_w(line: &[u8]) -> bool
     ensures { result ≡ (first_byte line.now == 119) }
 {
     match line {

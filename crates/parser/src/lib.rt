@@ -14,7 +14,7 @@ mod words;
 
 pub use fault::{FaultKind, LineFault, ParseFault};
 pub use number_list::NumberList;
-pub use order::{Command, Order, Then, needs_schedule, needs_threads};
+pub use order::{Command, Order, Then};
 pub use script::{MOST_BYTES, Script, one_first_line, one_reading, parse};
 pub use spots::Spots;
 pub use verbs::Verb;

@@ -1,7 +1,7 @@
 //! Commands of a script.
 
 ghost use Rattle.std.specs.Prelude.{◌≡◌, ◌∷◌, IfOk, OnErr};
-ghost use Rattle.parser.specs.Orders.{is_cycles, is_raced, needs_schedule, needs_threads, step_of, then_of};
+ghost use Rattle.parser.specs.Orders.{step_of, then_of};
 ghost use Rattle.parser.specs.Words.{page_in, offset_in};
 
 use crate::number_list::NumberList;
@@ -156,43 +156,6 @@ impl Command {
             order,
         })
     }
-}
-
-/// Whether a run by threads alone does all these commands: one of them is a cycle, or the first part
-/// of one.
-pub fn needs_threads(commands: &[Command]) -> bool
-    ensures { result ≡ needs_threads commands.now }
-{
-    commands
-        .iter()
-        .any(|command| is_cycles(command.order.then()))
-}
-
-/// Whether a command is a cycle, or the first part of one.
-fn is_cycles(next: Then) -> bool
-    ensures { result ≡ is_cycles next }
-{
-    matches!(next, Then::Cycles | Then::Rolls)
-}
-
-/// Whether a run by threads does what an actor is to do.
-fn is_raced(actor: Actor, next: Then) -> bool
-    ensures { result ≡ is_raced actor next }
-{
-    match actor {
-        Actor::Thread(_) => true,
-        Actor::Worker(number) => number == 0 && is_cycles(next),
-    }
-}
-
-/// Whether a run by threads doesn't do all these commands: one of them is a worker's that is no cycle,
-/// nor the first part of one, of worker 0.
-pub fn needs_schedule(commands: &[Command]) -> bool
-    ensures { result ≡ needs_schedule commands.now }
-{
-    commands
-        .iter()
-        .any(|command| !is_raced(command.actor, command.order.then()))
 }
 
 fn load(target: u32, object: u32, field: u32) -> Step

@@ -58,7 +58,7 @@ fn is_idle(line: &[u8]) -> bool
 }
 
 #[tactic(auto, unfolding(crate::specs::Reading::first_word))]
-fn first_word(line: &[u8]) -> (&[u8], usize)
+pub fn first_word(line: &[u8]) -> (&[u8], usize)
     ensures { (result.0.now, result.1) ≡ first_word line.now }
 {
     match word_at(line, 0) {
@@ -321,7 +321,7 @@ fn first_newline(rest: &[u8]) -> Option<usize>
 }
 
 /// The first line, and what stands behind its newline.
-fn cut_line(rest: &[u8]) -> Option<(&[u8], &[u8])>
+pub fn cut_line(rest: &[u8]) -> Option<(&[u8], &[u8])>
     ensures some { IfSome result (λ x. CutsLine rest.now x.0.now x.1.now) }
     ensures none { IfNone result (HasNoNewline rest.now) }
 {

@@ -1,12 +1,16 @@
 //! A script as a whole.
 
-ghost use Rattle.std.specs.Prelude.{◌≡◌, ◌↔◌, ℕ, List, IfOk};
+ghost use Rattle.std.specs.Prelude.{◌≡◌, ◌↔◌, ℕ, List, IfOk, IfSome};
+ghost use Rattle.std.specs.Option.{is_some};
 ghost use Rattle.std.specs.List.{All};
 ghost use Rattle.model.specs.Configs.{IsConfig};
 ghost use Rattle.parser.specs.declared.fault.LineFault.{LineFault};
+ghost use Rattle.parser.specs.declared.spots.Sought.TheVariants as sought;
 ghost use Rattle.parser.specs.Reading.{ScriptValue, script_of, script_in};
 ghost use Rattle.parser.specs.Spelling.{IsCommand, IsScript, Spells};
-ghost use Rattle.parser.specs.Scripts.{IsReadOf, IsTooLong};
+ghost use Rattle.parser.specs.Orders.{needs_schedule, needs_threads};
+ghost use Rattle.parser.specs.Scripts.{IsReadOf, IsTooLong, script_alone};
+ghost use Rattle.parser.specs.Spots.{IsFirstSpot, spots_in};
 ghost use Rattle.parser.specs.Faults.{FaultsShareLine, TellsFirst};
 
 use crate::fault::ParseFault;
@@ -31,16 +35,14 @@ pub struct Script {
 }
 
 impl Model for Script {
-    ghost use Rattle.parser.specs.Reading.{ScriptValue};
+    ghost use Rattle.parser.specs.Scripts.{ParsedScript, IsParsed};
     ghost use Rattle.parser.specs.Views.{script_value};
 
-    ghost Value = { ScriptValue };
+    ghost Value = { ParsedScript };
 
     ghost view = { script_value };
 
-    ghost use Rattle.parser.specs.Spelling.{IsScript};
-
-    ghost invariant = { λ s. IsScript (script_value s) };
+    ghost invariant = { λ s. IsParsed (script_value s) };
 }
 
 impl Script {
@@ -60,8 +62,12 @@ impl Script {
         &self.commands
     }
 
-    /// Where its commands stand that not every run does. No clause says where that is.
-    pub fn spots(&self) -> Spots {
+    /// Where its first commands stand that not every run does.
+    pub fn spots(&self) -> Spots
+        ensures value { result ≡ self.now.spots }
+        ensures cycle { is_some result.cycle ≡ needs_threads self.now.commands }
+        ensures other { is_some result.other ≡ needs_schedule self.now.commands }
+    {
         self.spots
     }
 
@@ -89,8 +95,14 @@ pub fn parse(alloc: Global, bytes: &[u8]) -> Result<Script, ParseFault>
     ensures too_long { (result ≡ Err ParseFault.TooLong) ↔ IsTooLong bytes.now }
 
     // What is read keeps to all limits, and the bytes spell it.
-    ensures valid { IfOk result IsScript }
-    ensures spelled { IfOk result (λ s. Spells bytes.now s) }
+    ensures valid { IfOk result (λ s. IsScript (script_alone s)) }
+    ensures spelled { IfOk result (λ s. Spells bytes.now (script_alone s)) }
+
+    // Where its first commands stand that not every run does is said by the lines: at the verb's word of a command, and
+    // no line before is such a command.
+    ensures spots { IfOk result (λ s. s.spots ≡ spots_in bytes.now) }
+    ensures cycle { IfOk result (λ s. IfSome s.spots.cycle (IsFirstSpot sought.Cycle s.config bytes.now)) }
+    ensures other { IfOk result (λ s. IfSome s.spots.other (IsFirstSpot sought.Other s.config bytes.now)) }
 
     // What the bytes spell within all limits is read, unless they are too many or memory is refused.
     ensures only { (s : ScriptValue) → IsScript s → Spells bytes.now s → IsReadOf result (Ok s) }

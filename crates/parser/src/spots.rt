@@ -1,6 +1,14 @@
 //! Where commands stand that not every run does (ours).
 
+ghost use Rattle.std.specs.Prelude.{◌≡◌, if◌then◌else◌, Some, None};
+ghost use Rattle.std.specs.List.{slice_split};
+ghost use Rattle.parser.specs.Reading.{newline};
+ghost use Rattle.parser.specs.Spots.{fault_at, fault_of, first_spot, is_cycle_word, is_sought, second_word, spots_in};
+
+use crate::commands::begins_with_w;
 use crate::fault::{FaultKind, LineFault};
+use crate::reading::{cut_line, first_word};
+use crate::words::word_at;
 
 /// The first command that a run by threads alone does, and the first that such a run doesn't do, each
 /// as the fault that it is in the other kind of run.
@@ -12,54 +20,101 @@ pub struct Spots {
     pub other: Option<LineFault>,
 }
 
-/// The place of the first space in a line.
-fn first_space(line: &[u8]) -> Option<usize> {
-    line.iter().position(|byte| *byte == b' ')
+/// Which command is sought.
+#[derive(Clone, Copy)]
+pub enum Sought {
+    /// A cycle, or the first part of one.
+    Cycle,
+    /// A command of a worker that is none of these of worker 0.
+    Other,
 }
 
-/// The word at the front of a line.
-fn front(line: &[u8]) -> &[u8] {
-    match first_space(line) {
-        Some(at) => line.get(..at).unwrap_or(line),
-        None => line,
-    }
-}
-
-/// A fault of this kind in a column of a line.
-fn fault(line: usize, column: usize, kind: FaultKind) -> Option<LineFault> {
-    Some(LineFault { line, column, kind })
-}
-
-/// What is found so far, and in one more line of a script, a command of a worker.
-fn with_line(found: Spots, number: usize, line: &[u8]) -> Spots {
-    let actor = front(line);
-    let column = actor.len().wrapping_add(2);
-    let rest = line.get(actor.len().wrapping_add(1)..).unwrap_or(&[]);
-    let verb = front(rest);
-    let is_cycle = verb == b"cycle".as_slice() || verb == b"roll".as_slice();
-    let mut spots = found;
-    if is_cycle && spots.cycle.is_none() {
-        spots.cycle = fault(number, column, FaultKind::CycleNeedsThreads);
-    }
-    if !(is_cycle && actor == b"w0".as_slice()) && spots.other.is_none() {
-        spots.other = fault(number, column, FaultKind::UnknownWord);
-    }
-    spots
-}
-
-/// The spots of a script's bytes. It is asked only where they have no fault, so a line that begins with
-/// `w` is a command of a worker.
-pub fn find_spots(bytes: &[u8]) -> Spots {
-    let mut found = Spots {
-        cycle: None,
-        other: None,
-    };
-    let mut number = 0usize;
-    for line in bytes.split(|byte| *byte == b'\n') {
-        number = number.wrapping_add(1);
-        if line.first() == Some(&b'w') {
-            found = with_line(found, number, line);
+impl Sought {
+    /// The fault that such a command is in the other kind of run.
+    fn fault(self) -> FaultKind
+        ensures { result ≡ fault_of self }
+    {
+        match self {
+            Sought::Cycle => FaultKind::CycleNeedsThreads,
+            Sought::Other => FaultKind::UnknownWord,
         }
     }
-    found
+
+    /// Whether a line is such a command.
+    fn is_line(self, line: &[u8]) -> bool
+        ensures { result ≡ is_sought self line.now }
+    {
+        if !begins_with_w(line) {
+            return false;
+        }
+        let (actor, _) = first_word(line);
+        let is_cycle = is_cycle_word(second_word(line));
+        match self {
+            Sought::Cycle => is_cycle,
+            Sought::Other => !(actor == b"w0".as_slice() && is_cycle),
+        }
+    }
+
+    /// The fault of a line with this number, where it is such a command.
+    #[tactic(auto, using(crate::proofs::FirstSpots::second_place))]
+    fn in_line(self, number: usize, line: &[u8]) -> Option<LineFault>
+        ensures { result ≡ (if is_sought self line.now then Some (fault_at (fault_of self) number line.now) else None) }
+    {
+        if !self.is_line(line) {
+            return None;
+        }
+        let (_, at) = first_word(line);
+        Some(LineFault {
+            line: number,
+            column: at + 1,
+            kind: self.fault(),
+        })
+    }
+
+    /// The fault of the first line that is such a command.
+    #[tactic(auto, using(crate::proofs::FirstSpots::spot_is, crate::proofs::FirstSpots::spot_here, crate::proofs::FirstSpots::spot_later, crate::proofs::FirstSpots::spot_last))]
+    fn first_in(self, bytes: &[u8]) -> Option<LineFault>
+        ensures { result ≡ first_spot self (slice_split newline bytes.now) }
+    {
+        let mut rest = bytes;
+        let mut number = 1;
+        while let Some((line, after)) = cut_line(rest) {
+            if let Some(fault) = self.in_line(number, line) {
+                return Some(fault);
+            }
+            rest = after;
+            number += 1;
+        }
+        self.in_line(number, rest)
+    }
+}
+
+/// The second word of a line, or an empty one.
+#[tactic(auto, unfolding(crate::specs::Spots::second_word))]
+fn second_word(line: &[u8]) -> &[u8]
+    ensures { result.now ≡ second_word line.now }
+{
+    let (_, at) = first_word(line);
+    match word_at(line, at) {
+        None => b"",
+        Some((word, _)) => word,
+    }
+}
+
+/// Whether a word is that of a cycle, or of the first part of one.
+fn is_cycle_word(word: &[u8]) -> bool
+    ensures { result ≡ is_cycle_word word.now }
+{
+    word == b"cycle".as_slice() || word == b"roll".as_slice()
+}
+
+/// The spots of a script's bytes.
+#[tactic(auto, unfolding(crate::specs::Spots::spots_in))]
+pub fn find_spots(bytes: &[u8]) -> Spots
+    ensures { result ≡ spots_in bytes.now }
+{
+    Spots {
+        cycle: Sought::Cycle.first_in(bytes),
+        other: Sought::Other.first_in(bytes),
+    }
 }

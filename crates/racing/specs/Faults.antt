@@ -1,5 +1,6 @@
 -- Faults of runs by threads.
-use Rattle.std.specs.Prelude.{◌≡◌, Bool, true, false, Result, Ok, Err}
+use Rattle.std.specs.Prelude.{◌≡◌, Bool, true, false, Option, Some, Result, Err}
+use Rattle.parser.specs.declared.fault.LineFault.{LineFault}
 use Rattle.racing.specs.declared.running.ThreadsFault.{ThreadsFault}
 use Rattle.racing.specs.declared.running.ThreadsFault.TheVariants.{Line}
 
@@ -8,7 +9,7 @@ abbrev pub is_line : ThreadsFault → Bool
 is_line (Line fault) = true
 is_line other = false
 
--- a run that wasn't done, since the script has such a command
-abbrev pub TellsLine : {X : Type 0} → Result X ThreadsFault → Type 0
-TellsLine (Ok done) = ⊥
-TellsLine (Err fault) = is_line fault ≡ true
+-- a run that wasn't done, since the script has such a command: the first one is told
+abbrev pub TellsLine : {X : Type 0} → Option LineFault → Result X ThreadsFault → Type 0
+TellsLine first (Err (Line fault)) = first ≡ Some fault
+TellsLine first other = ⊥

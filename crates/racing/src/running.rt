@@ -13,7 +13,7 @@ use crate::run::Run;
 use crate::scanning::Scanner;
 use cycle::{Actor, Book};
 use hints::{HintSeat, Hints};
-use parser::{Command, FaultKind, LineFault, Script, needs_schedule};
+use parser::{Command, LineFault, Script};
 use sharing::{Seat, Settled, Shared, settle};
 use std::alloc::{AllocError, AllocFailed, Global};
 use std::sync::Wait;
@@ -213,25 +213,12 @@ fn settled_or_stray(
     }
 }
 
-/// The fault of a script's first command that a run by threads doesn't do.
-fn other_fault(script: &Script) -> ThreadsFault
-    ensures { is_line result ≡ true }
-{
-    ThreadsFault::Line(
-        script.spots().other.unwrap_or(LineFault {
-            line: 1,
-            column: 1,
-            kind: FaultKind::UnknownWord,
-        }),
-    )
-}
-
 /// Runs a script on a new heap by threads of the system, one for each actor: each does its own commands
 /// in the script's order, each step under one hold of the lock, and told to the gate. Then the seats and
 /// the history are settled.
 ///
 /// The faults are want of memory, also where a thread couldn't be started; a stray actor; and, before any
-/// step, exactly where the script has one, a command that such a run doesn't do.
+/// step, exactly where the script has one, the first command that such a run doesn't do.
 pub fn by_threads<R: Threads + Wait + Sync, G: Gate + Sync>(
     rt: &R,
     alloc: Global,
@@ -240,10 +227,10 @@ pub fn by_threads<R: Threads + Wait + Sync, G: Gate + Sync>(
 ) -> Result<Settled, ThreadsFault>
     ensures settled { IfOk result (λ s. AreSettled s.book.history s.seats.items) }
     ensures line { IfErr result (λ fault. is_line fault ≡ true → needs_schedule script.now.commands ≡ true) }
-    ensures told { needs_schedule script.now.commands ≡ true → TellsLine result }
+    ensures told { needs_schedule script.now.commands ≡ true → TellsLine script.now.spots.other result }
 {
-    if needs_schedule(script.commands()) {
-        return Err(other_fault(script));
+    if let Some(fault) = script.spots().other {
+        return Err(ThreadsFault::Line(fault));
     }
     let config = script.config().copy(alloc)?;
     let Ok(book) = Book::new(alloc, config) else {

@@ -1,10 +1,10 @@
 //! Why a run ends before its end.
 
-ghost use Rattle.std.specs.Prelude.{◌≡◌, true, false};
+ghost use Rattle.std.specs.Prelude.{◌≡◌, false};
 ghost use Rattle.script.specs.Faults.{is_line};
 ghost use Rattle.script.specs.declared.fault.RunFault.TheVariants.{Memory};
 
-use parser::{FaultKind, LineFault, Script};
+use parser::LineFault;
 use std::alloc::{AllocError, AllocFailed};
 use thiserror::Error;
 
@@ -48,17 +48,4 @@ impl RunFault {
             _ => RunFault::Memory,
         }
     }
-}
-
-/// The fault of a script's first cycle in a run without threads.
-pub fn cycle_fault(script: &Script) -> RunFault
-    ensures { is_line result ≡ true }
-{
-    RunFault::Line(
-        script.spots().cycle.unwrap_or(LineFault {
-            line: 1,
-            column: 1,
-            kind: FaultKind::CycleNeedsThreads,
-        }),
-    )
 }

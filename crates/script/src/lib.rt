@@ -6,10 +6,9 @@ mod fault;
 mod reporting;
 mod schedule;
 
-pub use fault::{RunFault, cycle_fault};
+pub use fault::RunFault;
 pub use parser::{
-    Command, FaultKind, LineFault, MOST_BYTES, Order, ParseFault, Script, Then, Verb,
-    needs_threads, parse,
+    Command, FaultKind, LineFault, MOST_BYTES, Order, ParseFault, Script, Then, Verb, parse,
 };
 pub use reporting::{report, tell};
 pub use schedule::{by_schedule, new_book, tell_command};

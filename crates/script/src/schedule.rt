@@ -5,16 +5,17 @@ ghost use Rattle.std.specs.Io.KnownBytes.{Appends};
 ghost use Rattle.cycle.specs.Books.{first_book};
 ghost use Rattle.cycle.specs.Drains.{verdict};
 ghost use Rattle.parser.specs.Orders.{needs_threads};
+ghost use Rattle.parser.specs.Scripts.{script_alone};
 ghost use Rattle.script.specs.Faults.{is_line, TellsLine};
 ghost use Rattle.script.specs.Output.{output_text, lines_text, command_line, drain_line, book_after, told_text};
 
 use crate::doing::do_command;
-use crate::fault::{RunFault, cycle_fault};
+use crate::fault::RunFault;
 use crate::reporting::{report, tell};
 use cycle::{Book, verdict};
 use heap::NewFault;
 use model::{Actor, Answer, Refusal};
-use parser::{Command, Script, Then, needs_threads};
+use parser::{Command, Script, Then};
 use std::alloc::{AllocError, Global};
 use std::io;
 use text::{put_drained, put_line};
@@ -119,7 +120,7 @@ pub fn new_book(alloc: Global, script: &Script) -> Result<Book, RunFault>
 /// What `by_schedule` does, of a script that needs no threads.
 #[tactic(auto, unfolding(crate::specs::Output::output_text))]
 fn scheduled<W: io::Write>(alloc: Global, script: &Script, w: &mut W) -> Result<(), RunFault>
-    ensures { OnOk result (Appends (W.contents w.old) (W.contents w.new) (output_text script.now)) }
+    ensures { OnOk result (Appends (W.contents w.old) (W.contents w.new) (output_text (script_alone script.now))) }
 {
     let mut book = new_book(alloc, script)?;
     tell_all(alloc, &mut book, script.commands(), w)
@@ -128,16 +129,16 @@ fn scheduled<W: io::Write>(alloc: Global, script: &Script, w: &mut W) -> Result<
 /// Runs a script on a new heap: writes the line of each command, and then the report.
 ///
 /// A step that is refused has its line, and the run goes on. The faults are want of memory, also
-/// in a step, and a writer that failed; and, before any step, a command that only a run by threads
-/// does.
+/// in a step, and a writer that failed; and, before any step, the first command that only a run by
+/// threads does.
 pub fn by_schedule<W: io::Write>(alloc: Global, script: &Script, w: &mut W) -> Result<(), RunFault>
-    ensures ok { OnOk result (Appends (W.contents w.old) (W.contents w.new) (output_text script.now)) }
+    ensures ok { OnOk result (Appends (W.contents w.old) (W.contents w.new) (output_text (script_alone script.now))) }
     ensures line { IfErr result (λ fault. is_line fault ≡ true → needs_threads script.now.commands ≡ true) }
     ensures kept { IfErr result (λ fault. is_line fault ≡ true → w.new ≡ w.old) }
-    ensures told { needs_threads script.now.commands ≡ true → TellsLine result }
+    ensures told { needs_threads script.now.commands ≡ true → TellsLine script.now.spots.cycle result }
 {
-    if needs_threads(script.commands()) {
-        return Err(cycle_fault(script));
+    if let Some(fault) = script.spots().cycle {
+        return Err(RunFault::Line(fault));
     }
     match scheduled(alloc, script, w) {
         Ok(()) => Ok(()),

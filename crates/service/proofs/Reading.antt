@@ -6,8 +6,7 @@ use Rattle.std.specs.Prelude.{Result, Ok, Err, IfErr, IfOk, OnOk}
 use Rattle.std.specs.declared.io.buffered.BufWriter.{BufWriter}
 use Rattle.std.proofs.lemmas.List.{length-take, take_all}
 use Rattle.std.proofs.lemmas.Bool.{cases_lt}
-use Rattle.parser.specs.Reading.{ScriptValue, script_in}
-use Rattle.parser.specs.Scripts.{IsTooLong}
+use Rattle.parser.specs.Scripts.{IsTooLong, ParsedScript}
 use Rattle.service.specs.Serving.{HasFault, HoldsScript, IsNoScript, Prints, ReadsUpTo}
 
 -- what is shorter than what was asked for is all
@@ -63,10 +62,8 @@ pub text_faults : {X E : Type 0} (r : Result X E) (P : E → Type 0) (known : Op
 text_faults r P known bytes h k = faults_all IsNoScript r P known bytes (λ all long. inl long) h k
 
 -- the script that was read is that of all
-pub script_all : {E : Type 0} (r : Result ScriptValue E) (known : Option (List ℕ)) (bytes : List ℕ)
-    → ReadsUpTo known bytes → IfOk r (λ s. length bytes ≤ 4194304) → IfOk r (λ s. script_in bytes ≡ Ok s)
-    → IfOk r (λ s. IfSome known (HoldsScript s))
-script_all (Err e) known bytes h fits read = search rules
-script_all (Ok s) None bytes h fits read = search rules
-script_all (Ok s) (Some all) bytes h fits read =
-    subst (HoldsScript s) (whole 4194304 all bytes h fits) (record { fits = fits; read = read })
+pub script_all : {E : Type 0} (r : Result ParsedScript E) (known : Option (List ℕ)) (bytes : List ℕ)
+    → ReadsUpTo known bytes → IfOk r (λ s. HoldsScript s bytes) → IfOk r (λ s. IfSome known (HoldsScript s))
+script_all (Err e) known bytes h held = search rules
+script_all (Ok s) None bytes h held = search rules
+script_all (Ok s) (Some all) bytes h held = subst (HoldsScript s) (whole 4194304 all bytes h held.fits) held

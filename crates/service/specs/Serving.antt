@@ -5,7 +5,8 @@ use Rattle.std.specs.Io.KnownBytes.{Appends}
 use Rattle.std.specs.declared.io.buffered.BufWriter.{BufWriter}
 use Rattle.parser.specs.Reading.{ScriptValue, script_in}
 use Rattle.parser.specs.declared.script.TheConstants.{MOST_BYTES}
-use Rattle.parser.specs.Scripts.{IsTooLong}
+use Rattle.parser.specs.Scripts.{IsTooLong, ParsedScript, script_alone}
+use Rattle.parser.specs.Spots.{spots_in}
 use Rattle.parser.specs.Orders.{needs_threads}
 use Rattle.parser.specs.declared.fault.ParseFault.TheVariants.{Line, TooLong}
 use Rattle.script.specs.Output.{output_text}
@@ -25,10 +26,12 @@ pub record Prints {T A : Type 0} (contents : T → Option (List ℕ)) (old new :
   pub read : script_in bytes ≡ Ok script
   pub written : Appends (writer_contents contents old) (writer_contents contents new) (output_text script)
 
--- the bytes are no more than a script may have, and they are this script
-pub record HoldsScript (script : ScriptValue) (bytes : List ℕ) : Type 0 where
+-- the bytes are no more than a script may have, and they are this script; where its first commands stand that not
+-- every run does is said by their lines
+pub record HoldsScript (script : ParsedScript) (bytes : List ℕ) : Type 0 where
   pub fits : length bytes ≤ MOST_BYTES
-  pub read : script_in bytes ≡ Ok script
+  pub read : script_in bytes ≡ Ok (script_alone script)
+  pub spots : script.spots ≡ spots_in bytes
 
 -- the bytes are too many for a script, or no script
 abbrev pub IsNoScript : List ℕ → Type 0

@@ -1,8 +1,8 @@
 //! Serving what was asked for.
 
-ghost use Rattle.std.specs.Prelude.{◌≡◌, ◌≢◌, ◌≤◌, ◌+◌, [], true, length, Ok, IfErr, IfSome, OnOk, IfOk};
-ghost use Rattle.parser.specs.Reading.{script_in};
+ghost use Rattle.std.specs.Prelude.{◌≡◌, ◌≢◌, ◌+◌, [], true, IfErr, IfSome, OnOk, IfOk};
 ghost use Rattle.parser.specs.Orders.{needs_threads};
+ghost use Rattle.parser.specs.Scripts.{script_alone};
 ghost use Rattle.parser.specs.declared.script.TheConstants.{MOST_BYTES};
 ghost use Rattle.service.specs.declared.asking.Mode.TheVariants.{Run, Threads};
 ghost use Rattle.std.specs.Io.Buffered.{writer_buffer, writer_contents};
@@ -75,8 +75,7 @@ fn read_bytes<R: io::Read>(alloc: Global, reader: &mut R) -> Result<Vec<u8>, Ser
 
 /// The script that bytes spell.
 fn script_in(alloc: Global, bytes: &[u8]) -> Result<Script, ServeFault>
-    ensures fits { IfOk result (λ script. length bytes.now ≤ MOST_BYTES) }
-    ensures read { IfOk result (λ script. script_in bytes.now ≡ Ok script) }
+    ensures read { IfOk result (λ script. HoldsScript script bytes.now) }
     ensures faults { IfErr result (λ fault. fault_status fault ≡ 2 → IsNoScript bytes.now) }
 {
     if bytes.len() > MOST_BYTES {
@@ -119,7 +118,7 @@ fn run_script<W: io::Write + Drop>(
 ) -> Result<(), ServeFault>
     ensures prints { OnOk result
         (Appends (writer_contents W.contents output.old) (writer_contents W.contents output.new)
-        (output_text script.now)) }
+        (output_text (script_alone script.now))) }
     ensures flushed { OnOk result (writer_buffer output.new ≡ []) }
     ensures faults { IfErr result (λ fault. fault_status fault ≡ 2 → needs_threads script.now.commands ≡ true) }
     ensures kept { IfErr result (λ fault. fault_status fault ≡ 2 → output.new ≡ output.old) }

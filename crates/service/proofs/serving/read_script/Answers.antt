@@ -1,18 +1,15 @@
 use Rattle.std.proofs.Common.{List, ℕ, subst}
-use Rattle.std.specs.Prelude.{◌≡◌, ◌≤◌, Ok, IfErr, IfOk, length}
-use Rattle.parser.specs.Reading.{script_in}
-use Rattle.service.specs.Serving.{IsNoScript, fault_status}
+use Rattle.std.specs.Prelude.{◌≡◌, IfErr, IfOk}
+use Rattle.service.specs.Serving.{HoldsScript, IsNoScript, fault_status}
 use Rattle.service.proofs.Reading.{script_all, text_faults}
 use Rattle.service.proofs.serving.read_script.Goals as goal
 
 pub returns-clause-read : goal.returns-clause-read
 returns-clause-read g c =
-    let fits = subst (λ (b : List ℕ). IfOk c.script_in.result (λ s. length b ≤ 4194304))
-    c.deref.ensures.value c.script_in.ensures.fits in
-    let read = subst (λ (b : List ℕ). IfOk c.script_in.result (λ s. script_in b ≡ Ok s))
+    let read = subst (λ (b : List ℕ). IfOk c.script_in.result (λ s. HoldsScript s b))
     c.deref.ensures.value c.script_in.ensures.read in
     script_all c.script_in.result (g.R.Read.remaining c.args.reader.now) c.in_ok-bytes.bytes.items
-    c.in_ok-bytes.ensures.bytes fits read
+    c.in_ok-bytes.ensures.bytes read
 
 pub returns-clause-faults : goal.returns-clause-faults
 returns-clause-faults g c =
