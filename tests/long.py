@@ -359,8 +359,24 @@ def long_list():
     return writing
 
 
+def smallest_heap():
+    """The smallest heap in which an object can move, for 10,000 cycles: it goes to and fro between two pages."""
+    writing = Writing(16, 2, 2, 1, 1, 2, 1, [(1, 1)], 2 ** 32, 1_000_000)
+    for command in ("take", 16), ("new", 0, 0), ("set", 0, 0, 7), ("storeg", 0, 0), ("clear", 0), ("give",):
+        writing.say(0, *command)
+    mark = [(0, "mark", ()), (0, "cross", ()), (0, "drain", ()), (0, "endmark", ())]
+    turn = []
+    for page in (1, 2):
+        turn += mark + [(0, "protect", (page,)), (0, "cross", ()), (0, "copy", (page, 0)), (0, "release", (page,))]
+        turn += [(0, "getg", (1, 0)), (0, "datum", (1, 0)), (0, "clear", (1,))]
+    writing.block(5_000, turn)
+    writing.demand("smallest_heap", {
+        "accepted": 110_006, "cycles": 10_000, "moved_objects": 10_000, "retired_pages": 9_999, "datum": 10_000})
+    return writing
+
+
 def main():
-    for script in (many_pages, full_history, many_marks, long_list, many_moves, fragmentation):
+    for script in (many_pages, full_history, many_marks, long_list, many_moves, fragmentation, smallest_heap):
         script().write(sys.argv[1], script.__name__)
 
 
