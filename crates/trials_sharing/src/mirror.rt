@@ -1,7 +1,7 @@
 //! The same steps, one by one, on a shared book and on a book of one thread.
 
 use crate::opened::{book_of, script_of};
-use crate::same::same;
+use crate::same::same_at;
 use crate::table::{Table, ask, image_of, settles, shared_image, table_of};
 use cycle::Book;
 use held::{HeldBook, act};
@@ -12,20 +12,21 @@ use std::sync::Wait;
 use std::test::Fail;
 use std::thread::Threads;
 
-/// A command's step on both books, whose answers and images are the same.
+/// The step of the command of a number on both books, whose answers and images are the same.
 fn both<R: Abort + Threads + Wait + Sync>(
     rt: &R,
     alloc: Global,
     table: &mut Table,
     book: &mut Book,
+    place: usize,
     command: &Command,
 ) -> Result<(), Fail> {
     let found = ask(rt, alloc, table, command)?;
     let wanted = act(book, command.actor, command.order.step(alloc)?);
-    same(rt, found, wanted);
+    same_at(rt, place, found, wanted);
     let found = shared_image(rt, alloc, &table.shared)?;
     let wanted = image_of(alloc, book.heap())?;
-    same(rt, found.as_str(), wanted.as_str());
+    same_at(rt, place, found.as_str(), wanted.as_str());
     Ok(())
 }
 
@@ -39,8 +40,8 @@ fn all<R: Abort + Threads + Wait + Sync>(
     entries: usize,
 ) -> Result<(), Fail> {
     let book = held.book();
-    for command in script.commands() {
-        both(rt, alloc, &mut table, book, command)?;
+    for (place, command) in script.commands().iter().enumerate() {
+        both(rt, alloc, &mut table, book, place, command)?;
     }
     settles(rt, alloc, table, book, entries)
 }

@@ -10,6 +10,7 @@ use sharing::{Seat, Shared};
 use std::alloc::{AllocError, Global};
 use std::process::Abort;
 use std::sync::Wait;
+use std::sync::atomic::{AtomicU64, Ordering};
 use std::test::Fail;
 use std::thread;
 use std::thread::{Threads, join};
@@ -87,20 +88,33 @@ fn a_stop_is_seen(rt: HostRuntime) -> Result<(), Fail> {
     Ok(())
 }
 
-/// Lets others run for a while.
-fn linger() {
-    for _ in 0..1_000u32 {
+/// Returns when another thread has begun to ask and had time to wait.
+fn linger(asking: &AtomicU64) {
+    for _ in 0..1_000_000u32 {
+        if asking.load(Ordering::SeqCst) > 0 {
+            break;
+        }
+        thread::yield_now();
+    }
+    for _ in 0..100_000u32 {
         thread::yield_now();
     }
 }
 
+/// Asks for the step, and waits where it is refused for a while.
+fn wait<R: Wait>(rt: &R, shared: &Shared, seat: &mut Seat, asking: &AtomicU64) -> Reply {
+    asking.store(1, Ordering::SeqCst);
+    shared.step_wait(rt, seat, READ)
+}
+
 /// A thread waits, and another one stops the book.
 fn woken_by_stop<R: Threads + Wait + Sync>(rt: &R, shared: &Shared, waiting: &mut Seat) -> Reply {
+    let asking = AtomicU64::new(0);
     let (reply, ()) = join(
         rt,
-        || shared.step_wait(rt, waiting, READ),
+        || wait(rt, shared, waiting, &asking),
         || {
-            linger();
+            linger(&asking);
             shared.stop(rt);
         },
     );
@@ -114,14 +128,27 @@ fn woken_by_step<R: Threads + Wait + Sync>(
     waiting: &mut Seat,
     crossing: &mut Seat,
 ) -> (Reply, Reply) {
+    let asking = AtomicU64::new(0);
     join(
         rt,
-        || shared.step_wait(rt, waiting, READ),
+        || wait(rt, shared, waiting, &asking),
         || {
-            linger();
+            linger(&asking);
             shared.step(rt, crossing, Step::Cross)
         },
     )
+}
+
+/// The first thread waits, and the second one crosses.
+fn first_waits<R: Threads + Wait + Sync>(
+    rt: &R,
+    shared: &Shared,
+    seats: &mut [Seat],
+) -> Option<(Reply, Reply)> {
+    match seats {
+        [waiting, crossing, ..] => Some(woken_by_step(rt, shared, waiting, crossing)),
+        _ => None,
+    }
 }
 
 #[test]
@@ -135,18 +162,6 @@ fn a_stop_ends_a_wait(rt: HostRuntime) -> Result<(), Fail> {
         None => return Err("no such seat".into()),
     }
     Ok(())
-}
-
-/// The first thread waits, and the second one crosses.
-fn first_waits<R: Threads + Wait + Sync>(
-    rt: &R,
-    shared: &Shared,
-    seats: &mut [Seat],
-) -> Option<(Reply, Reply)> {
-    match seats {
-        [waiting, crossing, ..] => Some(woken_by_step(rt, shared, waiting, crossing)),
-        _ => None,
-    }
 }
 
 /// Behind the crossing the register is to be scrubbed first.
