@@ -4,6 +4,7 @@ use crate::opened::book_of;
 use crate::same::{same, same_at, text_of};
 use cycle::{Actor, Book, History, Reply};
 use heap::Heap;
+use held::HeldBook;
 use parser::{Command, Script, Verb};
 use parts::is_same;
 use sharing::{Seat, Shared, settle};
@@ -22,16 +23,23 @@ pub struct Table {
     pub depth: u32,
 }
 
-/// A table of a new book for a script's steps.
-pub fn table_of(alloc: Global, script: &Script, depth: u32) -> Result<Table, Fail> {
-    match Shared::open(alloc, book_of(alloc, script)?) {
+/// A table of a book.
+fn open(alloc: Global, book: Book, depth: u32) -> Result<Table, AllocError> {
+    match Shared::open(alloc, book) {
         Ok((shared, seats)) => Ok(Table {
             shared,
             seats,
             depth,
         }),
-        Err(_) => Err(Fail::from(AllocError)),
+        Err(_) => Err(AllocError),
     }
+}
+
+/// A table of a new book for a script's steps.
+pub fn table_of(alloc: Global, script: &Script, depth: u32) -> Result<Table, Fail> {
+    let book = book_of(alloc, script)?;
+    let table = open(alloc, book, depth)?;
+    Ok(table)
 }
 
 /// An actor's seat.
@@ -111,6 +119,32 @@ fn same_histories(
     Ok(())
 }
 
+/// A table's book, where its seats agree with it.
+fn settled(table: Table) -> Option<Book> {
+    let Table {
+        shared,
+        seats,
+        depth: _,
+    } = table;
+    match settle(shared.into_book(), seats) {
+        Ok(settled) => Some(settled.book),
+        Err(_) => None,
+    }
+}
+
+/// The history of a book is that of another one, of so many entries.
+fn tells_the_same(
+    rt: &impl Abort,
+    alloc: Global,
+    mut held: impl HeldBook + Drop,
+    book: &Book,
+    entries: usize,
+) -> Result<(), Fail> {
+    let history = held.book().history();
+    same_histories(rt, alloc, history, book.history(), entries)?;
+    Ok(())
+}
+
 /// The book and the seats of a table agree, and its history is that of another book, of so many entries.
 pub fn settles(
     rt: &impl Abort,
@@ -119,16 +153,8 @@ pub fn settles(
     book: &Book,
     entries: usize,
 ) -> Result<(), Fail> {
-    let Table {
-        shared,
-        seats,
-        depth: _,
-    } = table;
-    match settle(shared.into_book(), seats) {
-        Ok(settled) => {
-            same_histories(rt, alloc, settled.book.history(), book.history(), entries)?;
-            Ok(())
-        }
-        Err(_) => Err("a stray".into()),
+    match settled(table) {
+        Some(other) => tells_the_same(rt, alloc, other, book, entries),
+        None => Err("a stray".into()),
     }
 }
