@@ -5,7 +5,7 @@ use cycle::{Actor, Answer, Book, Step};
 use heap::NewFault;
 use layout::{Layout, Layouts};
 use model::Config;
-use sharing::{Seat, Shared, Stray, settle};
+use sharing::{Seat, Shared, settle};
 use std::alloc::{AllocError, Global};
 use std::process::Abort;
 use std::sync::Wait;
@@ -29,14 +29,18 @@ fn config(alloc: Global) -> Result<Config, AllocError> {
     })
 }
 
-/// A new book that is shared, and its seats.
-fn opened(alloc: Global) -> Result<(Shared, Vec<Seat>), Fail> {
-    let book = match Book::new(alloc, config(alloc)?) {
-        Ok(book) => book,
-        Err(_) => return Err(Fail::from(AllocError)),
-    };
+/// A book that is shared, and its seats.
+fn open(alloc: Global, book: Book) -> Result<(Shared, Vec<Seat>), AllocError> {
     match Shared::open(alloc, book) {
         Ok(opened) => Ok(opened),
+        Err(_) => Err(AllocError),
+    }
+}
+
+/// A new book.
+fn new_book(alloc: Global) -> Result<Book, Fail> {
+    match Book::new(alloc, config(alloc)?) {
+        Ok(book) => Ok(book),
         Err(_) => Err(Fail::from(AllocError)),
     }
 }
@@ -52,15 +56,49 @@ fn take(rt: &(impl Abort + Wait), shared: &Shared, seats: &mut [Seat]) {
     }
 }
 
-/// The stray of a book that is settled with the seats that another one was settled with.
-fn stray_of(first: Shared, second: Shared, seats: Vec<Seat>) -> Result<Stray, Fail> {
-    match settle(second.into_book(), seats) {
-        Ok(settled) => match settle(first.into_book(), settled.seats) {
-            Ok(_) => Err("another book's seats are settled".into()),
-            Err(stray) => Ok(stray),
-        },
-        Err(_) => Err("a new book isn't settled".into()),
+/// The seats that come back where they are settled with their own book.
+fn settled(shared: Shared, seats: Vec<Seat>) -> Option<Vec<Seat>> {
+    match settle(shared.into_book(), seats) {
+        Ok(settled) => Some(settled.seats),
+        Err(_) => None,
     }
+}
+
+/// The stray of a book that is settled with these seats.
+fn stray_of(shared: Shared, seats: Vec<Seat>) -> Option<Actor> {
+    match settle(shared.into_book(), seats) {
+        Ok(_) => None,
+        Err(stray) => Some(stray.actor),
+    }
+}
+
+/// The stray of a book whose first thread has taken a page, with the seats of another book.
+fn stray_with(
+    rt: &(impl Abort + Wait),
+    shared: Shared,
+    mut seats: Vec<Seat>,
+    others: Option<Vec<Seat>>,
+) -> Option<Actor> {
+    take(rt, &shared, &mut seats);
+    match others {
+        Some(others) => stray_of(shared, others),
+        None => None,
+    }
+}
+
+/// The seats of a new book, which were settled with it.
+fn seats_of_new(alloc: Global) -> Result<Option<Vec<Seat>>, Fail> {
+    let book = new_book(alloc)?;
+    let (shared, seats) = open(alloc, book)?;
+    Ok(settled(shared, seats))
+}
+
+/// The stray of a new book with the seats of another one.
+fn stray(rt: &(impl Abort + Wait), alloc: Global) -> Result<Option<Actor>, Fail> {
+    let others = seats_of_new(alloc)?;
+    let book = new_book(alloc)?;
+    let (shared, seats) = open(alloc, book)?;
+    Ok(stray_with(rt, shared, seats, others))
 }
 
 /// A stray actor is told by this line.
@@ -72,11 +110,8 @@ fn is_told(rt: &impl Abort, alloc: Global, actor: Actor, line: &str) {
 
 #[test]
 fn seats_of_another_book(rt: HostRuntime) -> Result<(), Fail> {
-    let (first, mut firsts) = opened(rt.alloc())?;
-    take(&rt, &first, &mut firsts);
-    let (second, seconds) = opened(rt.alloc())?;
-    let stray = stray_of(first, second, seconds)?;
-    same(&rt, stray.actor, Actor::Thread(0));
-    is_told(&rt, rt.alloc(), stray.actor, "stray t0\n");
+    let actor = Actor::Thread(0);
+    same(&rt, stray(&rt, rt.alloc())?, Some(actor));
+    is_told(&rt, rt.alloc(), actor, "stray t0\n");
     Ok(())
 }
