@@ -1,7 +1,7 @@
 //! Two actors that run at once: a gate holds each until the other is where it is to be.
 
 use crate::same::same;
-use cycle::{Actor, Answer, History, Step};
+use cycle::{Actor, Answer, Entry, History, Step};
 use parser::{Script, parse};
 use racing::{Gate, by_threads};
 use std::alloc::Global;
@@ -59,14 +59,28 @@ impl Gate for Meeting {
     }
 }
 
+/// The answer of an entry, where its step is `Heal`.
+fn answer_of(entry: &Entry) -> Option<Answer> {
+    if matches!(entry.step, Step::Heal) {
+        Some(entry.answer)
+    } else {
+        None
+    }
+}
+
+/// The answer of the entry of a number, where its step is `Heal`.
+fn answer_at(history: &History, index: usize) -> Option<Answer> {
+    match history.get(index) {
+        Some(found) => answer_of(found.entry()),
+        None => None,
+    }
+}
+
 /// The answer to the first `Heal` of a history.
 fn healed(history: &History) -> Option<Answer> {
     for index in 0..history.len() {
-        if let Some(found) = history.get(index) {
-            let entry = found.entry();
-            if matches!(entry.step, Step::Heal) {
-                return Some(entry.answer);
-            }
+        if let Some(answer) = answer_at(history, index) {
+            return Some(answer);
         }
     }
     None
