@@ -28,10 +28,12 @@ fn take_all(rt: &impl Abort, owner: &mut HintSeat, thief: &mut HintSeat) {
     }
 }
 
-/// Nothing is left; of its own deque a seat steals nothing, nor of one that isn't there.
+/// Nothing is left, nor has the thief got any of its own. A seat steals nothing of its own deque, nor of
+/// one that isn't there.
 fn is_over(rt: &impl Abort, owner: &mut HintSeat, thief: &mut HintSeat) {
     same(rt, pop(owner), None);
     same(rt, steal(thief, 0), None);
+    same(rt, pop(thief), None);
     same(rt, push(owner, 1), true);
     same(rt, steal(owner, 0), None);
     same(rt, steal(thief, 2), None);
