@@ -109,7 +109,7 @@ fn two_at_once(rt: HostRuntime) -> Result<(), Fail> {
         given_up: AtomicU64::new(0),
     };
     let answer = answered(&rt, rt.alloc(), &script, &meeting);
-    same(&rt, answer, Some(Answer::Changed));
     same(&rt, meeting.given_up.load(Ordering::SeqCst), 0);
+    same(&rt, answer, Some(Answer::Changed));
     Ok(())
 }
