@@ -1,12 +1,15 @@
 //! Two actors that run at once: a gate holds each until the other is where it is to be.
 
-use cycle::{Actor, Answer, History, Step};
-use parser::parse;
+use crate::same::same;
+use cycle::{Actor, Answer, Entry, History, Step};
+use parser::{Script, parse};
 use racing::{Gate, by_threads};
-use std::process::Abort;
+use std::alloc::Global;
+use std::sync::Wait;
 use std::sync::atomic::{AtomicU64, Ordering};
 use std::test::Fail;
 use std::thread;
+use std::thread::Threads;
 
 const SCRIPT: &str =
     "heap words 16 frames 1 pages 1 threads 2 workers 1 registers 2 globals 1\nlayout 1 1\nt0 take 16\nt0 new r0 0\nt0 storeg 0 r0\nt0 load r1 r0 0\nt0 trap\nt0 heal\nt0 finish\nt1 getg r0 0\nt1 store r0 0 r0\n";
@@ -56,17 +59,44 @@ impl Gate for Meeting {
     }
 }
 
+/// The answer of an entry, where its step is `Heal`.
+fn answer_of(entry: &Entry) -> Option<Answer> {
+    if matches!(entry.step, Step::Heal) {
+        Some(entry.answer)
+    } else {
+        None
+    }
+}
+
+/// The answer of the entry of a number, where its step is `Heal`.
+fn answer_at(history: &History, index: usize) -> Option<Answer> {
+    match history.get(index) {
+        Some(found) => answer_of(found.entry()),
+        None => None,
+    }
+}
+
 /// The answer to the first `Heal` of a history.
 fn healed(history: &History) -> Option<Answer> {
     for index in 0..history.len() {
-        if let Some(found) = history.get(index) {
-            let entry = found.entry();
-            if matches!(entry.step, Step::Heal) {
-                return Some(entry.answer);
-            }
+        if let Some(answer) = answer_at(history, index) {
+            return Some(answer);
         }
     }
     None
+}
+
+/// What the first `Heal` of a run is answered. None where it isn't settled.
+fn answered<R: Threads + Wait + Sync>(
+    rt: &R,
+    alloc: Global,
+    script: &Script,
+    meeting: &Meeting,
+) -> Option<Answer> {
+    match by_threads(rt, alloc, script, meeting) {
+        Ok(settled) => healed(settled.book.history()),
+        Err(_) => None,
+    }
 }
 
 #[test]
@@ -78,12 +108,8 @@ fn two_at_once(rt: HostRuntime) -> Result<(), Fail> {
         stored: AtomicU64::new(0),
         given_up: AtomicU64::new(0),
     };
-    match by_threads(&rt, rt.alloc(), &script, &meeting) {
-        Ok(settled) => {
-            assert_eq!(rt; healed(settled.book.history()), Some(Answer::Changed));
-        }
-        Err(_) => assert!(rt; false, "it isn't settled"),
-    }
-    assert_eq!(rt; meeting.given_up.load(Ordering::SeqCst), 0);
+    let answer = answered(&rt, rt.alloc(), &script, &meeting);
+    same(&rt, meeting.given_up.load(Ordering::SeqCst), 0);
+    same(&rt, answer, Some(Answer::Changed));
     Ok(())
 }

@@ -6,6 +6,12 @@ mod gates;
 #[cfg(test)]
 mod rows;
 #[cfg(test)]
+mod same;
+#[cfg(test)]
 mod stealing;
 #[cfg(test)]
 mod strays;
+#[cfg(test)]
+mod taking;
+#[cfg(test)]
+mod turns;

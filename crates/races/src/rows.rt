@@ -2,6 +2,7 @@
 
 use parser::{Script, parse};
 use racing::{OpenGate, by_threads};
+use sharing::Settled;
 use std::alloc::Global;
 use std::process::Abort;
 use std::sync::Wait;
@@ -18,14 +19,19 @@ const ROLLING: &str =
 
 const OUTPUT: &str = "thread 0 births 100 data 100\nthread 1 births 100 data 100\nsettled\n";
 
-/// What a run by threads prints.
-fn raced<R: Threads + Wait + Sync>(rt: &R, alloc: Global, script: &Script) -> Option<Vec<u8>> {
+/// What is printed of a run that is settled.
+fn printed(alloc: Global, settled: &Settled) -> Option<Vec<u8>> {
     let mut output = Vec::new(alloc);
+    match tell_threads(settled, &mut output) {
+        Ok(()) => Some(output),
+        Err(_) => None,
+    }
+}
+
+/// What a run by threads prints. None where it isn't settled.
+fn raced<R: Threads + Wait + Sync>(rt: &R, alloc: Global, script: &Script) -> Option<Vec<u8>> {
     match by_threads(rt, alloc, script, &OpenGate) {
-        Ok(settled) => match tell_threads(&settled, &mut output) {
-            Ok(()) => Some(output),
-            Err(_) => None,
-        },
+        Ok(settled) => printed(alloc, &settled),
         Err(_) => None,
     }
 }

@@ -1,65 +1,106 @@
 //! Hints that one worker pushes and pops while another steals them.
 
+use crate::same::{same, same_at};
+use crate::taking::{pop, push, steal};
 use hints::{HintSeat, Hints};
-use refword::Addr;
+use std::alloc::{AllocError, Global};
 use std::process::Abort;
 use std::test::Fail;
-use std::thread::join;
+use std::thread;
+use std::thread::{Threads, join};
 
 /// How many hints there are.
 const COUNT: u64 = 1_000;
 
-/// Pushes each address once, and pops after each second one. The bits of what it popped, added up.
-fn push_all(mut seat: HintSeat) -> (HintSeat, u64, u64) {
-    let mut count = 0u64;
-    let mut sum = 0u64;
-    for number in 1..=COUNT {
-        if let Some(hint) = Addr::new(number) {
-            let _ = Hints::push(&mut seat, hint);
-        }
-        if number % 2 == 0 {
-            if let Some(hint) = Hints::pop(&mut seat) {
-                count = count.wrapping_add(1);
-                sum = sum.wrapping_add(hint.number());
-            }
-        }
+/// How often each number up to the last was taken, and, at 0, how often one that nobody pushed: never yet.
+fn none_taken(alloc: Global) -> Result<Vec<u64>, AllocError> {
+    let mut counts = Vec::new(alloc);
+    for _ in 0..=COUNT {
+        counts.push(0u64)?;
     }
-    (seat, count, sum)
+    Ok(counts)
 }
 
-fn steal_all(mut seat: HintSeat) -> (u64, u64) {
-    let mut count = 0u64;
-    let mut sum = 0u64;
-    for _ in 0..COUNT {
-        if let Some(hint) = Hints::steal(&mut seat, 0) {
-            count = count.wrapping_add(1);
-            sum = sum.wrapping_add(hint.number());
+/// One more is taken.
+fn note(counts: &mut [u64], number: u64) {
+    let place = if number > COUNT { 0 } else { number };
+    if let Some(count) = counts.get_mut(place as usize) {
+        *count = count.wrapping_add(1);
+    }
+}
+
+/// Takes the seat's own oldest number, if there is one.
+fn pop_one(seat: &mut HintSeat, counts: &mut [u64]) {
+    if let Some(number) = pop(seat) {
+        note(counts, number);
+    }
+}
+
+/// Pushes each number once, and pops after each second one.
+fn push_all(mut seat: HintSeat, mut counts: Vec<u64>) -> (HintSeat, Vec<u64>) {
+    for number in 1..=COUNT {
+        let _ = push(&mut seat, number);
+        if number % 2 == 0 {
+            pop_one(&mut seat, &mut counts);
         }
     }
-    (count, sum)
+    (seat, counts)
+}
+
+/// Steals many times, and lets the owner run where it gets none.
+fn steal_all(mut seat: HintSeat, mut counts: Vec<u64>) -> Vec<u64> {
+    for _ in 0..COUNT * 20 {
+        match steal(&mut seat, 0) {
+            Some(number) => note(&mut counts, number),
+            None => thread::yield_now(),
+        }
+    }
+    counts
+}
+
+/// Pops until none is left.
+fn pop_all(rt: &impl Abort, mut seat: HintSeat, counts: &mut [u64]) {
+    for _ in 0..COUNT {
+        pop_one(&mut seat, counts);
+    }
+    same(rt, pop(&mut seat), None);
+}
+
+/// How often a number was taken.
+fn count_of(counts: &[u64], number: u64) -> u64 {
+    match counts.get(number as usize) {
+        Some(count) => *count,
+        None => 0,
+    }
+}
+
+/// Of both lists together each number was taken once, and none that nobody pushed.
+fn each_is_taken_once(rt: &impl Abort, popped: &[u64], stolen: &[u64]) {
+    for number in 0..=COUNT {
+        let count = count_of(popped, number).wrapping_add(count_of(stolen, number));
+        same_at(rt, number, count, if number == 0 { 0 } else { 1 });
+    }
+}
+
+/// The owner pushes and pops while the thief steals, and pops what is left then.
+fn run<R: Abort + Threads>(rt: &R, owner: HintSeat, thief: HintSeat, counts: (Vec<u64>, Vec<u64>)) {
+    let (popped, stolen) = counts;
+    let ((owner, mut popped), stolen) = join(
+        rt,
+        move || push_all(owner, popped),
+        move || steal_all(thief, stolen),
+    );
+    pop_all(rt, owner, &mut popped);
+    each_is_taken_once(rt, &popped, &stolen);
 }
 
 #[test]
 fn each_once(rt: HostRuntime) -> Result<(), Fail> {
+    let counts = (none_taken(rt.alloc())?, none_taken(rt.alloc())?);
     let mut seats = Hints::new(rt.alloc(), 2)?;
-    let (Some(thief), Some(owner)) = (seats.pop(), seats.pop()) else {
-        assert!(rt; false, "there are two seats");
-        return Ok(());
-    };
-    let ((mut owner, popped, first), (stolen, second)) = join(
-        &rt,
-        move || push_all(owner),
-        move || steal_all(thief),
-    );
-    let mut count = popped.wrapping_add(stolen);
-    let mut sum = first.wrapping_add(second);
-    for _ in 0..COUNT {
-        if let Some(hint) = Hints::pop(&mut owner) {
-            count = count.wrapping_add(1);
-            sum = sum.wrapping_add(hint.number());
-        }
+    match (seats.pop(), seats.pop()) {
+        (Some(thief), Some(owner)) => run(&rt, owner, thief, counts),
+        _ => assert!(rt; false, "there are two seats"),
     }
-    assert_eq!(rt; count, COUNT);
-    assert_eq!(rt; sum, COUNT * (COUNT + 1) / 2);
     Ok(())
 }

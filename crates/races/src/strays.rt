@@ -1,13 +1,16 @@
 //! Seats of one book, settled with another.
 
-use cycle::{Actor, Book, Step};
+use crate::same::same;
+use cycle::{Actor, Answer, Book, Step};
 use heap::NewFault;
 use layout::{Layout, Layouts};
 use model::Config;
 use sharing::{Seat, Shared, settle};
 use std::alloc::{AllocError, Global};
 use std::process::Abort;
+use std::sync::Wait;
 use std::test::Fail;
+use telling::tell_stray;
 
 /// Three pages of 16 words, two threads, one worker, and one layout of a reference and a datum.
 fn config(alloc: Global) -> Result<Config, AllocError> {
@@ -26,32 +29,89 @@ fn config(alloc: Global) -> Result<Config, AllocError> {
     })
 }
 
-/// A new book that is shared, and its seats.
-fn opened(alloc: Global) -> Result<(Shared, Vec<Seat>), Fail> {
-    let book = match Book::new(alloc, config(alloc)?) {
-        Ok(book) => book,
-        Err(_) => return Err(Fail::from(AllocError)),
-    };
+/// A book that is shared, and its seats.
+fn open(alloc: Global, book: Book) -> Result<(Shared, Vec<Seat>), AllocError> {
     match Shared::open(alloc, book) {
         Ok(opened) => Ok(opened),
+        Err(_) => Err(AllocError),
+    }
+}
+
+/// A new book.
+fn new_book(alloc: Global) -> Result<Book, Fail> {
+    match Book::new(alloc, config(alloc)?) {
+        Ok(book) => Ok(book),
         Err(_) => Err(Fail::from(AllocError)),
     }
 }
 
-#[test]
-fn seats_of_another_book(rt: HostRuntime) -> Result<(), Fail> {
-    let (first, mut firsts) = opened(rt.alloc())?;
-    let (second, seconds) = opened(rt.alloc())?;
-    match firsts.first_mut() {
-        Some(seat) => assert!(rt; first.step(&rt, seat, Step::Take(16)).is_ok()),
+/// The first thread of a shared book takes a page.
+fn take(rt: &(impl Abort + Wait), shared: &Shared, seats: &mut [Seat]) {
+    match seats.first_mut() {
+        Some(seat) => {
+            let reply = shared.step(rt, seat, Step::Take(16));
+            same(rt, reply, Ok(Answer::Lent { page: 1, offset: 0 }));
+        }
         None => assert!(rt; false, "there is no seat"),
     }
-    match settle(second.into_book(), seconds) {
-        Ok(settled) => match settle(first.into_book(), settled.seats) {
-            Ok(_) => assert!(rt; false, "another book's seats are settled"),
-            Err(stray) => assert_eq!(rt; stray.actor, Actor::Thread(0)),
-        },
-        Err(_) => assert!(rt; false, "a new book isn't settled"),
+}
+
+/// The seats that come back where they are settled with their own book.
+fn settled(shared: Shared, seats: Vec<Seat>) -> Option<Vec<Seat>> {
+    match settle(shared.into_book(), seats) {
+        Ok(settled) => Some(settled.seats),
+        Err(_) => None,
     }
+}
+
+/// The stray of a book that is settled with these seats.
+fn stray_of(shared: Shared, seats: Vec<Seat>) -> Option<Actor> {
+    match settle(shared.into_book(), seats) {
+        Ok(_) => None,
+        Err(stray) => Some(stray.actor),
+    }
+}
+
+/// The stray of a book whose first thread has taken a page, with the seats of another book.
+fn stray_with(
+    rt: &(impl Abort + Wait),
+    shared: Shared,
+    mut seats: Vec<Seat>,
+    others: Option<Vec<Seat>>,
+) -> Option<Actor> {
+    take(rt, &shared, &mut seats);
+    match others {
+        Some(others) => stray_of(shared, others),
+        None => None,
+    }
+}
+
+/// The seats of a new book, which were settled with it.
+fn seats_of_new(alloc: Global) -> Result<Option<Vec<Seat>>, Fail> {
+    let book = new_book(alloc)?;
+    let (shared, seats) = open(alloc, book)?;
+    Ok(settled(shared, seats))
+}
+
+/// The stray of a new book with the seats of another one.
+fn stray(rt: &(impl Abort + Wait), alloc: Global) -> Result<Option<Actor>, Fail> {
+    let others = seats_of_new(alloc)?;
+    let book = new_book(alloc)?;
+    let (shared, seats) = open(alloc, book)?;
+    Ok(stray_with(rt, shared, seats, others))
+}
+
+/// A stray actor is told by this line.
+fn is_told(rt: &impl Abort, alloc: Global, actor: Actor, line: &str) {
+    let mut output = Vec::new(alloc);
+    same(rt, tell_stray(actor, &mut output).is_ok(), true);
+    same(rt, output.as_slice(), line.as_bytes());
+}
+
+#[test]
+fn seats_of_another_book(rt: HostRuntime) -> Result<(), Fail> {
+    let actor = Actor::Thread(0);
+    same(&rt, stray(&rt, rt.alloc())?, Some(actor));
+    is_told(&rt, rt.alloc(), actor, "stray t0\n");
     Ok(())
 }

@@ -1,0 +1,76 @@
+//! Pages that are worth to be emptied.
+
+use crate::opened::{HEAD, MARKED, act_all, book_of, script_of};
+use crate::same::same;
+use choosing::choose;
+use cycle::Book;
+use held::HeldBook;
+use parser::Script;
+use std::alloc::{AllocError, Global};
+use std::process::Abort;
+use std::test::Fail;
+
+/// At most so many words of a hundred are to be live: these pages of a book are chosen.
+fn chooses(
+    rt: &impl Abort,
+    alloc: Global,
+    book: &Book,
+    percent: u32,
+    wanted: &[u32],
+) -> Result<(), AllocError> {
+    let chosen = choose(alloc, book.heap(), percent)?;
+    same(rt, chosen.as_slice(), wanted);
+    Ok(())
+}
+
+/// Behind a script's steps no page is chosen by one limit, and the first one by another.
+fn finds(
+    rt: &impl Abort,
+    alloc: Global,
+    mut held: impl HeldBook + Drop,
+    script: &Script,
+    limits: (Option<u32>, u32),
+) -> Result<(), AllocError> {
+    let book = held.book();
+    act_all(alloc, book, script)?;
+    if let Some(low) = limits.0 {
+        chooses(rt, alloc, book, low, &[])?;
+    }
+    chooses(rt, alloc, book, limits.1, &[1])
+}
+
+/// The same on a new book.
+fn finds_behind(
+    rt: &impl Abort,
+    alloc: Global,
+    rest: &str,
+    limits: (Option<u32>, u32),
+) -> Result<(), Fail> {
+    let script = script_of(alloc, &[HEAD, rest])?;
+    finds(rt, alloc, book_of(alloc, &script)?, &script, limits)?;
+    Ok(())
+}
+
+/// Three words of sixteen are live.
+#[test]
+fn a_page_of_one_object(rt: HostRuntime) -> Result<(), Fail> {
+    finds_behind(&rt, rt.alloc(), MARKED, (Some(18), 19))
+}
+
+/// Nothing is live.
+const DEAD: &str =
+    "t0 take 16\nt0 new r0 0\nt0 clear r0\nt0 give\nw0 mark\nt0 cross\nt1 cross\nw0 scang 0\nw0 endmark\n";
+
+#[test]
+fn a_page_without_live_objects(rt: HostRuntime) -> Result<(), Fail> {
+    finds_behind(&rt, rt.alloc(), DEAD, (None, 0))
+}
+
+/// Two pages of five objects, fifteen words of each, and one free frame.
+const FULL: &str =
+    "t0 take 16\ntimes 5\nt0 new r1 0\nt0 store r1 0 r0\nt0 mov r0 r1\nend\nt0 give\nt0 take 16\ntimes 5\nt0 new r1 0\nt0 store r1 0 r0\nt0 mov r0 r1\nend\nt0 give\nw0 mark\nt0 cross\nt1 cross\nw0 scang 0\nw0 pick 2.12\nw0 scan\nw0 scan\nw0 pick 2.9\nw0 scan\nw0 scan\nw0 pick 2.6\nw0 scan\nw0 scan\nw0 pick 2.3\nw0 scan\nw0 scan\nw0 pick 2.0\nw0 scan\nw0 scan\nw0 pick 1.12\nw0 scan\nw0 scan\nw0 pick 1.9\nw0 scan\nw0 scan\nw0 pick 1.6\nw0 scan\nw0 scan\nw0 pick 1.3\nw0 scan\nw0 scan\nw0 pick 1.0\nw0 scan\nw0 scan\nw0 endmark\n";
+
+#[test]
+fn room_for_one_page(rt: HostRuntime) -> Result<(), Fail> {
+    finds_behind(&rt, rt.alloc(), FULL, (Some(93), 94))
+}

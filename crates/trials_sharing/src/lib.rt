@@ -1,0 +1,17 @@
+//! The tests of shared books, beside books of one thread, and of the choice of pages.
+#![tactic(auto)]
+
+#[cfg(test)]
+mod choices;
+#[cfg(test)]
+mod mirror;
+#[cfg(test)]
+mod opened;
+#[cfg(test)]
+mod rows;
+#[cfg(test)]
+mod same;
+#[cfg(test)]
+mod stops;
+#[cfg(test)]
+mod table;

@@ -1,0 +1,74 @@
+//! The same steps, one by one, on a shared book and on a book of one thread.
+
+use crate::opened::{book_of, script_of};
+use crate::same::same_at;
+use crate::table::{Table, ask, image_of, settles, shared_image, table_of};
+use cycle::Book;
+use held::{HeldBook, act};
+use parser::{Command, Script};
+use std::alloc::Global;
+use std::process::Abort;
+use std::sync::Wait;
+use std::test::Fail;
+use std::thread::Threads;
+
+/// The step of the command of a number on both books, whose answers and images are the same.
+fn both<R: Abort + Threads + Wait + Sync>(
+    rt: &R,
+    alloc: Global,
+    table: &mut Table,
+    book: &mut Book,
+    place: usize,
+    command: &Command,
+) -> Result<(), Fail> {
+    let found = ask(rt, alloc, table, command)?;
+    let wanted = act(book, command.actor, command.order.step(alloc)?);
+    same_at(rt, place, found, wanted);
+    let found = shared_image(rt, alloc, &table.shared)?;
+    let wanted = image_of(alloc, book.heap())?;
+    same_at(rt, place, found.as_str(), wanted.as_str());
+    Ok(())
+}
+
+/// A script's steps one by one at a table and on a book, to the end.
+fn all<R: Abort + Threads + Wait + Sync>(
+    rt: &R,
+    alloc: Global,
+    mut table: Table,
+    mut held: impl HeldBook + Drop,
+    script: &Script,
+    entries: usize,
+) -> Result<(), Fail> {
+    let book = held.book();
+    for (place, command) in script.commands().iter().enumerate() {
+        both(rt, alloc, &mut table, book, place, command)?;
+    }
+    settles(rt, alloc, table, book, entries)
+}
+
+/// The steps of a script are the same on both books, of which the shared one copies pages to a depth; so
+/// many are accepted.
+pub fn mirrors<R: Abort + Threads + Wait + Sync>(
+    rt: &R,
+    alloc: Global,
+    parts: &[&str],
+    depth: u32,
+    entries: usize,
+) -> Result<(), Fail> {
+    let script = script_of(alloc, parts)?;
+    let table = table_of(alloc, &script, depth)?;
+    all(rt, alloc, table, book_of(alloc, &script)?, &script, entries)
+}
+
+/// The same where the shared book was stopped before.
+pub fn mirrors_stopped<R: Abort + Threads + Wait + Sync>(
+    rt: &R,
+    alloc: Global,
+    parts: &[&str],
+    entries: usize,
+) -> Result<(), Fail> {
+    let script = script_of(alloc, parts)?;
+    let table = table_of(alloc, &script, 0)?;
+    table.shared.stop(rt);
+    all(rt, alloc, table, book_of(alloc, &script)?, &script, entries)
+}
