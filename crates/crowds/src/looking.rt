@@ -1,0 +1,55 @@
+//! Looks at a heap, each of which is a hold of the lock.
+
+use crate::timing::Timing;
+use anyhow::Result;
+use choosing::{choose, first_packing, measured, packed, room};
+use marker::next_todo;
+use std::alloc::Global;
+
+/// What a choice asks of one page after another: its live words, and where its objects would go. Gives
+/// how many targets these would be in.
+fn look_at_pages(held: &mut impl Timing, pages: u32) -> Result<u64> {
+    let mut packing = first_packing();
+    for page in 1..=pages {
+        let start = held.begin()?;
+        let _ = measured(held.heap(), 100, page);
+        held.end("a page measured", start)?;
+        let start = held.begin()?;
+        let next = packed(held.heap(), page, packing);
+        held.end("a page packed", start)?;
+        packing = next.unwrap_or(packing);
+    }
+    Ok(packing.count)
+}
+
+/// Looks at all pages.
+pub fn look_all(held: &mut impl Timing) -> Result<()> {
+    let pages = held.heap().memory().pages().len() as u32;
+    let _ = look_at_pages(held, pages)?;
+    Ok(())
+}
+
+/// The pages that are chosen where all that are closed may be.
+pub fn chosen(held: &mut impl Timing, alloc: Global) -> Result<Vec<u32>> {
+    let start = held.begin()?;
+    let _ = room(held.heap());
+    held.end("room", start)?;
+    let start = held.begin()?;
+    let pages = choose(alloc, held.heap(), 100)?;
+    held.end("choose", start)?;
+    Ok(pages)
+}
+
+/// The page and the offset of the object that is to be scanned next.
+pub fn todo_left(held: &mut impl Timing, words: u32) -> Result<Option<(u32, u32)>> {
+    let start = held.begin()?;
+    let found = next_todo(held.heap());
+    held.end("next_todo", start)?;
+    match (found, u64::from(words)) {
+        (Some(address), words) if words > 0 => {
+            let page = u32::try_from(address.number() / words).unwrap_or(0);
+            Ok(Some((page, (address.number() % words) as u32)))
+        }
+        _ => Ok(None),
+    }
+}
