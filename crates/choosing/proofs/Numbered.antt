@@ -1,10 +1,8 @@
 -- A closed page has a number.
 use Rattle.std.proofs.Common.{◌≡◌, ℕ, ◌<◌, ◌≤◌, true, false, sym, ◌∙◌, ap}
-use Rattle.model.specs.declared.records.PageState.TheVariants.{Unused}
 use Rattle.model.specs.Owning.{IsStore}
 use Rattle.model.specs.Protections.{is_closed}
 use Rattle.model.specs.States.{HeapState}
-use Rattle.model.specs.Stores.{state_at}
 use Rattle.relocate.proofs.Entries.{numbered}
 use Rattle.choosing.specs.Choices.{is_closed_at}
 

@@ -7,5 +7,5 @@ mod packing;
 mod sparse;
 
 pub use choosing::{choose, room};
-pub use packing::{Packing, first_packing, packed};
+pub use packing::{Packing, first_packing, packed_page};
 pub use sparse::measured;

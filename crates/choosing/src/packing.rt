@@ -106,7 +106,7 @@ fn has_page_for(heap: &Heap, page: u32, before: &Packing) -> bool
 /// Where the next object would go behind the live objects of a page, by its number from 1, that are
 /// packed behind others. `None` where there is no such page, or more was packed than a heap can have. It
 /// reads the headers of the live objects of that page alone.
-pub fn packed(heap: &Heap, page: u32, before: Packing) -> Option<Packing>
+pub fn packed_page(heap: &Heap, page: u32, before: Packing) -> Option<Packing>
     ensures { result ≡ pack_if heap.now page before }
 {
     if !has_page_for(heap, page, &before) {

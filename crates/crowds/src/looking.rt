@@ -2,7 +2,7 @@
 
 use crate::timing::Timing;
 use anyhow::Result;
-use choosing::{choose, first_packing, measured, packed, room};
+use choosing::{choose, first_packing, measured, packed_page, room};
 use marker::next_todo;
 use std::alloc::Global;
 
@@ -15,7 +15,7 @@ fn look_at_pages(held: &mut impl Timing, pages: u32) -> Result<u64> {
         let _ = measured(held.heap(), 100, page);
         held.end("a page measured", start)?;
         let start = held.begin()?;
-        let next = packed(held.heap(), page, packing);
+        let next = packed_page(held.heap(), page, packing);
         held.end("a page packed", start)?;
         packing = next.unwrap_or(packing);
     }

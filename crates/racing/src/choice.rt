@@ -3,7 +3,7 @@
 
 use crate::gate::Gate;
 use crate::run::Run;
-use choosing::{Packing, first_packing, measured, packed, room};
+use choosing::{Packing, first_packing, measured, packed_page, room};
 use heap::Heap;
 use model::PageState;
 use std::alloc::{AllocError, Global};
@@ -108,7 +108,7 @@ fn packed_behind<R: Wait, G: Gate>(
 ) -> Option<Packing> {
     let packing = run
         .shared
-        .look(run.rt, |heap: &Heap| packed(heap, page, before))?;
+        .look(run.rt, |heap: &Heap| packed_page(heap, page, before))?;
     if packing.count <= most {
         Some(packing)
     } else {
