@@ -24,7 +24,7 @@ fn look_at_pages(held: &mut impl Timing, pages: u32) -> Result<u64> {
 
 /// Looks at all pages.
 pub fn look_all(held: &mut impl Timing) -> Result<()> {
-    let pages = held.heap().memory().pages().len() as u32;
+    let pages = u32::try_from(held.heap().memory().pages().len())?;
     let _ = look_at_pages(held, pages)?;
     Ok(())
 }

@@ -10,13 +10,13 @@ use std::alloc::{AllocError, Global};
 use std::sync::Wait;
 
 /// How many pages one look passes over at most.
-const STRIDE: usize = 1_024;
+const STRIDE: u32 = 1_024;
 
 /// A page that is worth to be emptied, if a look has met one, and how many pages are behind it.
 #[derive(Drop)]
 struct Found {
     page: Option<(u64, u32)>,
-    behind: usize,
+    behind: u32,
 }
 
 /// Whether a page is closed.
@@ -24,20 +24,21 @@ fn is_closed(heap: &Heap, page: u32) -> bool {
     matches!(heap.memory().state(page), PageState::Closed)
 }
 
+/// How many pages have a record.
+fn recorded(heap: &Heap) -> u32 {
+    u32::try_from(heap.memory().pages().len()).unwrap_or(u32::MAX)
+}
+
 /// The first closed page behind so many pages, behind its live words, where so few are live that it is
 /// worth to be emptied.
-fn next_measured(heap: &Heap, percent: u32, behind: usize) -> Found {
-    let end = heap
-        .memory()
-        .pages()
-        .len()
-        .min(behind.saturating_add(STRIDE));
+fn next_measured(heap: &Heap, percent: u32, behind: u32) -> Found {
+    let end = recorded(heap).min(behind.saturating_add(STRIDE));
     for index in behind..end {
-        let page = (index as u32).wrapping_add(1);
+        let page = index.wrapping_add(1);
         if is_closed(heap, page) {
             return Found {
                 page: measured(heap, percent, page),
-                behind: index.saturating_add(1),
+                behind: page,
             };
         }
     }
@@ -47,18 +48,16 @@ fn next_measured(heap: &Heap, percent: u32, behind: usize) -> Found {
     }
 }
 
-/// The closed pages of which at most so many words of a hundred are live, each behind its live words, by
-/// a look for each.
+/// The closed pages of which at most so many words of a hundred are live, each behind its live words: a
+/// look ends behind the first closed page that it meets.
 fn sparse<R: Wait, G: Gate>(
     alloc: Global,
     run: &Run<R, G>,
     percent: u32,
 ) -> Result<Vec<(u64, u32)>, AllocError> {
-    let count = run
-        .shared
-        .look(run.rt, |heap: &Heap| heap.memory().pages().len());
+    let count = run.shared.look(run.rt, |heap: &Heap| recorded(heap));
     let mut pages = Vec::new(alloc);
-    let mut behind = 0usize;
+    let mut behind = 0u32;
     for _ in run.rt.forever() {
         if behind >= count || run.has_lacked() {
             return Ok(pages);
@@ -74,8 +73,8 @@ fn sparse<R: Wait, G: Gate>(
     unreachable!()
 }
 
-/// The targets up to the last of these pages for which there is room, by a look for each: each page
-/// behind how many there are up to it.
+/// These pages up to the last for which there is room, by a look for each: each behind how many targets
+/// there would be up to it.
 fn packed_all<R: Wait, G: Gate>(
     alloc: Global,
     run: &Run<R, G>,
