@@ -47,13 +47,13 @@ impl Acting for Seated {
 
 /// A seat at a book that threads share.
 #[derive(Drop)]
-pub struct Sharing<'a, R> {
+pub struct Sharing<'a, 'b, R> {
     pub rt: &'a R,
-    pub shared: &'a Shared,
+    pub shared: &'b Shared,
     pub seat: Seat,
 }
 
-impl<R: Wait> Acting for Sharing<'_, R> {
+impl<R: Wait> Acting for Sharing<'_, '_, R> {
     #[inline(always)]
     fn accepts(&mut self, step: Step) -> bool {
         self.shared.step(self.rt, &mut self.seat, step).is_ok()
