@@ -3,7 +3,7 @@
 use crate::choice::chosen;
 use crate::gate::Gate;
 use crate::run::Run;
-use crate::scanning::Scanner;
+use crate::scanning::{Scanner, pause};
 use cycle::{Actor, PageList, Step};
 use heap::Heap;
 use model::{Phase, Refusal};
@@ -64,7 +64,7 @@ impl Collector {
             }
             match run.ask(seat, &Step::EndMark) {
                 Ok(_) => return true,
-                Err(Refusal::TodoLeft | Refusal::Pending { .. }) => thread::yield_now(),
+                Err(Refusal::TodoLeft | Refusal::Pending { .. }) => pause(run),
                 Err(_) => return false,
             }
         }

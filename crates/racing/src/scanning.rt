@@ -13,8 +13,8 @@ use std::ops::Range;
 use std::sync::Wait;
 use std::thread;
 
-/// How often a worker that has found nothing yields before it looks again.
-const PAUSE: u32 = 32;
+/// How often a worker that has found nothing asks whether all is over before it looks again.
+const PAUSE: u32 = 16_384;
 
 /// What a worker has.
 fn scan_of(heap: &Heap, worker: u32) -> Option<Scan> {
@@ -93,13 +93,13 @@ fn scan_globals<R: Wait, G: Gate>(run: &Run<R, G>, seat: &mut Seat) {
 }
 
 /// Leaves the lock alone for a while, so that those who have steps to do meet nobody who only looks.
-fn pause<R: Wait, G: Gate>(run: &Run<R, G>) {
+pub(crate) fn pause<R: Wait, G: Gate>(run: &Run<R, G>) {
     for _ in 0..PAUSE {
         if run.is_over() {
             return;
         }
-        thread::yield_now();
     }
+    thread::yield_now();
 }
 
 /// A worker, with its seat among the hints.
@@ -109,12 +109,20 @@ pub(crate) struct Scanner {
     pub(crate) hints: HintSeat,
 }
 
+/// What came of looking for an object.
+#[derive(Clone, Copy, PartialEq, Eq)]
+enum Found {
+    /// It was scanned.
+    Scanned,
+    /// It wasn't to be scanned, or another worker had it.
+    Passed,
+    /// There was none, or none can be picked any more.
+    Nothing,
+}
+
 impl Scanner {
-    /// An address that may be worth to be picked: the worker's own hint, else one of another worker.
-    fn hinted(&mut self, workers: u32) -> Option<Addr> {
-        if let Some(hint) = Hints::pop(&mut self.hints) {
-            return Some(hint);
-        }
+    /// The oldest hint of another worker that has one.
+    fn stolen(&mut self, workers: u32) -> Option<Addr> {
         for from in 0..workers {
             if let Some(hint) = Hints::steal(&mut self.hints, from) {
                 return Some(hint);
@@ -123,9 +131,18 @@ impl Scanner {
         None
     }
 
-    /// An address that may be worth to be picked, if there is one.
-    fn next<R: Wait, G: Gate>(&mut self, run: &Run<R, G>) -> Option<Addr> {
-        if let Some(hint) = self.hinted(run.workers) {
+    /// An address that may be worth to be picked, if there is one: the worker's own hint, else one of
+    /// another worker, else what is found by a look. Whose own last hint was passed over leaves the others
+    /// alone for a while before that: where objects hang on one list, workers would else overtake each
+    /// other at each of them.
+    fn next<R: Wait, G: Gate>(&mut self, run: &Run<R, G>, last: Found) -> Option<Addr> {
+        if let Some(hint) = Hints::pop(&mut self.hints) {
+            return Some(hint);
+        }
+        if last == Found::Passed && run.workers > 1 {
+            pause(run);
+        }
+        if let Some(hint) = self.stolen(run.workers) {
             return Some(hint);
         }
         run.shared.look(run.rt, |heap: &Heap| next_todo(heap))
@@ -155,41 +172,45 @@ impl Scanner {
         self.hint(run, object, first..end);
     }
 
-    /// Picks the object at an address, and scans it. What isn't to be scanned, or is another worker's,
-    /// is passed over. False where no object can be picked any more.
-    fn pick<R: Wait, G: Gate>(&mut self, run: &Run<R, G>, seat: &mut Seat, object: Addr) -> bool {
+    /// Picks the object at an address, and scans it.
+    fn pick<R: Wait, G: Gate>(&mut self, run: &Run<R, G>, seat: &mut Seat, object: Addr) -> Found {
         let Some(step) = pick_of(run.words, object) else {
-            return false;
+            return Found::Nothing;
         };
         match run.ask(seat, &step) {
             Ok(_) => {
                 self.scan(run, seat, object, 0);
-                true
+                Found::Scanned
             }
-            Err(refusal) => matches!(refusal, Refusal::NotTodo | Refusal::Taken),
+            Err(Refusal::NotTodo | Refusal::Taken) => Found::Passed,
+            Err(_) => Found::Nothing,
         }
     }
 
-    /// Scans one object, if there is one that is worth to be looked at. False where there is none, and
-    /// where no object can be picked any more.
-    fn scan_one<R: Wait, G: Gate>(&mut self, run: &Run<R, G>, seat: &mut Seat) -> bool {
+    /// Scans one object, if there is one that is worth to be looked at.
+    fn scan_one<R: Wait, G: Gate>(
+        &mut self,
+        run: &Run<R, G>,
+        seat: &mut Seat,
+        last: Found,
+    ) -> Found {
         if run.has_lacked() {
-            return false;
+            return Found::Nothing;
         }
-        match self.next(run) {
+        match self.next(run, last) {
             Some(object) => self.pick(run, seat, object),
-            None => false,
+            None => Found::Nothing,
         }
     }
 
-    /// Scans objects until none is left. False where there was none.
-    fn scan_all<R: Wait, G: Gate>(&mut self, run: &Run<R, G>, seat: &mut Seat) -> bool {
-        let mut found = false;
+    /// Scans objects until none is left.
+    fn scan_all<R: Wait, G: Gate>(&mut self, run: &Run<R, G>, seat: &mut Seat) {
+        let mut last = Found::Scanned;
         for _ in run.rt.forever() {
-            if !self.scan_one(run, seat) {
-                return found;
+            last = self.scan_one(run, seat, last);
+            if last == Found::Nothing {
+                return;
             }
-            found = true;
         }
         unreachable!()
     }
@@ -201,7 +222,7 @@ impl Scanner {
             self.scan(run, seat, scan.object, scan.next);
         }
         scan_globals(run, seat);
-        let _ = self.scan_all(run, seat);
+        self.scan_all(run, seat);
     }
 
     /// Scans what is found until all commands are done.
@@ -210,10 +231,10 @@ impl Scanner {
             if run.is_over() || run.is_stopped() {
                 break;
             }
-            let scans = matches!(run.phase(), Phase::Scanning);
-            if !scans || !self.scan_all(run, &mut seat) {
-                pause(run);
+            if matches!(run.phase(), Phase::Scanning) {
+                self.scan_all(run, &mut seat);
             }
+            pause(run);
         }
         seat
     }
