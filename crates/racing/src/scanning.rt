@@ -13,8 +13,9 @@ use std::ops::Range;
 use std::sync::Wait;
 use std::thread;
 
-/// How often a worker that has found nothing asks whether all is over before it looks again.
-const PAUSE: u32 = 16_384;
+/// How often a worker that leaves the lock alone asks whether all is over before it looks again: some 50
+/// to 100 microseconds. A shorter pause makes workers meet more often, and a mark of a list longer.
+const PAUSE: u32 = 131_072;
 
 /// What a worker has.
 fn scan_of(heap: &Heap, worker: u32) -> Option<Scan> {
@@ -132,9 +133,9 @@ impl Scanner {
     }
 
     /// An address that may be worth to be picked, if there is one: the worker's own hint, else one of
-    /// another worker, else what is found by a look. Whose own last hint was passed over leaves the others
-    /// alone for a while before that: where objects hang on one list, workers would else overtake each
-    /// other at each of them.
+    /// another worker, else what is found by a look. A worker whose last hint was passed over, and that has
+    /// no other, leaves the lock alone for a while first: where objects hang on one list, workers would
+    /// else overtake each other at each object.
     fn next<R: Wait, G: Gate>(&mut self, run: &Run<R, G>, last: Found) -> Option<Addr> {
         if let Some(hint) = Hints::pop(&mut self.hints) {
             return Some(hint);
