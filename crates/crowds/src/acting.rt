@@ -30,6 +30,19 @@ impl Acting for Alone {
     }
 }
 
+/// The same, where the kind of step isn't known at the call.
+#[derive(Drop)]
+struct AnyKind {
+    alone: Alone,
+}
+
+impl Acting for AnyKind {
+    #[inline(never)]
+    fn accepts(&mut self, step: Step) -> bool {
+        self.alone.accepts(step)
+    }
+}
+
 /// A book and a seat, without a lock.
 #[derive(Drop)]
 struct Seated {
@@ -100,6 +113,14 @@ pub fn by_book(clock: &impl Clock, alloc: Global, count: u32) -> Result<Vec<Lap>
     let book = Book::new(alloc, config(alloc, 1)?)?;
     let (done, nanos) = timed(clock, Alone { book }, count)?;
     Ok(vec![in alloc; Lap::once("act", done, nanos)]?)
+}
+
+/// The same where the kind of step isn't known at the call.
+pub fn by_any_kind(clock: &impl Clock, alloc: Global, count: u32) -> Result<Vec<Lap>> {
+    let book = Book::new(alloc, config(alloc, 1)?)?;
+    let alone = Alone { book };
+    let (done, nanos) = timed(clock, AnyKind { alone }, count)?;
+    Ok(vec![in alloc; Lap::once("any", done, nanos)]?)
 }
 
 /// So many steps by `Seat::act`.

@@ -3,7 +3,8 @@
 //!
 //! | Words | What is done |
 //! |---|---|
-//! | `act STEPS` | steps by `Book::act`, without seats |
+//! | `act STEPS` | steps, each of which copies a register, by `Book::act`, without seats |
+//! | `any STEPS` | the same where the kind of step isn't known at the call |
 //! | `seat STEPS` | the same by `Seat::act`, which keeps the seat's list too |
 //! | `steps THREADS STEPS` | the same by `Shared::step`, by so many threads that have so many steps each |
 //! | `counter THREADS STEPS` | so many threads add to a number under a lock, so often each |
@@ -60,6 +61,7 @@ fn work<R: Threads + Wait + Clock + Sync>(
     let [first, second, third, fourth, fifth] = numbers;
     match name {
         "act" => acting::by_book(rt, alloc, first),
+        "any" => acting::by_any_kind(rt, alloc, first),
         "seat" => acting::by_seat(rt, alloc, first),
         "steps" => crowding::steps(rt, alloc, first, second),
         "counter" => counting::counts(rt, alloc, first, second),
