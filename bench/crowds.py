@@ -1,11 +1,11 @@
 #!/usr/bin/env python3
 """Times threads that share a book, and holds of its lock: python3 bench/crowds.py [PROGRAM].
 
-The program is that of the crate `crowds`, which reads a clock itself. Each
-figure is the best of several runs; the forms take turns, so that a slow moment
-doesn't fall on one alone. Where threads of other programs use the processors
-too, the figures of several threads say little: `chrt -f 20` before the command
-keeps these away.
+The program is that of the crate `crowds`, which reads a clock itself. Forms
+take turns, so that a slow moment doesn't fall on one alone. Figures of one
+thread are the best of several runs, those of several threads the median: the
+best would be of a run in which they hardly met. Where other programs use the
+processors too, `chrt -f 20` before the command keeps them away from threads.
 
 Steps: a register is copied, some 900,000 times, by the calls of a book without
 seats, by a seat without a lock, and by seats of 1 to 8 threads under the lock;
@@ -27,6 +27,7 @@ its end; the cycle ends when the last page is released.
 import argparse
 import os
 import resource
+import statistics
 import subprocess
 import sys
 import time
@@ -66,11 +67,11 @@ def print_steps(program):
     for threads in THREADS:
         forms["steps", threads] = ("steps", threads, STEPS // threads)
         forms["counter", threads] = ("counter", threads, STEPS // threads)
-    best = {form: float("inf") for form in forms}
+    took = {form: [] for form in forms}
     for _ in range(RUNS):
         for form, words in forms.items():
-            count, took, _ = lines(program, words)[words[0]]
-            best[form] = min(best[form], took / count)
+            count, nanos, _ = lines(program, words)[words[0]]
+            took[form].append(nanos / count)
     print("| Form | Threads | ns a step | steps a second |")
     print("|---|---|---|---|")
     names = {"act": "`Book::act`, its kind known", "any": "`Book::act`", "seat": "`Seat::act`"}
@@ -78,7 +79,8 @@ def print_steps(program):
     names |= {("counter", threads): "a number under a lock" for threads in THREADS}
     for form, name in names.items():
         threads = form[1] if isinstance(form, tuple) else 1
-        print(f"| {name} | {threads} | {best[form]:.1f} | {1e9 / best[form]:,.0f} |")
+        each = min(took[form]) if threads == 1 else statistics.median(took[form])
+        print(f"| {name} | {threads} | {each:.1f} | {1e9 / each:,.0f} |")
 
 
 def spent():
@@ -118,18 +120,18 @@ def print_cycles(program):
     """Times cycles of one worker and of four."""
     forms = {(shape, beside, workers): ("cycle", workers, *CYCLES[shape], LOADS[beside])
              for shape in CYCLES for beside in LOADS for workers in WORKERS}
-    best = {(form, part): float("inf") for form in forms for part in ("mark", "cycle")}
+    took = {(form, part): [] for form in forms for part in ("mark", "cycle")}
     for _ in range(CYCLE_RUNS):
         for form, words in forms.items():
             rows = lines(program, words)
             for part in ("mark", "cycle"):
-                best[form, part] = min(best[form, part], rows[part][1] / 1e6)
+                took[form, part].append(rows[part][1] / 1e6)
     print("| Objects in | Beside | Part | one worker, ms | four workers, ms | four over one |")
     print("|---|---|---|---|---|---|")
     for shape in CYCLES:
         for beside in LOADS:
             for part in ("mark", "cycle"):
-                one, four = (best[(shape, beside, workers), part] for workers in WORKERS)
+                one, four = (statistics.median(took[(shape, beside, workers), part]) for workers in WORKERS)
                 print(f"| {shape} | {beside} | {part} | {one:.1f} | {four:.1f} | {four / one:.2f} |")
 
 

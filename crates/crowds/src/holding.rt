@@ -4,10 +4,11 @@ use crate::laps::Lap;
 use crate::looking::{chosen, look_all, todo_left};
 use crate::timing::{Steps, THREAD, Timed, Timing, WORKER};
 use anyhow::Result;
-use cycle::{Book, PageList, Step};
+use cycle::{Book, PageList, PieceGate, Step};
 use layout::{Layout, Layouts};
 use model::Config;
 use std::alloc::Global;
+use std::thread::Threads;
 use std::time::Clock;
 
 /// What a heap has.
@@ -96,15 +97,43 @@ fn walk(held: &mut impl Timing, size: Size) -> Result<()> {
     Ok(())
 }
 
+/// A gate that holds no piece.
+struct NoGate;
+
+impl PieceGate for NoGate {
+    fn begin(&self, _piece: u32) {}
+}
+
+/// A page is copied by halves on threads, to a depth of 2.
+fn copy_by_halves<R: Threads + Sync>(rt: &R, held: &mut impl Timing, page: u32) -> Result<()> {
+    let start = held.begin()?;
+    let reply = held.book().copy_page_by(rt, 0, page, 2, &NoGate);
+    let name = if reply.is_ok() {
+        "CopyPage by halves"
+    } else {
+        "refused"
+    };
+    held.end(name, start)
+}
+
+/// A page is copied: one of an even number at once, another by halves on threads.
+fn copy_page<R: Threads + Sync>(rt: &R, held: &mut impl Timing, page: u32) -> Result<()> {
+    if page % 2 == 0 {
+        work(held, "CopyPage", Step::CopyPage(page))
+    } else {
+        copy_by_halves(rt, held, page)
+    }
+}
+
 /// The pages that are chosen are protected, copied and released.
-fn move_all(held: &mut impl Timing, alloc: Global) -> Result<()> {
+fn move_all<R: Threads + Sync>(rt: &R, held: &mut impl Timing, alloc: Global) -> Result<()> {
     let pages = chosen(held, alloc)?;
     let named = Vec::from_slice(alloc, &pages)?;
     work(held, "Protect", Step::Protect(PageList::new(named)))?;
     step(held, "Cross", Step::Cross)?;
     for page in pages {
         work(held, "Copy", Step::Copy { page, entry: 0 })?;
-        work(held, "CopyPage", Step::CopyPage(page))?;
+        copy_page(rt, held, page)?;
         work(held, "Release", Step::Release(page))?;
     }
     Ok(())
@@ -135,12 +164,17 @@ fn mark(held: &mut impl Timing, size: Size) -> Result<()> {
 }
 
 /// All steps that are timed.
-fn hold_all(held: &mut impl Timing, alloc: Global, size: Size) -> Result<()> {
+fn hold_all<R: Threads + Sync>(
+    rt: &R,
+    held: &mut impl Timing,
+    alloc: Global,
+    size: Size,
+) -> Result<()> {
     fill_all(held, size)?;
     look_all(held)?;
     link_all(held, size)?;
     walk(held, size)?;
-    move_all(held, alloc)?;
+    move_all(rt, held, alloc)?;
     mark(held, size)
 }
 
@@ -165,20 +199,24 @@ fn config(alloc: Global, words: u32, frames: u32, size: u32) -> Result<Config> {
 }
 
 /// All steps that are timed, on a book.
-fn held<R: Clock>(
-    clock: &R,
+fn held<R: Clock + Threads + Sync>(
+    rt: &R,
     alloc: Global,
     book: impl Steps + Drop,
     size: Size,
 ) -> Result<Vec<Lap>> {
-    let mut timed = Timed::new(clock, alloc, book);
-    hold_all(&mut timed, alloc, size)?;
+    let mut timed = Timed::new(rt, alloc, book);
+    hold_all(rt, &mut timed, alloc, size)?;
     Ok(timed.all()?)
 }
 
 /// Steps of each kind on a heap of so many frames of so many words, with so many pages full of live
 /// objects of a size, and a list of so many objects.
-pub fn holds<R: Clock>(clock: &R, alloc: Global, numbers: [u32; 5]) -> Result<Vec<Lap>> {
+pub fn holds<R: Clock + Threads + Sync>(
+    rt: &R,
+    alloc: Global,
+    numbers: [u32; 5],
+) -> Result<Vec<Lap>> {
     let [words, frames, size, pages, linked] = numbers;
     let book = Book::new(alloc, config(alloc, words, frames, size)?)?;
     let objects = words.checked_div(size).unwrap_or(0);
@@ -188,5 +226,5 @@ pub fn holds<R: Clock>(clock: &R, alloc: Global, numbers: [u32; 5]) -> Result<Ve
         pages,
         linked,
     };
-    held(clock, alloc, book, size)
+    held(rt, alloc, book, size)
 }

@@ -21,6 +21,9 @@ pub trait Steps {
 
     /// The heap as it stands.
     fn heap(&self) -> &Heap;
+
+    /// The book, which may be changed.
+    fn book(&mut self) -> &mut Book;
 }
 
 impl Steps for Book {
@@ -33,6 +36,10 @@ impl Steps for Book {
     fn heap(&self) -> &Heap {
         Book::heap(self)
     }
+
+    fn book(&mut self) -> &mut Book {
+        self
+    }
 }
 
 /// Steps and looks that are timed, each under a name.
@@ -43,11 +50,14 @@ pub trait Timing {
     /// The moment before a look.
     fn begin(&self) -> io::Result<Instant>;
 
-    /// A look has ended.
+    /// A look, or something else that was begun, has ended.
     fn end(&mut self, name: &'static str, start: Instant) -> Result<()>;
 
     /// The heap as it stands.
     fn heap(&self) -> &Heap;
+
+    /// The book, which may be changed.
+    fn book(&mut self) -> &mut Book;
 }
 
 /// A book whose steps are timed.
@@ -94,5 +104,9 @@ impl<R: Clock, B: Steps + Drop> Timing for Timed<'_, R, B> {
 
     fn heap(&self) -> &Heap {
         self.book.heap()
+    }
+
+    fn book(&mut self) -> &mut Book {
+        self.book.book()
     }
 }
