@@ -1,7 +1,7 @@
 //! Steps of each kind, each alone: a hold of the lock is one step or one look and nothing else.
 
 use crate::laps::Lap;
-use crate::looking::{chosen, look_all, todo_left};
+use crate::looking::{chosen, look_all, look_at_fields, todo_left};
 use crate::timing::{Steps, THREAD, Timed, Timing, WORKER};
 use anyhow::Result;
 use cycle::{Book, PageList, PieceGate, Step};
@@ -79,6 +79,25 @@ fn link_all(held: &mut impl Timing, size: Size) -> Result<()> {
     }
     step(held, "GiveBack", Step::GiveBack)?;
     step(held, "StoreGlobal", Step::StoreGlobal { global, source })
+}
+
+/// An object is born all of whose references are to the list, and they are looked at.
+fn look_at_one(held: &mut impl Timing, alloc: Global, size: Size) -> Result<()> {
+    let (target, layout, object, source) = (2, 2, 2, 0);
+    let fields = fields_of(size.words);
+    step(held, "Take", Step::Take(size.words))?;
+    step(held, "New", Step::New { target, layout })?;
+    for field in 0..fields {
+        let store = Step::Store {
+            object,
+            field,
+            source,
+        };
+        step(held, "Store", store)?;
+    }
+    look_at_fields(held, alloc, object, fields)?;
+    step(held, "GiveBack", Step::GiveBack)?;
+    step(held, "ClearReg", Step::ClearReg(object))
 }
 
 /// The list is read once.
@@ -173,6 +192,7 @@ fn hold_all<R: Threads + Sync>(
     fill_all(held, size)?;
     look_all(held)?;
     link_all(held, size)?;
+    look_at_one(held, alloc, size)?;
     walk(held, size)?;
     move_all(rt, held, alloc)?;
     mark(held, size)
@@ -189,10 +209,21 @@ fn layout(words: u32) -> Layout {
     }
 }
 
-/// What a heap is made with, of so many frames of so many words: a layout of objects of a size, and one
-/// of two words for a list.
+/// How many references an object has of those that have many: as many as there may be, in at most half a
+/// page.
+fn fields_of(words: u32) -> u32 {
+    (words / 2).saturating_sub(1).min(1_023)
+}
+
+/// What a heap is made with, of so many frames of so many words: a layout of objects of a size, one of
+/// two words for a list, and one of many references.
 fn config(alloc: Global, words: u32, frames: u32, size: u32) -> Result<Config> {
-    let layouts = Layouts::new(vec![in alloc; layout(size), Layout { refs: 1, nums: 0 }]?);
+    let refs = u16::try_from(fields_of(words))?;
+    let layouts = Layouts::new(vec![in alloc;
+        layout(size),
+        Layout { refs: 1, nums: 0 },
+        Layout { refs, nums: 0 },
+    ]?);
     let mut config = Config::new(words, frames, layouts);
     config.globals = 1;
     Ok(config)
