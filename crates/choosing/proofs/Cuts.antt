@@ -1,20 +1,18 @@
 -- The longest beginning of pages for which there is room.
-use Rattle.std.proofs.Common.{◌≡◌, ℕ, zero, suc, ◌+◌, ◌-◌, ◌^◌, ◌<◌, ◌≤◌, ◌&&◌, Bool, true, false, List, [], ◌∷◌, ◌++◌}
-use Rattle.std.proofs.Common.{cond}
-use Rattle.std.proofs.Common.{length, get_or, map, min, take, drop, nat_le, refl, sym, ap, ap₂, ◌∙◌, subst, arith}
+use Rattle.std.proofs.Common.{◌≡◌, ℕ, zero, suc, ◌+◌, ◌^◌, ◌<◌, ◌≤◌, ◌&&◌, Bool, true, false, List, [], ◌∷◌, ◌++◌}
+use Rattle.std.proofs.Common.{length, get_or, map, min, take, nat_le, refl, sym, ap, ap₂, ◌∙◌, subst, arith}
 use Rattle.std.proofs.Common.{append-nil}
 use Rattle.std.specs.List.{flat_map}
-use Rattle.std.proofs.lemmas.Bool.{leb-true, leb-false, le-leb}
-use Rattle.std.proofs.lemmas.List.{take_more, take_all, take-append-drop, length-map}
+use Rattle.std.proofs.lemmas.Bool.{leb-true, le-leb}
 use Rattle.std.proofs.lemmas.Grind.{flat_map-append}
 use Rattle.model.specs.States.{HeapState}
-use Rattle.model.specs.Plans.{plan_of, target_count, places_from}
+use Rattle.model.specs.Plans.{plan_of, target_count}
 use Rattle.model.specs.Protections.{free_count, unused_count}
 use Rattle.relocate.proofs.Planning.{sizes_planned}
 use Rattle.choosing.specs.declared.packing.Packing.{Packing}
 use Rattle.choosing.specs.Packings.{pack, first_packing}
 use Rattle.choosing.specs.Choices.{IsLongest, has_room_for, page_of, sizes_on}
-use Rattle.choosing.proofs.Packed.{IsGrown, grown, pack_behind, targets_counted}
+use Rattle.choosing.proofs.Packed.{grown, pack_behind, targets_counted}
 
 -- behind the live objects of these pages
 abbrev pub behind : HeapState → List ℕ → Packing

@@ -1,3 +1,4 @@
 pub mod Sums
 pub mod Packed
 pub mod Cuts
+pub mod Numbered

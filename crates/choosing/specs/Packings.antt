@@ -1,6 +1,9 @@
 -- Next fit, object by object.
-use Rattle.std.specs.Prelude.{ℕ, ◌+◌, List, [], ◌∷◌, nat_le, if◌then◌else◌}
+use Rattle.std.specs.Prelude.{ℕ, ◌+◌, ◌^◌, ◌==◌, ◌&&◌, not, Bool, List, [], ◌∷◌, nat_le, nat_lt, if◌then◌else◌}
+use Rattle.std.specs.Prelude.{Option, Some, None}
+use Rattle.model.specs.States.{HeapState}
 use Rattle.choosing.specs.declared.packing.Packing.{Packing}
+use Rattle.choosing.specs.Choices.{sizes_on}
 
 -- behind an object of n words: in the present target where it fits, else at the head of the next one
 unfoldable pub pack_one : ℕ → Packing → ℕ → Packing
@@ -16,3 +19,11 @@ pack words s (n ∷ ns) = pack words (pack_one words s n) ns
 -- before all objects
 abbrev pub first_packing : Packing
 first_packing = record { target = 0; offset = 0; count = 0 }
+
+-- there is a page n, and no more was packed than a heap can have
+abbrev pub has_page_for : HeapState → ℕ → Packing → Bool
+has_page_for h n s = not (n == 0) && nat_le n h.store.count && nat_le s.target (2 ^ 32) && nat_lt s.offset (2 ^ 17)
+
+-- behind the live objects of page n, where there is such a page
+abbrev pub pack_if : HeapState → ℕ → Packing → Option Packing
+pack_if h n s = if has_page_for h n s then Some (pack h.store.words s (sizes_on h n)) else None

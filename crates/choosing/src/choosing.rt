@@ -10,9 +10,9 @@ use crate::sparse::sparse;
 use heap::Heap;
 use std::alloc::{AllocError, Global};
 
-/// How many targets there is room for.
+/// How many targets there is room for: as many as there are free frames and unused pages.
 #[tactic(auto, unfolding(model::specs::Protections::free_count))]
-fn room(heap: &Heap) -> u32
+pub fn room(heap: &Heap) -> u32
     ensures { result ≡ min (free_count heap.now.store) (unused_count heap.now.store) }
 {
     let frames = heap.memory().free_frames();

@@ -6,4 +6,6 @@ mod choosing;
 mod packing;
 mod sparse;
 
-pub use choosing::choose;
+pub use choosing::{choose, room};
+pub use packing::{Packing, first_packing, packed_page};
+pub use sparse::measured;

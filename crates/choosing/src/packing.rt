@@ -4,23 +4,23 @@ ghost use Rattle.std.specs.Prelude.{◌≡◌, ◌<◌, ◌≤◌, ◌+◌, ◌^
 ghost use Rattle.model.specs.Plans.{offsets_from};
 ghost use Rattle.model.specs.declared.limits.TheConstants.{MOST_WORDS};
 ghost use Rattle.choosing.specs.Choices.{size_on, sizes_on};
-ghost use Rattle.choosing.specs.Packings.{pack, pack_one, first_packing};
+ghost use Rattle.choosing.specs.Packings.{has_page_for, pack, pack_if, pack_one, first_packing};
 
 use heap::{Heap, Row};
 
 /// Where the next object would go, and how many targets those before it are in.
 #[derive(Clone, Copy, Debug, PartialEq, Eq)]
-pub(crate) struct Packing {
+pub struct Packing {
     /// The number of the present target, from 0.
     target: u64,
     /// How many of its words are taken.
     offset: u32,
     /// How many targets there are.
-    pub(crate) count: u64,
+    pub count: u64,
 }
 
 /// Before all objects.
-pub(crate) fn first_packing() -> Packing
+pub fn first_packing() -> Packing
     ensures { result ≡ first_packing }
 {
     Packing {
@@ -91,4 +91,26 @@ pub(crate) fn pack_page(heap: &Heap, page: u32, before: Packing) -> Packing
         None => before,
         Some(row) => pack_row(heap, page, row, before),
     }
+}
+
+/// Whether there is a page of this number, and no more was packed than a heap can have.
+fn has_page_for(heap: &Heap, page: u32, before: &Packing) -> bool
+    ensures { result ≡ has_page_for heap.now page before.now }
+{
+    page != 0
+        && page <= heap.memory().page_count()
+        && before.target <= 4_294_967_296
+        && before.offset < 131_072
+}
+
+/// Where the next object would go behind the live objects of a page, by its number from 1, that are
+/// packed behind others. `None` where there is no such page, or more was packed than a heap can have. It
+/// reads the headers of the live objects of that page alone.
+pub fn packed_page(heap: &Heap, page: u32, before: Packing) -> Option<Packing>
+    ensures { result ≡ pack_if heap.now page before }
+{
+    if !has_page_for(heap, page, &before) {
+        return None;
+    }
+    Some(pack_page(heap, page, before))
 }

@@ -48,12 +48,13 @@ fn is_closed(heap: &Heap, page: u32) -> bool
     matches!(heap.memory().state(page), PageState::Closed)
 }
 
-/// A closed page of which at most so many words of a hundred are live, with its live words.
-fn measured(heap: &Heap, percent: u32, page: u32) -> Option<(u64, u32)>
-    requires low { 0 < page }
-    requires high { page ≤ heap.now.store.count }
+/// A page, by its number from 1, behind its live words: where it is closed, and of its words at most so
+/// many of a hundred are live; else `None`. It reads the headers of the live objects of that page alone.
+#[tactic(auto, using(crate::proofs::Numbered::closed_low, crate::proofs::Numbered::closed_high))]
+pub fn measured(heap: &Heap, percent: u32, page: u32) -> Option<(u64, u32)>
     ensures { result ≡ measured_if heap.now percent page }
 {
+    heap.law();
     if !is_closed(heap, page) {
         return None;
     }

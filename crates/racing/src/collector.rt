@@ -1,9 +1,9 @@
 //! The cycles of the worker that has commands.
 
+use crate::choice::chosen;
 use crate::gate::Gate;
 use crate::run::Run;
-use crate::scanning::Scanner;
-use choosing::choose;
+use crate::scanning::{Scanner, pause};
 use cycle::{Actor, PageList, Step};
 use heap::Heap;
 use model::{Phase, Refusal};
@@ -39,10 +39,13 @@ impl Collector {
             if run.is_stopped() {
                 return false;
             }
-            if run.phase() == phase {
+            let (is_there, parked) = run.shared.look(run.rt, |heap: &Heap| {
+                (heap.phase() == phase, first_parked(heap))
+            });
+            if is_there {
                 return true;
             }
-            match run.shared.look(run.rt, |heap: &Heap| first_parked(heap)) {
+            match parked {
                 Some(thread) => {
                     let _ = run.ask(seat, &Step::CrossFor(thread));
                 }
@@ -61,7 +64,7 @@ impl Collector {
             }
             match run.ask(seat, &Step::EndMark) {
                 Ok(_) => return true,
-                Err(Refusal::TodoLeft | Refusal::Pending { .. }) => thread::yield_now(),
+                Err(Refusal::TodoLeft | Refusal::Pending { .. }) => pause(run),
                 Err(_) => return false,
             }
         }
@@ -91,9 +94,7 @@ impl Collector {
         seat: &mut Seat,
         percent: u32,
     ) -> Result<Vec<u32>, AllocError> {
-        let pages = run
-            .shared
-            .look(run.rt, |heap: &Heap| choose(alloc, heap, percent))?;
+        let pages = chosen(alloc, run, percent)?;
         if pages.is_empty() {
             return Ok(pages);
         }
@@ -165,13 +166,13 @@ impl Collector {
         commands: &[Command],
     ) -> Seat {
         for command in commands {
-            if run.is_stopped() {
-                break;
-            }
-            if is_of(command, self.scanner.worker)
-                && self.command(alloc, run, &mut seat, command).is_err()
-            {
-                run.lack();
+            if is_of(command, self.scanner.worker) {
+                if run.is_stopped() {
+                    break;
+                }
+                if self.command(alloc, run, &mut seat, command).is_err() {
+                    run.lack();
+                }
             }
         }
         run.leave();

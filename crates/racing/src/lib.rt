@@ -1,6 +1,7 @@
 //! Runs of scripts in which each actor has a thread of the system (ours).
 #![tactic(auto)]
 
+mod choice;
 mod collector;
 mod gate;
 mod mutator;

@@ -136,10 +136,10 @@ impl<R: Wait, G: Gate> Mutator<'_, R, G> {
     /// All commands of the seat's actor in order, and then the end.
     pub(crate) fn work(&self, alloc: Global, mut seat: Seat, commands: &[Command]) -> Seat {
         for command in commands {
-            if self.run.is_stopped() {
-                break;
-            }
             if is_of(command, self.thread) {
+                if self.run.is_stopped() {
+                    break;
+                }
                 self.command(alloc, &mut seat, command);
             }
         }

@@ -6,11 +6,16 @@ use cycle::{Answer, Step};
 use heap::Heap;
 use hints::{HintSeat, Hints};
 use marker::next_todo;
-use model::{MOST_FIELDS, Phase, Scan};
+use model::{MOST_FIELDS, Phase, Refusal, Scan};
 use refword::{Addr, Word};
 use sharing::Seat;
+use std::ops::Range;
 use std::sync::Wait;
 use std::thread;
+
+/// How often a worker that leaves the lock alone asks whether all is over before it looks again: some 50
+/// to 100 microseconds. A shorter pause makes workers meet more often, and a mark of a list longer.
+const PAUSE: u32 = 131_072;
 
 /// What a worker has.
 fn scan_of(heap: &Heap, worker: u32) -> Option<Scan> {
@@ -38,6 +43,66 @@ fn next_global(heap: &Heap) -> Option<u32> {
     None
 }
 
+/// Hints for what these fields of an object name. Those that aren't taken are dropped.
+fn hint_fields(heap: &Heap, hints: &mut HintSeat, object: Addr, fields: Range<u32>) {
+    for field in fields {
+        if let Some(hint) = field_of(heap, object, field) {
+            let _ = Hints::push(hints, hint);
+        }
+    }
+}
+
+/// The step that picks the object at an address, on pages of so many words.
+fn pick_of(words: u32, object: Addr) -> Option<Step> {
+    if words == 0 {
+        return None;
+    }
+    let words = u64::from(words);
+    Some(Step::Pick {
+        page: u32::try_from(object.number() / words).ok()?,
+        offset: (object.number() % words) as u32,
+    })
+}
+
+/// Scans fields of the object that the worker has, from one on, to its end or to the first refusal. The
+/// field behind those that were scanned.
+fn scan_fields<R: Wait, G: Gate>(run: &Run<R, G>, seat: &mut Seat, first: u32) -> u32 {
+    let mut field = first;
+    for _ in run.rt.forever() {
+        if run.has_lacked() || run.ask(seat, &Step::ScanField) != Ok(Answer::Scanned) {
+            return field;
+        }
+        field = field.wrapping_add(1);
+    }
+    unreachable!()
+}
+
+/// Scans all globals that are left.
+fn scan_globals<R: Wait, G: Gate>(run: &Run<R, G>, seat: &mut Seat) {
+    for _ in run.rt.forever() {
+        if run.is_stopped() {
+            return;
+        }
+        match run.shared.look(run.rt, |heap: &Heap| next_global(heap)) {
+            Some(global) => {
+                let _ = run.ask(seat, &Step::ScanGlobal(global));
+            }
+            None => return,
+        }
+    }
+    unreachable!()
+}
+
+/// Leaves the lock alone for a while, so that those who have steps to do meet nobody who only looks.
+pub(crate) fn pause<R: Wait, G: Gate>(run: &Run<R, G>) {
+    for _ in 0..PAUSE {
+        if run.is_over() {
+            return;
+        }
+    }
+    thread::yield_now();
+}
+
 /// A worker, with its seat among the hints.
 #[derive(Drop)]
 pub(crate) struct Scanner {
@@ -45,12 +110,20 @@ pub(crate) struct Scanner {
     pub(crate) hints: HintSeat,
 }
 
+/// What came of looking for an object.
+#[derive(Clone, Copy, PartialEq, Eq)]
+enum Found {
+    /// It was scanned.
+    Scanned,
+    /// It wasn't to be scanned, or another worker had it.
+    Passed,
+    /// There was none, or none can be picked any more.
+    Nothing,
+}
+
 impl Scanner {
-    /// An address that may be worth to be picked: the worker's own hint, else one of another worker.
-    fn hinted(&mut self, workers: u32) -> Option<Addr> {
-        if let Some(hint) = Hints::pop(&mut self.hints) {
-            return Some(hint);
-        }
+    /// The oldest hint of another worker that has one.
+    fn stolen(&mut self, workers: u32) -> Option<Addr> {
         for from in 0..workers {
             if let Some(hint) = Hints::steal(&mut self.hints, from) {
                 return Some(hint);
@@ -59,22 +132,33 @@ impl Scanner {
         None
     }
 
-    /// An address that may be worth to be picked, if there is one.
-    fn next<R: Wait, G: Gate>(&mut self, run: &Run<R, G>) -> Option<Addr> {
-        if let Some(hint) = self.hinted(run.workers) {
+    /// An address that may be worth to be picked, if there is one: the worker's own hint, else one of
+    /// another worker, else what is found by a look. A worker whose last hint was passed over, and that has
+    /// no other, leaves the lock alone for a while first: where objects hang on one list, workers would
+    /// else overtake each other at each object.
+    fn next<R: Wait, G: Gate>(&mut self, run: &Run<R, G>, last: Found) -> Option<Addr> {
+        if let Some(hint) = Hints::pop(&mut self.hints) {
+            return Some(hint);
+        }
+        if last == Found::Passed && run.workers > 1 {
+            pause(run);
+        }
+        if let Some(hint) = self.stolen(run.workers) {
             return Some(hint);
         }
         run.shared.look(run.rt, |heap: &Heap| next_todo(heap))
     }
 
-    /// A hint for what a field that was scanned names. One that isn't taken is dropped.
-    fn hint<R: Wait, G: Gate>(&mut self, run: &Run<R, G>, object: Addr, field: u32) {
-        let found = run
-            .shared
-            .look(run.rt, |heap: &Heap| field_of(heap, object, field));
-        if let Some(hint) = found {
-            let _ = Hints::push(&mut self.hints, hint);
+    /// Hints for what the fields of an object name that were scanned, by one look at all of them. Those
+    /// that aren't taken are dropped.
+    fn hint<R: Wait, G: Gate>(&mut self, run: &Run<R, G>, object: Addr, scanned: Range<u32>) {
+        if scanned.start >= scanned.end {
+            return;
         }
+        let hints = &mut self.hints;
+        run.shared.look(run.rt, move |heap: &Heap| {
+            hint_fields(heap, hints, object, scanned)
+        });
     }
 
     /// Scans the object that the worker has, to its end or to the first refusal.
@@ -85,49 +169,51 @@ impl Scanner {
         object: Addr,
         first: u32,
     ) {
-        let mut field = first;
-        for _ in run.rt.forever() {
-            if run.is_stopped() {
-                return;
-            }
-            match run.ask(seat, &Step::ScanField) {
-                Ok(Answer::Scanned) => {
-                    self.hint(run, object, field);
-                    field = field.wrapping_add(1);
-                }
-                _ => return,
-            }
-        }
+        let end = scan_fields(run, seat, first);
+        self.hint(run, object, first..end);
     }
 
-    /// Picks the object at an address, and scans it. What isn't to be scanned, or is another worker's,
-    /// is passed over.
-    fn pick<R: Wait, G: Gate>(&mut self, run: &Run<R, G>, seat: &mut Seat, object: Addr) {
-        if run.words == 0 {
-            return;
-        }
-        let words = u64::from(run.words);
-        let Ok(page) = u32::try_from(object.number() / words) else {
-            return;
+    /// Picks the object at an address, and scans it.
+    fn pick<R: Wait, G: Gate>(&mut self, run: &Run<R, G>, seat: &mut Seat, object: Addr) -> Found {
+        let Some(step) = pick_of(run.words, object) else {
+            return Found::Nothing;
         };
-        let step = Step::Pick {
-            page,
-            offset: (object.number() % words) as u32,
-        };
-        if run.ask(seat, &step).is_ok() {
-            self.scan(run, seat, object, 0);
+        match run.ask(seat, &step) {
+            Ok(_) => {
+                self.scan(run, seat, object, 0);
+                Found::Scanned
+            }
+            Err(Refusal::NotTodo | Refusal::Taken) => Found::Passed,
+            Err(_) => Found::Nothing,
         }
     }
 
     /// Scans one object, if there is one that is worth to be looked at.
-    pub(crate) fn scan_one<R: Wait, G: Gate>(&mut self, run: &Run<R, G>, seat: &mut Seat) -> bool {
-        match self.next(run) {
-            Some(object) => {
-                self.pick(run, seat, object);
-                true
-            }
-            None => false,
+    fn scan_one<R: Wait, G: Gate>(
+        &mut self,
+        run: &Run<R, G>,
+        seat: &mut Seat,
+        last: Found,
+    ) -> Found {
+        if run.has_lacked() {
+            return Found::Nothing;
         }
+        match self.next(run, last) {
+            Some(object) => self.pick(run, seat, object),
+            None => Found::Nothing,
+        }
+    }
+
+    /// Scans objects until none is left.
+    fn scan_all<R: Wait, G: Gate>(&mut self, run: &Run<R, G>, seat: &mut Seat) {
+        let mut last = Found::Scanned;
+        for _ in run.rt.forever() {
+            last = self.scan_one(run, seat, last);
+            if last == Found::Nothing {
+                return;
+            }
+        }
+        unreachable!()
     }
 
     /// Scans what the worker has, all globals that are left, and then objects until none is left.
@@ -136,21 +222,8 @@ impl Scanner {
         if let Some(scan) = run.shared.look(run.rt, |heap: &Heap| scan_of(heap, worker)) {
             self.scan(run, seat, scan.object, scan.next);
         }
-        for _ in run.rt.forever() {
-            if run.is_stopped() {
-                return;
-            }
-            match run.shared.look(run.rt, |heap: &Heap| next_global(heap)) {
-                Some(global) => {
-                    let _ = run.ask(seat, &Step::ScanGlobal(global));
-                }
-                None => {
-                    if !self.scan_one(run, seat) {
-                        return;
-                    }
-                }
-            }
-        }
+        scan_globals(run, seat);
+        self.scan_all(run, seat);
     }
 
     /// Scans what is found until all commands are done.
@@ -159,10 +232,10 @@ impl Scanner {
             if run.is_over() || run.is_stopped() {
                 break;
             }
-            let scans = matches!(run.phase(), Phase::Scanning);
-            if !scans || !self.scan_one(run, &mut seat) {
-                thread::yield_now();
+            if matches!(run.phase(), Phase::Scanning) {
+                self.scan_all(run, &mut seat);
             }
+            pause(run);
         }
         seat
     }
