@@ -5,6 +5,7 @@ use crate::taking::{pop, push, steal};
 use hints::{HintSeat, Hints};
 use std::alloc::{AllocError, Global};
 use std::process::Abort;
+use std::sync::atomic::{AtomicU64, Ordering};
 use std::test::Fail;
 use std::thread;
 use std::thread::{Threads, join};
@@ -36,8 +37,19 @@ fn pop_one(seat: &mut HintSeat, counts: &mut [u64]) {
     }
 }
 
-/// Pushes each number once, and pops after each second one.
-fn push_all(mut seat: HintSeat, mut counts: Vec<u64>) -> (HintSeat, Vec<u64>) {
+/// Returns when the thief has begun, or after many turns.
+fn await_thief(begun: &AtomicU64) {
+    for _ in 0..1_000_000u32 {
+        if begun.load(Ordering::SeqCst) > 0 {
+            return;
+        }
+        thread::yield_now();
+    }
+}
+
+/// Pushes each number once while the thief steals, and pops after each second one.
+fn push_all(mut seat: HintSeat, mut counts: Vec<u64>, begun: &AtomicU64) -> (HintSeat, Vec<u64>) {
+    await_thief(begun);
     for number in 1..=COUNT {
         let _ = push(&mut seat, number);
         if number % 2 == 0 {
@@ -47,12 +59,12 @@ fn push_all(mut seat: HintSeat, mut counts: Vec<u64>) -> (HintSeat, Vec<u64>) {
     (seat, counts)
 }
 
-/// Steals many times, and lets the owner run where it gets none.
-fn steal_all(mut seat: HintSeat, mut counts: Vec<u64>) -> Vec<u64> {
-    for _ in 0..COUNT * 20 {
-        match steal(&mut seat, 0) {
-            Some(number) => note(&mut counts, number),
-            None => thread::yield_now(),
+/// Steals many times.
+fn steal_all(mut seat: HintSeat, mut counts: Vec<u64>, begun: &AtomicU64) -> Vec<u64> {
+    begun.store(1, Ordering::SeqCst);
+    for _ in 0..COUNT * 100 {
+        if let Some(number) = steal(&mut seat, 0) {
+            note(&mut counts, number);
         }
     }
     counts
@@ -85,10 +97,12 @@ fn each_is_taken_once(rt: &impl Abort, popped: &[u64], stolen: &[u64]) {
 /// The owner pushes and pops while the thief steals, and pops what is left then.
 fn run<R: Abort + Threads>(rt: &R, owner: HintSeat, thief: HintSeat, counts: (Vec<u64>, Vec<u64>)) {
     let (popped, stolen) = counts;
+    let flag = AtomicU64::new(0);
+    let begun = &flag;
     let ((owner, mut popped), stolen) = join(
         rt,
-        move || push_all(owner, popped),
-        move || steal_all(thief, stolen),
+        move || push_all(owner, popped, begun),
+        move || steal_all(thief, stolen, begun),
     );
     pop_all(rt, owner, &mut popped);
     each_is_taken_once(rt, &popped, &stolen);
