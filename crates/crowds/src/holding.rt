@@ -182,6 +182,15 @@ fn mark(held: &mut impl Timing, size: Size) -> Result<()> {
     work(held, "EndMark", Step::EndMark)
 }
 
+/// Pages are opened on frames that have been written before.
+fn take_again(held: &mut impl Timing, size: Size) -> Result<()> {
+    for _ in 0..size.pages.min(20) {
+        step(held, "Take of a used frame", Step::Take(size.words))?;
+        step(held, "GiveBack", Step::GiveBack)?;
+    }
+    Ok(())
+}
+
 /// All steps that are timed.
 fn hold_all<R: Threads + Sync>(
     rt: &R,
@@ -195,7 +204,8 @@ fn hold_all<R: Threads + Sync>(
     look_at_one(held, alloc, size)?;
     walk(held, size)?;
     move_all(rt, held, alloc)?;
-    mark(held, size)
+    mark(held, size)?;
+    take_again(held, size)
 }
 
 /// The layout of objects of so many words, all of which are data but for the header, up to 1,023, and
