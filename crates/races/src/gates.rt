@@ -12,7 +12,9 @@ use std::thread;
 use std::thread::Threads;
 
 const SCRIPT: &str =
-    "heap words 16 frames 1 pages 1 threads 2 workers 1 registers 2 globals 1\nlayout 1 1\nt0 take 16\nt0 new r0 0\nt0 storeg 0 r0\nt0 load r1 r0 0\nt0 trap\nt0 heal\nt0 finish\nt1 getg r0 0\nt1 store r0 0 r0\n";
+    "heap words 16 frames 1 pages 1 threads 2 workers 1 registers 2 globals 1\nlayout 1 1\nt0 take 16\n\
+    t0 new r0 0\nt0 storeg 0 r0\nt0 load r1 r0 0\nt0 trap\nt0 heal\nt0 finish\nt1 getg r0 0\n\
+    t1 store r0 0 r0\n";
 
 /// What has come so far, and whether a wait was given up.
 #[derive(Drop)]

@@ -2,7 +2,6 @@
 
 use crate::same::same;
 use cycle::{Actor, Answer, Book, Step};
-use heap::NewFault;
 use layout::{Layout, Layouts};
 use model::Config;
 use sharing::{Seat, Shared, settle};

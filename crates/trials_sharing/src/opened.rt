@@ -16,7 +16,8 @@ pub const ROOMY: &str =
 
 /// An object with a datum, which both threads and the global name, and a whole mark: its page is closed then.
 pub const MARKED: &str =
-    "t0 take 16\nt0 new r0 0\nt0 set r0 0 5\nt0 storeg 0 r0\nt0 give\nt1 loadg r0 0\nt1 trap\nt1 finish\nw0 mark\nt0 cross\nt1 cross\nw0 scang 0\nw0 pick 1.0\nw0 scan\nw0 scan\nw0 endmark\n";
+    "t0 take 16\nt0 new r0 0\nt0 set r0 0 5\nt0 storeg 0 r0\nt0 give\nt1 loadg r0 0\nt1 trap\nt1 finish\n\
+    w0 mark\nt0 cross\nt1 cross\nw0 scang 0\nw0 pick 1.0\nw0 scan\nw0 scan\nw0 endmark\n";
 
 /// A script of several parts.
 pub fn script_of(alloc: Global, parts: &[&str]) -> Result<Script, ParseFault> {

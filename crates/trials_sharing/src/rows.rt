@@ -6,7 +6,8 @@ use std::test::Fail;
 
 /// Both threads scrub a register behind the crossings.
 const SCRUBBED: &str =
-    "w0 protect 1\nt0 cross\nt0 datum r0 0\nw0 copy 1 0\nt1 set r0 0 9\nt1 cross\nt1 datum r0 0\nt1 scrub r0\nt0 scrub r0\nt0 datum r0 0\nt1 datum r0 0\n";
+    "w0 protect 1\nt0 cross\nt0 datum r0 0\nw0 copy 1 0\nt1 set r0 0 9\nt1 cross\nt1 datum r0 0\nt1 scrub r0\n\
+    t0 scrub r0\nt0 datum r0 0\nt1 datum r0 0\n";
 
 #[test]
 fn scrubs_of_two_threads(rt: HostRuntime) -> Result<(), Fail> {
@@ -20,7 +21,9 @@ fn steps_behind_a_stop(rt: HostRuntime) -> Result<(), Fail> {
 
 /// The page is released, and a load of the next mark heals when its place has been corrected.
 const HEALED_LATE: &str =
-    "w0 protect 1\nt0 cross\nt1 cross\nw0 release 1\nw0 copy 1 0\nw0 release 1\nw0 mark\nt0 cross\nt1 cross\nt0 loadg r1 0\nt0 trap\nt0 trap\nw0 scang 0\nw0 pick 2.0\nw0 scan\nw0 scan\nw0 endmark\nt0 heal\nt0 finish\nw0 endmark\nt1 take 16\n";
+    "w0 protect 1\nt0 cross\nt1 cross\nw0 release 1\nw0 copy 1 0\nw0 release 1\nw0 mark\nt0 cross\nt1 cross\n\
+    t0 loadg r1 0\nt0 trap\nt0 trap\nw0 scang 0\nw0 pick 2.0\nw0 scan\nw0 scan\nw0 endmark\nt0 heal\n\
+    t0 finish\nw0 endmark\nt1 take 16\n";
 
 #[test]
 fn a_late_heal(rt: HostRuntime) -> Result<(), Fail> {
@@ -29,7 +32,8 @@ fn a_late_heal(rt: HostRuntime) -> Result<(), Fail> {
 
 /// A load waits for a crossing, and copies the object then.
 const LOADED: &str =
-    "w0 protect 1\nt0 cross\nt0 loadg r1 0\nt0 trap\nt0 heal\nt0 cross\nt1 cross\nt0 trap\nt0 trap\nt0 finish\nt0 heal\nt0 finish\nt0 datum r1 0\nw0 copy 1 0\n";
+    "w0 protect 1\nt0 cross\nt0 loadg r1 0\nt0 trap\nt0 heal\nt0 cross\nt1 cross\nt0 trap\nt0 trap\nt0 finish\n\
+    t0 heal\nt0 finish\nt0 datum r1 0\nw0 copy 1 0\n";
 
 #[test]
 fn a_load_that_copies(rt: HostRuntime) -> Result<(), Fail> {
@@ -38,11 +42,15 @@ fn a_load_that_copies(rt: HostRuntime) -> Result<(), Fail> {
 
 /// A page of five objects, each of which names the one before, and the first of all the marked one.
 const LINKED: &str =
-    "t1 take 16\ntimes 5\nt1 new r1 0\nt1 store r1 0 r0\nt1 mov r0 r1\nend\nt1 give\nw0 mark\nt0 cross\nt1 cross\nw0 scang 0\nw0 pick 1.0\nw0 scan\nw0 scan\nw0 pick 2.12\nw0 scan\nw0 scan\nw0 pick 2.9\nw0 scan\nw0 scan\nw0 pick 2.6\nw0 scan\nw0 scan\nw0 pick 2.3\nw0 scan\nw0 scan\nw0 pick 2.0\nw0 scan\nw0 scan\nw0 endmark\n";
+    "t1 take 16\ntimes 5\nt1 new r1 0\nt1 store r1 0 r0\nt1 mov r0 r1\nend\nt1 give\nw0 mark\nt0 cross\n\
+    t1 cross\nw0 scang 0\nw0 pick 1.0\nw0 scan\nw0 scan\nw0 pick 2.12\nw0 scan\nw0 scan\nw0 pick 2.9\n\
+    w0 scan\nw0 scan\nw0 pick 2.6\nw0 scan\nw0 scan\nw0 pick 2.3\nw0 scan\nw0 scan\nw0 pick 2.0\nw0 scan\n\
+    w0 scan\nw0 endmark\n";
 
 /// Both pages are protected; a thread moves the last object before a worker copies the others.
 const WHOLE_PAGES: &str =
-    "w0 protect 1 2\nt0 cross\nt1 cross\nt1 scrub r0\nt1 set r0 0 3\nw0 copyall 2\nt1 datum r0 0\nw0 copyall 2\nw0 release 2\n";
+    "w0 protect 1 2\nt0 cross\nt1 cross\nt1 scrub r0\nt1 set r0 0 3\nw0 copyall 2\nt1 datum r0 0\n\
+    w0 copyall 2\nw0 release 2\n";
 
 #[test]
 fn whole_pages(rt: HostRuntime) -> Result<(), Fail> {
