@@ -88,25 +88,44 @@ fn laps<R>(alloc: Global, watch: &Watch<'_, R>, objects: u64, loads: u64) -> Res
     ]?)
 }
 
-/// A cycle of so many workers on so many lists of so many pairs of objects, beside two threads that load a
-/// reference so often each.
+/// Whether a script is done by threads, as a gate watches.
+fn is_done<R: Threads + Wait + Clock + Sync>(
+    rt: &R,
+    alloc: Global,
+    script: &Script,
+    watch: &Watch<'_, R>,
+) -> bool {
+    by_threads(rt, alloc, script, watch).is_ok()
+}
+
+/// A cycle on so many lists, timed, of so many objects in all, beside so many loads.
+fn timed<R: Threads + Wait + Clock + Sync>(
+    rt: &R,
+    alloc: Global,
+    script: &Script,
+    lists: u64,
+    counts: [u64; 2],
+) -> Result<Vec<Lap>> {
+    let watch = Watch::new(rt, Instant::now(rt)?, lists);
+    if !is_done(rt, alloc, script, &watch) {
+        bail!("the run isn't settled");
+    }
+    let [objects, loads] = counts;
+    laps(alloc, &watch, objects, loads)
+}
+
+/// A cycle of so many workers on so many lists of so many pairs of objects each, beside two threads that
+/// load a reference so often each.
 pub fn cycle<R: Threads + Wait + Clock + Sync>(
     rt: &R,
     alloc: Global,
     numbers: [u32; 4],
 ) -> Result<Vec<Lap>> {
     let [_, lists, pairs, beside] = numbers;
-    let text = script(alloc, numbers)?;
-    let script = read(alloc, text.as_str())?;
-    let watch = Watch::new(rt, Instant::now(rt)?, u64::from(lists));
-    if by_threads(rt, alloc, &script, &watch).is_err() {
-        bail!("the run isn't settled");
-    }
-    let objects = u64::from(lists).wrapping_mul(u64::from(pairs));
-    laps(
-        alloc,
-        &watch,
-        objects.wrapping_mul(2),
-        u64::from(beside).wrapping_mul(2),
-    )
+    let objects = u64::from(lists)
+        .wrapping_mul(u64::from(pairs))
+        .wrapping_mul(2);
+    let loads = u64::from(beside).wrapping_mul(2);
+    let script = read(alloc, script(alloc, numbers)?.as_str())?;
+    timed(rt, alloc, &script, u64::from(lists), [objects, loads])
 }

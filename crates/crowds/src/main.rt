@@ -11,11 +11,13 @@
 //! | `waits MILLISECONDS` | a thread waits so long for a step that is refused as `Stall` |
 //! | `holds WORDS FRAMES SIZE PAGES LINKED` | steps of each kind, each alone, on a heap with so many pages of live objects of a size, and with a list of so many objects |
 //! | `cycle WORKERS LISTS PAIRS LOADS` | a cycle of so many workers on so many lists of so many pairs of objects each, beside two threads that load a reference so often each |
+//! | `choice` | a cycle, whose pages are compared with those of `choose`: how many there are, or 0 where they differ |
 //!
 //! The word `then` parts one such work from the next.
 #![tactic(auto)]
 
 mod acting;
+mod choice;
 mod counting;
 mod crowding;
 mod cycling;
@@ -68,6 +70,7 @@ fn work<R: Threads + Wait + Clock + Sync>(
         "waits" => waiting::waits(rt, alloc, first),
         "holds" => holding::holds(rt, alloc, numbers),
         "cycle" => cycling::cycle(rt, alloc, [first, second, third, fourth]),
+        "choice" => choice::choice(rt, alloc),
         _ => bail!("no such work"),
     }
 }

@@ -77,6 +77,23 @@ fn both<R: Threads + Wait + Clock + Sync>(
     u64::from(scrubbed).wrapping_add(u64::from(crossed))
 }
 
+/// Thread 0 waits so many milliseconds for a step of thread 1.
+fn waited<R: Threads + Wait + Clock + Sync>(
+    rt: &R,
+    alloc: Global,
+    shared: &Shared,
+    mut seats: Vec<Seat>,
+    millis: u32,
+) -> Result<Vec<Lap>> {
+    seats.reverse();
+    let (Some(first), Some(second)) = (seats.pop(), seats.pop()) else {
+        bail!("there are no seats");
+    };
+    let start = Instant::now(rt)?;
+    let done = both(rt, shared, first, second, millis);
+    Ok(vec![in alloc; Lap::once("waits", done, since(rt, start)?)]?)
+}
+
 /// A thread waits so many milliseconds for a step of another one.
 pub fn waits<R: Threads + Wait + Clock + Sync>(
     rt: &R,
@@ -87,11 +104,5 @@ pub fn waits<R: Threads + Wait + Clock + Sync>(
     if !prepare(rt, alloc, &shared, &mut seats)? {
         bail!("a step was refused");
     }
-    seats.reverse();
-    let (Some(first), Some(second)) = (seats.pop(), seats.pop()) else {
-        bail!("there are no seats");
-    };
-    let start = Instant::now(rt)?;
-    let done = both(rt, &shared, first, second, millis);
-    Ok(vec![in alloc; Lap::once("waits", done, since(rt, start)?)]?)
+    waited(rt, alloc, &shared, seats, millis)
 }
