@@ -95,10 +95,8 @@ fn answered<R: Threads + Wait + Sync>(
     script: &Script,
     meeting: &Meeting,
 ) -> Option<Answer> {
-    match by_threads(rt, alloc, script, meeting) {
-        Ok(settled) => healed(settled.book.history()),
-        Err(_) => None,
-    }
+    let settled = by_threads(rt, alloc, script, meeting).ok()?;
+    healed(settled.book.history())
 }
 
 #[test]
