@@ -4,6 +4,7 @@ use crate::same::same;
 use cycle::{Actor, Answer, Entry, History, Step};
 use parser::{Script, parse};
 use racing::{Gate, by_threads};
+use sharing::Settled;
 use std::alloc::Global;
 use std::sync::Wait;
 use std::sync::atomic::{AtomicU64, Ordering};
@@ -88,6 +89,11 @@ fn healed(history: &History) -> Option<Answer> {
     None
 }
 
+/// The answer to the first `Heal` of a run that is settled.
+fn healed_of(settled: &Settled) -> Option<Answer> {
+    healed(settled.book.history())
+}
+
 /// What the first `Heal` of a run is answered. None where it isn't settled.
 fn answered<R: Threads + Wait + Sync>(
     rt: &R,
@@ -95,10 +101,8 @@ fn answered<R: Threads + Wait + Sync>(
     script: &Script,
     meeting: &Meeting,
 ) -> Option<Answer> {
-    match by_threads(rt, alloc, script, meeting) {
-        Ok(settled) => healed(settled.book.history()),
-        Err(_) => None,
-    }
+    let settled = by_threads(rt, alloc, script, meeting).ok()?;
+    healed_of(&settled)
 }
 
 #[test]

@@ -36,10 +36,8 @@ fn printed(alloc: Global, settled: &Settled) -> Option<Vec<u8>> {
 
 /// What a run by threads prints. None where it isn't settled.
 fn raced<R: Threads + Wait + Sync>(rt: &R, alloc: Global, script: &Script) -> Option<Vec<u8>> {
-    match by_threads(rt, alloc, script, &OpenGate) {
-        Ok(settled) => printed(alloc, &settled),
-        Err(_) => None,
-    }
+    let settled = by_threads(rt, alloc, script, &OpenGate).ok()?;
+    printed(alloc, &settled)
 }
 
 /// A script that is run fifty times, and prints the same each time.

@@ -30,10 +30,7 @@ fn config(alloc: Global) -> Result<Config, AllocError> {
 
 /// A book that is shared, and its seats.
 fn open(alloc: Global, book: Book) -> Result<(Shared, Vec<Seat>), AllocError> {
-    match Shared::open(alloc, book) {
-        Ok(opened) => Ok(opened),
-        Err(_) => Err(AllocError),
-    }
+    Shared::open(alloc, book).ok().ok_or(AllocError)
 }
 
 /// A new book.
@@ -57,17 +54,15 @@ fn take(rt: &(impl Abort + Wait), shared: &Shared, seats: &mut [Seat]) {
 
 /// The seats that come back where they are settled with their own book.
 fn settled(shared: Shared, seats: Vec<Seat>) -> Option<Vec<Seat>> {
-    match settle(shared.into_book(), seats) {
-        Ok(settled) => Some(settled.seats),
-        Err(_) => None,
-    }
+    let settled = settle(shared.into_book(), seats).ok()?;
+    Some(settled.seats)
 }
 
 /// The stray of a book that is settled with these seats.
 fn stray_of(shared: Shared, seats: Vec<Seat>) -> Option<Actor> {
-    match settle(shared.into_book(), seats) {
-        Ok(_) => None,
-        Err(stray) => Some(stray.actor),
+    match settle(shared.into_book(), seats).err() {
+        Some(stray) => Some(stray.actor),
+        None => None,
     }
 }
 
