@@ -23,7 +23,8 @@ fn links(alloc: Global, pairs: u32) -> Result<String, AllocError> {
         return Ok(String::new(alloc));
     }
     format!(in alloc;
-        "t0 take {WORDS}\ntimes {pairs}\nt0 new r1 0\nt0 store r1 0 r0\nt0 new r0 0\nt0 store r0 0 r1\nend\nt0 give\n"
+        "t0 take {WORDS}\ntimes {pairs}\nt0 new r1 0\nt0 store r1 0 r0\nt0 new r0 0\n\
+        t0 store r0 0 r1\nend\nt0 give\n"
     )
 }
 
@@ -44,7 +45,8 @@ fn head(alloc: Global, workers: u32, lists: u32, pairs: u32) -> Result<String, A
     let pages = lists.wrapping_mul(pairs / PAIRS + 1);
     let frames = pages.wrapping_mul(2).wrapping_add(8).min(4_096);
     format!(in alloc;
-        "heap words {WORDS} frames {frames} pages {frames} threads 2 workers {workers} registers 4 globals {lists}\nlayout 1 0\n"
+        "heap words {WORDS} frames {frames} pages {frames} threads 2 workers {workers} registers 4 \
+        globals {lists}\nlayout 1 0\n"
     )
 }
 

@@ -9,9 +9,9 @@
 //! | `steps THREADS STEPS` | the same by `Shared::step`, by so many threads that have so many steps each |
 //! | `counter THREADS STEPS` | so many threads add to a number under a lock, so often each |
 //! | `waits MILLISECONDS` | a thread waits so long for a step that is refused as `Stall` |
-//! | `holds WORDS FRAMES SIZE PAGES LINKED` | steps of each kind, each alone, on a heap with so many pages of live objects of a size, and with a list of so many objects |
-//! | `cycle WORKERS LISTS PAIRS LOADS` | a cycle of so many workers on so many lists of so many pairs of objects each, beside two threads that load a reference so often each |
-//! | `choice` | a cycle, whose pages are compared with those of `choose`: how many there are, or 0 where they differ |
+//! | `holds WORDS FRAMES SIZE PAGES LINKED` | steps of each kind, each alone, on a heap (`holding`) |
+//! | `cycle WORKERS LISTS PAIRS LOADS` | a cycle beside two threads that load so often each (`cycling`) |
+//! | `choice` | the pages of a cycle beside those of `choose`: how many, or 0 where they differ |
 //!
 //! The word `then` parts one such work from the next.
 #![tactic(auto)]

@@ -14,7 +14,7 @@ use std::sync::Wait;
 use std::thread;
 
 /// How often a worker that leaves the lock alone asks whether all is over before it looks again: some 50
-/// to 100 microseconds. A shorter pause makes workers meet more often, and a mark of a list longer.
+/// microseconds. A shorter pause makes workers meet more often, and a mark of a list longer.
 const PAUSE: u32 = 131_072;
 
 /// What a worker has.
