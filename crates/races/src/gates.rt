@@ -95,13 +95,13 @@ fn healed_of(settled: &Settled) -> Option<Answer> {
 }
 
 /// What the first `Heal` of a run is answered. None where it isn't settled.
-fn answered<R: Threads + Wait + Sync>(
+fn answered<R: Threads + Wait + Sync, G: Gate + Sync>(
     rt: &R,
     alloc: Global,
     script: &Script,
-    meeting: &Meeting,
+    gate: &G,
 ) -> Option<Answer> {
-    let settled = by_threads(rt, alloc, script, meeting).ok()?;
+    let settled = by_threads(rt, alloc, script, gate).ok()?;
     healed_of(&settled)
 }
 
