@@ -9,6 +9,7 @@ use cycle::{Actor, Book, History, Step};
 use parser::{Script, parse};
 use parts::again;
 use racing::{Gate, by_threads};
+use sharing::Settled;
 use std::alloc::{AllocError, Global};
 use std::sync::Wait;
 use std::sync::atomic::{AtomicU64, Ordering};
@@ -116,17 +117,29 @@ fn replayed(alloc: Global, mut steps: impl Steps + Drop, history: &History) -> R
     Ok(0)
 }
 
-/// The history of a run by threads, done again on a new book.
-fn compared<R: Threads + Wait + Sync>(rt: &R, alloc: Global, script: &Script) -> Result<u64> {
+/// A new book for a script.
+fn book(alloc: Global, script: &Script) -> Result<Book> {
+    Ok(Book::new(alloc, script.config().copy(alloc)?)?)
+}
+
+/// A run by threads, of which worker 0 waits for both threads; None where it isn't settled.
+fn raced<R: Threads + Wait + Sync>(rt: &R, alloc: Global, script: &Script) -> Option<Settled> {
     let gate = Parked {
         count: AtomicU64::new(0),
     };
-    match by_threads(rt, alloc, script, &gate) {
-        Ok(settled) => {
-            let book = Book::new(alloc, script.config().copy(alloc)?)?;
-            replayed(alloc, book, settled.book.history())
-        }
-        Err(_) => bail!("the run isn't settled"),
+    by_threads(rt, alloc, script, &gate).ok()
+}
+
+/// The history of a run, done again on a new book.
+fn again_on_a_book(alloc: Global, script: &Script, settled: &Settled) -> Result<u64> {
+    replayed(alloc, book(alloc, script)?, settled.book.history())
+}
+
+/// The history of a run by threads, done again on a new book.
+fn compared<R: Threads + Wait + Sync>(rt: &R, alloc: Global, script: &Script) -> Result<u64> {
+    match raced(rt, alloc, script) {
+        Some(settled) => again_on_a_book(alloc, script, &settled),
+        None => bail!("the run isn't settled"),
     }
 }
 
