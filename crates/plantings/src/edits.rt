@@ -22,10 +22,7 @@ pub fn set_free(image: &mut Image, place: usize, frame: u32) {
 /// An object starts at an offset of a page, or doesn't.
 pub fn set_start(image: &mut Image, page: usize, offset: usize, is_start: bool) {
     if page > 0 && page <= image.pages.len() {
-        let starts = &mut image.pages[page - 1].starts;
-        if offset < starts.len() {
-            starts[offset] = is_start;
-        }
+        image.pages[page - 1].starts.put(offset, is_start);
     }
 }
 

@@ -2,6 +2,7 @@
 
 use crate::same::same;
 use layout::{Header, Layout};
+use markbits::Row;
 use model::{Forwarding, PageState};
 use refword::Addr;
 use std::alloc::{AllocError, Global};
@@ -14,7 +15,7 @@ pub fn page(alloc: Global, state: PageState, frame: Option<u32>) -> Result<PageI
     Ok(PageImage {
         state,
         frame,
-        starts: vec![in alloc; false; 16]?,
+        starts: Row::new(alloc, 16)?,
         side: Vec::new(alloc),
     })
 }
@@ -82,10 +83,7 @@ pub fn set_page(image: &mut Image, number: usize, state: PageState, frame: Optio
 /// An object starts at an offset of a page, or doesn't.
 pub fn set_start(image: &mut Image, number: usize, offset: usize, starts: bool) {
     if number > 0 && number <= image.pages.len() {
-        let page = &mut image.pages[number - 1];
-        if offset < page.starts.len() {
-            page.starts[offset] = starts;
-        }
+        image.pages[number - 1].starts.put(offset, starts);
     }
 }
 

@@ -8,6 +8,7 @@ use crate::images::{
 };
 use crate::naive::verdict;
 use crate::same::same;
+use markbits::Row;
 use model::PageState;
 use samples::scatter;
 use std::alloc::{AllocError, Global};
@@ -133,14 +134,27 @@ fn shorten(image: &mut Image, dice: &mut Dice) {
     match dice.roll(4) {
         0 => image.layouts.truncate(length),
         1 => image.globals.truncate(length),
-        2 => shorten_starts(image, length),
+        2 => shorten_starts(image, length as u32),
         _ => shorten_frame(image, length),
     }
 }
 
-fn shorten_starts(image: &mut Image, length: usize) {
+/// The first bits of a row.
+fn first_bits(alloc: Global, row: &Row, length: u32) -> Result<Row, AllocError> {
+    let mut first = Row::new(alloc, length)?;
+    for offset in 0..length as usize {
+        first.put(offset, row.test(offset));
+    }
+    Ok(first)
+}
+
+fn shorten_starts(image: &mut Image, length: u32) {
+    let alloc = *image.pages.allocator();
     if !image.pages.is_empty() {
-        image.pages[0].starts.truncate(length);
+        let starts = &mut image.pages[0].starts;
+        if let Ok(first) = first_bits(alloc, starts, length) {
+            *starts = first;
+        }
     }
 }
 
