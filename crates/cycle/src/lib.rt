@@ -42,7 +42,6 @@
 
 mod arms;
 mod book;
-mod calls;
 mod draining;
 mod gate;
 mod loading;

@@ -7,9 +7,9 @@ ghost use Rattle.model.specs.declared.steps.Step.TheVariants as steps;
 ghost use Rattle.model.specs.declared.steps.Answer.TheVariants as answers;
 ghost use Rattle.cycle.specs.Mutating.{DoesThread, ThreadStands};
 
-use crate::calls;
+use crate::gate::thread_gate;
 use heap::Heap;
-use model::{Buffer, Refusal, Trap};
+use model::{Buffer, Refusal, Step, Trap};
 
 /// What mutator threads do to a heap: each step of a thread as a call of its own, with plain values
 /// in and out. It is what a program asks that holds a heap.
@@ -131,7 +131,7 @@ pub trait Mutating {
 
 impl Mutating for Heap {
     #[inline(always)]
-    #[tactic(auto, using(crate::proofs::Replaying::keeps_standing))]
+    #[tactic(auto, unfolding(model::specs::Outcome::outcome), using(crate::proofs::Replaying::keeps_standing))]
     fn take(&mut self, thread: u32, words: u32) -> Result<Buffer, Refusal>
         ensures does { DoesThread lent self.old thread (steps.Take words) result self.new }
         ensures stands { ThreadStands lent self.old thread (steps.Take words) result self.new }
@@ -139,215 +139,254 @@ impl Mutating for Heap {
     {
         self.law();
         refinement::law();
-        calls::take(self, thread, words)
+        thread_gate(self, thread, &Step::Take(words))?;
+        self.take_row(thread, words)
     }
 
     #[inline(always)]
-    #[tactic(auto, using(crate::proofs::Replaying::keeps_standing))]
+    #[tactic(auto, unfolding(model::specs::Outcome::outcome), using(crate::proofs::Replaying::keeps_standing))]
     fn give_back(&mut self, thread: u32) -> Result<(), Refusal>
         ensures does { DoesThread done self.old thread steps.GiveBack result self.new }
         ensures stands { ThreadStands done self.old thread steps.GiveBack result self.new }
     {
         self.law();
         refinement::law();
-        calls::give_back(self, thread)
+        thread_gate(self, thread, &Step::GiveBack)?;
+        self.give_back_row(thread)
     }
 
     #[inline(always)]
-    #[tactic(auto, using(crate::proofs::Replaying::keeps_standing))]
+    #[tactic(auto, unfolding(model::specs::Outcome::outcome), using(crate::proofs::Replaying::keeps_standing))]
     fn new_object(&mut self, thread: u32, target: u32, layout: u32) -> Result<u32, Refusal>
         ensures does { DoesThread answers.Birth self.old thread (steps.New target layout) result self.new }
         ensures stands { ThreadStands answers.Birth self.old thread (steps.New target layout) result self.new }
     {
         self.law();
         refinement::law();
-        calls::new_object(self, thread, target, layout)
+        thread_gate(self, thread, &Step::New { target, layout })?;
+        self.new_row(thread, target, layout)
     }
 
     #[inline(always)]
-    #[tactic(auto, using(crate::proofs::Replaying::keeps_standing))]
+    #[tactic(auto, unfolding(model::specs::Outcome::outcome), using(crate::proofs::Replaying::keeps_standing))]
     fn load(&mut self, thread: u32, target: u32, object: u32, field: u32) -> Result<(), Refusal>
         ensures does { DoesThread loaded self.old thread (steps.Load target object field) result self.new }
         ensures stands { ThreadStands loaded self.old thread (steps.Load target object field) result self.new }
     {
         self.law();
         refinement::law();
-        calls::load(self, thread, target, object, field)
+        let step = Step::Load {
+            target,
+            object,
+            field,
+        };
+        thread_gate(self, thread, &step)?;
+        barrier::load(self, thread, target, object, field)
     }
 
     #[inline(always)]
-    #[tactic(auto, using(crate::proofs::Replaying::keeps_standing))]
+    #[tactic(auto, unfolding(model::specs::Outcome::outcome), using(crate::proofs::Replaying::keeps_standing))]
     fn load_global(&mut self, thread: u32, target: u32, global: u32) -> Result<(), Refusal>
         ensures does { DoesThread loaded self.old thread (steps.LoadGlobal target global) result self.new }
         ensures stands { ThreadStands loaded self.old thread (steps.LoadGlobal target global) result self.new }
     {
         self.law();
         refinement::law();
-        calls::load_global(self, thread, target, global)
+        thread_gate(self, thread, &Step::LoadGlobal { target, global })?;
+        barrier::load_global(self, thread, target, global);
+        Ok(())
     }
 
     #[inline(always)]
-    #[tactic(auto, using(crate::proofs::Replaying::keeps_standing))]
+    #[tactic(auto, unfolding(model::specs::Outcome::outcome), using(crate::proofs::Replaying::keeps_standing))]
     fn trap(&mut self, thread: u32) -> Result<Trap, Refusal>
         ensures does { DoesThread trapped self.old thread steps.Trap result self.new }
         ensures stands { ThreadStands trapped self.old thread steps.Trap result self.new }
     {
         self.law();
         refinement::law();
-        calls::trap(self, thread)
+        thread_gate(self, thread, &Step::Trap)?;
+        barrier::trap(self, thread)
     }
 
     #[inline(always)]
-    #[tactic(auto, using(crate::proofs::Replaying::keeps_standing))]
+    #[tactic(auto, unfolding(model::specs::Outcome::outcome), using(crate::proofs::Replaying::keeps_standing))]
     fn heal(&mut self, thread: u32) -> Result<bool, Refusal>
         ensures does { DoesThread healed self.old thread steps.Heal result self.new }
         ensures stands { ThreadStands healed self.old thread steps.Heal result self.new }
     {
         self.law();
         refinement::law();
-        calls::heal(self, thread)
+        thread_gate(self, thread, &Step::Heal)?;
+        barrier::heal(self, thread)
     }
 
     #[inline(always)]
-    #[tactic(auto, using(crate::proofs::Replaying::keeps_standing))]
+    #[tactic(auto, unfolding(model::specs::Outcome::outcome), using(crate::proofs::Replaying::keeps_standing))]
     fn finish(&mut self, thread: u32) -> Result<(), Refusal>
         ensures does { DoesThread done self.old thread steps.Finish result self.new }
         ensures stands { ThreadStands done self.old thread steps.Finish result self.new }
     {
         self.law();
         refinement::law();
-        calls::finish(self, thread)
+        thread_gate(self, thread, &Step::Finish)?;
+        barrier::finish(self, thread)
     }
 
     #[inline(always)]
-    #[tactic(auto, using(crate::proofs::Replaying::keeps_standing))]
+    #[tactic(auto, unfolding(model::specs::Outcome::outcome), using(crate::proofs::Replaying::keeps_standing))]
     fn store(&mut self, thread: u32, object: u32, field: u32, source: u32) -> Result<(), Refusal>
         ensures does { DoesThread done self.old thread (steps.Store object field source) result self.new }
         ensures stands { ThreadStands done self.old thread (steps.Store object field source) result self.new }
     {
         self.law();
         refinement::law();
-        calls::store(self, thread, object, field, source)
+        let step = Step::Store {
+            object,
+            field,
+            source,
+        };
+        thread_gate(self, thread, &step)?;
+        self.store_row(thread, object, field, source)
     }
 
     #[inline(always)]
-    #[tactic(auto, using(crate::proofs::Replaying::keeps_standing))]
+    #[tactic(auto, unfolding(model::specs::Outcome::outcome), using(crate::proofs::Replaying::keeps_standing))]
     fn store_global(&mut self, thread: u32, global: u32, source: u32) -> Result<(), Refusal>
         ensures does { DoesThread done self.old thread (steps.StoreGlobal global source) result self.new }
         ensures stands { ThreadStands done self.old thread (steps.StoreGlobal global source) result self.new }
     {
         self.law();
         refinement::law();
-        calls::store_global(self, thread, global, source)
+        thread_gate(self, thread, &Step::StoreGlobal { global, source })?;
+        self.store_global_row(thread, global, source)
     }
 
     #[inline(always)]
-    #[tactic(auto, using(crate::proofs::Replaying::keeps_standing))]
+    #[tactic(auto, unfolding(model::specs::Outcome::outcome), using(crate::proofs::Replaying::keeps_standing))]
     fn datum(&self, thread: u32, object: u32, index: u32) -> Result<u64, Refusal>
         ensures does { DoesThread answers.Datum self.now thread (steps.Datum object index) result self.now }
         ensures stands { ThreadStands answers.Datum self.now thread (steps.Datum object index) result self.now }
     {
         self.law();
         refinement::law();
-        calls::datum(self, thread, object, index)
+        thread_gate(self, thread, &Step::Datum { object, index })?;
+        self.datum_row(thread, object, index)
     }
 
     #[inline(always)]
-    #[tactic(auto, using(crate::proofs::Replaying::keeps_standing))]
+    #[tactic(auto, unfolding(model::specs::Outcome::outcome), using(crate::proofs::Replaying::keeps_standing))]
     fn set_datum(&mut self, thread: u32, object: u32, index: u32, value: u64) -> Result<(), Refusal>
         ensures does { DoesThread done self.old thread (steps.SetDatum object index value) result self.new }
         ensures stands { ThreadStands done self.old thread (steps.SetDatum object index value) result self.new }
     {
         self.law();
         refinement::law();
-        calls::set_datum(self, thread, object, index, value)
+        let step = Step::SetDatum {
+            object,
+            index,
+            value,
+        };
+        thread_gate(self, thread, &step)?;
+        self.set_datum_row(thread, object, index, value)
     }
 
     #[inline(always)]
-    #[tactic(auto, using(crate::proofs::Replaying::keeps_standing))]
+    #[tactic(auto, unfolding(model::specs::Outcome::outcome), using(crate::proofs::Replaying::keeps_standing))]
     fn same(&self, thread: u32, left: u32, right: u32) -> Result<bool, Refusal>
         ensures does { DoesThread answers.Truth self.now thread (steps.Same left right) result self.now }
         ensures stands { ThreadStands answers.Truth self.now thread (steps.Same left right) result self.now }
     {
         self.law();
         refinement::law();
-        calls::same(self, thread, left, right)
+        thread_gate(self, thread, &Step::Same { left, right })?;
+        self.same_row(thread, left, right)
     }
 
     #[inline(always)]
-    #[tactic(auto, using(crate::proofs::Replaying::keeps_standing))]
+    #[tactic(auto, unfolding(model::specs::Outcome::outcome), using(crate::proofs::Replaying::keeps_standing))]
     fn is_null(&self, thread: u32, register: u32) -> Result<bool, Refusal>
         ensures does { DoesThread answers.Truth self.now thread (steps.IsNull register) result self.now }
         ensures stands { ThreadStands answers.Truth self.now thread (steps.IsNull register) result self.now }
     {
         self.law();
         refinement::law();
-        calls::is_null(self, thread, register)
+        thread_gate(self, thread, &Step::IsNull(register))?;
+        Ok(self.is_null_row(thread, register))
     }
 
     #[inline(always)]
-    #[tactic(auto, using(crate::proofs::Replaying::keeps_standing))]
+    #[tactic(auto, unfolding(model::specs::Outcome::outcome), using(crate::proofs::Replaying::keeps_standing))]
     fn copy_register(&mut self, thread: u32, target: u32, source: u32) -> Result<(), Refusal>
         ensures does { DoesThread done self.old thread (steps.CopyReg target source) result self.new }
         ensures stands { ThreadStands done self.old thread (steps.CopyReg target source) result self.new }
     {
         self.law();
         refinement::law();
-        calls::copy_register(self, thread, target, source)
+        thread_gate(self, thread, &Step::CopyReg { target, source })?;
+        self.copy_register_row(thread, target, source);
+        Ok(())
     }
 
     #[inline(always)]
-    #[tactic(auto, using(crate::proofs::Replaying::keeps_standing))]
+    #[tactic(auto, unfolding(model::specs::Outcome::outcome), using(crate::proofs::Replaying::keeps_standing))]
     fn clear_register(&mut self, thread: u32, target: u32) -> Result<(), Refusal>
         ensures does { DoesThread done self.old thread (steps.ClearReg target) result self.new }
         ensures stands { ThreadStands done self.old thread (steps.ClearReg target) result self.new }
     {
         self.law();
         refinement::law();
-        calls::clear_register(self, thread, target)
+        thread_gate(self, thread, &Step::ClearReg(target))?;
+        self.clear_register_row(thread, target);
+        Ok(())
     }
 
     #[inline(always)]
-    #[tactic(auto, using(crate::proofs::Replaying::keeps_standing))]
+    #[tactic(auto, unfolding(model::specs::Outcome::outcome), using(crate::proofs::Replaying::keeps_standing))]
     fn cross(&mut self, thread: u32) -> Result<(), Refusal>
         ensures does { DoesThread done self.old thread steps.Cross result self.new }
         ensures stands { ThreadStands done self.old thread steps.Cross result self.new }
     {
         self.law();
         refinement::law();
-        calls::cross(self, thread)
+        thread_gate(self, thread, &Step::Cross)?;
+        checkpoint::cross(self, thread)
     }
 
     #[inline(always)]
-    #[tactic(auto, using(crate::proofs::Replaying::keeps_standing))]
+    #[tactic(auto, unfolding(model::specs::Outcome::outcome), using(crate::proofs::Replaying::keeps_standing))]
     fn scrub(&mut self, thread: u32, register: u32) -> Result<bool, Refusal>
         ensures does { DoesThread scrubbed self.old thread (steps.Scrub register) result self.new }
         ensures stands { ThreadStands scrubbed self.old thread (steps.Scrub register) result self.new }
     {
         self.law();
         refinement::law();
-        calls::scrub(self, thread, register)
+        thread_gate(self, thread, &Step::Scrub(register))?;
+        checkpoint::scrub(self, thread, register)
     }
 
     #[inline(always)]
-    #[tactic(auto, using(crate::proofs::Replaying::keeps_standing))]
+    #[tactic(auto, unfolding(model::specs::Outcome::outcome), using(crate::proofs::Replaying::keeps_standing))]
     fn park(&mut self, thread: u32) -> Result<(), Refusal>
         ensures does { DoesThread done self.old thread steps.Park result self.new }
         ensures stands { ThreadStands done self.old thread steps.Park result self.new }
     {
         self.law();
         refinement::law();
-        calls::park(self, thread)
+        thread_gate(self, thread, &Step::Park)?;
+        checkpoint::park(self, thread);
+        Ok(())
     }
 
     #[inline(always)]
-    #[tactic(auto, using(crate::proofs::Replaying::keeps_standing))]
+    #[tactic(auto, unfolding(model::specs::Outcome::outcome), using(crate::proofs::Replaying::keeps_standing))]
     fn unpark(&mut self, thread: u32) -> Result<(), Refusal>
         ensures does { DoesThread done self.old thread steps.Unpark result self.new }
         ensures stands { ThreadStands done self.old thread steps.Unpark result self.new }
     {
         self.law();
         refinement::law();
-        calls::unpark(self, thread)
+        thread_gate(self, thread, &Step::Unpark)?;
+        checkpoint::unpark(self, thread)
     }
 }
