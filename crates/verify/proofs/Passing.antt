@@ -1,8 +1,9 @@
 -- A pass over all roots, in order.
-use Rattle.std.proofs.Common.{◌≡◌, ◌<◌, inl, inr, ℕ, [], length, Option, Some, None, refl, sym, ap, ◌∙◌, arith}
+use Rattle.std.proofs.Common.{◌≡◌, ◌≢◌, ◌<◌, inl, inr, ℕ, [], length, Option, Some, None, refl, sym, ap, ◌∙◌, arith}
 use Rattle.std.specs.List.{Contains}
 use Rattle.std.specs.Option.{IfSome}
 use Rattle.std.proofs.lemmas.Option.{same_Some, none-some}
+use Rattle.verify.specs.declared.spots.Spot.TheVariants.{Empty}
 use Rattle.verify.specs.declared.verdict.Root.{Root}
 use Rattle.verify.specs.declared.verdict.Root.TheVariants as roots
 use Rattle.verify.specs.declared.verdict.Fault.TheVariants as faults
@@ -26,7 +27,7 @@ passed_kept i v w x k h = λ s b value e. let p = h s b value e in (p.0, p.1, me
 
 -- the visit of what a root leads to
 pub record Visits (i : ImageData) (w : WalkData) (r : Root) (c : ℕ) : Type 0 where
-  pub bit : c < length w.spots
+  pub filled : spot_at w.spots c ≢ Empty
   pub walk : IsWalk i (with_visit w c)
   pub kept : Keeps w (with_visit w c)
   pub passed : IsPassed i (with_visit w c) r
@@ -39,7 +40,7 @@ root_visit i w r v c o p h e f g =
     let l : c < length w.spots = rw h.sized (leads_below i v c p lead) in
     let x = leads_object i v c lead in
     record {
-      bit = l;
+      filled = h.objects c x.0 x.1;
       walk = walk_met i c x.0 w h (IsReached.FromRoot c v r e lead) x.1 l;
       kept = visited_keeps w c l;
       passed = λ value y. (Some c, ap (leads i) (same_Some value v (sym y ∙ e)) ∙ lead, visited_met w c l);
@@ -76,7 +77,7 @@ all_met i w h n p _ (IsReached.FromField c a k v r e f) =
 -- so it tells what is reached
 pub walk_tells : (i : ImageData) (w : WalkData) → IsWalk i w → w.waiting ≡ [] → PassedBefore i w (at 4 0 0)
     → TellsReached i w.spots
-walk_tells i w h n p = record { sized = h.sized; reached = h.reached; all = all_met i w h n p }
+walk_tells i w h n p = record { sized = h.sized; reached = h.reached; all = all_met i w h n p; objects = h.objects }
 
 -- what was passed is good
 pub passed_good : (i : ImageData) (w : WalkData) (x : Rank) → PassedBefore i w x → GoodRootsBefore i x

@@ -5,7 +5,7 @@ use Rattle.std.specs.Option.{option_map}
 use Rattle.std.proofs.lemmas.Option.{none-some}
 use Rattle.std.proofs.lemmas.Bool.{cases_eq}
 use Rattle.std.proofs.lemmas.Bool.Decides.{nat_tests}
-use Rattle.verify.specs.declared.walk.Spot.{Spot}
+use Rattle.verify.specs.declared.spots.Spot.{Spot}
 use Rattle.verify.specs.declared.objects.Object.{Object}
 use Rattle.verify.specs.Images.{ImageData, object_at}
 use Rattle.verify.specs.Soundness.{IsBirthAt}
@@ -53,7 +53,7 @@ least_next i noted n o p l h = least_join (SharesBelow i noted n) (SharesAt i no
     l h
 
 -- the same property in other words
-least_same : (A B : ℕ → Type 0) (o : Option ℕ) → ((b : ℕ) → A b → B b) → ((b : ℕ) → B b → A b) → IsLeast A o
+pub least_same : (A B : ℕ → Type 0) (o : Option ℕ) → ((b : ℕ) → A b → B b) → ((b : ℕ) → B b → A b) → IsLeast A o
     → IsLeast B o
 least_same A B None ab ba l = λ b x. l b (ba b x)
 least_same A B (Some m) ab ba l = (ab m l.0, λ b x. l.1 b (ba b x))

@@ -1,10 +1,9 @@
 -- Verdicts from what the parts found, and that there is only one.
 use Rattle.std.proofs.Common.{cond, eqb, ◌≡◌, ◌<◌, ◌≤◌, ◌⊎◌, inl, inr, ℕ, Option, Some, None, Result, Ok, Err}
-use Rattle.std.proofs.Common.{Vec, refl, sym, ap, ◌∙◌, arith}
+use Rattle.std.proofs.Common.{List, refl, sym, ap, ◌∙◌, arith}
 use Rattle.std.proofs.lemmas.Bool.{cases_order}
 use Rattle.std.proofs.lemmas.Option.{none-some}
-use Rattle.std.specs.Global.{Global}
-use Rattle.verify.specs.declared.walk.Spot.{Spot}
+use Rattle.verify.specs.declared.spots.Spot.{Spot}
 use Rattle.verify.specs.declared.verdict.Root.{Root}
 use Rattle.verify.specs.declared.verdict.Root.TheVariants as roots
 use Rattle.verify.specs.declared.verdict.Fault.{Fault}
@@ -59,7 +58,7 @@ sound_verdict i f p q h = record {
 }
 
 -- a walk that found its spots found all roots good
-pub found_roots : (i : ImageData) (r : Result (Vec Spot Global) Root) (spots : Vec Spot Global) → FoundReached i r
+pub found_roots : (i : ImageData) (r : Result (List Spot) Root) (spots : List Spot) → FoundReached i r
     → r ≡ Ok spots → GoodRootsBefore i (at 4 0 0)
 found_roots i (Ok x) spots h e = h.1
 found_roots i (Err x) spots h e = absurd (cc e)

@@ -7,8 +7,8 @@ use Rattle.std.proofs.lemmas.List.Elements.{Contains-push, Contains-push_cases, 
 use Rattle.std.proofs.lemmas.List.Sums.{sum_by-set}
 use Rattle.std.proofs.lemmas.Bool.{cases_eq}
 use Rattle.std.proofs.lemmas.Grind.{common_steps}
-use Rattle.verify.specs.declared.walk.Spot.{Spot}
-use Rattle.verify.specs.declared.walk.Spot.TheVariants.{Empty, Unseen, Reached}
+use Rattle.verify.specs.declared.spots.Spot.{Spot}
+use Rattle.verify.specs.declared.spots.Spot.TheVariants.{Empty, Unseen, Reached}
 use Rattle.verify.specs.Walks.{WalkData, IsMet, Keeps, spot_at, is_unseen, with_visit, looks_left}
 
 -- a spot that is reached stays so

@@ -1,5 +1,5 @@
 -- What a walk keeps, from visit to visit.
-use Rattle.std.proofs.Common.{◌≡◌, ◌<◌, ◌≤◌, ◌⊎◌, inl, inr, ℕ, ◌+◌, List, [], ◌∷◌, ◌++◌, length, Option, Some}
+use Rattle.std.proofs.Common.{◌≡◌, ◌≢◌, ◌<◌, ◌≤◌, ◌⊎◌, inl, inr, ℕ, ◌+◌, List, [], ◌∷◌, ◌++◌, length, Option, Some}
 use Rattle.std.proofs.Common.{None, sym, ap, ◌∙◌, arith}
 use Rattle.std.specs.List.{Contains}
 use Rattle.std.proofs.lemmas.List.{get_or_past}
@@ -8,8 +8,8 @@ use Rattle.std.proofs.lemmas.Bool.{cases_eq, cases_lt}
 use Rattle.std.proofs.lemmas.Grind.{common_steps}
 use Rattle.std.proofs.lemmas.Option.{same_Some, none-some}
 use Rattle.verify.specs.declared.objects.Object.{Object}
-use Rattle.verify.specs.declared.walk.Spot.{Spot}
-use Rattle.verify.specs.declared.walk.Spot.TheVariants.{Empty, Unseen, Reached}
+use Rattle.verify.specs.declared.spots.Spot.{Spot}
+use Rattle.verify.specs.declared.spots.Spot.TheVariants.{Empty, Unseen, Reached}
 use Rattle.verify.specs.Images.{ImageData, object_at, field}
 use Rattle.verify.specs.Soundness.{IsReached}
 use Rattle.verify.specs.Walks.{WalkData, IsMet, IsWalk, IsWalkAt, spot_at, first_spot, with_visit, looks_left}
@@ -131,6 +131,11 @@ begun_left b v w same split = rw (same, split) (grind (arith, common_steps))
 pub target_bit : (i : ImageData) (b n c : ℕ) (w : WalkData) → 0 < i.words → IsWalkAt i b n w → target i b n ≡ Some c
     → c < length w.spots
 target_bit i b n c w p h t = rw h.sized (target_below i b n c p t)
+
+-- and an object starts there
+pub target_filled : (i : ImageData) (b n c : ℕ) (w : WalkData) → IsWalkAt i b n w → target i b n ≡ Some c
+    → spot_at w.spots c ≢ Empty
+target_filled i b n c w h t = let x = target_object i b n c t in h.objects c x.0 x.1
 
 -- a walk after the visit of a reached address
 pub walk_met : (i : ImageData) (c : ℕ) (x : Object) (w : WalkData) → IsWalk i w → IsReached i c → object_at i c ≡ Some x

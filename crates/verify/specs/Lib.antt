@@ -4,6 +4,7 @@ pub mod Claims
 pub mod Faults
 pub mod Copies
 pub mod Walks
+pub mod Spots
 pub mod Searches
 pub mod Twins
 pub mod Pictures

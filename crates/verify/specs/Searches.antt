@@ -1,15 +1,15 @@
 -- What the searches for a fault find: the passes over roots, and the look at the fields of reached objects.
-use Rattle.std.specs.Prelude.{◌≡◌, ◌<◌, ℕ, List, length, Option, Some, None, IfSome, Result, Ok, Err, Vec}
-use Rattle.std.specs.Global.{Global}
+use Rattle.std.specs.Prelude.{◌≡◌, ◌≢◌, ◌<◌, ℕ, List, length, Option, Some, None, IfSome, Result, Ok, Err}
 use Rattle.verify.specs.declared.verdict.Root.{Root}
 use Rattle.verify.specs.declared.verdict.Fault.{Fault}
 use Rattle.verify.specs.declared.verdict.Fault.TheVariants as faults
-use Rattle.verify.specs.Images.{ImageData, leads, field}
+use Rattle.verify.specs.declared.objects.Object.{Object}
+use Rattle.verify.specs.Images.{ImageData, object_at, leads, field}
 use Rattle.verify.specs.Faults.{HasFault, Rank, rank, IsBefore, first_field, first_twins}
 use Rattle.verify.specs.Soundness.{IsReached, IsGood, root_value}
 use Rattle.verify.specs.Walks.{WalkData, IsMet, spot_at, space}
-use Rattle.verify.specs.declared.walk.Spot.{Spot}
-use Rattle.verify.specs.declared.walk.Spot.TheVariants.{Reached}
+use Rattle.verify.specs.declared.spots.Spot.{Spot}
+use Rattle.verify.specs.declared.spots.Spot.TheVariants.{Empty, Reached}
 
 -- a root's value is good, if there is that root, and the walk has come to what it leads to
 abbrev pub IsPassed : ImageData → WalkData → Root → Type 0
@@ -26,11 +26,12 @@ abbrev pub FoundRoot : ImageData → WalkData → Rank → Option Root → Type 
 FoundRoot i w x None = PassedBefore i w x
 FoundRoot i w x (Some r) = HasFault i (faults.Root r) × PassedBefore i w (rank (faults.Root r))
 
--- the spots say of each address whether it is reached
+-- the spots say of each address whether it is reached, and whether an object may start there
 pub record TellsReached (i : ImageData) (spots : List Spot) : Type 0 where
   pub sized : length spots ≡ space i
   pub reached : (a : ℕ) → spot_at spots a ≡ Reached → IsReached i a
   pub all : (a : ℕ) → IsReached i a → spot_at spots a ≡ Reached
+  pub objects : (a : ℕ) (o : Object) → object_at i a ≡ Some o → spot_at spots a ≢ Empty
 
 -- the roots before a rank are good
 abbrev pub GoodRootsBefore : ImageData → Rank → Type 0
@@ -38,8 +39,8 @@ GoodRootsBefore i x = (r : Root) (value : ℕ) → IsBefore (rank (faults.Root r
     → IsGood i value
 
 -- what a walk from all roots found: which addresses are reached, where all roots are good; or the first root that isn't
-abbrev pub FoundReached : ImageData → Result (Vec Spot Global) Root → Type 0
-FoundReached i (Ok spots) = TellsReached i spots.items × GoodRootsBefore i first_field
+abbrev pub FoundReached : ImageData → Result (List Spot) Root → Type 0
+FoundReached i (Ok spots) = TellsReached i spots × GoodRootsBefore i first_field
 FoundReached i (Err r) = HasFault i (faults.Root r) × GoodRootsBefore i (rank (faults.Root r))
 
 -- the fields of the object at an address are good, of those before field n
@@ -50,6 +51,11 @@ GoodFieldsBefore i a n = (k value : ℕ) → k < n → field i a k ≡ Some valu
 abbrev pub FoundBad : ImageData → ℕ → Option ℕ → Type 0
 FoundBad i a None = (k value : ℕ) → field i a k ≡ Some value → IsGood i value
 FoundBad i a (Some n) = (value : ℕ) × (field i a n ≡ Some value) × (IsGood i value → ⊥) × GoodFieldsBefore i a n
+
+-- the same of an object that may not be reached, of which nothing is looked at
+abbrev pub FoundBadOf : ImageData → ℕ → Option ℕ → Type 0
+FoundBadOf i a None = IsReached i a → FoundBad i a None
+FoundBadOf i a (Some n) = IsReached i a × FoundBad i a (Some n)
 
 -- the fields of reached objects before a rank are good
 abbrev pub GoodBefore : ImageData → Rank → Type 0

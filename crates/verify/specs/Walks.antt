@@ -5,8 +5,8 @@ use Rattle.std.specs.Prelude.{Option, Some, None, count_by, Contains, get_or, sl
 use Rattle.std.specs.Option.{option_flatten}
 use Rattle.refword.specs.declared.addr.TheConstants.Addr as addresses
 use Rattle.verify.specs.declared.objects.Object.{Object}
-use Rattle.verify.specs.declared.walk.Spot.{Spot}
-use Rattle.verify.specs.declared.walk.Spot.TheVariants.{Empty, Unseen, Reached}
+use Rattle.verify.specs.declared.spots.Spot.{Spot}
+use Rattle.verify.specs.declared.spots.Spot.TheVariants.{Empty, Unseen, Reached}
 use Rattle.verify.specs.Images.{ImageData, ◌>>=◌, object_at, leads, field}
 use Rattle.verify.specs.Soundness.{IsReached}
 

@@ -1,13 +1,14 @@
 //! Births of objects, and which two objects share.
 
-ghost use Rattle.std.specs.Prelude.{◌≡◌, ◌<◌, ◌≤◌, ℕ, Some, None, IfOk, MatchOption, length, nat_eq, Option};
+ghost use Rattle.std.specs.Prelude.{◌≡◌, ◌<◌, ◌≤◌, ◌+◌, ℕ, Some, None, IfOk, MatchOption, length, nat_eq, Option};
 ghost use Rattle.std.specs.Prelude.{if◌then◌else◌, ◌==◌};
 ghost use Rattle.verify.specs.Searches.{TellsReached};
 ghost use Rattle.verify.specs.Twins.{TellsBirths, SharesAt, SharesBelow, IsLeast, IsOnly, HasTwins, lesser};
 ghost use Rattle.std.specs.HashMap as hash;
 
 use crate::chart::Chart;
-use crate::walk::{Spot, is_reached};
+use crate::spots::Spots;
+use crate::walk::is_reached;
 use std::alloc::{AllocError, Global};
 use std::collections::HashMap;
 
@@ -36,6 +37,21 @@ impl Births {
         Ok(())
     }
 
+    /// Notes an address of its object's birth, if an object is reached there.
+    fn note_reached(&mut self, chart: &Chart, spots: &Spots, address: u64) -> Result<(), AllocError>
+        requires sized { 0 < chart.now.words }
+        requires spots { TellsReached chart.now spots.now }
+        ensures { IfOk result (λ _. (n : ℕ) → n ≡ address → TellsBirths chart.now n (hash.get nat_eq self.old.addresses)
+            → TellsBirths chart.now (n + 1) (hash.get nat_eq self.new.addresses)) }
+    {
+        if is_reached(spots, address) {
+            if let Some(birth) = chart.image().birth_at(address) {
+                self.note(birth, address)?;
+            }
+        }
+        Ok(())
+    }
+
     /// The address that is noted of a birth.
     fn get(&self, birth: u32) -> Option<u64>
         ensures { result ≡ hash.get nat_eq self.now.addresses birth }
@@ -45,10 +61,9 @@ impl Births {
 
     /// The birth of the object at an address that is reached or wasn't copied, where another
     /// address is noted of it.
-    fn shared_at(&self, chart: &Chart, spots: &[Spot], address: u64) -> Option<u32>
+    fn shared_at(&self, chart: &Chart, spots: &Spots, address: u64) -> Option<u32>
         requires sized { 0 < chart.now.words }
         requires spots { TellsReached chart.now spots.now }
-        requires within { address < length spots.now }
         ensures { IsOnly (SharesAt chart.now (hash.get nat_eq self.now.addresses) address) result }
     {
         if !is_reached(spots, address) && chart.is_copied(address) {
@@ -62,14 +77,16 @@ impl Births {
     }
 
     /// The least birth that is shared.
-    fn least_shared(&self, chart: &Chart, spots: &[Spot]) -> Option<u32>
+    fn least_shared(&self, chart: &Chart, spots: &Spots) -> Option<u32>
         requires sized { 0 < chart.now.words }
         requires spots { TellsReached chart.now spots.now }
         ensures { IsLeast (SharesBelow chart.now (hash.get nat_eq self.now.addresses) (length spots.now)) result }
     {
         let mut least: Option<u32> = None;
-        for c in 0..spots.len() as u64 {
-            least = lesser(least, self.shared_at(chart, spots, c));
+        let mut from = 0;
+        while let Some(address) = spots.next_filled(from) {
+            least = lesser(least, self.shared_at(chart, spots, address));
+            from = address + 1;
         }
         least
     }
@@ -87,18 +104,16 @@ fn lesser(one: Option<u32>, other: Option<u32>) -> Option<u32>
 }
 
 /// An address for each birth of a reached object.
-fn births_of(alloc: Global, chart: &Chart, spots: &[Spot]) -> Result<Births, AllocError>
+fn births_of(alloc: Global, chart: &Chart, spots: &Spots) -> Result<Births, AllocError>
     requires sized { 0 < chart.now.words }
     requires spots { TellsReached chart.now spots.now }
     ensures { IfOk result (λ m. TellsBirths chart.now (length spots.now) (hash.get nat_eq m.addresses)) }
 {
     let mut births = Births::new(alloc);
-    for a in 0..spots.len() as u64 {
-        if is_reached(spots, a) {
-            if let Some(birth) = chart.image().birth_at(a) {
-                births.note(birth, a)?;
-            }
-        }
+    let mut from = 0;
+    while let Some(address) = spots.next_filled(from) {
+        births.note_reached(chart, spots, address)?;
+        from = address + 1;
     }
     Ok(births)
 }
@@ -107,7 +122,7 @@ fn births_of(alloc: Global, chart: &Chart, spots: &[Spot]) -> Result<Births, All
 pub(crate) fn least_twins(
     alloc: Global,
     chart: &Chart,
-    spots: &[Spot],
+    spots: &Spots,
 ) -> Result<Option<u32>, AllocError>
     requires sized { 0 < chart.now.words }
     requires spots { TellsReached chart.now spots.now }

@@ -1,11 +1,12 @@
 //! The look at all fields of reached objects.
 
 ghost use Rattle.std.specs.Prelude.{◌<◌};
-ghost use Rattle.verify.specs.Searches.{TellsReached, FoundField, FoundBad};
+ghost use Rattle.verify.specs.Searches.{TellsReached, FoundField, FoundBad, FoundBadOf};
 
 use crate::chart::Chart;
 use crate::verdict::Fault;
-use crate::walk::{Spot, is_reached};
+use crate::spots::Spots;
+use crate::walk::is_reached;
 
 /// The first field of the object at an address whose value isn't good.
 fn bad_field_at(chart: &Chart, address: u64) -> Option<u32>
@@ -20,18 +21,31 @@ fn bad_field_at(chart: &Chart, address: u64) -> Option<u32>
     None
 }
 
+/// The same of an object that is reached; of any other none.
+fn bad_field_of(chart: &Chart, spots: &Spots, address: u64) -> Option<u32>
+    requires sized { 0 < chart.now.words }
+    requires spots { TellsReached chart.now spots.now }
+    ensures { FoundBadOf chart.now address result }
+{
+    if is_reached(spots, address) {
+        bad_field_at(chart, address)
+    } else {
+        None
+    }
+}
+
 /// The first field of a reached object whose value isn't good, by the objects' addresses.
-pub(crate) fn first_bad_field(chart: &Chart, spots: &[Spot]) -> Option<Fault>
+pub(crate) fn first_bad_field(chart: &Chart, spots: &Spots) -> Option<Fault>
     requires sized { 0 < chart.now.words }
     requires spots { TellsReached chart.now spots.now }
     ensures { FoundField chart.now result }
 {
-    for a in 0..spots.len() as u64 {
-        if is_reached(spots, a) {
-            if let Some(k) = bad_field_at(chart, a) {
-                return Some(Fault::Field(a, k));
-            }
+    let mut from = 0;
+    while let Some(address) = spots.next_filled(from) {
+        if let Some(k) = bad_field_of(chart, spots, address) {
+            return Some(Fault::Field(address, k));
         }
+        from = address + 1;
     }
     None
 }

@@ -10,6 +10,7 @@ mod image;
 mod objects;
 mod printing;
 mod roots;
+mod spots;
 mod tables;
 mod taking;
 mod verdict;

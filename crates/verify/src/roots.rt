@@ -9,8 +9,9 @@ ghost use Rattle.verify.specs.declared.verdict.Fault.TheVariants as faults;
 
 use crate::chart::Chart;
 use crate::image::Image;
+use crate::spots::Spots;
 use crate::verdict::Root;
-use crate::walk::{Spot, Walk};
+use crate::walk::Walk;
 
 impl Image {
     /// The value of a root, if there is that root.
@@ -163,7 +164,7 @@ impl Walk {
 
 /// Which addresses are reached, or the first root whose value isn't good, by a walk that has come
 /// nowhere.
-pub(crate) fn find_reached(mut walk: Walk, chart: &Chart) -> Result<Vec<Spot>, Root>
+pub(crate) fn find_reached(mut walk: Walk, chart: &Chart) -> Result<Spots, Root>
     requires sized { 0 < chart.now.words }
     requires walk { IsWalk chart.now walk }
     ensures { FoundReached chart.now result }

@@ -1,33 +1,21 @@
 //! The walk along references that finds which objects are reached.
 
-ghost use Rattle.std.specs.Prelude.{◌≡◌, ◌<◌, ◌≤◌, ◌++◌, ◌∷◌, ℕ, [], length, IfOk, MatchBool, MatchOption};
+ghost use Rattle.std.specs.Prelude.{◌≡◌, ◌≢◌, ◌<◌, ◌≤◌, ◌++◌, ◌∷◌, [], IfOk, MatchBool, MatchOption};
 ghost use Rattle.model.specs.declared.limits.TheConstants.{MOST_WORDS};
-ghost use Rattle.verify.specs.Images.{object_at};
-ghost use Rattle.verify.specs.Walks.{IsWalk, IsWalkAt, Keeps, spot_at, first_spot, is_unseen, with_visit};
-ghost use Rattle.verify.specs.Walks.{looks_left, space};
-ghost use Rattle.verify.specs.declared.walk.Spot.TheVariants.{Reached};
+ghost use Rattle.verify.specs.Walks.{IsWalk, IsWalkAt, Keeps, spot_at, with_visit, looks_left};
+ghost use Rattle.verify.specs.declared.spots.Spot.TheVariants.{Empty, Reached};
 
 use crate::chart::Chart;
 use crate::image::Image;
+use crate::spots::{Spot, Spots};
 use std::alloc::{AllocError, Global};
 use std::marker::Model;
-
-/// What a walk knows of an address.
-#[derive(Clone, Copy)]
-pub(crate) enum Spot {
-    /// No object starts there.
-    Empty,
-    /// An object starts there, and the walk hasn't come to it.
-    Unseen,
-    /// An object starts there, and the walk has come to it.
-    Reached,
-}
 
 /// A walk: what it knows of each address, and the addresses that wait for a look at their fields. It
 /// has room for all that may ever wait.
 #[derive(Drop)]
 pub(crate) struct Walk {
-    spots: Vec<Spot>,
+    spots: Spots,
     waiting: Vec<u64>,
 }
 
@@ -37,9 +25,9 @@ impl Model for Walk {
 
     ghost Value = { WalkData };
 
-    ghost view = { λ w. record { spots = w.spots.items; waiting = w.waiting.items } };
+    ghost view = { λ w. record { spots = w.spots; waiting = w.waiting.items } };
 
-    ghost invariant = { λ w. count_by is_unseen w.spots.items + vec_len w.waiting ≤ vec_capacity w.waiting };
+    ghost invariant = { λ w. count_by is_unseen w.spots + vec_len w.waiting ≤ vec_capacity w.waiting };
 }
 
 impl Walk {
@@ -49,21 +37,19 @@ impl Walk {
         requires page { image.now.words ≤ MOST_WORDS }
         ensures { IfOk result (IsWalk image.now) }
     {
-        let spots = spots_of(alloc, image)?;
-        let objects = spots.iter().filter(|spot| spot.is_unseen()).count();
-        let waiting = Vec::with_capacity(alloc, objects)?;
+        let spots = Spots::new(alloc, image)?;
+        let waiting = Vec::with_capacity(alloc, spots.unseen())?;
         Ok(Walk { spots, waiting })
     }
 
-    /// Comes to an address.
+    /// Comes to an object.
     #[tactic(auto, unfolding(crate::specs::Walks::with_visit))]
     pub(crate) fn visit(&mut self, address: u64)
-        requires { address < length self.old.spots }
+        requires { spot_at self.old.spots address ≢ Empty }
         ensures { self.new ≡ with_visit self.old address }
     {
-        let at = address as usize;
-        let is_unseen = self.spots[at].is_unseen();
-        self.spots[at] = Spot::Reached;
+        let is_unseen = self.spots.get(address).is_unseen();
+        self.spots.reach(address);
         if is_unseen {
             self.waiting.push(address).unwrap();
         }
@@ -107,54 +93,17 @@ impl Walk {
     }
 
     /// What it knows of each address.
-    pub(crate) fn into_spots(self) -> Vec<Spot>
-        ensures { result.items ≡ self.spots }
+    pub(crate) fn into_spots(self) -> Spots
+        ensures { result ≡ self.spots }
     {
         let Walk { spots, waiting: _ } = self;
         spots
     }
 }
 
-impl Spot {
-    /// Whether an object starts there to which the walk hasn't come.
-    fn is_unseen(&self) -> bool
-        ensures { result ≡ is_unseen self.now }
-    {
-        matches!(self, Spot::Unseen)
-    }
-}
-
-/// What stands at an address before a walk.
-fn first_spot(image: &Image, address: u64) -> Spot
-    requires { 0 < image.now.words }
-    ensures { result ≡ first_spot (object_at image.now address) }
-{
-    match image.object_at(address) {
-        None => Spot::Empty,
-        Some(_object) => Spot::Unseen,
-    }
-}
-
-/// What stands at each address before a walk. Fails only by memory.
-fn spots_of(alloc: Global, image: &Image) -> Result<Vec<Spot>, AllocError>
-    requires sized { 0 < image.now.words }
-    requires page { image.now.words ≤ MOST_WORDS }
-    ensures len { IfOk result (λ spots. length spots.items ≡ space image.now) }
-    ensures each { IfOk result (λ spots. (a : ℕ) → a < space image.now
-        → spot_at spots.items a ≡ first_spot (object_at image.now a)) }
-{
-    let space = image.space();
-    let mut spots = Vec::with_capacity(alloc, space as usize)?;
-    for a in 0..space {
-        spots.push(first_spot(image, a))?;
-    }
-    Ok(spots)
-}
-
 /// Whether the walk came to an address.
-pub(crate) fn is_reached(spots: &[Spot], address: u64) -> bool
-    requires { address < length spots.now }
+pub(crate) fn is_reached(spots: &Spots, address: u64) -> bool
     ensures { MatchBool result (spot_at spots.now address ≡ Reached) (spot_at spots.now address ≡ Reached → ⊥) }
 {
-    matches!(spots[address as usize], Spot::Reached)
+    matches!(spots.get(address), Spot::Reached)
 }

@@ -1,7 +1,10 @@
-use Rattle.std.proofs.Common.{eqb}
+use Rattle.std.proofs.Common.{◌-◌, eqb, length}
 use Rattle.std.specs.HashMap.{get}
 use Rattle.verify.specs.Twins.{TellsBirths}
 use Rattle.verify.proofs.births.births_of.Given as goal
 
-abbrev pub invariant-loop-a : goal.invariant-loop-a
-invariant-loop-a l = TellsBirths l.chart l.a (get eqb l.births.addresses)
+abbrev pub invariant-loop-address : goal.invariant-loop-address
+invariant-loop-address l = TellsBirths l.chart l.from (get eqb l.births.addresses)
+
+abbrev pub decreases-loop-address : goal.decreases-loop-address
+decreases-loop-address l = length l.spots - l.from

@@ -1,18 +1,25 @@
-use Rattle.std.proofs.Common.{◌≡◌, ℕ, length, eqb, subst, arith}
+use Rattle.std.proofs.Common.{eqb, arith}
 use Rattle.std.specs.HashMap.{get}
-use Rattle.verify.specs.Twins.{IsLeast, SharesBelow}
+use Rattle.verify.proofs.Looking.{shares_jump, shares_all}
 use Rattle.verify.proofs.Sharing.{least_next}
 use Rattle.verify.proofs.births.Births.least_shared.Goals as goal
 
-pub loop-c-preserved : goal.loop-c-preserved
-loop-c-preserved c =
+pub loop-address-preserved : goal.loop-address-preserved
+loop-address-preserved c =
     let noted = get eqb c.args.self.now.addresses in
-    let l = c.loop-c in
-    rw c.lesser-least.ensures
-    (least_next c.args.chart.now noted l.c l.least c.shared_at.result l.invariant c.shared_at.ensures)
+    let l = c.loop-address in
+    let next = c.in-Some.ensures.next in
+    let jumped = shares_jump c.args.chart.now c.args.spots.now c.requires.spots noted l.from c.in-Some.address l.least next
+    l.invariant.least in
+    record {
+      least = rw c.lesser-least.ensures (least_next c.args.chart.now noted c.in-Some.address l.least c.shared_at.result
+          jumped c.shared_at.ensures);
+      within = omega (arith, next.1);
+    }
 
 pub returns : goal.returns
 returns c =
-    let e : c.loop-c.c ≡ length c.args.spots.now = omega arith in
     let noted = get eqb c.args.self.now.addresses in
-    subst (λ (n : ℕ). IsLeast (SharesBelow c.args.chart.now noted n) c.loop-c.least) e c.loop-c.invariant
+    let l = c.loop-address in
+    shares_all c.args.chart.now c.args.spots.now c.requires.spots noted l.from _ l.least l.invariant.within
+    c.in_default.ensures.next l.invariant.least

@@ -4,4 +4,4 @@ use Rattle.verify.proofs.walk.Walk.new.Goals as goal
 pub returns : goal.returns
 returns c =
     let e = c.in_ok-spots.ensures in
-    rw c.in_ok-waiting.ensures.items (walk_new c.args.image.now c.in_ok-spots.spots.items c.requires.sized e.len e.each)
+    rw c.in_ok-waiting.ensures.items (walk_new c.args.image.now c.in_ok-spots.spots c.requires.sized e.len e.each)

@@ -9,7 +9,7 @@ visit-requires c =
     let l = sym c.leads.ensures ∙ c.in-Some-Some.is in
     let v = root_visit c.args.chart.now c.args.self.now c.args.root c.in-Some.value _ c.in-Some-Some.field-0
     c.requires.sized c.requires.walk r l c.in-Some-Some.field-0-is in
-    v.bit
+    v.filled
 
 pub returns-in-Some-Some-clause-walk : goal.returns-in-Some-Some-clause-walk
 returns-in-Some-Some-clause-walk c =

@@ -1,7 +1,7 @@
 use Rattle.std.proofs.Common.{sym, ◌∙◌, ◌≡◌, Some, None, arith}
 use Rattle.verify.specs.Walks.{target, with_visit}
 use Rattle.verify.proofs.Visiting.{visited_left, visited_keeps}
-use Rattle.verify.proofs.Walking.{walk_past, walk_visited, walk_passed, target_bit}
+use Rattle.verify.proofs.Walking.{walk_past, walk_visited, walk_passed, target_bit, target_filled}
 use Rattle.verify.proofs.walk.Walk.visit_fields.Goals as goal
 use Rattle.verify.proofs.walk.Walk.visit_fields.Goals.{in-Some, in_default}
 
@@ -30,7 +30,7 @@ loop-k-preserved c =
 
 pub visit-requires : goal.visit-requires
 visit-requires c =
-    target_bit c.args.chart.now _ _ _ _ c.requires.sized c.loop-k.invariant.walk (sym c.target.ensures ∙ c.in-Some.is)
+    target_filled c.args.chart.now _ _ _ _ c.loop-k.invariant.walk (sym c.target.ensures ∙ c.in-Some.is)
 
 pub returns-clause-walk : goal.returns-clause-walk
 returns-clause-walk c =
