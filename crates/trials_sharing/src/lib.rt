@@ -8,6 +8,8 @@ mod mirror;
 #[cfg(test)]
 mod opened;
 #[cfg(test)]
+mod openings;
+#[cfg(test)]
 mod rows;
 #[cfg(test)]
 mod same;
@@ -15,3 +17,5 @@ mod same;
 mod stops;
 #[cfg(test)]
 mod table;
+#[cfg(test)]
+mod wants;
