@@ -5,7 +5,7 @@ use crate::driven::Driven;
 use crate::moves::next_move;
 use crate::numbers::below;
 use crate::setups::Habits;
-use crate::works::next_work;
+use crate::tending::next_work;
 use anyhow::{Result, bail};
 use pauseless::{Actor, Heap, Step, Verdict};
 use samples::Dice;
@@ -19,9 +19,9 @@ pub struct Drive {
     /// Where the random numbers begin.
     pub seed: u64,
     /// How many steps are asked for, accepted or not.
-    pub steps: u64,
+    pub steps: u32,
     /// The heap is verified after each accepted step, or each time after so many.
-    pub every: u64,
+    pub every: u32,
 }
 
 /// Who does the next step, and which one.

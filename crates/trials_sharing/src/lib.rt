@@ -12,6 +12,8 @@ mod openings;
 #[cfg(test)]
 mod rows;
 #[cfg(test)]
+mod runs;
+#[cfg(test)]
 mod same;
 #[cfg(test)]
 mod stops;

@@ -102,7 +102,7 @@ fn entry_text(alloc: Global, history: &History, index: usize) -> Result<String, 
 }
 
 /// Two histories have the same entries, so many.
-fn same_histories(
+pub fn same_histories(
     rt: &impl Abort,
     alloc: Global,
     left: &History,
