@@ -1,6 +1,6 @@
 //! Images of heaps, and their texts; the texts of faults.
 
-use crate::images::{add_entry, set_load, set_page};
+use imaging::{add_entry, set_load, set_page};
 use crate::same::same;
 use checking::{FaultText, verify_book};
 use cycle::{Actor, Answer, Book, Step};
