@@ -1,8 +1,10 @@
 //! What is changed in an image. Pages count from 1, all else from 0. Where the image has no such place,
 //! nothing is changed.
 
+use markbits::Row;
 use model::{Forwarding, PageState};
 use refword::Addr;
+use std::alloc::{AllocError, Global};
 use verify::Image;
 
 /// One of the free frames is this one.
@@ -24,9 +26,26 @@ pub fn set_page(image: &mut Image, number: usize, state: PageState, frame: Optio
 /// An object starts at an offset of a page, or doesn't.
 pub fn set_start(image: &mut Image, number: usize, offset: usize, starts: bool) {
     if number > 0 && number <= image.pages.len() {
-        let page = &mut image.pages[number - 1];
-        if offset < page.starts.len() {
-            page.starts[offset] = starts;
+        image.pages[number - 1].starts.put(offset, starts);
+    }
+}
+
+/// The first bits of a row.
+fn first_bits(alloc: Global, row: &Row, length: u32) -> Result<Row, AllocError> {
+    let mut first = Row::new(alloc, length)?;
+    for offset in 0..length as usize {
+        first.put(offset, row.test(offset));
+    }
+    Ok(first)
+}
+
+/// The row that says where objects of a page start is so long. Where memory is refused it stays.
+pub fn shorten_starts(image: &mut Image, number: usize, length: u32) {
+    let alloc = *image.pages.allocator();
+    if number > 0 && number <= image.pages.len() {
+        let starts = &mut image.pages[number - 1].starts;
+        if let Ok(first) = first_bits(alloc, starts, length) {
+            *starts = first;
         }
     }
 }

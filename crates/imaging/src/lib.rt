@@ -8,7 +8,7 @@ mod stories;
 
 pub use edits::{
     entry, set_entry, set_frame, set_free, set_global, set_load, set_page, set_register, set_start,
-    set_word, word,
+    set_word, shorten_starts, word,
 };
 pub use making::{add_entry, bare, page, put};
 pub use stories::{Telling, closed, moved, new_book, trapped};

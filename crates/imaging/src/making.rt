@@ -2,6 +2,7 @@
 
 use crate::edits::{set_free, set_start, set_word};
 use layout::{Header, Layout};
+use markbits::Row;
 use model::{Forwarding, PageState};
 use refword::Addr;
 use std::alloc::{AllocError, Global};
@@ -12,7 +13,7 @@ pub fn page(alloc: Global, state: PageState, frame: Option<u32>) -> Result<PageI
     Ok(PageImage {
         state,
         frame,
-        starts: vec![in alloc; false; 16]?,
+        starts: Row::new(alloc, 16)?,
         side: Vec::new(alloc),
     })
 }

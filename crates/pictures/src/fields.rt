@@ -1,7 +1,7 @@
 //! Ten thousand images of which one field is changed at random, beside the slow verdict: half of them
 //! are images of a heap.
 
-use imaging::{closed, moved, new_book, trapped, set_free, set_global, set_load, set_page, set_register, set_start, set_word};
+use imaging::{closed, moved, new_book, trapped, set_free, set_global, set_load, set_page, set_register, set_start, set_word, shorten_starts};
 use crate::pictures::{frame, judged, page_state, rooted, value};
 use layout::Header;
 use model::Forwarding;
@@ -56,13 +56,13 @@ fn change_page(image: &mut Image, dice: &mut Dice, field: usize) {
     }
 }
 
-/// What a page has of its own changes: where objects start, or its side array.
-fn change_row(page: &mut PageImage, dice: &mut Dice, field: usize) {
-    let length = dice.roll(17) as usize;
+/// The row of a page, or its side array, is shorter, or the row longer.
+fn change_row(image: &mut Image, dice: &mut Dice, place: usize, field: usize) {
+    let length = dice.roll(17);
     if field == 8 {
-        page.starts.truncate(length);
+        shorten_starts(image, place + 1, length as u32);
     } else {
-        page.side.truncate(length);
+        image.pages[place].side.truncate(length as usize);
     }
 }
 
@@ -98,11 +98,10 @@ fn change_in_page(image: &mut Image, dice: &mut Dice, field: usize) {
     if place >= image.pages.len() {
         return;
     }
-    let page = &mut image.pages[place];
     if field < 10 {
-        change_row(page, dice, field);
+        change_row(image, dice, place, field);
     } else {
-        change_entry(page, dice, field);
+        change_entry(&mut image.pages[place], dice, field);
     }
 }
 

@@ -2,7 +2,7 @@
 
 use imaging::{
     add_entry, bare, put, set_free, set_global, set_load, set_page, set_register, set_start,
-    set_word,
+    set_word, shorten_starts,
 };
 use crate::naive::verdict;
 use crate::same::same;
@@ -117,14 +117,8 @@ fn shorten(image: &mut Image, dice: &mut Dice) {
     match dice.roll(4) {
         0 => image.layouts.truncate(length),
         1 => image.globals.truncate(length),
-        2 => shorten_starts(image, length),
+        2 => shorten_starts(image, 1, length as u32),
         _ => shorten_frame(image, length),
-    }
-}
-
-fn shorten_starts(image: &mut Image, length: usize) {
-    if !image.pages.is_empty() {
-        image.pages[0].starts.truncate(length);
     }
 }
 
