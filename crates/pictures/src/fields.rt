@@ -1,8 +1,11 @@
 //! Ten thousand images of which one field is changed at random, beside the slow verdict: half of them
 //! are images of a heap.
 
-use imaging::{closed, moved, new_book, trapped, set_free, set_global, set_load, set_page, set_register, set_start, set_word, shorten_starts};
 use crate::pictures::{frame, judged, page_state, rooted, value};
+use imaging::{
+    closed, moved, new_book, set_free, set_global, set_load, set_page, set_register, set_start,
+    set_word, shorten_starts, trapped,
+};
 use layout::Header;
 use model::Forwarding;
 use refword::Addr;

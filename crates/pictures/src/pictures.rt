@@ -1,11 +1,11 @@
 //! A thousand images with faults at random, beside the slow verdict.
 
+use crate::naive::verdict;
+use crate::same::same;
 use imaging::{
     add_entry, bare, put, set_free, set_global, set_load, set_page, set_register, set_start,
     set_word, shorten_starts,
 };
-use crate::naive::verdict;
-use crate::same::same;
 use model::PageState;
 use samples::Dice;
 use std::alloc::{AllocError, Global};

@@ -1,9 +1,8 @@
 //! Faults in the image of a heap whose object has moved from page 1, which is released, to page 2,
 //! offset 0. Roots name it by its old place until the next mark.
 
-use imaging::{entry, set_entry, set_frame, set_load};
 use crate::faults::{NOWHERE, has_fault, is_sound};
-use imaging::{moved, new_book, trapped};
+use imaging::{entry, moved, new_book, set_entry, set_frame, set_load, trapped};
 use std::test::Fail;
 use verify::{Fault, Root};
 

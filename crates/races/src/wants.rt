@@ -72,7 +72,11 @@ fn hints_come_back(rt: HostRuntime) -> Result<(), Fail> {
         lacked = pushes_all(&rt, seat) || lacked;
         pops_all(&rt, seat);
     }
-    if lacked { Err(Fail::from(AllocError)) } else { Ok(()) }
+    if lacked {
+        Err(Fail::from(AllocError))
+    } else {
+        Ok(())
+    }
 }
 
 /// What a run by threads prints, and whether it lacked memory; nothing where it ended otherwise.

@@ -4,7 +4,6 @@
 mod dice;
 
 pub use dice::Dice;
-
 use layout::{Layout, Layouts};
 use model::Config;
 use std::alloc::{AllocError, Global};

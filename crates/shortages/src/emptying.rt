@@ -64,5 +64,9 @@ fn works(rt: &impl Abort, mut heap: impl Moving + Drop) -> Result<(), Refusal> {
 fn a_heap_is_made(rt: HostRuntime) -> Result<(), Fail> {
     let (heap, lacked) = made(rt.alloc())?;
     works(&rt, heap)?;
-    if lacked { Err(Fail::from(AllocError)) } else { Ok(()) }
+    if lacked {
+        Err(Fail::from(AllocError))
+    } else {
+        Ok(())
+    }
 }

@@ -88,12 +88,20 @@ fn checks(rt: &impl Abort, alloc: Global, script: &Script) -> Result<(), RunFaul
 fn read_and_run(rt: HostRuntime) -> Result<(), Fail> {
     let (script, lacked) = read(rt.alloc())?;
     runs(&rt, rt.alloc(), &script)?;
-    if lacked { Err(Fail::from(ParseFault::Memory)) } else { Ok(()) }
+    if lacked {
+        Err(Fail::from(ParseFault::Memory))
+    } else {
+        Ok(())
+    }
 }
 
 #[test]
 fn read_and_checked(rt: HostRuntime) -> Result<(), Fail> {
     let (script, lacked) = read(rt.alloc())?;
     checks(&rt, rt.alloc(), &script)?;
-    if lacked { Err(Fail::from(ParseFault::Memory)) } else { Ok(()) }
+    if lacked {
+        Err(Fail::from(ParseFault::Memory))
+    } else {
+        Ok(())
+    }
 }

@@ -14,7 +14,8 @@ use std::process::Abort;
 use std::test::Fail;
 
 /// The object moves, and its page is released.
-const MOVED: &str = "w0 protect 1\nt0 cross\nt1 cross\nw0 copy 1 0\nw0 release 1\nt0 scrub r0\nt0 datum r0 0\n";
+const MOVED: &str =
+    "w0 protect 1\nt0 cross\nt1 cross\nw0 copy 1 0\nw0 release 1\nt0 scrub r0\nt0 datum r0 0\n";
 
 /// The steps of a script's commands, without the one of this place, if there is one.
 fn steps(
@@ -48,7 +49,9 @@ fn others(
 
 /// The place of the first step that lacked memory.
 fn lacking(replies: &[Reply]) -> Option<usize> {
-    replies.iter().position(|reply| *reply == Err(Refusal::Memory))
+    replies
+        .iter()
+        .position(|reply| *reply == Err(Refusal::Memory))
 }
 
 /// Runs a script's steps on a new book. Where the run lacks memory, the book is as it was, and it is run
@@ -86,10 +89,20 @@ fn agree(
     if lacking(&wanted).is_some() {
         return Err(AllocError);
     }
-    same(rt, others(alloc, replies, place)?.as_slice(), wanted.as_slice());
+    same(
+        rt,
+        others(alloc, replies, place)?.as_slice(),
+        wanted.as_slice(),
+    );
     let found = image_of(alloc, book.heap())?;
     same(rt, found.as_str(), image_of(alloc, other.heap())?.as_str());
-    same_histories(rt, alloc, book.history(), other.history(), other.history().len())
+    same_histories(
+        rt,
+        alloc,
+        book.history(),
+        other.history(),
+        other.history().len(),
+    )
 }
 
 /// Runs the steps of a script on one of two new books, and asks the other what it is to say.
@@ -123,11 +136,7 @@ const UNSCANNED: &str =
     t0 cross\nt1 cross\n";
 
 /// Drains a mark, and goes on where that lacks memory. Whether it did.
-fn drains_on(
-    rt: &impl Abort,
-    book: &mut Book,
-    replies: &mut Vec<Reply>,
-) -> bool {
+fn drains_on(rt: &impl Abort, book: &mut Book, replies: &mut Vec<Reply>) -> bool {
     let end = book.drain(0, replies);
     if end == Err(Refusal::Memory) {
         same(rt, book.drain(0, replies), Ok(()));
@@ -152,8 +161,16 @@ fn drains(
     other.book().drain(0, &mut wanted)?;
     same(rt, found.as_slice(), wanted.as_slice());
     let image = image_of(alloc, held.book().heap())?;
-    same(rt, image.as_str(), image_of(alloc, other.book().heap())?.as_str());
-    if lacked { Err(Fail::from(AllocError)) } else { Ok(()) }
+    same(
+        rt,
+        image.as_str(),
+        image_of(alloc, other.book().heap())?.as_str(),
+    );
+    if lacked {
+        Err(Fail::from(AllocError))
+    } else {
+        Ok(())
+    }
 }
 
 #[test]

@@ -5,7 +5,9 @@
 use crate::opened::{HEAD, MARKED, ROOMY, book_of, script_of};
 use crate::rows::{LINKED, WHOLE_PAGES};
 use crate::same::same;
-use crate::table::{Table, ask, image_of, seat_of, settled, shared_image, table_of, tells_the_same};
+use crate::table::{
+    Table, ask, image_of, seat_of, settled, shared_image, table_of, tells_the_same,
+};
 use cycle::{Book, Reply};
 use heap::Refusal;
 use held::{HeldBook, act};
