@@ -23,7 +23,7 @@ PLACES = {
     "Words and pages": (0, 4, 7), "Theory": (7, 4, 5),
     "Definitions": (0, 5, 12),
 }
-COLUMN, ROW, GAP, MARGIN = 75, 124, 24, 8
+COLUMN, ROW, GAP, MARGIN = 75, 134, 24, 8
 STYLE = """
   text { font-family: sans-serif; fill: #1b2733; }
   .name { font-size: 17px; font-weight: bold; }

@@ -42,6 +42,7 @@
 
 mod arms;
 mod book;
+mod calls;
 mod draining;
 mod gate;
 mod loading;

@@ -7,9 +7,9 @@ ghost use Rattle.model.specs.declared.steps.Step.TheVariants as steps;
 ghost use Rattle.model.specs.declared.steps.Answer.TheVariants as answers;
 ghost use Rattle.cycle.specs.Mutating.{DoesThread, ThreadStands};
 
-use crate::gate::thread_gate;
+use crate::calls;
 use heap::Heap;
-use model::{Buffer, Refusal, Step, Trap};
+use model::{Buffer, Refusal, Trap};
 
 /// What mutator threads do to a heap: each step of a thread as a call of its own, with plain values
 /// in and out. It is what a program asks that holds a heap.
@@ -131,7 +131,7 @@ pub trait Mutating {
 
 impl Mutating for Heap {
     #[inline(always)]
-    #[tactic(auto, unfolding(model::specs::Outcome::outcome), using(crate::proofs::Replaying::keeps_standing))]
+    #[tactic(auto, using(crate::proofs::Replaying::keeps_standing))]
     fn take(&mut self, thread: u32, words: u32) -> Result<Buffer, Refusal>
         ensures does { DoesThread lent self.old thread (steps.Take words) result self.new }
         ensures stands { ThreadStands lent self.old thread (steps.Take words) result self.new }
@@ -139,254 +139,215 @@ impl Mutating for Heap {
     {
         self.law();
         refinement::law();
-        thread_gate(self, thread, &Step::Take(words))?;
-        self.take_row(thread, words)
+        calls::take(self, thread, words)
     }
 
     #[inline(always)]
-    #[tactic(auto, unfolding(model::specs::Outcome::outcome), using(crate::proofs::Replaying::keeps_standing))]
+    #[tactic(auto, using(crate::proofs::Replaying::keeps_standing))]
     fn give_back(&mut self, thread: u32) -> Result<(), Refusal>
         ensures does { DoesThread done self.old thread steps.GiveBack result self.new }
         ensures stands { ThreadStands done self.old thread steps.GiveBack result self.new }
     {
         self.law();
         refinement::law();
-        thread_gate(self, thread, &Step::GiveBack)?;
-        self.give_back_row(thread)
+        calls::give_back(self, thread)
     }
 
     #[inline(always)]
-    #[tactic(auto, unfolding(model::specs::Outcome::outcome), using(crate::proofs::Replaying::keeps_standing))]
+    #[tactic(auto, using(crate::proofs::Replaying::keeps_standing))]
     fn new_object(&mut self, thread: u32, target: u32, layout: u32) -> Result<u32, Refusal>
         ensures does { DoesThread answers.Birth self.old thread (steps.New target layout) result self.new }
         ensures stands { ThreadStands answers.Birth self.old thread (steps.New target layout) result self.new }
     {
         self.law();
         refinement::law();
-        thread_gate(self, thread, &Step::New { target, layout })?;
-        self.new_row(thread, target, layout)
+        calls::new_object(self, thread, target, layout)
     }
 
     #[inline(always)]
-    #[tactic(auto, unfolding(model::specs::Outcome::outcome), using(crate::proofs::Replaying::keeps_standing))]
+    #[tactic(auto, using(crate::proofs::Replaying::keeps_standing))]
     fn load(&mut self, thread: u32, target: u32, object: u32, field: u32) -> Result<(), Refusal>
         ensures does { DoesThread loaded self.old thread (steps.Load target object field) result self.new }
         ensures stands { ThreadStands loaded self.old thread (steps.Load target object field) result self.new }
     {
         self.law();
         refinement::law();
-        let step = Step::Load {
-            target,
-            object,
-            field,
-        };
-        thread_gate(self, thread, &step)?;
-        barrier::load(self, thread, target, object, field)
+        calls::load(self, thread, target, object, field)
     }
 
     #[inline(always)]
-    #[tactic(auto, unfolding(model::specs::Outcome::outcome), using(crate::proofs::Replaying::keeps_standing))]
+    #[tactic(auto, using(crate::proofs::Replaying::keeps_standing))]
     fn load_global(&mut self, thread: u32, target: u32, global: u32) -> Result<(), Refusal>
         ensures does { DoesThread loaded self.old thread (steps.LoadGlobal target global) result self.new }
         ensures stands { ThreadStands loaded self.old thread (steps.LoadGlobal target global) result self.new }
     {
         self.law();
         refinement::law();
-        thread_gate(self, thread, &Step::LoadGlobal { target, global })?;
-        barrier::load_global(self, thread, target, global);
-        Ok(())
+        calls::load_global(self, thread, target, global)
     }
 
     #[inline(always)]
-    #[tactic(auto, unfolding(model::specs::Outcome::outcome), using(crate::proofs::Replaying::keeps_standing))]
+    #[tactic(auto, using(crate::proofs::Replaying::keeps_standing))]
     fn trap(&mut self, thread: u32) -> Result<Trap, Refusal>
         ensures does { DoesThread trapped self.old thread steps.Trap result self.new }
         ensures stands { ThreadStands trapped self.old thread steps.Trap result self.new }
     {
         self.law();
         refinement::law();
-        thread_gate(self, thread, &Step::Trap)?;
-        barrier::trap(self, thread)
+        calls::trap(self, thread)
     }
 
     #[inline(always)]
-    #[tactic(auto, unfolding(model::specs::Outcome::outcome), using(crate::proofs::Replaying::keeps_standing))]
+    #[tactic(auto, using(crate::proofs::Replaying::keeps_standing))]
     fn heal(&mut self, thread: u32) -> Result<bool, Refusal>
         ensures does { DoesThread healed self.old thread steps.Heal result self.new }
         ensures stands { ThreadStands healed self.old thread steps.Heal result self.new }
     {
         self.law();
         refinement::law();
-        thread_gate(self, thread, &Step::Heal)?;
-        barrier::heal(self, thread)
+        calls::heal(self, thread)
     }
 
     #[inline(always)]
-    #[tactic(auto, unfolding(model::specs::Outcome::outcome), using(crate::proofs::Replaying::keeps_standing))]
+    #[tactic(auto, using(crate::proofs::Replaying::keeps_standing))]
     fn finish(&mut self, thread: u32) -> Result<(), Refusal>
         ensures does { DoesThread done self.old thread steps.Finish result self.new }
         ensures stands { ThreadStands done self.old thread steps.Finish result self.new }
     {
         self.law();
         refinement::law();
-        thread_gate(self, thread, &Step::Finish)?;
-        barrier::finish(self, thread)
+        calls::finish(self, thread)
     }
 
     #[inline(always)]
-    #[tactic(auto, unfolding(model::specs::Outcome::outcome), using(crate::proofs::Replaying::keeps_standing))]
+    #[tactic(auto, using(crate::proofs::Replaying::keeps_standing))]
     fn store(&mut self, thread: u32, object: u32, field: u32, source: u32) -> Result<(), Refusal>
         ensures does { DoesThread done self.old thread (steps.Store object field source) result self.new }
         ensures stands { ThreadStands done self.old thread (steps.Store object field source) result self.new }
     {
         self.law();
         refinement::law();
-        let step = Step::Store {
-            object,
-            field,
-            source,
-        };
-        thread_gate(self, thread, &step)?;
-        self.store_row(thread, object, field, source)
+        calls::store(self, thread, object, field, source)
     }
 
     #[inline(always)]
-    #[tactic(auto, unfolding(model::specs::Outcome::outcome), using(crate::proofs::Replaying::keeps_standing))]
+    #[tactic(auto, using(crate::proofs::Replaying::keeps_standing))]
     fn store_global(&mut self, thread: u32, global: u32, source: u32) -> Result<(), Refusal>
         ensures does { DoesThread done self.old thread (steps.StoreGlobal global source) result self.new }
         ensures stands { ThreadStands done self.old thread (steps.StoreGlobal global source) result self.new }
     {
         self.law();
         refinement::law();
-        thread_gate(self, thread, &Step::StoreGlobal { global, source })?;
-        self.store_global_row(thread, global, source)
+        calls::store_global(self, thread, global, source)
     }
 
     #[inline(always)]
-    #[tactic(auto, unfolding(model::specs::Outcome::outcome), using(crate::proofs::Replaying::keeps_standing))]
+    #[tactic(auto, using(crate::proofs::Replaying::keeps_standing))]
     fn datum(&self, thread: u32, object: u32, index: u32) -> Result<u64, Refusal>
         ensures does { DoesThread answers.Datum self.now thread (steps.Datum object index) result self.now }
         ensures stands { ThreadStands answers.Datum self.now thread (steps.Datum object index) result self.now }
     {
         self.law();
         refinement::law();
-        thread_gate(self, thread, &Step::Datum { object, index })?;
-        self.datum_row(thread, object, index)
+        calls::datum(self, thread, object, index)
     }
 
     #[inline(always)]
-    #[tactic(auto, unfolding(model::specs::Outcome::outcome), using(crate::proofs::Replaying::keeps_standing))]
+    #[tactic(auto, using(crate::proofs::Replaying::keeps_standing))]
     fn set_datum(&mut self, thread: u32, object: u32, index: u32, value: u64) -> Result<(), Refusal>
         ensures does { DoesThread done self.old thread (steps.SetDatum object index value) result self.new }
         ensures stands { ThreadStands done self.old thread (steps.SetDatum object index value) result self.new }
     {
         self.law();
         refinement::law();
-        let step = Step::SetDatum {
-            object,
-            index,
-            value,
-        };
-        thread_gate(self, thread, &step)?;
-        self.set_datum_row(thread, object, index, value)
+        calls::set_datum(self, thread, object, index, value)
     }
 
     #[inline(always)]
-    #[tactic(auto, unfolding(model::specs::Outcome::outcome), using(crate::proofs::Replaying::keeps_standing))]
+    #[tactic(auto, using(crate::proofs::Replaying::keeps_standing))]
     fn same(&self, thread: u32, left: u32, right: u32) -> Result<bool, Refusal>
         ensures does { DoesThread answers.Truth self.now thread (steps.Same left right) result self.now }
         ensures stands { ThreadStands answers.Truth self.now thread (steps.Same left right) result self.now }
     {
         self.law();
         refinement::law();
-        thread_gate(self, thread, &Step::Same { left, right })?;
-        self.same_row(thread, left, right)
+        calls::same(self, thread, left, right)
     }
 
     #[inline(always)]
-    #[tactic(auto, unfolding(model::specs::Outcome::outcome), using(crate::proofs::Replaying::keeps_standing))]
+    #[tactic(auto, using(crate::proofs::Replaying::keeps_standing))]
     fn is_null(&self, thread: u32, register: u32) -> Result<bool, Refusal>
         ensures does { DoesThread answers.Truth self.now thread (steps.IsNull register) result self.now }
         ensures stands { ThreadStands answers.Truth self.now thread (steps.IsNull register) result self.now }
     {
         self.law();
         refinement::law();
-        thread_gate(self, thread, &Step::IsNull(register))?;
-        Ok(self.is_null_row(thread, register))
+        calls::is_null(self, thread, register)
     }
 
     #[inline(always)]
-    #[tactic(auto, unfolding(model::specs::Outcome::outcome), using(crate::proofs::Replaying::keeps_standing))]
+    #[tactic(auto, using(crate::proofs::Replaying::keeps_standing))]
     fn copy_register(&mut self, thread: u32, target: u32, source: u32) -> Result<(), Refusal>
         ensures does { DoesThread done self.old thread (steps.CopyReg target source) result self.new }
         ensures stands { ThreadStands done self.old thread (steps.CopyReg target source) result self.new }
     {
         self.law();
         refinement::law();
-        thread_gate(self, thread, &Step::CopyReg { target, source })?;
-        self.copy_register_row(thread, target, source);
-        Ok(())
+        calls::copy_register(self, thread, target, source)
     }
 
     #[inline(always)]
-    #[tactic(auto, unfolding(model::specs::Outcome::outcome), using(crate::proofs::Replaying::keeps_standing))]
+    #[tactic(auto, using(crate::proofs::Replaying::keeps_standing))]
     fn clear_register(&mut self, thread: u32, target: u32) -> Result<(), Refusal>
         ensures does { DoesThread done self.old thread (steps.ClearReg target) result self.new }
         ensures stands { ThreadStands done self.old thread (steps.ClearReg target) result self.new }
     {
         self.law();
         refinement::law();
-        thread_gate(self, thread, &Step::ClearReg(target))?;
-        self.clear_register_row(thread, target);
-        Ok(())
+        calls::clear_register(self, thread, target)
     }
 
     #[inline(always)]
-    #[tactic(auto, unfolding(model::specs::Outcome::outcome), using(crate::proofs::Replaying::keeps_standing))]
+    #[tactic(auto, using(crate::proofs::Replaying::keeps_standing))]
     fn cross(&mut self, thread: u32) -> Result<(), Refusal>
         ensures does { DoesThread done self.old thread steps.Cross result self.new }
         ensures stands { ThreadStands done self.old thread steps.Cross result self.new }
     {
         self.law();
         refinement::law();
-        thread_gate(self, thread, &Step::Cross)?;
-        checkpoint::cross(self, thread)
+        calls::cross(self, thread)
     }
 
     #[inline(always)]
-    #[tactic(auto, unfolding(model::specs::Outcome::outcome), using(crate::proofs::Replaying::keeps_standing))]
+    #[tactic(auto, using(crate::proofs::Replaying::keeps_standing))]
     fn scrub(&mut self, thread: u32, register: u32) -> Result<bool, Refusal>
         ensures does { DoesThread scrubbed self.old thread (steps.Scrub register) result self.new }
         ensures stands { ThreadStands scrubbed self.old thread (steps.Scrub register) result self.new }
     {
         self.law();
         refinement::law();
-        thread_gate(self, thread, &Step::Scrub(register))?;
-        checkpoint::scrub(self, thread, register)
+        calls::scrub(self, thread, register)
     }
 
     #[inline(always)]
-    #[tactic(auto, unfolding(model::specs::Outcome::outcome), using(crate::proofs::Replaying::keeps_standing))]
+    #[tactic(auto, using(crate::proofs::Replaying::keeps_standing))]
     fn park(&mut self, thread: u32) -> Result<(), Refusal>
         ensures does { DoesThread done self.old thread steps.Park result self.new }
         ensures stands { ThreadStands done self.old thread steps.Park result self.new }
     {
         self.law();
         refinement::law();
-        thread_gate(self, thread, &Step::Park)?;
-        checkpoint::park(self, thread);
-        Ok(())
+        calls::park(self, thread)
     }
 
     #[inline(always)]
-    #[tactic(auto, unfolding(model::specs::Outcome::outcome), using(crate::proofs::Replaying::keeps_standing))]
+    #[tactic(auto, using(crate::proofs::Replaying::keeps_standing))]
     fn unpark(&mut self, thread: u32) -> Result<(), Refusal>
         ensures does { DoesThread done self.old thread steps.Unpark result self.new }
         ensures stands { ThreadStands done self.old thread steps.Unpark result self.new }
     {
         self.law();
         refinement::law();
-        thread_gate(self, thread, &Step::Unpark)?;
-        checkpoint::unpark(self, thread)
+        calls::unpark(self, thread)
     }
 }

@@ -1,0 +1,250 @@
+//! The steps of threads, each a call that makes its leading tests and gives a plain value.
+
+ghost use Rattle.std.specs.Prelude.{◌≡◌, Some, IfOk};
+ghost use Rattle.model.specs.Buffers.{buffer_of_thread};
+ghost use Rattle.model.specs.Saying.{done, loaded, lent, trapped, healed, scrubbed};
+ghost use Rattle.model.specs.declared.steps.Step.TheVariants as steps;
+ghost use Rattle.model.specs.declared.steps.Answer.TheVariants as answers;
+ghost use Rattle.cycle.specs.Mutating.{DoesThread};
+
+use crate::gate::thread_gate;
+use heap::Heap;
+use model::{Buffer, Refusal, Step, Trap};
+
+#[inline(always)]
+#[tactic(auto, unfolding(model::specs::Outcome::outcome))]
+pub(crate) fn take(heap: &mut Heap, thread: u32, words: u32) -> Result<Buffer, Refusal>
+    ensures does { DoesThread lent heap.old thread (steps.Take words) result heap.new }
+    ensures buffer { IfOk result (λ buffer. buffer_of_thread heap.new thread ≡ Some buffer) }
+{
+    thread_gate(heap, thread, &Step::Take(words))?;
+    heap.take_row(thread, words)
+}
+
+#[inline(always)]
+#[tactic(auto, unfolding(model::specs::Outcome::outcome))]
+pub(crate) fn give_back(heap: &mut Heap, thread: u32) -> Result<(), Refusal>
+    ensures { DoesThread done heap.old thread steps.GiveBack result heap.new }
+{
+    thread_gate(heap, thread, &Step::GiveBack)?;
+    heap.give_back_row(thread)
+}
+
+#[inline(always)]
+#[tactic(auto, unfolding(model::specs::Outcome::outcome))]
+pub(crate) fn new_object(
+    heap: &mut Heap,
+    thread: u32,
+    target: u32,
+    layout: u32,
+) -> Result<u32, Refusal>
+    ensures { DoesThread answers.Birth heap.old thread (steps.New target layout) result heap.new }
+{
+    thread_gate(heap, thread, &Step::New { target, layout })?;
+    heap.new_row(thread, target, layout)
+}
+
+#[inline(always)]
+#[tactic(auto, unfolding(model::specs::Outcome::outcome))]
+pub(crate) fn load(
+    heap: &mut Heap,
+    thread: u32,
+    target: u32,
+    object: u32,
+    field: u32,
+) -> Result<(), Refusal>
+    ensures { DoesThread loaded heap.old thread (steps.Load target object field) result heap.new }
+{
+    let step = Step::Load {
+        target,
+        object,
+        field,
+    };
+    thread_gate(heap, thread, &step)?;
+    barrier::load(heap, thread, target, object, field)
+}
+
+#[inline(always)]
+#[tactic(auto, unfolding(model::specs::Outcome::outcome))]
+pub(crate) fn load_global(
+    heap: &mut Heap,
+    thread: u32,
+    target: u32,
+    global: u32,
+) -> Result<(), Refusal>
+    ensures { DoesThread loaded heap.old thread (steps.LoadGlobal target global) result heap.new }
+{
+    thread_gate(heap, thread, &Step::LoadGlobal { target, global })?;
+    barrier::load_global(heap, thread, target, global);
+    Ok(())
+}
+
+#[inline(always)]
+#[tactic(auto, unfolding(model::specs::Outcome::outcome))]
+pub(crate) fn trap(heap: &mut Heap, thread: u32) -> Result<Trap, Refusal>
+    ensures { DoesThread trapped heap.old thread steps.Trap result heap.new }
+{
+    thread_gate(heap, thread, &Step::Trap)?;
+    barrier::trap(heap, thread)
+}
+
+#[inline(always)]
+#[tactic(auto, unfolding(model::specs::Outcome::outcome))]
+pub(crate) fn heal(heap: &mut Heap, thread: u32) -> Result<bool, Refusal>
+    ensures { DoesThread healed heap.old thread steps.Heal result heap.new }
+{
+    thread_gate(heap, thread, &Step::Heal)?;
+    barrier::heal(heap, thread)
+}
+
+#[inline(always)]
+#[tactic(auto, unfolding(model::specs::Outcome::outcome))]
+pub(crate) fn finish(heap: &mut Heap, thread: u32) -> Result<(), Refusal>
+    ensures { DoesThread done heap.old thread steps.Finish result heap.new }
+{
+    thread_gate(heap, thread, &Step::Finish)?;
+    barrier::finish(heap, thread)
+}
+
+#[inline(always)]
+#[tactic(auto, unfolding(model::specs::Outcome::outcome))]
+pub(crate) fn store(
+    heap: &mut Heap,
+    thread: u32,
+    object: u32,
+    field: u32,
+    source: u32,
+) -> Result<(), Refusal>
+    ensures { DoesThread done heap.old thread (steps.Store object field source) result heap.new }
+{
+    let step = Step::Store {
+        object,
+        field,
+        source,
+    };
+    thread_gate(heap, thread, &step)?;
+    heap.store_row(thread, object, field, source)
+}
+
+#[inline(always)]
+#[tactic(auto, unfolding(model::specs::Outcome::outcome))]
+pub(crate) fn store_global(
+    heap: &mut Heap,
+    thread: u32,
+    global: u32,
+    source: u32,
+) -> Result<(), Refusal>
+    ensures { DoesThread done heap.old thread (steps.StoreGlobal global source) result heap.new }
+{
+    thread_gate(heap, thread, &Step::StoreGlobal { global, source })?;
+    heap.store_global_row(thread, global, source)
+}
+
+#[inline(always)]
+#[tactic(auto, unfolding(model::specs::Outcome::outcome))]
+pub(crate) fn datum(heap: &Heap, thread: u32, object: u32, index: u32) -> Result<u64, Refusal>
+    ensures { DoesThread answers.Datum heap.now thread (steps.Datum object index) result heap.now }
+{
+    thread_gate(heap, thread, &Step::Datum { object, index })?;
+    heap.datum_row(thread, object, index)
+}
+
+#[inline(always)]
+#[tactic(auto, unfolding(model::specs::Outcome::outcome))]
+pub(crate) fn set_datum(
+    heap: &mut Heap,
+    thread: u32,
+    object: u32,
+    index: u32,
+    value: u64,
+) -> Result<(), Refusal>
+    ensures { DoesThread done heap.old thread (steps.SetDatum object index value) result heap.new }
+{
+    let step = Step::SetDatum {
+        object,
+        index,
+        value,
+    };
+    thread_gate(heap, thread, &step)?;
+    heap.set_datum_row(thread, object, index, value)
+}
+
+#[inline(always)]
+#[tactic(auto, unfolding(model::specs::Outcome::outcome))]
+pub(crate) fn same(heap: &Heap, thread: u32, left: u32, right: u32) -> Result<bool, Refusal>
+    ensures { DoesThread answers.Truth heap.now thread (steps.Same left right) result heap.now }
+{
+    thread_gate(heap, thread, &Step::Same { left, right })?;
+    heap.same_row(thread, left, right)
+}
+
+#[inline(always)]
+#[tactic(auto, unfolding(model::specs::Outcome::outcome))]
+pub(crate) fn is_null(heap: &Heap, thread: u32, register: u32) -> Result<bool, Refusal>
+    ensures { DoesThread answers.Truth heap.now thread (steps.IsNull register) result heap.now }
+{
+    thread_gate(heap, thread, &Step::IsNull(register))?;
+    Ok(heap.is_null_row(thread, register))
+}
+
+#[inline(always)]
+#[tactic(auto, unfolding(model::specs::Outcome::outcome))]
+pub(crate) fn copy_register(
+    heap: &mut Heap,
+    thread: u32,
+    target: u32,
+    source: u32,
+) -> Result<(), Refusal>
+    ensures { DoesThread done heap.old thread (steps.CopyReg target source) result heap.new }
+{
+    thread_gate(heap, thread, &Step::CopyReg { target, source })?;
+    heap.copy_register_row(thread, target, source);
+    Ok(())
+}
+
+#[inline(always)]
+#[tactic(auto, unfolding(model::specs::Outcome::outcome))]
+pub(crate) fn clear_register(heap: &mut Heap, thread: u32, target: u32) -> Result<(), Refusal>
+    ensures { DoesThread done heap.old thread (steps.ClearReg target) result heap.new }
+{
+    thread_gate(heap, thread, &Step::ClearReg(target))?;
+    heap.clear_register_row(thread, target);
+    Ok(())
+}
+
+#[inline(always)]
+#[tactic(auto, unfolding(model::specs::Outcome::outcome))]
+pub(crate) fn cross(heap: &mut Heap, thread: u32) -> Result<(), Refusal>
+    ensures { DoesThread done heap.old thread steps.Cross result heap.new }
+{
+    thread_gate(heap, thread, &Step::Cross)?;
+    checkpoint::cross(heap, thread)
+}
+
+#[inline(always)]
+#[tactic(auto, unfolding(model::specs::Outcome::outcome))]
+pub(crate) fn scrub(heap: &mut Heap, thread: u32, register: u32) -> Result<bool, Refusal>
+    ensures { DoesThread scrubbed heap.old thread (steps.Scrub register) result heap.new }
+{
+    thread_gate(heap, thread, &Step::Scrub(register))?;
+    checkpoint::scrub(heap, thread, register)
+}
+
+#[inline(always)]
+#[tactic(auto, unfolding(model::specs::Outcome::outcome))]
+pub(crate) fn park(heap: &mut Heap, thread: u32) -> Result<(), Refusal>
+    ensures { DoesThread done heap.old thread steps.Park result heap.new }
+{
+    thread_gate(heap, thread, &Step::Park)?;
+    checkpoint::park(heap, thread);
+    Ok(())
+}
+
+#[inline(always)]
+#[tactic(auto, unfolding(model::specs::Outcome::outcome))]
+pub(crate) fn unpark(heap: &mut Heap, thread: u32) -> Result<(), Refusal>
+    ensures { DoesThread done heap.old thread steps.Unpark result heap.new }
+{
+    thread_gate(heap, thread, &Step::Unpark)?;
+    checkpoint::unpark(heap, thread)
+}
