@@ -1,3 +1,5 @@
 pub mod Running
 pub mod Going
 pub mod Gathering
+pub mod Draining
+pub mod Emptied

@@ -116,3 +116,9 @@ IsCrossing w (Thread t) steps.Cross = Unit {0}
 IsCrossing w (Thread t) _ = ⊥
 IsCrossing w (Worker v) (steps.CrossFor t) = v ≡ w
 IsCrossing w (Worker v) _ = ⊥
+
+-- a register of any thread is corrected
+abbrev pub IsScrub : Actor → Step → Type 0
+IsScrub (Thread t) (steps.Scrub r) = Unit {0}
+IsScrub (Thread t) _ = ⊥
+IsScrub (Worker w) step = ⊥
