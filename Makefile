@@ -79,9 +79,10 @@ install: pauseless
 bench: pauseless
 	@cd crates/bench && $(RT) run -- copies 64 3 2 > '$(CURDIR)/$(LOG)' 2>&1 || { cd '$(CURDIR)'; $(show_log); }
 	@cd crates/crowds && $(RT) run -- act 100 > '$(CURDIR)/$(LOG)' 2>&1 || { cd '$(CURDIR)'; $(show_log); }
+	@cd crates/cycling && $(RT) run -- cycle 1 1 10 10 > '$(CURDIR)/$(LOG)' 2>&1 || { cd '$(CURDIR)'; $(show_log); }
 	$(PYTHON) bench/run.py ./pauseless
 	$(PYTHON) bench/calls.py crates/bench/out/bench
-	$(PYTHON) bench/crowds.py crates/crowds/out/crowds
+	$(PYTHON) bench/crowds.py
 	$(PYTHON) bench/commands.py ./pauseless
 
 clean:

@@ -1,8 +1,8 @@
 #!/usr/bin/env python3
-"""Times threads that share a book, and holds of its lock: python3 bench/crowds.py [PROGRAM].
+"""Times threads that share a book, holds of its lock, and cycles: python3 bench/crowds.py [CROWDS [CYCLING]].
 
-The program is that of the crate `crowds`, which reads a clock itself. Forms
-take turns, so that a slow moment doesn't fall on one alone. Figures of one
+The programs are those of the crates `crowds` and `cycling`, which read a clock
+themselves. Forms take turns, so that a slow moment doesn't fall on one alone. Figures of one
 thread are the best of several runs, those of several threads the median: the
 best would be of a run in which they hardly met. Where other programs use the
 processors too, `chrt -f 20` before the command keeps them away from threads.
@@ -136,19 +136,21 @@ def print_cycles(program):
 
 
 def main():
-    parser = argparse.ArgumentParser(description="Times threads that share a book, and holds of its lock.")
-    parser.add_argument("program", nargs="?", default="crates/crowds/out/crowds")
+    parser = argparse.ArgumentParser(description="Times threads that share a book, holds of its lock, and cycles.")
+    parser.add_argument("crowds", nargs="?", default="crates/crowds/out/crowds")
+    parser.add_argument("cycling", nargs="?", default="crates/cycling/out/cycling")
     words = parser.parse_args()
-    program = os.path.abspath(words.program)
-    if not os.access(program, os.X_OK):
-        sys.exit(f"{program} isn't there: run 'make bench'")
-    print_steps(program)
+    crowds, cycling = os.path.abspath(words.crowds), os.path.abspath(words.cycling)
+    for program in (crowds, cycling):
+        if not os.access(program, os.X_OK):
+            sys.exit(f"{program} isn't there: run 'make bench'")
+    print_steps(crowds)
     print()
-    print_wait(program)
+    print_wait(crowds)
     print()
-    print_holds(program)
+    print_holds(crowds)
     print()
-    print_cycles(program)
+    print_cycles(cycling)
 
 
 if __name__ == "__main__":

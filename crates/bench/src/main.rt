@@ -32,24 +32,7 @@ use anyhow::{Result, bail};
 use draining::{DrainBy, Shape};
 use moving::CopyBy;
 use std::alloc::Global;
-use std::env;
-
-/// The word of a place, as a number; 0 where there is none.
-fn number(words: &[String], place: usize) -> Result<u32> {
-    match words.get(place) {
-        None => Ok(0),
-        Some(word) => Ok(word.parse::<u32>()?),
-    }
-}
-
-/// The words of the command line, without the program's name.
-fn words(rt: &HostRuntime) -> Result<Vec<String>> {
-    let mut words = Vec::new(rt.alloc());
-    for word in env::args(rt)?.skip(1) {
-        words.push(word)?;
-    }
-    Ok(words)
-}
+use works::{Work, works};
 
 /// Marks of what is named, `list` or `trees`.
 fn marks(alloc: Global, by: DrainBy, name: &str, numbers: [u32; 3]) -> Result<u64> {
@@ -100,24 +83,17 @@ fn work(alloc: Global, name: &str, numbers: [u32; 3]) -> Result<u64> {
     }
 }
 
-/// Does a work by its name and its numbers.
-fn work_of(alloc: Global, words: &[String]) -> Result<u64> {
-    let Some(name) = words.first() else {
-        bail!("no work is named");
-    };
-    let numbers = [number(words, 1)?, number(words, 2)?, number(words, 3)?];
-    work(alloc, name.as_str(), numbers)
-}
-
 /// Does each work, and prints the number that it gives.
-fn run(rt: &HostRuntime, words: &[String]) -> Result<()> {
-    for words in words.split(|word| word.as_str() == "then") {
-        println!(rt; "{}", work_of(rt.alloc(), words)?)?;
+fn run(rt: &HostRuntime, works: &[Work]) -> Result<()> {
+    for asked in works {
+        let [first, second, third, _, _] = asked.numbers;
+        let given = work(rt.alloc(), asked.name.as_str(), [first, second, third])?;
+        println!(rt; "{given}")?;
     }
     Ok(())
 }
 
 fn main(rt: HostRuntime) -> Result<()> {
-    let words = words(&rt)?;
-    run(&rt, &words)
+    let works = works(&rt)?;
+    run(&rt, &works)
 }

@@ -1,7 +1,6 @@
 //! Steps of one actor, by a book, by a seat, or under the lock. Nothing is promised here: a loop that
 //! held a book or a seat itself would carry all that each of its steps promises through its proof.
 
-use crate::laps::{Lap, since};
 use anyhow::{Result, bail};
 use cycle::{Actor, Book, Step};
 use layout::{Layout, Layouts};
@@ -10,6 +9,7 @@ use sharing::{Seat, Shared};
 use std::alloc::Global;
 use std::sync::Wait;
 use std::time::{Clock, Instant};
+use works::{Lap, since};
 
 /// One actor that does steps.
 pub trait Acting {

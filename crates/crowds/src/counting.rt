@@ -1,12 +1,12 @@
 //! Threads that add to a number under a lock: what a lock costs where next to nothing is done under it.
 
-use crate::laps::{Lap, since};
 use anyhow::Result;
 use std::alloc::{AllocError, Global};
 use std::sync::{Mutex, Wait};
 use std::thread;
 use std::thread::Threads;
 use std::time::{Clock, Instant};
+use works::{Lap, since};
 
 /// Adds to a number so often.
 fn add<R: Wait>(rt: &R, number: &Mutex<u64>, count: u32) {

@@ -1,7 +1,6 @@
 //! Steps of several threads on one book.
 
 use crate::acting::{Sharing, config, copy_registers, opened};
-use crate::laps::{Lap, since};
 use anyhow::Result;
 use cycle::Actor;
 use sharing::{Seat, Shared};
@@ -10,6 +9,7 @@ use std::sync::Wait;
 use std::thread;
 use std::thread::Threads;
 use std::time::{Clock, Instant};
+use works::{Lap, since};
 
 /// The seats of threads.
 fn of_threads(alloc: Global, seats: Vec<Seat>) -> Result<Vec<Seat>, AllocError> {

@@ -1,6 +1,5 @@
 //! Steps of each kind, each alone: a hold of the lock is one step or one look and nothing else.
 
-use crate::laps::Lap;
 use crate::looking::{chosen, look_all, look_at_fields, todo_left};
 use crate::timing::{Steps, THREAD, Timed, Timing, WORKER};
 use anyhow::Result;
@@ -10,6 +9,7 @@ use model::Config;
 use std::alloc::Global;
 use std::thread::Threads;
 use std::time::Clock;
+use works::Lap;
 
 /// What a heap has.
 #[derive(Clone, Copy)]

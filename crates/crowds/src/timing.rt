@@ -1,12 +1,12 @@
 //! Steps of one actor after another, each of which is timed.
 
-use crate::laps::{Lap, Laps, since};
 use anyhow::Result;
 use cycle::{Actor, Book, Reply, Step};
 use heap::Heap;
 use std::alloc::{AllocError, Global};
 use std::io;
 use std::time::{Clock, Instant};
+use works::{Lap, Laps, since};
 
 /// The one thread of each heap.
 pub const THREAD: Actor = Actor::Thread(0);

@@ -1,7 +1,6 @@
 //! A thread waits for a step that is refused as `Stall`.
 
 use crate::acting::{config, opened};
-use crate::laps::{Lap, since};
 use anyhow::{Result, bail};
 use cycle::{Actor, PageList, Step};
 use sharing::{Seat, Shared};
@@ -10,6 +9,7 @@ use std::sync::Wait;
 use std::thread;
 use std::thread::Threads;
 use std::time::{Clock, Duration, Instant};
+use works::{Lap, since};
 
 /// A seat at the book that threads share.
 fn acts<R: Wait>(rt: &R, shared: &Shared, seats: &mut [Seat], actor: Actor, step: Step) -> bool {

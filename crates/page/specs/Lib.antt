@@ -1,3 +1,4 @@
+pub mod Aside
 pub mod Runs
 pub mod Ending
 pub mod Lending

@@ -3,6 +3,8 @@
 ghost use Rattle.std.specs.Prelude.{◌≡◌, ◌≢◌, ◌≤◌, ◌<◌, length, slice_get, slice_set, replicate, IfOk, Some};
 ghost use Rattle.std.specs.Option.{option_copied};
 ghost use Rattle.std.specs.Borrow.{sem};
+ghost use Rattle.model.specs.Stores.{word_in};
+ghost use Rattle.page.specs.Aside.{left_in};
 ghost use Rattle.page.specs.Lending.{LendsFrame, LendsWords};
 
 use crate::frame::Frame;
@@ -11,7 +13,8 @@ use std::marker::Model;
 
 /// The frames, by number from 0. One of them may be held aside, so that it is read while another is
 /// written: this takes no time and no memory, and shows in no contract. It comes back to its place
-/// when the next frame is lent.
+/// when the next frame is lent. Until then an empty frame stands there, so who looks for a word asks
+/// whether a frame is aside only where there is none.
 #[derive(Drop)]
 pub struct Frames {
     held: Frame,
@@ -21,11 +24,14 @@ pub struct Frames {
 }
 
 impl Model for Frames {
-    ghost use Rattle.std.specs.Prelude.{List, ℕ, slice_set};
+    ghost use Rattle.std.specs.Prelude.{◌≡◌, List, ℕ, slice_set, []};
+    ghost use Rattle.page.specs.Aside.{left_in};
 
     ghost Value = { List (List ℕ) };
 
     ghost view = { λ s. slice_set s.frames.items s.held_at s.held };
+
+    ghost invariant = { λ s. left_in s.frames.items s.held_at s.held ≡ [] };
 }
 
 /// So many frames of so many words, all 0. Fails only by memory.
@@ -41,7 +47,8 @@ fn blank_frames(alloc: Global, count: u32, words: u32) -> Result<Vec<Frame, Glob
 
 /// The frame that is held aside comes back to its place.
 fn put_back(held: &mut Frame, frames: &mut Vec<Frame, Global>, at: usize)
-    ensures { frames.new.items ≡ slice_set frames.old.items at held.old }
+    ensures frames { frames.new.items ≡ slice_set frames.old.items at held.old }
+    ensures left { held.new ≡ left_in frames.old.items at held.old }
 {
     if at < frames.len() {
         std::mem::swap(held, &mut frames[at]);
@@ -86,6 +93,21 @@ impl Frames {
             return Some(&self.held);
         }
         self.frames.get(number)
+    }
+
+    /// The word at an offset of a frame, if it is there.
+    #[inline(always)]
+    pub(crate) fn word(&self, number: usize, offset: usize) -> Option<u64>
+        ensures { result ≡ word_in self.now (Some (number, offset)) }
+    {
+        match self.frames.get(number) {
+            None => None,
+            Some(frame) => match frame.get(offset) {
+                Some(word) => Some(word),
+                None if number == self.held_at => self.held.get(offset),
+                None => None,
+            },
+        }
     }
 
     /// The words of a frame.

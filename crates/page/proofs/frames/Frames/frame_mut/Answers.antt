@@ -8,7 +8,7 @@ use Rattle.page.proofs.frames.Frames.frame_mut.Goals as goal
 pub returns : goal.returns
 returns c =
     let v = c.args.self.now in
-    let whole = ◌∙◌ {A = List (List ℕ)} c.put_back.ensures c.self.view_is in
+    let whole = ◌∙◌ {A = List (List ℕ)} c.put_back.ensures.frames c.self.view_is in
     let size = ap length whole in
     let there = get_read c.put_back.new.frames.items c.args.number c.index_mut.result.now
     (omega (arith, size, c.requires)) c.index_mut.ensures.value in (

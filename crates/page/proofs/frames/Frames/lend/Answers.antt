@@ -9,7 +9,7 @@ use Rattle.page.proofs.frames.Frames.lend.Goals as goal
 pub returns : goal.returns
 returns c =
     let v = c.args.self.now in
-    let whole = ◌∙◌ {A = List (List ℕ)} c.put_back.ensures c.self.view_is in
+    let whole = ◌∙◌ {A = List (List ℕ)} c.put_back.ensures.frames c.self.view_is in
     let out : c.take_out.new.frames.items ≡ set v c.args.from c.put_back.new.held = c.take_out.ensures.frames
     ∙ ap (λ xs. set xs c.args.from c.put_back.new.held) whole in
     let held : slice_get v c.args.from ≡ Some c.take_out.new.held =

@@ -1,7 +1,6 @@
 //! A cycle by workers beside two threads.
 
 use crate::gate::Watch;
-use crate::laps::Lap;
 use anyhow::{Result, bail};
 use parser::{Script, parse};
 use racing::by_threads;
@@ -10,6 +9,7 @@ use std::sync::Wait;
 use std::sync::atomic::{AtomicU64, Ordering};
 use std::thread::Threads;
 use std::time::{Clock, Instant};
+use works::Lap;
 
 /// The words of a page.
 const WORDS: u32 = 4_096;

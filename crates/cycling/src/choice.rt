@@ -1,11 +1,10 @@
 //! The pages that a cycle by threads protects, which it chooses by many looks, beside those that `choose`
 //! gives at once.
 
-use crate::laps::Lap;
-use crate::timing::Steps;
 use anyhow::{Result, bail};
 use choosing::choose;
 use cycle::{Actor, Book, History, Step};
+use held::{HeldBook, act};
 use parser::{Script, parse};
 use parts::again;
 use racing::{Gate, by_threads};
@@ -15,6 +14,7 @@ use std::sync::Wait;
 use std::sync::atomic::{AtomicU64, Ordering};
 use std::thread;
 use std::thread::Threads;
+use works::Lap;
 
 /// The heap line and the layout line. There are frames for the pages of both threads, and three more.
 const HEAD: &str =
@@ -92,8 +92,8 @@ fn script(alloc: Global) -> Result<String, AllocError> {
 }
 
 /// How many pages `choose` gives, if they are these.
-fn agreed(alloc: Global, steps: &impl Steps, pages: &[u32]) -> Result<u64, AllocError> {
-    let chosen = choose(alloc, steps.heap(), PERCENT)?;
+fn agreed(alloc: Global, book: &Book, pages: &[u32]) -> Result<u64, AllocError> {
+    let chosen = choose(alloc, book.heap(), PERCENT)?;
     Ok(if chosen.as_slice() == pages {
         pages.len() as u64
     } else {
@@ -103,16 +103,16 @@ fn agreed(alloc: Global, steps: &impl Steps, pages: &[u32]) -> Result<u64, Alloc
 
 /// Does the steps of a history again, up to the first `Protect`. How many pages that has, if they are
 /// those that `choose` gives then; else 0.
-fn replayed(alloc: Global, mut steps: impl Steps + Drop, history: &History) -> Result<u64> {
+fn replayed(alloc: Global, mut held: impl HeldBook + Drop, history: &History) -> Result<u64> {
     for index in 0..history.len() {
         let Some(found) = history.get(index) else {
             break;
         };
         let entry = found.entry();
         if let Step::Protect(pages) = &entry.step {
-            return Ok(agreed(alloc, &steps, pages.as_slice())?);
+            return Ok(agreed(alloc, held.book(), pages.as_slice())?);
         }
-        let _ = steps.step(entry.actor, again(alloc, &entry.step)?);
+        let _ = act(held.book(), entry.actor, again(alloc, &entry.step)?);
     }
     Ok(0)
 }

@@ -1,0 +1,54 @@
+//! Cycles of several workers, which `bench/crowds.py` asks for. Each work prints what it has done; behind
+//! the word `timed` it prints nanoseconds too.
+//!
+//! | Words | What is done |
+//! |---|---|
+//! | `cycle WORKERS LISTS PAIRS LOADS` | a cycle beside two threads that load so often each (`lists`) |
+//! | `choice` | the pages of a cycle beside those of `choose`: how many, or 0 where they differ |
+//!
+//! The word `then` parts one such work from the next.
+#![tactic(auto)]
+
+mod choice;
+mod gate;
+mod lists;
+
+use anyhow::{Result, bail};
+use std::alloc::Global;
+use std::sync::Wait;
+use std::thread::Threads;
+use std::time::Clock;
+use works::{Lap, Work, tell, works};
+
+/// Does a work by its name.
+fn work<R: Threads + Wait + Clock + Sync>(
+    rt: &R,
+    alloc: Global,
+    name: &str,
+    numbers: [u32; 5],
+) -> Result<Vec<Lap>> {
+    let [workers, lists, pairs, loads, _] = numbers;
+    match name {
+        "cycle" => lists::cycle(rt, alloc, [workers, lists, pairs, loads]),
+        "choice" => choice::choice(rt, alloc),
+        _ => bail!("no such work"),
+    }
+}
+
+/// Does each work, and prints what it has done.
+fn run<R: Threads + Wait + Clock + Print + Sync>(
+    rt: &R,
+    alloc: Global,
+    works: &[Work],
+) -> Result<()> {
+    for asked in works {
+        let laps = work(rt, alloc, asked.name.as_str(), asked.numbers)?;
+        tell(rt, &laps, asked.timed)?;
+    }
+    Ok(())
+}
+
+fn main(rt: HostRuntime) -> Result<()> {
+    let works = works(&rt)?;
+    run(&rt, rt.alloc(), &works)
+}

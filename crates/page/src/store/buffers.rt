@@ -1,0 +1,164 @@
+//! Buffers: the words that a thread takes to put objects in.
+
+ghost use Rattle.std.specs.Prelude.{◌≡◌, ◌≤◌, ◌<◌, ◌+◌, ◌-◌, length, slice_get, slice_range};
+ghost use Rattle.std.specs.Prelude.{IfOk, IfSome, count_by, is_none, Some, None, true};
+ghost use Rattle.std.specs.Borrow.{sem};
+ghost use Rattle.model.specs.Stores.{page_at, state_in, words_at, take_buffer, Takes, give_words, open_fresh, top_in};
+ghost use Rattle.model.specs.Stores.{is_open, page_with_room, free_frame, unused_page, frame_in, take_fresh};
+ghost use Rattle.model.specs.Owning.{LiesIn, TakesWell};
+ghost use Rattle.page.specs.Lending.{LendsPart};
+ghost use Rattle.page.specs.Records.{is_unused_in};
+
+use crate::store::Store;
+use model::{Buffer, Page, PageState, Room};
+
+impl Store {
+    /// Lends the free rest of a buffer that lies in an open page, to be written.
+    pub fn part_mut(&mut self, buffer: &Buffer) -> &mut [u64]
+        requires { LiesIn self.old buffer.now }
+        ensures value { IfSome (words_at self.old buffer.now.page) (λ ws. result.now
+            ≡ slice_range ws buffer.now.next buffer.now.end) }
+        ensures len { length result.now ≡ buffer.now.end - buffer.now.next }
+        ensures* after { sem 𝓛 (LendsPart self.entry buffer.now.page buffer.now.next result) }
+    {
+        let frame = self.open_frame(buffer.page);
+        let words = self.frames.frame_mut(frame);
+        words.run_mut(buffer.next as usize, buffer.end as usize)
+    }
+
+    /// Gives out `n` words of the open page of an index.
+    #[tactic(auto, unfolding(model::specs::Stores::give_words))]
+    fn give(&mut self, index: usize, n: u32) -> Buffer
+        requires there { index < length self.old.pages }
+        requires open { is_open (state_in (slice_get self.old.pages index)) ≡ true }
+        requires room { top_in (slice_get self.old.pages index) + n ≤ self.old.words }
+        ensures { give_words self.old index n ≡ (self.new, result) }
+    {
+        let page = &mut self.pages[index];
+        let top = page.top;
+        page.top = top + n;
+        self.rooms.set(index, self.words - (top + n));
+        Buffer {
+            page: (index + 1) as u32,
+            next: top,
+            end: top + n,
+        }
+    }
+
+    /// Opens the page of an index on a frame, and makes its words zero.
+    #[tactic(auto, unfolding(model::specs::Stores::open_fresh))]
+    fn open(&mut self, index: usize, frame: usize)
+        requires unused { is_unused_in (slice_get self.old.pages index) ≡ true }
+        requires page_there { index < length self.old.pages }
+        requires free { slice_get self.old.owners frame ≡ Some None }
+        requires frame_there { frame < length self.old.owners }
+        ensures { self.new ≡ open_fresh self.old index frame }
+    {
+        self.free -= 1;
+        self.pages[index] = Page {
+            state: PageState::Open,
+            frame: Some(frame as u32),
+            top: 0,
+        };
+        self.owners[frame] = Some((index + 1) as u32);
+        self.rooms.set(index, self.words);
+        self.unused.set(index, 0);
+        self.spare.set(frame, 0);
+        let words = self.frames.frame_mut(frame);
+        words.clear();
+    }
+
+    /// The index of the lowest open page with room for `n` words.
+    fn page_with_room(&self, n: u32) -> Option<usize>
+        requires { 0 < n }
+        ensures first { result ≡ page_with_room self.now.words n self.now.pages }
+        ensures there { IfSome result (λ i. i < length self.now.pages) }
+        ensures open { IfSome result (λ i. is_open (state_in (slice_get self.now.pages i)) ≡ true) }
+        ensures room { IfSome result (λ i. top_in (slice_get self.now.pages i) + n ≤ self.now.words) }
+    {
+        self.rooms.first_at_least(n)
+    }
+
+    /// The number, from 0, of the lowest free frame.
+    fn free_frame(&self) -> Option<usize>
+        ensures first { result ≡ free_frame self.now.owners }
+        ensures there { IfSome result (λ f. f < length self.now.owners) }
+        ensures free { IfSome result (λ f. slice_get self.now.owners f ≡ Some None) }
+        ensures some { IfSome result (λ _. 0 < count_by is_none self.now.owners) }
+    {
+        self.spare.first_at_least(1)
+    }
+
+    /// The index of the lowest unused page.
+    fn unused_page(&self) -> Option<usize>
+        requires { 0 < count_by is_none self.now.owners }
+        ensures first { result ≡ unused_page self.now.count self.now.pages }
+        ensures there { IfSome result (λ i. i < length self.now.pages) }
+        ensures unused { IfSome result (λ i. is_unused_in (slice_get self.now.pages i) ≡ true) }
+    {
+        self.unused.first_at_least(1)
+    }
+
+    /// A buffer of `n` words: in the lowest open page that has room, else in the lowest unused
+    /// page, opened on the lowest free frame (ours). `n` is 1 to the words of a page. It finds them
+    /// in some 14 steps at most, as many as the number of records has binary digits; where it opens
+    /// a page it also writes the page's words.
+    ///
+    /// Answers `NoFrames` where no frame is free, else `NoPages` where no page is unused; the
+    /// store is then as it was.
+    pub fn take(&mut self, n: u32) -> Result<Buffer, Room>
+        requires low { 0 < n }
+        requires high { n ≤ self.old.words }
+        ensures takes { Takes self.old result self.new (take_buffer self.old n) }
+        ensures buffers { IfOk result (TakesWell self.old self.new) }
+    {
+        self.law();
+        self.take_lowest(n)
+    }
+
+    /// What `take` does.
+    #[tactic(auto, unfolding(model::specs::Stores::take_buffer))]
+    fn take_lowest(&mut self, n: u32) -> Result<Buffer, Room>
+        requires low { 0 < n }
+        requires high { n ≤ self.old.words }
+        ensures { Takes self.old result self.new (take_buffer self.old n) }
+    {
+        match self.page_with_room(n) {
+            Some(index) => Ok(self.give(index, n)),
+            None => self.take_fresh(n),
+        }
+    }
+
+    /// The first `n` words of a fresh page.
+    pub(super) fn take_fresh(&mut self, n: u32) -> Result<Buffer, Room>
+        requires { n ≤ self.old.words }
+        ensures { Takes self.old result self.new (take_fresh self.old n (free_frame self.old.owners)
+            (unused_page self.old.count self.old.pages)) }
+    {
+        let Some(frame) = self.free_frame() else {
+            return Err(Room::NoFrames);
+        };
+        let Some(index) = self.unused_page() else {
+            return Err(Room::NoPages);
+        };
+        self.open(index, frame);
+        Ok(self.give(index, n))
+    }
+
+    /// Takes a buffer back. Its rest is lost until the page is released, so the store stays.
+    pub fn give_back(&mut self, buffer: Buffer)
+        ensures { self.new ≡ self.old }
+    {
+        let _ = buffer;
+    }
+
+    /// The frame of an open page.
+    fn open_frame(&self, page: u32) -> usize
+        requires { is_open (state_in (page_at self.now page)) ≡ true }
+        ensures there { result < length self.now.frames }
+        ensures value { frame_in (page_at self.now page) ≡ Some result }
+    {
+        let _ = &self.words;
+        self.frame(page).unwrap() as usize
+    }
+}

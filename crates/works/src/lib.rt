@@ -1,0 +1,9 @@
+//! What the programs of `make bench` have in common: the works that a command line names, and how long
+//! each took.
+#![tactic(auto)]
+
+mod laps;
+mod words;
+
+pub use laps::{Lap, Laps, since};
+pub use words::{Work, tell, works};

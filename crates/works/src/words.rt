@@ -1,0 +1,84 @@
+//! The works that a command line names. The word `then` parts one work from the next; the word `timed`
+//! before a work asks for nanoseconds too.
+
+use crate::laps::Lap;
+use anyhow::{Result, bail};
+use std::alloc::Global;
+use std::env;
+
+/// A work by its name.
+#[derive(Drop)]
+pub struct Work {
+    pub name: String,
+    /// The words behind the name; 0 where there is none.
+    pub numbers: [u32; 5],
+    /// Whether nanoseconds are printed too.
+    pub timed: bool,
+}
+
+/// The word of a place, as a number; 0 where there is none.
+fn number(words: &[String], place: usize) -> Result<u32> {
+    match words.get(place) {
+        None => Ok(0),
+        Some(word) => Ok(word.parse::<u32>()?),
+    }
+}
+
+/// The numbers behind the name of a work.
+fn numbers(words: &[String]) -> Result<[u32; 5]> {
+    Ok([
+        number(words, 1)?,
+        number(words, 2)?,
+        number(words, 3)?,
+        number(words, 4)?,
+        number(words, 5)?,
+    ])
+}
+
+/// A work by its words.
+fn work_of(alloc: Global, words: &[String], timed: bool) -> Result<Work> {
+    let Some(name) = words.first() else {
+        bail!("no work is named");
+    };
+    Ok(Work {
+        name: String::from_str(alloc, name.as_str())?,
+        numbers: numbers(words)?,
+        timed,
+    })
+}
+
+/// The works that these words name.
+fn parted(alloc: Global, words: &[String]) -> Result<Vec<Work>> {
+    let mut works = Vec::new(alloc);
+    for words in words.split(|word| word.as_str() == "then") {
+        let timed = words.first().is_some_and(|word| word.as_str() == "timed");
+        let rest = if timed {
+            words.get(1..).unwrap_or(words)
+        } else {
+            words
+        };
+        works.push(work_of(alloc, rest, timed)?)?;
+    }
+    Ok(works)
+}
+
+/// The works that the command line names, behind the program's name.
+pub fn works(rt: &HostRuntime) -> Result<Vec<Work>> {
+    let mut words = Vec::new(rt.alloc());
+    for word in env::args(rt)?.skip(1) {
+        words.push(word)?;
+    }
+    parted(rt.alloc(), &words)
+}
+
+/// Prints what a work has done, with nanoseconds or without.
+pub fn tell<R: Print>(rt: &R, laps: &[Lap], timed: bool) -> Result<()> {
+    for lap in laps {
+        if timed {
+            println!(rt; "{} {} {} {}", lap.name, lap.count, lap.median, lap.longest)?;
+        } else {
+            println!(rt; "{} {}", lap.name, lap.count)?;
+        }
+    }
+    Ok(())
+}
