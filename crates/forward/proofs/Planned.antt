@@ -1,8 +1,10 @@
 -- The places of a plan follow one another.
-use Rattle.std.proofs.Common.{◌≡◌, inl, inr, ℕ, zero, suc, ◌+◌, ◌≤◌, Bool, true, false, cond, nat_le}
+use Rattle.std.proofs.Common.{◌≡◌, ◌⊎◌, inl, inr, ℕ, zero, suc, ◌+◌, ◌≤◌, Bool, true, false, cond, nat_le}
 use Rattle.std.proofs.Common.{List, [], ◌∷◌, Some, refl, sym, ◌∙◌, ap, subst, arith}
-use Rattle.std.specs.Prelude.{slice_get}
+use Rattle.std.specs.Prelude.{slice_get, take, drop}
+use Rattle.std.specs.List.{sum_by}
 use Rattle.std.proofs.lemmas.Bool.{leb-true, leb-false}
+use Rattle.std.proofs.lemmas.List.Sums.{sum_by-cons}
 use Rattle.std.proofs.lemmas.Option.{same_Some}
 use Rattle.model.specs.Owning.{Each}
 use Rattle.model.specs.Plans.{places_from}
@@ -69,8 +71,100 @@ first_at_head w (x ∷ ns) n p h e f = by_test (nat_le (0 + x) w) refl f
     by_test true b k = sym (same_Some _ _ k)
     by_test false b k = absurd (omega (arith, leb-false (0 + x) w b, h zero x refl))
 
+-- how many words objects of these sizes have
+abbrev total : List ℕ → ℕ
+total ns = sum_by (λ n. n) ns
+
+total_more : (n k : ℕ) (ns : List ℕ) → total (take (suc k) (n ∷ ns)) ≡ n + total (take k ns)
+total_more n k ns = sum_by-cons (λ (m : ℕ). m) n (take k ns)
+
+-- where sizes that follow end within a target, they all lie in it
+all_here : (w t o : ℕ) (ns : List ℕ) (k : ℕ) (q : ℕ × ℕ) → slice_get (places_from w t o ns) k ≡ Some q
+    → o + total (take (suc k) ns) ≤ w → q.0 ≡ t
+all_here w t o [] k q at few = absurd (cc)
+all_here w t o (n ∷ ns) k q at few = by_test (nat_le (o + n) w) refl k at few (all_here w t (o + n) ns)
+  where
+    by_test : (b : Bool) → nat_le (o + n) w ≡ b → (k : ℕ)
+        → slice_get (cond b ((t, o) ∷ places_from w t (o + n) ns) ((t + 1, 0) ∷ places_from w (t + 1) n ns)) k ≡ Some q
+        → o + total (take (suc k) (n ∷ ns)) ≤ w
+        → ((k : ℕ) (q : ℕ × ℕ) → slice_get (places_from w t (o + n) ns) k ≡ Some q
+        → o + n + total (take (suc k) ns) ≤ w → q.0 ≡ t)
+        → q.0 ≡ t
+    by_test true b zero at few rest = ap (λ (p : ℕ × ℕ). p.0) (sym (same_Some _ _ at))
+    by_test true b (suc k) at few rest = rest k q at (omega (arith, few, total_more n (suc k) ns))
+    by_test false b k at few rest = absurd (omega (arith, few, total_more n k ns, leb-false (o + n) w b))
+
+-- where sizes come to no more words than a target has, they lie in the target where the last one ended, or the next one
+near_from : (w t o : ℕ) (ns : List ℕ) (k : ℕ) (q : ℕ × ℕ) → slice_get (places_from w t o ns) k ≡ Some q
+    → total (take (suc k) ns) ≤ w → (q.0 ≡ t) ⊎ (q.0 ≡ t + 1)
+near_from w t o [] k q at few = absurd (cc)
+near_from w t o (n ∷ ns) k q at few = by_test (nat_le (o + n) w) k at few (near_from w t (o + n) ns)
+  where
+    by_test : (b : Bool) (k : ℕ)
+        → slice_get (cond b ((t, o) ∷ places_from w t (o + n) ns) ((t + 1, 0) ∷ places_from w (t + 1) n ns)) k ≡ Some q
+        → total (take (suc k) (n ∷ ns)) ≤ w
+        → ((k : ℕ) (q : ℕ × ℕ) → slice_get (places_from w t (o + n) ns) k ≡ Some q → total (take (suc k) ns) ≤ w
+        → (q.0 ≡ t) ⊎ (q.0 ≡ t + 1))
+        → (q.0 ≡ t) ⊎ (q.0 ≡ t + 1)
+    by_test true zero at few rest = inl (ap (λ (r : ℕ × ℕ). r.0) (same_Some _ _ (sym at)))
+    by_test true (suc k) at few rest = rest k q at (omega (arith, few, total_more n (suc k) ns))
+    by_test false zero at few rest = inr (ap (λ (r : ℕ × ℕ). r.0) (same_Some _ _ (sym at)))
+    by_test false (suc k) at few rest =
+        inr (all_here w (t + 1) n ns k q at (omega (arith, few, total_more n (suc k) ns)))
+
+-- so they lie in that of the first of them, or the next one
+near_first : (w t o : ℕ) (ns : List ℕ) (k : ℕ) (p q : ℕ × ℕ) → slice_get (places_from w t o ns) zero ≡ Some p
+    → slice_get (places_from w t o ns) k ≡ Some q → total (take (suc k) ns) ≤ w → (q.0 ≡ p.0) ⊎ (q.0 ≡ p.0 + 1)
+near_first w t o [] k p q first at few = absurd (cc)
+near_first w t o (n ∷ ns) k p q first at few = by_test (nat_le (o + n) w) k first at few
+  where
+    by_test : (b : Bool) (k : ℕ)
+        → slice_get (cond b ((t, o) ∷ places_from w t (o + n) ns) ((t + 1, 0) ∷ places_from w (t + 1) n ns)) zero
+        ≡ Some p
+        → slice_get (cond b ((t, o) ∷ places_from w t (o + n) ns) ((t + 1, 0) ∷ places_from w (t + 1) n ns)) k ≡ Some q
+        → total (take (suc k) (n ∷ ns)) ≤ w → (q.0 ≡ p.0) ⊎ (q.0 ≡ p.0 + 1)
+    by_test b zero first at few = inl (ap (λ (r : ℕ × ℕ). r.0) (same_Some _ _ (sym at ∙ first)))
+    by_test true (suc k) first at few =
+        let here : t ≡ p.0 = ap (λ (r : ℕ × ℕ). r.0) (same_Some _ _ first) in
+        elim (near_from w t (o + n) ns k q at (omega (arith, few, total_more n (suc k) ns))) [
+          | inl e ↦ inl (e ∙ here)
+          | inr e ↦ inr (omega (arith, e, here))
+        ]
+    by_test false (suc k) first at few =
+        let here : t + 1 ≡ p.0 = ap (λ (r : ℕ × ℕ). r.0) (same_Some _ _ first) in
+        inl (all_here w (t + 1) n ns k q at (omega (arith, few, total_more n (suc k) ns)) ∙ here)
+
+-- the same of objects from a number on
+pub near_places : (w t o : ℕ) (ns : List ℕ) (i k j : ℕ) (p q : ℕ × ℕ) → j ≡ i + k
+    → slice_get (places_from w t o ns) i ≡ Some p → slice_get (places_from w t o ns) j ≡ Some q
+    → total (take (suc k) (drop i ns)) ≤ w → (q.0 ≡ p.0) ⊎ (q.0 ≡ p.0 + 1)
+near_places w t o ns zero k j p q sum first at few =
+    let here : j ≡ k = omega (arith, sum) in
+    near_first w t o ns k p q first (subst (λ m. slice_get (places_from w t o ns) m ≡ Some q) here at) few
+near_places w t o [] (suc i) k j p q sum first at few = absurd (cc)
+near_places w t o (n ∷ ns) (suc i) k zero p q sum first at few = absurd (omega (arith, sum))
+near_places w t o (n ∷ ns) (suc i) k (suc j) p q sum first at few =
+    by_test (nat_le (o + n) w) first at (near_places w t (o + n) ns i k j p q (omega (arith, sum)))
+    (near_places w (t + 1) n ns i k j p q (omega (arith, sum)))
+  where
+    by_test : (b : Bool)
+        → slice_get (cond b ((t, o) ∷ places_from w t (o + n) ns) ((t + 1, 0) ∷ places_from w (t + 1) n ns)) (suc i)
+        ≡ Some p
+        → slice_get (cond b ((t, o) ∷ places_from w t (o + n) ns) ((t + 1, 0) ∷ places_from w (t + 1) n ns)) (suc j)
+        ≡ Some q
+        → (slice_get (places_from w t (o + n) ns) i ≡ Some p → slice_get (places_from w t (o + n) ns) j ≡ Some q
+        → total (take (suc k) (drop i ns)) ≤ w → (q.0 ≡ p.0) ⊎ (q.0 ≡ p.0 + 1))
+        → (slice_get (places_from w (t + 1) n ns) i ≡ Some p → slice_get (places_from w (t + 1) n ns) j ≡ Some q
+        → total (take (suc k) (drop i ns)) ≤ w → (q.0 ≡ p.0) ⊎ (q.0 ≡ p.0 + 1))
+        → (q.0 ≡ p.0) ⊎ (q.0 ≡ p.0 + 1)
+    by_test true first at here next = here first at few
+    by_test false first at here next = next first at few
+
 ends_before : (n : ℕ) (p q : ℕ × ℕ) → IsBefore n p q → EndsBefore n p q
 ends_before n p q k = elim k.order [ inl l ↦ inr l | inr e ↦ inl e ]
+
+behind : (k : ℕ) → k + 1 ≡ suc k
+behind k = omega arith
 
 are_planned : (w : ℕ) (ns : List ℕ) → Each ns (λ n. n ≤ w) → ArePlanned w ns (places_from w 0 0 ns)
 are_planned w ns h = record {
@@ -82,6 +176,8 @@ are_planned w ns h = record {
   inside = λ i n p k. (places_behind w 0 0 ns h i n p k.0 k.1).fits;
   counted = λ i n p k. places_counted w 0 0 ns i p k.1;
   apart = λ i j m n p q l k z. ends_before m p q (places_apart w 0 0 ns h i j m n p q l k.0 k.1 z.0 z.1);
+  near = λ i k m n p q first at few. near_places w 0 0 ns i k (i + k) p q refl first.1 at.1
+      (subst (λ c. total (take c (drop i ns)) ≤ w) (behind k) few);
 }
 
 -- these places are planned

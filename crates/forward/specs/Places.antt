@@ -1,6 +1,7 @@
 -- Places of objects in targets, which are empty pages, and what those of a plan are to one another (ours). A place is a
 -- target, from 0, and an offset.
-use Rattle.std.specs.Prelude.{◌≡◌, ◌⊎◌, ℕ, ◌+◌, ◌<◌, ◌≤◌, List, Some, length, slice_get}
+use Rattle.std.specs.Prelude.{◌≡◌, ◌⊎◌, ℕ, ◌+◌, ◌<◌, ◌≤◌, List, Some, length, slice_get, take, drop}
+use Rattle.std.specs.List.{sum_by}
 use Rattle.model.specs.Plans.{target_count}
 
 -- n words at q follow m words at p: directly, where they end in the target there, and else at the head of the next one
@@ -28,3 +29,7 @@ pub record ArePlanned (words : ℕ) (sizes : List ℕ) (places : List (ℕ × �
   pub counted : (i n : ℕ) (p : ℕ × ℕ) → HasPlace sizes places i n p → p.0 < target_count places
   pub apart : (i j m n : ℕ) (p q : ℕ × ℕ) → i < j → HasPlace sizes places i m p → HasPlace sizes places j n q
       → EndsBefore m p q
+  -- where objects one behind the other come to no more words than a target has, as those of a page do, they lie in two
+  -- targets at most: in that of the first of them, and the next one
+  pub near : (i k m n : ℕ) (p q : ℕ × ℕ) → HasPlace sizes places i m p → HasPlace sizes places (i + k) n q
+      → sum_by (λ size. size) (take (k + 1) (drop i sizes)) ≤ words → (q.0 ≡ p.0) ⊎ (q.0 ≡ p.0 + 1)

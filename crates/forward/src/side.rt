@@ -29,6 +29,8 @@ pub struct Side {
     places: Vec<Addr, Global>,
     /// Bit `i` is set where the entry of number `i` is copied.
     copied: Row,
+    /// The offset that was noted last: an entry is mostly asked for again, or the next one.
+    last: u32,
 }
 
 impl Model for Side {
@@ -53,6 +55,7 @@ impl Side {
             live: RankedRow::empty(alloc),
             places: Vec::new(alloc),
             copied: Row::empty(alloc),
+            last: 0,
         }
     }
 
@@ -70,6 +73,7 @@ impl Side {
             live,
             places,
             copied,
+            last: 0,
         })
     }
 
@@ -109,14 +113,23 @@ impl Side {
         Ok(entries)
     }
 
-    /// The entry of a number, from 0, if there is one.
+    /// The entry of a number, from 0, if there is one. It is found without a search where it is the one
+    /// that was noted as copied last, or the next.
     pub fn entry(&self, index: usize) -> Option<Forwarding>
+        ensures { result ≡ slice_get self.now index }
+    {
+        self.entry_near(index, self.last)
+    }
+
+    /// The same, whatever the offset says: it is found without a search where it is the first one from
+    /// there on, or the second.
+    pub fn entry_near(&self, index: usize, near: u32) -> Option<Forwarding>
         ensures { result ≡ slice_get self.now index }
     {
         if index >= self.places.len() {
             return None;
         }
-        let offset = self.live.place(index)?;
+        let offset = self.live.place_near(index, near as usize)?;
         Some(Forwarding {
             offset,
             to: self.places[index],
@@ -158,6 +171,7 @@ impl Side {
         if self.live.test(offset as usize) {
             let index = self.live.rank(offset as usize);
             self.copied.put(index, true);
+            self.last = offset;
         }
     }
 

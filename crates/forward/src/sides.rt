@@ -92,6 +92,20 @@ impl Sides {
         }
     }
 
+    /// The same, whatever the offset says: it is found without a search where it is the first one from
+    /// there on, or the second.
+    pub fn entry_near(&self, page: u64, number: u32, near: u32) -> Option<Forwarding>
+        ensures { result ≡ slice_get (of_page self.now page) number }
+    {
+        if page == 0 {
+            return None;
+        }
+        match self.sides.get((page - 1) as usize) {
+            None => None,
+            Some(side) => side.entry_near(number as usize, near),
+        }
+    }
+
     /// The number, from 0, of the entry of an offset of a page, by the page's number from 1; `None`
     /// where there is no such entry (ours).
     pub fn number_at(&self, page: u64, offset: u32) -> Option<u32>

@@ -132,11 +132,24 @@ impl RankedRow {
         (64 * index, number - below)
     }
 
-    /// The place of the set bit of a number, from 0, if so many are set.
-    pub fn place(&self, number: usize) -> Option<u32>
+    /// As `start`: a place near which the bit may be, where it is one of the first two from there on.
+    fn start_near(&self, number: usize, near: usize) -> (usize, usize)
+        ensures { rank_of self.now result.0 + result.1 ≡ number }
+    {
+        let below = self.rank(near);
+        if number < below || number - below > 1 {
+            return self.start(number);
+        }
+        (near, number - below)
+    }
+
+    /// The place of the set bit of a number, if so many are set: from a place on, so many are passed
+    /// over.
+    fn place_behind(&self, number: usize, start: (usize, usize)) -> Option<u32>
+        requires { rank_of self.now start.0 + start.1 ≡ number }
         ensures { IsPlaceOf self.now number result }
     {
-        let (mut from, mut left) = self.start(number);
+        let (mut from, mut left) = start;
         while let Some(place) = self.row.next_from(from) {
             if left == 0 {
                 return Some(place);
@@ -145,5 +158,20 @@ impl RankedRow {
             from = place as usize + 1;
         }
         None
+    }
+
+    /// The place of the set bit of a number, from 0, if so many are set.
+    pub fn place(&self, number: usize) -> Option<u32>
+        ensures { IsPlaceOf self.now number result }
+    {
+        self.place_behind(number, self.start(number))
+    }
+
+    /// What `place` gives. It looks near a place first: where the bit is the first set one from there on,
+    /// or the second, it is found without a search, by one number and the words up to the bit.
+    pub fn place_near(&self, number: usize, near: usize) -> Option<u32>
+        ensures { IsPlaceOf self.now number result }
+    {
+        self.place_behind(number, self.start_near(number, near))
     }
 }

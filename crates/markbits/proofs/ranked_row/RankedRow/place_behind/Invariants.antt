@@ -1,6 +1,6 @@
 use Rattle.std.proofs.Common.{◌≡◌, ◌+◌, ◌-◌, length}
 use Rattle.markbits.specs.Ranks.{rank_of}
-use Rattle.markbits.proofs.ranked_row.RankedRow.place.Given as goal
+use Rattle.markbits.proofs.ranked_row.RankedRow.place_behind.Given as goal
 
 abbrev pub invariant-loop-place : goal.invariant-loop-place
 invariant-loop-place l = rank_of l.self-inside.row l.from + l.left ≡ l.number

@@ -6,7 +6,7 @@ use Rattle.markbits.specs.Ranks.{rank_of}
 use Rattle.std.proofs.Common.{get_or}
 use Rattle.forward.proofs.Edited.{entry_is, past_all}
 use Rattle.forward.proofs.Ranked.{entries_many, ranked_offset}
-use Rattle.forward.proofs.side.Side.entry.Goals as goal
+use Rattle.forward.proofs.side.Side.entry_near.Goals as goal
 
 pub returns-then-index-len : goal.returns-then-index-len
 returns-then-index-len c = past_all c.args.self.now c.args.index (omega (

@@ -1,6 +1,6 @@
 use Rattle.std.proofs.Common.{arith}
 use Rattle.markbits.proofs.Ranks.{rank_first, rank_behind_first, rank_all}
-use Rattle.markbits.proofs.ranked_row.RankedRow.place.Goals as goal
+use Rattle.markbits.proofs.ranked_row.RankedRow.place_behind.Goals as goal
 
 pub returns-then-left-eq0 : goal.returns-then-left-eq0
 returns-then-left-eq0 c =
