@@ -28,7 +28,7 @@ each_wider P Q f [] k = tt
 each_wider P Q f (e ∷ es) k = (f e.actor e.step k.0, each_wider P Q f es k.1)
 
 -- what goes by such steps goes by a wider kind
-goes_wider : (P Q : Actor → Step → Type 0) → ((actor : Actor) (step : Step) → P actor step → Q actor step)
+pub goes_wider : (P Q : Actor → Step → Type 0) → ((actor : Actor) (step : Step) → P actor step → Q actor step)
     → (h g : HeapState) → Goes P h g → Goes Q h g
 goes_wider P Q f h g k = record { entries = k.entries; each = each_wider P Q f k.entries k.each; runs = k.runs }
 

@@ -1,0 +1,108 @@
+//! Collections by one call.
+
+ghost use Rattle.managed.specs.Collecting.{StandsUnseen};
+ghost use Rattle.collecting.specs.Collections.{Collects, CollectsWhole, EndsCollecting};
+ghost use Rattle.collecting.specs.Rooms.{EndsMaking, EndsRefill, MakingStands, Refills};
+
+use crate::cycles::run_cycle;
+use crate::leftovers::settle;
+use crate::policy::Policy;
+use crate::rooms;
+use cycle::Mutating;
+use managed::ManagedHeap;
+use model::{Buffer, Refusal};
+use std::alloc::Global;
+
+/// What a collection has done.
+#[derive(Clone, Copy, Debug, PartialEq, Eq)]
+pub struct Collected {
+    /// How many objects its mark found.
+    pub live: u64,
+    /// How many pages were emptied.
+    pub emptied: u64,
+}
+
+/// What a program asks that holds a heap and lets it be collected. Worker 0 does all the work.
+pub trait Collecting: Mutating {
+    /// A whole collection. What an earlier one has left is ended first. Then a mark runs from its start,
+    /// or to its end where one runs; pages of which at most `percent` words of a hundred are live are
+    /// chosen, as many as there is room for; and these are emptied: all threads cross, live objects are
+    /// copied, the pages' frames are free, and registers that named them are corrected.
+    ///
+    /// Refused as `NotCrossed` or `Pending` for a thread with an open barrier, and as `Memory`. What was
+    /// done by then is done, and another call goes on from there once that load has ended.
+    fn collect(&mut self, alloc: Global, percent: u32) -> Result<Collected, Refusal>;
+
+    /// A fresh buffer for a thread, of `policy.words`; the one that it has is given back. Where at most
+    /// `policy.free` frames are free the heap is collected before, and where there is no room then, once
+    /// more.
+    ///
+    /// Refused as `take` is, or as `collect` is.
+    fn refill(
+        &mut self,
+        alloc: Global,
+        policy: Policy,
+        thread: u32,
+    ) -> Result<Buffer, Refusal>;
+
+    /// Makes an object as `new_object` does; where the thread has no buffer with room for it, `refill` gets
+    /// it one before. Gives the object's birth number.
+    ///
+    /// Refused as `new_object` is, as `NoRoom` for an object that is larger than `policy.words`, or as
+    /// `refill` is.
+    fn make(
+        &mut self,
+        alloc: Global,
+        policy: Policy,
+        thread: u32,
+        target: u32,
+        layout: u32,
+    ) -> Result<u32, Refusal>;
+}
+
+impl Collecting for ManagedHeap {
+    fn collect(&mut self, alloc: Global, percent: u32) -> Result<Collected, Refusal>
+        ensures goes { Collects self.old self.new }
+        ensures stands { StandsUnseen self.old self.new }
+        ensures ends { EndsCollecting percent self.old result self.new }
+    {
+        collect_whole(self, alloc, percent)
+    }
+
+    fn refill(
+        &mut self,
+        alloc: Global,
+        policy: Policy,
+        thread: u32,
+    ) -> Result<Buffer, Refusal>
+        ensures goes { Refills thread self.old self.new }
+        ensures stands { StandsUnseen self.old self.new }
+        ensures ends { EndsRefill thread policy.words policy.percent self.old result self.new }
+    {
+        rooms::refill(self, alloc, policy, thread)
+    }
+
+    #[inline(always)]
+    fn make(
+        &mut self,
+        alloc: Global,
+        policy: Policy,
+        thread: u32,
+        target: u32,
+        layout: u32,
+    ) -> Result<u32, Refusal>
+        ensures stands { MakingStands thread target layout self.old result self.new }
+        ensures ends { EndsMaking thread policy.words policy.percent target layout self.old result self.new }
+    {
+        rooms::make(self, alloc, policy, thread, target, layout)
+    }
+}
+
+pub(crate) fn collect_whole(heap: &mut ManagedHeap, alloc: Global, percent: u32) -> Result<Collected, Refusal>
+    ensures { CollectsWhole percent heap.old result heap.new }
+{
+    match settle(heap) {
+        Ok(()) => run_cycle(heap, alloc, percent),
+        Err(refusal) => Err(refusal),
+    }
+}
