@@ -8,7 +8,7 @@ use Rattle.model.specs.declared.steps.Refusal.TheVariants as refusals
 use Rattle.model.specs.Checkpoints.{all_crossed}
 use Rattle.model.specs.Phases.{is_marking}
 use Rattle.model.specs.States.{HeapState}
-use Rattle.managed.specs.Goings.{Goes, IsCrossing}
+use Rattle.managed.specs.Goings.{Goes, IsCrossing, AllTried}
 use Rattle.managed.specs.Collecting.{IsCollecting, StandsUnseen, EndsMark, EndsRest}
 use Rattle.managed.specs.Emptying.{EndsPage, EndsEmptying, StopsPage}
 use Rattle.managed.proofs.Going.{goes_none, goes_then}
@@ -42,7 +42,7 @@ pub left_stops : (h m g : HeapState) (n : ℕ) (r : Result Unit Refusal) (e : Re
     → EndsLeft m n r g → EndsLeftPages h (Err e) g
 left_stops h m g n r e is a b =
     let k : EndsLeft m n (Err e) g = subst (λ (x : Result Unit Refusal). EndsLeft m n x g) is b in
-    (and_then h m g a k.0, m, n, a, k.1)
+    (and_then h m g a k.0, (m, n, a, k.1))
 
 pub settled_then : (h m g : HeapState) (r : Result Unit Refusal) → Goes (IsCrossing WORKER) h m → EndsLeftPages m r g
     → EndsSettling h r g
@@ -52,8 +52,11 @@ settled_then h m g (Err e) a b =
     (and_then h m g k b.0, inr (b.1.0, b.1.1, and_then h m b.1.0 k b.1.2, b.1.3))
 
 pub settled_stops : (h g : HeapState) (c : Result Unit Refusal) (e : Refusal) → c ≡ Err e → c ≡ all_crossed g
-    → Goes (IsCrossing WORKER) h g → EndsSettling h (Err e) g
-settled_stops h g c e is all a = (crossings_collect WORKER h g a, inl (a, sym all ∙ is))
+    → Goes (IsCrossing WORKER) h g → AllTried WORKER c g → EndsSettling h (Err e) g
+settled_stops h g c e is all a behind = (
+  crossings_collect WORKER h g a,
+  inl (a, sym all ∙ is, subst (λ (r : Result Unit Refusal). AllTried WORKER r g) is behind),
+)
 
 -- ---- the mark that is due
 
@@ -83,7 +86,7 @@ chosen_stops h g ns r e is a b = (a, subst (λ (x : Result Unit Refusal). EndsEm
 
 pub sparse_then : (percent : ℕ) (h g : HeapState) (ns : List ℕ) (r : Result ℕ Refusal) → IsChoice h percent ns
     → EndsChosen h ns r g → EndsSparse percent h r g
-sparse_then percent h g ns (Ok k) c b = (b.0, ns, c, b.1)
+sparse_then percent h g ns (Ok k) c b = (b.0, (ns, c, b.1, b.2))
 sparse_then percent h g ns (Err e) c b = (b.0, inr (ns, c, b.1))
 
 pub sparse_lacks : (percent : ℕ) (h : HeapState) → EndsSparse percent h (Err refusals.Memory) h
@@ -105,7 +108,7 @@ pub cycle_then : (percent live : ℕ) (h m g : HeapState) (d : Result ℕ Refusa
     → d ≡ Ok live → Collects h m → EndsDueMark h d m → EndsBehind percent live m r g → EndsCycle percent h r g
 cycle_then percent live h m g d (Ok x) is a b k =
     let due : EndsDueMark h (Ok live) m = subst (λ (x : Result ℕ Refusal). EndsDueMark h x m) is b in
-    (and_then h m g a k.1, m, subst (λ (n : ℕ). EndsDueMark h (Ok n) m) (sym k.0) due, k.2)
+    (and_then h m g a k.1, (m, subst (λ (n : ℕ). EndsDueMark h (Ok n) m) (sym k.0) due, k.2))
 cycle_then percent live h m g d (Err e) is a b k =
     let due : EndsDueMark h (Ok live) m = subst (λ (x : Result ℕ Refusal). EndsDueMark h x m) is b in
     (and_then h m g a k.0, inr (m, live, due, k.1))
@@ -118,7 +121,7 @@ pub whole_then : (percent : ℕ) (h m g : HeapState) (s : Result Unit Refusal) (
     (r : Result Collected Refusal) → s ≡ Ok u → EndsSettling h s m → EndsCycle percent m r g
     → CollectsWhole percent h r g
 whole_then percent h m g (Err e) u r is a b = absurd (cc)
-whole_then percent h m g (Ok v) u (Ok r) is a b = (and_then h m g a b.0, m, a, b.1)
+whole_then percent h m g (Ok v) u (Ok r) is a b = (and_then h m g a b.0, (m, a, b.1))
 whole_then percent h m g (Ok v) u (Err e) is a b = (and_then h m g a b.0, inr (m, a, b.1))
 
 pub whole_stops : (percent : ℕ) (h g : HeapState) (s : Result Unit Refusal) (e : Refusal) → s ≡ Err e

@@ -45,7 +45,7 @@ collects_refill t h g k = goes_wider (IsCollecting WORKER) (IsRefill t) (wider t
 pub ends_after : (t n percent : ℕ) (h m g : HeapState) (r : Result Buffer Refusal) → Refills t h m
     → RefillsWhole t n percent m r g → RefillsWhole t n percent h r g
 ends_after t n percent h m g (Ok b) a k =
-    (refill_then t h m g a k.0, k.1.0, k.1.1.0, refill_then t h m k.1.1.0 a k.1.1.1, k.1.1.2)
+    (refill_then t h m g a k.0, (k.1.0, (k.1.1.0, refill_then t h m k.1.1.0 a k.1.1.1, k.1.1.2)))
 ends_after t n percent h m g (Err e) a (k, inl refused) = (refill_then t h m g a k, inl refused)
 ends_after t n percent h m g (Err e) a (k, inr ends) =
     (refill_then t h m g a k, inr (ends.0, refill_then t h m ends.0 a ends.1, ends.2))
@@ -55,10 +55,7 @@ pub taken : (t n percent : ℕ) (h g : HeapState) (r : Result Buffer Refusal) �
     → ThreadStands lent h t (steps.Take n) r g → HasTaken t g r → RefillsWhole t n percent h r g
 taken t n percent h g (Ok b) does keeps has = (
   goes_thread (IsRefill t) lent h h g t (steps.Take n) (Ok b) refl does keeps (goes_none (IsRefill t) h),
-  has,
-  h,
-  goes_none (IsRefill t) h,
-  runs_one h g (Thread t) (steps.Take n) (lent b) does keeps,
+  (has, (h, goes_none (IsRefill t) h, runs_one h g (Thread t) (steps.Take n) (lent b) does keeps)),
 )
 taken t n percent h g (Err e) does keeps has = (
   goes_thread (IsRefill t) lent h h g t (steps.Take n) (Err e) refl does keeps (goes_none (IsRefill t) h),

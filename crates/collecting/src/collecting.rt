@@ -1,11 +1,15 @@
 //! Collections by one call.
 
+ghost use Rattle.model.specs.declared.steps.Step.TheVariants as steps;
 ghost use Rattle.managed.specs.Collecting.{StandsUnseen};
-ghost use Rattle.collecting.specs.Collections.{Collects, CollectsWhole, EndsCollecting};
+ghost use Rattle.managed.specs.Goings.{LoadsWhole, LoadStands};
+ghost use Rattle.collecting.specs.Collections.{Collects, CollectsWhole, EndsCollecting, IsNotRoom};
 ghost use Rattle.collecting.specs.Rooms.{EndsMaking, EndsRefill, MakingStands, Refills};
 
 use crate::cycles::run_cycle;
 use crate::leftovers::settle;
+use crate::parts;
+use crate::parts::Parts;
 use crate::policy::Policy;
 use crate::rooms;
 use cycle::Mutating;
@@ -22,16 +26,45 @@ pub struct Collected {
     pub emptied: u64,
 }
 
-/// What a program asks that holds a heap and lets it be collected. Worker 0 does all the work.
-pub trait Collecting: Mutating {
+/// What a program asks of the heap that it holds, beside the steps of `Mutating`: whole loads, objects with
+/// the room that they need, and collections, which worker 0 does.
+///
+/// `thread`, registers (`target`, `object`), `field`, `global` and `layout` are numbers from 0. Each call is
+/// as its contract says on a `ManagedHeap`; a function that is generic over this trait knows nothing of
+/// what it calls, and is proved in short time.
+pub trait Holding: Mutating {
+    /// Loads a reference field of an object into a register, whole, through the read barrier.
+    ///
+    /// Refused as `Mutating::load` is, and nothing was done then.
+    fn read(&mut self, thread: u32, target: u32, object: u32, field: u32) -> Result<(), Refusal>;
+
+    /// Loads a global into a register, whole, through the read barrier. Refused as
+    /// `Mutating::load_global` is, and nothing was done then.
+    fn read_global(&mut self, thread: u32, target: u32, global: u32) -> Result<(), Refusal>;
+
     /// A whole collection. What an earlier one has left is ended first. Then a mark runs from its start,
     /// or to its end where one runs; pages of which at most `percent` words of a hundred are live are
     /// chosen, as many as there is room for; and these are emptied: all threads cross, live objects are
     /// copied, the pages' frames are free, and registers that named them are corrected.
     ///
-    /// Refused as `NotCrossed` or `Pending` for a thread with an open barrier, and as `Memory`. What was
-    /// done by then is done, and another call goes on from there once that load has ended.
+    /// Refused as `NotCrossed` or `Pending` for a thread with an open barrier, and as `Memory`; never as
+    /// `NoFrames` or `NoPages`. What was done by then is done, and another call goes on from there once that
+    /// load has ended.
     fn collect(&mut self, alloc: Global, percent: u32) -> Result<Collected, Refusal>;
+
+    /// The next part of a collection, for a program that can't stop for a whole one: the beginning of a mark
+    /// with all crossings; the scan of at most `budget` objects; the mark's end; the measuring of
+    /// `budget / 64 + 1` pages; the protection of at most as many, with all crossings; or the emptying of one
+    /// page. True where the collection has ended, and the next part begins another.
+    ///
+    /// Refused as `collect` is; another call goes on from there.
+    fn collect_some(
+        &mut self,
+        alloc: Global,
+        parts: &mut Parts,
+        percent: u32,
+        budget: u32,
+    ) -> Result<bool, Refusal>;
 
     /// A fresh buffer for a thread, of `policy.words`; the one that it has is given back. Where at most
     /// `policy.free` frames are free the heap is collected before, and where there is no room then, once
@@ -60,13 +93,43 @@ pub trait Collecting: Mutating {
     ) -> Result<u32, Refusal>;
 }
 
-impl Collecting for ManagedHeap {
+impl Holding for ManagedHeap {
+    #[inline(always)]
+    fn read(&mut self, thread: u32, target: u32, object: u32, field: u32) -> Result<(), Refusal>
+        ensures loads { LoadsWhole self.old thread (steps.Load target object field) result self.new }
+        ensures stands { LoadStands self.old thread (steps.Load target object field) result self.new }
+    {
+        ManagedHeap::read(self, thread, target, object, field)
+    }
+
+    #[inline(always)]
+    fn read_global(&mut self, thread: u32, target: u32, global: u32) -> Result<(), Refusal>
+        ensures loads { LoadsWhole self.old thread (steps.LoadGlobal target global) result self.new }
+        ensures stands { LoadStands self.old thread (steps.LoadGlobal target global) result self.new }
+    {
+        ManagedHeap::read_global(self, thread, target, global)
+    }
+
     fn collect(&mut self, alloc: Global, percent: u32) -> Result<Collected, Refusal>
         ensures goes { Collects self.old self.new }
         ensures stands { StandsUnseen self.old self.new }
         ensures ends { EndsCollecting percent self.old result self.new }
+        ensures room { IsNotRoom result }
     {
         collect_whole(self, alloc, percent)
+    }
+
+    fn collect_some(
+        &mut self,
+        alloc: Global,
+        parts: &mut Parts,
+        percent: u32,
+        budget: u32,
+    ) -> Result<bool, Refusal>
+        ensures goes { Collects self.old self.new }
+        ensures stands { StandsUnseen self.old self.new }
+    {
+        parts::collect_some(self, alloc, parts, percent, budget)
     }
 
     fn refill(

@@ -7,8 +7,11 @@
 mod collecting;
 mod cycles;
 mod leftovers;
+mod parts;
 mod policy;
+mod portions;
 mod rooms;
 
-pub use collecting::{Collected, Collecting};
+pub use collecting::{Collected, Holding};
+pub use parts::Parts;
 pub use policy::Policy;

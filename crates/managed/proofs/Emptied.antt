@@ -1,5 +1,5 @@
 -- Pages that are emptied, from one step to the next: which have a frame, and how many are free.
-use Rattle.std.proofs.Common.{◌≡◌, ◌≢◌, ◌⊎◌, ◌∙◌, ℕ, ◌+◌, ◌-◌, ◌<◌, Bool, true, false, List, [], ◌∷◌, ◌++◌, length}
+use Rattle.std.proofs.Common.{◌≡◌, ◌≢◌, ◌⊎◌, ◌∙◌, ℕ, zero, suc, ◌+◌, ◌-◌, ◌*◌, ◌<◌, ◌≤◌, Bool, true, false, List, [], ◌∷◌, length}
 use Rattle.std.proofs.Common.{cond, not, nat_eq, set, drop, get_or, is_none, count_by, refl, sym, subst, ap, inl, inr}
 use Rattle.std.proofs.Common.{arith, Option, Some, None}
 use Rattle.std.specs.Prelude.{Result, Ok, Err}
@@ -15,7 +15,9 @@ use Rattle.model.specs.declared.steps.Actor.TheVariants.{Thread, Worker}
 use Rattle.model.specs.declared.steps.Step.{Step}
 use Rattle.model.specs.declared.steps.Step.TheVariants as steps
 use Rattle.model.specs.declared.steps.Answer.{Answer}
+use Rattle.model.specs.declared.steps.Answer.TheVariants as answers
 use Rattle.model.specs.declared.steps.Refusal.{Refusal}
+use Rattle.model.specs.declared.steps.Refusal.TheVariants as refusals
 use Rattle.model.specs.Bits.{of_page}
 use Rattle.model.specs.Checkpoints.{all_crossed, with_crossed, with_marked_word, with_marked_register}
 use Rattle.model.specs.Checkpoints.{with_marked_registers, marked_at_crossing, cross_thread, may_cross, cross_outcome}
@@ -23,15 +25,16 @@ use Rattle.model.specs.Checkpoints.{cross_for_outcome}
 use Rattle.model.specs.Cycles.{is_uncopied}
 use Rattle.model.specs.Emptying.{crossed_if_protecting, entry_on, copy_outcome, heap_after, copies_from, copy_page}
 use Rattle.model.specs.Emptying.{copy_page_outcome, release_outcome}
-use Rattle.model.specs.Marks.{with_mark, marked_word, entry_at}
-use Rattle.model.specs.Moves.{with_copy, with_copied_words, copied_by, copied_first, copied_for, with_released}
+use Rattle.model.specs.Marks.{with_mark, entry_at}
+use Rattle.model.specs.Moves.{with_copy, with_copied_words, copied_by, copied_first, copied_for, with_released, moved_word}
 use Rattle.model.specs.Moves.{with_free, set_gone_of}
 use Rattle.model.specs.Outcome.{outcome, worker_gate, thread_gate}
 use Rattle.model.specs.Owning.{IsStore}
 use Rattle.model.specs.Phases.{is_idle, is_protect_crossing}
 use Rattle.model.specs.Protections.{free_count}
 use Rattle.model.specs.Refusing.{Outcome, DoesStep}
-use Rattle.model.specs.Registers.{register_of, with_register}
+use Rattle.model.specs.Loads.{is_refused}
+use Rattle.model.specs.Registers.{register_of, with_register, let_through}
 use Rattle.model.specs.States.{HeapState, Reference, change_at, change_found}
 use Rattle.model.specs.Stores.{StoreState, page_at, state_at, state_in, frame_in, is_from, with_words}
 use Rattle.model.specs.Threads.{is_parked_in}
@@ -39,12 +42,12 @@ use Rattle.model.specs.Traps.{scrub_word, scrub_outcome}
 use Rattle.model.proofs.Lists.{get_set_same, get_set_other, get_within, count_set}
 use Rattle.page.proofs.Relocated.{from_framed, used_there}
 use Rattle.refinement.specs.Standing.{KeepsStanding}
-use Rattle.refinement.proofs.Accepted.{OnAccepted, of_accepted, on_bind, on_some, on_test, on_truth, on_either, on_unless}
+use Rattle.refinement.proofs.Accepted.{OnAccepted, of_accepted, on_bind, on_some, on_test, on_unless}
 use Rattle.entries.specs.declared.entry.Entry.{Entry}
 use Rattle.managed.specs.Runs.{Leads}
-use Rattle.managed.specs.Goings.{EachIs, Goes, IsCrossing, IsScrub}
+use Rattle.managed.specs.Goings.{EachIs, Goes, IsCrossing, IsScrub, AllTried}
 use Rattle.managed.specs.Collecting.{IsCollecting}
-use Rattle.managed.specs.Emptying.{IsBare, PageFreed, PagesFreed, StopsPage, EndsPage, EndsPages, StopsPages}
+use Rattle.managed.specs.Emptying.{IsBare, PageFreed, PagesFreed, EndsPage, EndsPages, StopsPages}
 use Rattle.managed.specs.Emptying.{EndsRelease, Empties, EmptiesProtected, whether_told}
 use Rattle.managed.proofs.Going.{goes_none, goes_then}
 use Rattle.managed.proofs.Gathering.{collect_step, crossings_collect, scrubs_collect}
@@ -108,7 +111,8 @@ crossing_row h t = on_bind (may_cross h t) _ _ (λ u f. cross_same h t)
 
 crossing_for_row : (h : HeapState) (t : ℕ) → IsSame h (cross_for_outcome h t)
 unfolding cross_for_outcome
-crossing_for_row h t = on_test _ _ _ _ (λ e. crossing_row h t)
+crossing_for_row h t = on_test (not (is_parked_in (slice_get h.threads t))) refusals.NotParked (cross_outcome h t)
+    (λ (z : HeapState × Answer). SameFrames h z.0) (λ e. crossing_row h t)
 
 crossing_same : (w : ℕ) (h : HeapState) (actor : Actor) (step : Step) → IsCrossing w actor step
     → IsSame h (outcome h actor step)
@@ -119,10 +123,24 @@ crossing_same w h (Worker v) (steps.CrossFor t) is =
     on_bind (worker_gate h v (steps.CrossFor t)) _ _ (λ u f. crossing_for_row h t)
 crossing_same w h (Worker v) _ is = absurd is
 
+scrub_word_row : (h : HeapState) (t r : ℕ) (w : ℕ × Bool) → IsSame h (scrub_word h t r w)
+unfolding with_register
+scrub_word_row h t r w = by_tests (not (is_refused (let_through h t w.0))) (is_protect_crossing h.phase)
+  where
+    new : Outcome
+    new = Ok (with_register (copied_first h w.0) t r (Some (moved_word h w)), answers.Moved)
+
+    clean : Outcome
+    clean = Ok (h, answers.Clean)
+
+    by_tests : (a b : Bool) → IsSame h (cond a clean (cond b (Err refusals.Stall) new))
+    by_tests true b = same_none h
+    by_tests false true = tt
+    by_tests false false = let k = first_same h w.0 in record { pages = k.pages; owners = k.owners }
+
 scrub_row : (h : HeapState) (t r : ℕ) → IsSame h (scrub_outcome h t r)
-unfolding scrub_outcome with_register
-scrub_row h t r = on_some (register_of h t r) _ _ _ (λ w at. on_either _ _ _ _ (λ e. same_none h) (λ e.
-    on_test _ _ _ _ (λ f. let k = first_same h w.0 in record { pages = k.pages; owners = k.owners })))
+unfolding scrub_outcome
+scrub_row h t r = on_some (register_of h t r) _ _ _ (λ w at. scrub_word_row h t r w)
 
 scrub_same : (h : HeapState) (actor : Actor) (step : Step) → IsScrub actor step → IsSame h (outcome h actor step)
 unfolding outcome
@@ -423,8 +441,9 @@ pages_crossed w h m g ns c (Ok v) u is all a b =
     )
 
 pub pages_not_crossed : (w : ℕ) (h g : HeapState) (ns : List ℕ) (c : Result Unit Refusal) (e : Refusal) → c ≡ Err e
-    → c ≡ all_crossed g → Goes (IsCrossing w) h g → EmptiesProtected w h ns (Err e) g
-pages_not_crossed w h g ns c e is all a = (crossings_collect w h g a, inl (a, sym all ∙ is))
+    → c ≡ all_crossed g → Goes (IsCrossing w) h g → AllTried w c g → EmptiesProtected w h ns (Err e) g
+pages_not_crossed w h g ns c e is all a behind =
+    (crossings_collect w h g a, inl (a, sym all ∙ is, subst (λ (r : Result Unit Refusal). AllTried w r g) is behind))
 
 -- they are protected before it
 pub pages_protected : (w : ℕ) (h m g : HeapState) (ns : List ℕ) (r : Result Answer Refusal) (a : Answer)
@@ -434,9 +453,7 @@ pub pages_protected : (w : ℕ) (h m g : HeapState) (ns : List ℕ) (r : Result 
 pages_protected w h m g ns (Err x) a result is does keeps b = absurd (cc)
 pages_protected w h m g ns (Ok x) a (Ok u) is does keeps b = (
   goes_then (IsCollecting w) h m g (collect_step w h m (steps.Protect ns) (Ok x) does keeps) b.0,
-  m,
-  (x, runs_one h m (Worker w) (steps.Protect ns) x does keeps),
-  b.1,
+  (m, (x, runs_one h m (Worker w) (steps.Protect ns) x does keeps), b.1),
 )
 pages_protected w h m g ns (Ok x) a (Err e) is does keeps b = (
   goes_then (IsCollecting w) h m g (collect_step w h m (steps.Protect ns) (Ok x) does keeps) b.0,

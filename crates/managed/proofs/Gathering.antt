@@ -15,7 +15,7 @@ use Rattle.model.specs.States.{HeapState}
 use Rattle.refinement.specs.Standing.{Holds, KeepsStanding}
 use Rattle.entries.specs.declared.entry.Entry.{Entry}
 use Rattle.cycle.specs.Replays.{Replayed, after_entry, after_entries}
-use Rattle.managed.specs.Goings.{EachIs, Goes, IsScan, IsCrossing, IsScrub, EndsDrain}
+use Rattle.managed.specs.Goings.{EachIs, Goes, IsScan, IsCrossing, IsScrub, EndsDrain, AllTried}
 use Rattle.managed.specs.Collecting.{IsCollecting, StandsUnseen, EndsWell, EndsHere, live_told}
 use Rattle.managed.specs.Collecting.{Marks, MarksRest, MarksScanned}
 use Rattle.model.specs.Checkpoints.{all_crossed}
@@ -127,15 +127,14 @@ scanned_then w h m g d u (Ok live) is a ends b =
     (goes_then (IsCollecting w) h m g k b.0, well_after w h m g live k b.1)
 scanned_then w h m g d u (Err e) is a ends b = subst (λ (x : HeapState). MarksScanned w h (Err e) x) (sym b.1) (
   scans_collect w h m a,
-  a,
-  inr (subst (λ (r : Result Unit Refusal). EndsDrain w r m) is ends, b.0),
+  (a, inr (subst (λ (r : Result Unit Refusal). EndsDrain w r m) is ends, b.0)),
 )
 
 -- a drain that stopped
 pub scanned_stops : (w : ℕ) (h g : HeapState) (e : Refusal) (d : Result Unit Refusal) → d ≡ Err e → Goes (IsScan w) h g
     → EndsDrain w d g → MarksScanned w h (Err e) g
 scanned_stops w h g e d is a ends =
-    (scans_collect w h g a, a, inl (subst (λ (r : Result Unit Refusal). EndsDrain w r g) is ends))
+    (scans_collect w h g a, (a, inl (subst (λ (r : Result Unit Refusal). EndsDrain w r g) is ends)))
 
 -- all threads cross, and then the rest of a mark
 pub crossed_then : (w : ℕ) (h m g : HeapState) (c : Result Unit Refusal) (u : Unit {0}) (result : Result ℕ Refusal)
@@ -150,8 +149,9 @@ crossed_then w h m g c u (Err e) is all a b = (
 
 -- crossings that stopped
 pub crossed_stops : (w : ℕ) (h g : HeapState) (e : Refusal) (c : Result Unit Refusal) → c ≡ Err e → c ≡ all_crossed g
-    → Goes (IsCrossing w) h g → MarksRest w h (Err e) g
-crossed_stops w h g e c is all a = (crossings_collect w h g a, inl (a, sym all ∙ is))
+    → Goes (IsCrossing w) h g → AllTried w c g → MarksRest w h (Err e) g
+crossed_stops w h g e c is all a behind =
+    (crossings_collect w h g a, inl (a, sym all ∙ is, subst (λ (r : Result Unit Refusal). AllTried w r g) is behind))
 
 -- a mark begins, and then its rest
 pub begun_then : (w : ℕ) (h m g : HeapState) (r : Result Answer Refusal) (a : Answer) (result : Result ℕ Refusal)
@@ -160,9 +160,7 @@ pub begun_then : (w : ℕ) (h m g : HeapState) (r : Result Answer Refusal) (a : 
 begun_then w h m g (Err x) a result is does keeps b = absurd (cc)
 begun_then w h m g (Ok x) a (Ok live) is does keeps b = (
   goes_then (IsCollecting w) h m g (collect_step w h m steps.StartMark (Ok x) does keeps) b.0,
-  m,
-  (x, runs_one h m (Worker w) steps.StartMark x does keeps),
-  b.1,
+  (m, (x, runs_one h m (Worker w) steps.StartMark x does keeps), b.1),
 )
 begun_then w h m g (Ok x) a (Err e) is does keeps b = (
   goes_then (IsCollecting w) h m g (collect_step w h m steps.StartMark (Ok x) does keeps) b.0,

@@ -2,4 +2,5 @@ pub mod Running
 pub mod Going
 pub mod Gathering
 pub mod Draining
+pub mod Crossed
 pub mod Emptied

@@ -13,7 +13,7 @@ use Rattle.model.specs.Plain.{PlainHeap}
 use Rattle.model.specs.States.{HeapState}
 use Rattle.refinement.specs.Standing.{Holds, FindsLive}
 use Rattle.model.specs.Scans.{next_drain}
-use Rattle.managed.specs.Goings.{Goes, Steps, IsScan, IsCrossing, EndsDrain}
+use Rattle.managed.specs.Goings.{Goes, Steps, IsScan, IsCrossing, IsBehind, EndsDrain}
 
 -- a step of a collection: any of worker w, and of any thread to cross or to scrub
 abbrev pub IsCollecting : ℕ → Actor → Step → Type 0
@@ -51,9 +51,9 @@ pub record EndsWell (w : ℕ) (h : HeapState) (live : ℕ) (g : HeapState) : Typ
 abbrev pub Crosses : ℕ → HeapState → HeapState → Type 0
 Crosses w h g = Goes (IsCrossing w) h g × (all_crossed g ≡ Ok tt)
 
--- crossings were done, and not all threads have crossed
+-- crossings were done, and a thread is left that can't cross
 abbrev pub StopsCrossing : ℕ → HeapState → Refusal → HeapState → Type 0
-StopsCrossing w h e g = Goes (IsCrossing w) h g × (all_crossed g ≡ Err e)
+StopsCrossing w h e g = Goes (IsCrossing w) h g × (all_crossed g ≡ Err e) × IsBehind w g e
 
 -- what is left of a mark that all threads have crossed stopped so: its next scan is refused, or too much was left; or
 -- nothing was left, and EndMark is refused

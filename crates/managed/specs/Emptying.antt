@@ -11,7 +11,7 @@ use Rattle.model.specs.Protections.{free_count}
 use Rattle.model.specs.Refusing.{DoesStep}
 use Rattle.model.specs.States.{HeapState}
 use Rattle.model.specs.Stores.{page_at, frame_in}
-use Rattle.managed.specs.Goings.{Goes, Steps, IsCrossing}
+use Rattle.managed.specs.Goings.{Goes, Steps}
 use Rattle.managed.specs.Collecting.{IsCollecting, Crosses, StopsCrossing}
 
 -- page n has no frame

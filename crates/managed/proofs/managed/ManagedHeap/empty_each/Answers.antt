@@ -2,9 +2,6 @@ use Rattle.std.proofs.Common.{arith}
 use Rattle.managed.proofs.Emptied.{rest_more, rest_stops, rest_ends}
 use Rattle.managed.proofs.managed.ManagedHeap.empty_each.Goals as goal
 
-pub loop-index-starts : goal.loop-index-starts
-loop-index-starts c = λ r g k. k
-
 pub loop-index-preserved : goal.loop-index-preserved
 loop-index-preserved c = rest_more c.args.worker c.args.self.now c.loop-index.self c.empty_page.new.self
     c.args.pages.now c.loop-index.index c.empty_page.result tt (omega (arith, c.loop-index-test.true)) c.in_default.is

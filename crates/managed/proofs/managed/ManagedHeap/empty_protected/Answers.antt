@@ -9,3 +9,4 @@ returns-in-Ok c = pages_crossed c.args.worker c.args.self.now c.cross_all.new.se
 pub returns-in-Err : goal.returns-in-Err
 returns-in-Err c = pages_not_crossed c.args.worker c.args.self.now c.cross_all.new.self c.args.pages.now
     c.cross_all.result c.in-Err.refusal c.in-Err.is c.cross_all.ensures.ends c.cross_all.ensures.goes
+    c.cross_all.ensures.behind

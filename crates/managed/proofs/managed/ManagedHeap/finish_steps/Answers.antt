@@ -9,3 +9,4 @@ returns-in-Ok c = crossed_then c.args.worker c.args.self.now c.cross_all.new.sel
 pub returns-in-Err : goal.returns-in-Err
 returns-in-Err c = crossed_stops c.args.worker c.args.self.now c.cross_all.new.self c.in-Err.refusal
     c.cross_all.result c.in-Err.is c.cross_all.ensures.ends c.cross_all.ensures.goes
+    c.cross_all.ensures.behind
