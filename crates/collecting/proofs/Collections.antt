@@ -33,6 +33,10 @@ pub left_page : (h g : HeapState) (n : ℕ) (r : Result Unit Refusal) → EndsPa
 left_page h g n (Ok u) k = k.goes
 left_page h g n (Err e) k = k
 
+pub left_goes : (h g : HeapState) (n : ℕ) (r : Result Unit Refusal) → EndsLeft h n r g → Collects h g
+left_goes h g n (Ok u) k = k
+left_goes h g n (Err e) k = k.0
+
 pub left_more : (h m g : HeapState) (n : ℕ) (r : Result Unit Refusal) (u : Unit {0}) → r ≡ Ok u → Collects h m
     → EndsLeft m n r g → Collects h g
 left_more h m g n (Ok v) u is a b = and_then h m g a b

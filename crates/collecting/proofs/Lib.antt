@@ -1,3 +1,3 @@
 pub mod Collections
 pub mod NotRoom
-pub mod Rooms
+pub mod Refilled

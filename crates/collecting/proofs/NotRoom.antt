@@ -1,7 +1,7 @@
 -- What a collection is refused as: never that there are too few frames or pages.
-use Rattle.std.proofs.Common.{◌≡◌, ◌⊎◌, ◌∙◌, ℕ, ◌<◌, ◌≤◌, Bool, true, false, cond, not, List, [], ◌∷◌, nat_le, nat_lt}
+use Rattle.std.proofs.Common.{◌≡◌, ◌⊎◌, ◌∙◌, ℕ, ◌+◌, ◌*◌, ◌<◌, ◌≤◌, Bool, true, false, cond, not, List, [], ◌∷◌, nat_le, nat_lt}
 use Rattle.std.proofs.Common.{Option, Some, None, refl, sym, subst, ap, inl, inr, arith}
-use Rattle.std.specs.Prelude.{Result, Ok, Err}
+use Rattle.std.specs.Prelude.{Result, Ok, Err, if◌then◌else◌, ◌&&◌, ◌||◌, is_some, length, slice_get}
 use Rattle.std.specs.List.{list_any}
 use Rattle.std.proofs.lemmas.Bool.{and_parts, leb-true, ltb-true}
 use Rattle.choosing.specs.Choices.{IsChoice, has_room_for}
@@ -12,20 +12,21 @@ use Rattle.model.specs.declared.steps.Step.TheVariants as steps
 use Rattle.model.specs.declared.steps.Answer.{Answer}
 use Rattle.model.specs.declared.steps.Refusal.{Refusal}
 use Rattle.model.specs.declared.steps.Refusal.TheVariants as refusals
-use Rattle.model.specs.Bits.{of_page}
+use Rattle.model.specs.Bits.{of_page, bit_on}
 use Rattle.model.specs.Checkpoints.{all_crossed, none_behind, first_behind}
 use Rattle.model.specs.Cycles.{start_mark_outcome, end_mark_outcome, none_pending, first_pending, has_todo, is_uncopied}
+use Rattle.model.specs.Cycles.{is_lent}
 use Rattle.model.specs.Emptying.{crossed_if_protecting, copy_page_outcome, release_outcome}
-use Rattle.model.specs.Outcome.{outcome, worker_gate}
+use Rattle.model.specs.Outcome.{outcome, worker_gate, is_for_workers, has_bad_index}
 use Rattle.model.specs.Phases.{is_idle, is_marking, is_protect_crossing, may_start_mark}
 use Rattle.model.specs.Plans.{plan_of, target_count}
-use Rattle.model.specs.Protections.{all_ripe, ripe, room_for, free_count, unused_count, protect_outcome}
+use Rattle.model.specs.Protections.{is_closed, all_ripe, ripe, room_for, free_count, unused_count, protect_outcome}
 use Rattle.model.specs.Refusing.{◌>>=◌, or_refuse, refuse_if, Outcome, DoesStep}
 use Rattle.model.specs.References.{field_at}
 use Rattle.model.specs.Scans.{may_scan, scan_of, scan_next, pick_outcome, scan_field_outcome, scan_global_outcome}
-use Rattle.model.specs.Scans.{next_drain}
+use Rattle.model.specs.Scans.{next_drain, is_taken, is_todo_in}
 use Rattle.model.specs.States.{HeapState}
-use Rattle.model.specs.Stores.{StoreState, state_at, is_from}
+use Rattle.model.specs.Stores.{StoreState, state_at, is_from, is_open}
 use Rattle.managed.specs.Goings.{Scans, EndsScan, EndsDrain}
 use Rattle.managed.specs.Collecting.{StopsCrossing, StopsScanning, StopsMarking, EndsRest, EndsMark}
 use Rattle.managed.specs.Emptying.{StopsPage, StopsPages, StopsProtected, EndsEmptying}
@@ -82,7 +83,15 @@ pending_not (Some t) = refl
 
 gate_not : (h : HeapState) (w : ℕ) (s : Step) → IsNotRoom (worker_gate h w s)
 unfolding worker_gate
-gate_not h w s = on_test _ _ _ refl (on_test _ _ _ refl tt)
+gate_not h w s = by_tests (nat_le (length h.workers) w || not (is_for_workers s)) (has_bad_index h s)
+  where
+    passed : Result (Unit {0}) Refusal
+    passed = Ok tt
+
+    by_tests : (a b : Bool) → IsNotRoom (if a then Err refusals.NoActor else (if b then Err refusals.BadIndex else passed))
+    by_tests true b = refl
+    by_tests false true = refl
+    by_tests false false = tt
 
 scan_not : (h : HeapState) → IsNotRoom (may_scan h)
 unfolding may_scan
@@ -111,7 +120,9 @@ pick_not : (h : HeapState) (w page offset : ℕ) → IsNotRoom (outcome h (Worke
 unfolding outcome pick_outcome
 pick_not h w page offset = on_bind (worker_gate h w (steps.Pick page offset)) _
     (gate_not h w (steps.Pick page offset))
-    (λ u. on_bind (may_scan h) _ (scan_not h) (λ v. on_test _ _ _ refl (on_test _ _ _ refl tt)))
+    (λ u. on_bind (may_scan h) _ (scan_not h) (λ v.
+    on_test (not (nat_lt offset h.store.words && bit_on h.todo page offset)) _ _ refl
+    (on_test (is_some (scan_of h w) || is_taken h (page * h.store.words + offset)) _ _ refl tt)))
 
 next_not : (h : HeapState) (w : ℕ) (s : Scan) (o : Option ℕ) → IsNotRoom (scan_next h w s o)
 next_not h w s None = tt
@@ -126,7 +137,7 @@ field_not h w = on_bind (worker_gate h w steps.ScanField) _ (gate_not h w steps.
 global_not : (h : HeapState) (w g : ℕ) → IsNotRoom (outcome h (Worker w) (steps.ScanGlobal g))
 unfolding outcome scan_global_outcome
 global_not h w g = on_bind (worker_gate h w (steps.ScanGlobal g)) _ (gate_not h w (steps.ScanGlobal g)) (λ u.
-    on_bind (may_scan h) _ (scan_not h) (λ v. on_truth _ _ _ tt refl))
+    on_bind (may_scan h) _ (scan_not h) (λ v. on_truth (is_todo_in (slice_get h.globals g)) _ _ tt refl))
 
 copy_not : (h : HeapState) (w n : ℕ) → IsNotRoom (outcome h (Worker w) (steps.CopyPage n))
 unfolding outcome copy_page_outcome
@@ -143,7 +154,15 @@ release_not h w n = on_bind (worker_gate h w (steps.Release n)) _ (gate_not h w 
 
 one_ripe : (h : HeapState) (n : ℕ) → IsNotRoom (ripe h n)
 unfolding ripe
-one_ripe h n = on_test _ _ _ refl (on_truth _ _ _ tt refl)
+one_ripe h n = by_tests (is_open (state_at h.store n) && is_lent h.threads n) (is_closed (state_at h.store n))
+  where
+    passed : Result (Unit {0}) Refusal
+    passed = Ok tt
+
+    by_tests : (a b : Bool) → IsNotRoom (if a then Err (refusals.Lent n) else (if b then passed else Err (refusals.Unripe n)))
+    by_tests true b = refl
+    by_tests false true = tt
+    by_tests false false = refl
 
 ripe_not : (h : HeapState) (ns : List ℕ) → IsNotRoom (all_ripe h ns)
 ripe_not h [] = tt
@@ -168,9 +187,12 @@ room_not h ns e = by_tests (nat_lt (free_count h.store) need) (nat_lt (unused_co
     parts : (nat_le need (free_count h.store) ≡ true) × (nat_le need (unused_count h.store) ≡ true)
     parts = and_parts (nat_le need (free_count h.store)) (nat_le need (unused_count h.store)) e
 
+    passed : Result (Unit {0}) Refusal
+    passed = Ok tt
+
     by_tests : (a b : Bool) → a ≡ false → b ≡ false
         → IsNotRoom (cond a (Err (refusals.NoFrames need (free_count h.store)))
-        (cond b (Err refusals.NoPages) (Ok tt)))
+        (cond b (Err refusals.NoPages) passed))
     by_tests false false e f = tt
     by_tests false true e f = absurd (cc)
     by_tests true b e f = absurd (cc)

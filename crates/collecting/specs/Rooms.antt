@@ -36,11 +36,6 @@ EndsRefill t n percent h (Err e) g =
     (outcome g (Thread t) (steps.Take n) ≡ Err e)
     ⊎ ((m : HeapState) × Refills t h m × EndsCollecting percent m (Err e) g)
 
--- the buffer that a Take gave is the thread's
-abbrev pub HasTaken : ℕ → HeapState → Result Buffer Refusal → Type 0
-HasTaken t g (Ok b) = buffer_of_thread g t ≡ Some b
-HasTaken t g (Err e) = Unit {0}
-
 -- the steps of it, and how it ended
 abbrev pub RefillsWhole : ℕ → ℕ → ℕ → HeapState → Result Buffer Refusal → HeapState → Type 0
 RefillsWhole t n percent h result g = Refills t h g × EndsRefill t n percent h result g

@@ -19,7 +19,7 @@ pub(crate) fn settle(heap: &mut ManagedHeap) -> Result<(), Refusal>
 }
 
 /// Pages that are protected are emptied.
-fn settle_pages(heap: &mut ManagedHeap) -> Result<(), Refusal>
+pub(crate) fn settle_pages(heap: &mut ManagedHeap) -> Result<(), Refusal>
     ensures { EndsLeftPages heap.old result heap.new }
 {
     for index in 0..heap.heap().memory().page_count() {
@@ -31,7 +31,7 @@ fn settle_pages(heap: &mut ManagedHeap) -> Result<(), Refusal>
 }
 
 /// A page, by its number from 1, is emptied where it is protected.
-fn settle_page(heap: &mut ManagedHeap, page: u32) -> Result<(), Refusal>
+pub(crate) fn settle_page(heap: &mut ManagedHeap, page: u32) -> Result<(), Refusal>
     ensures { EndsLeft heap.old page result heap.new }
 {
     if matches!(heap.heap().memory().state(page), PageState::From) {

@@ -1,8 +1,6 @@
-use Rattle.collecting.proofs.Collections.{none, left_more, left_stops}
+use Rattle.std.proofs.Common.{◌+◌}
+use Rattle.collecting.proofs.Collections.{left_more, left_stops}
 use Rattle.collecting.proofs.leftovers.settle_pages.Goals as goal
-
-pub loop-index-starts : goal.loop-index-starts
-loop-index-starts c = none c.args.heap.now
 
 pub loop-index-preserved : goal.loop-index-preserved
 loop-index-preserved c = left_more c.args.heap.now c.loop-index.heap c.settle_page.new.heap (c.loop-index.index + 1)

@@ -1,6 +1,6 @@
 -- Buffers and objects, from one part to the next.
 use Rattle.std.proofs.Common.{◌≡◌, ◌∙◌, ℕ, length, List, [], ◌∷◌, refl, sym, subst, ap, inl, inr, Some}
-use Rattle.std.specs.Prelude.{Result, Ok, Err}
+use Rattle.std.specs.Prelude.{Result, Ok, Err, IfOk}
 use Rattle.layout.specs.declared.shape.Layout.{Layout}
 use Rattle.model.specs.declared.records.Buffer.{Buffer}
 use Rattle.model.specs.declared.steps.Actor.{Actor}
@@ -26,7 +26,7 @@ use Rattle.managed.proofs.Gathering.{goes_wider}
 use Rattle.managed.proofs.Running.{runs_one}
 use Rattle.collecting.specs.declared.collecting.Collected.{Collected}
 use Rattle.collecting.specs.Collections.{WORKER, Collects, CollectsWhole, EndsCollecting}
-use Rattle.collecting.specs.Rooms.{IsRefill, Refills, HasTaken, EndsRefill, RefillsWhole}
+use Rattle.collecting.specs.Rooms.{IsRefill, Refills, EndsRefill, RefillsWhole}
 use Rattle.collecting.specs.Rooms.{EndsMaking, MakingStands}
 
 refill_then : (t : ℕ) (h m g : HeapState) → Refills t h m → Refills t m g → Refills t h g
@@ -52,7 +52,8 @@ ends_after t n percent h m g (Err e) a (k, inr ends) =
 
 -- a buffer is taken
 pub taken : (t n percent : ℕ) (h g : HeapState) (r : Result Buffer Refusal) → DoesThread lent h t (steps.Take n) r g
-    → ThreadStands lent h t (steps.Take n) r g → HasTaken t g r → RefillsWhole t n percent h r g
+    → ThreadStands lent h t (steps.Take n) r g → IfOk r (λ (b : Buffer). buffer_of_thread g t ≡ Some b)
+    → RefillsWhole t n percent h r g
 taken t n percent h g (Ok b) does keeps has = (
   goes_thread (IsRefill t) lent h h g t (steps.Take n) (Ok b) refl does keeps (goes_none (IsRefill t) h),
   (has, (h, goes_none (IsRefill t) h, runs_one h g (Thread t) (steps.Take n) (lent b) does keeps)),
@@ -113,6 +114,13 @@ pub made : (t n percent target layout : ℕ) (h g : HeapState) (r : Result ℕ R
     → DoesThread answers.Birth h t (steps.New target layout) r g
     → ThreadStands answers.Birth h t (steps.New target layout) r g → EndsMaking t n percent target layout h r g
 made t n percent target layout h g r does keeps = made_here t n percent target layout h g r does keeps
+
+pub made_ok : (t n percent target layout b : ℕ) (h g : HeapState) (r : Result ℕ Refusal) → r ≡ Ok b
+    → DoesThread answers.Birth h t (steps.New target layout) r g
+    → ThreadStands answers.Birth h t (steps.New target layout) r g → EndsMaking t n percent target layout h (Ok b) g
+made_ok t n percent target layout b h g r is does keeps =
+    subst (λ (x : Result ℕ Refusal). EndsMaking t n percent target layout h x g) is
+    (made_here t n percent target layout h g r does keeps)
 
 -- a buffer, and then an object
 pub refilled_then : (t n percent target layout : ℕ) (h m g : HeapState) (b : Result Buffer Refusal)
