@@ -1,6 +1,6 @@
 -- Collections, from one part to the next.
-use Rattle.std.proofs.Common.{◌≡◌, ◌≢◌, ◌∙◌, ℕ, zero, suc, ◌+◌, Bool, true, false, List, [], ◌∷◌, length}
-use Rattle.std.proofs.Common.{refl, sym, subst, ap, inl, inr, arith}
+use Rattle.std.proofs.Common.{◌≡◌, ◌≢◌, ◌∙◌, ℕ, Bool, true, false, List, [], ◌∷◌, length}
+use Rattle.std.proofs.Common.{refl, sym, subst, inl, inr, arith}
 use Rattle.std.specs.Prelude.{Result, Ok, Err}
 use Rattle.choosing.specs.Choices.{IsChoice}
 use Rattle.model.specs.declared.steps.Refusal.{Refusal}
@@ -10,13 +10,13 @@ use Rattle.model.specs.Phases.{is_marking}
 use Rattle.model.specs.States.{HeapState}
 use Rattle.managed.specs.Goings.{Goes, IsCrossing, AllTried}
 use Rattle.managed.specs.Collecting.{IsCollecting, StandsUnseen, EndsMark, EndsRest}
-use Rattle.managed.specs.Emptying.{EndsPage, EndsEmptying, StopsPage}
+use Rattle.managed.specs.Emptying.{EndsPage, EndsEmptying}
 use Rattle.managed.proofs.Going.{goes_none, goes_then}
 use Rattle.managed.proofs.Gathering.{collected, crossings_collect}
 use Rattle.collecting.specs.declared.collecting.Collected.{Collected}
 use Rattle.collecting.specs.Collections.{WORKER, Collects, EndsLeft, EndsLeftPages, EndsSettling, EndsDue}
-use Rattle.collecting.specs.Collections.{EndsDueMark, EmptiesChosen, EndsChosen, EmptiesSparse, StopsSparse, EndsSparse}
-use Rattle.collecting.specs.Collections.{EndsBehind, StopsCycle, EndsWhole, EndsCycle, EndsCollecting, CollectsWhole}
+use Rattle.collecting.specs.Collections.{EndsDueMark, EndsChosen, EndsSparse}
+use Rattle.collecting.specs.Collections.{EndsBehind, EndsCycle, CollectsWhole}
 
 pub none : (h : HeapState) → Collects h h
 none h = goes_none (IsCollecting WORKER) h

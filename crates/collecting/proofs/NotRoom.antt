@@ -1,15 +1,14 @@
 -- What a collection is refused as: never that there are too few frames or pages.
-use Rattle.std.proofs.Common.{◌≡◌, ◌⊎◌, ◌∙◌, ℕ, ◌+◌, ◌*◌, ◌<◌, ◌≤◌, Bool, true, false, cond, not, List, [], ◌∷◌, nat_le, nat_lt}
-use Rattle.std.proofs.Common.{Option, Some, None, refl, sym, subst, ap, inl, inr, arith}
+use Rattle.std.proofs.Common.{◌≡◌, ◌⊎◌, ◌∙◌, ℕ, ◌+◌, ◌*◌, Bool, true, false, cond, not, List, [], ◌∷◌, nat_le, nat_lt}
+use Rattle.std.proofs.Common.{Option, Some, None, refl, ap, inl, inr, arith}
 use Rattle.std.specs.Prelude.{Result, Ok, Err, if◌then◌else◌, ◌&&◌, ◌||◌, is_some, length, slice_get}
 use Rattle.std.specs.List.{list_any}
 use Rattle.std.proofs.lemmas.Bool.{and_parts, leb-true, ltb-true}
-use Rattle.choosing.specs.Choices.{IsChoice, has_room_for}
+use Rattle.choosing.specs.Choices.{has_room_for}
 use Rattle.model.specs.declared.records.Scan.{Scan}
 use Rattle.model.specs.declared.steps.Actor.TheVariants.{Worker}
 use Rattle.model.specs.declared.steps.Step.{Step}
 use Rattle.model.specs.declared.steps.Step.TheVariants as steps
-use Rattle.model.specs.declared.steps.Answer.{Answer}
 use Rattle.model.specs.declared.steps.Refusal.{Refusal}
 use Rattle.model.specs.declared.steps.Refusal.TheVariants as refusals
 use Rattle.model.specs.Bits.{of_page, bit_on}
@@ -24,15 +23,15 @@ use Rattle.model.specs.Protections.{is_closed, all_ripe, ripe, room_for, free_co
 use Rattle.model.specs.Refusing.{◌>>=◌, or_refuse, refuse_if, Outcome, DoesStep}
 use Rattle.model.specs.References.{field_at}
 use Rattle.model.specs.Scans.{may_scan, scan_of, scan_next, pick_outcome, scan_field_outcome, scan_global_outcome}
-use Rattle.model.specs.Scans.{next_drain, is_taken, is_todo_in}
+use Rattle.model.specs.Scans.{is_taken, is_todo_in}
 use Rattle.model.specs.States.{HeapState}
-use Rattle.model.specs.Stores.{StoreState, state_at, is_from, is_open}
-use Rattle.managed.specs.Goings.{Scans, EndsScan, EndsDrain}
-use Rattle.managed.specs.Collecting.{StopsCrossing, StopsScanning, StopsMarking, EndsRest, EndsMark}
-use Rattle.managed.specs.Emptying.{StopsPage, StopsPages, StopsProtected, EndsEmptying}
+use Rattle.model.specs.Stores.{state_at, is_from, is_open}
+use Rattle.managed.specs.Goings.{Scans, EndsDrain}
+use Rattle.managed.specs.Collecting.{StopsCrossing, StopsScanning, StopsMarking}
+use Rattle.managed.specs.Emptying.{StopsPage, EndsEmptying}
 use Rattle.managed.proofs.Going.{next_scans}
 use Rattle.collecting.specs.declared.collecting.Collected.{Collected}
-use Rattle.collecting.specs.Collections.{WORKER, StopsSettling, EndsDue, EndsDueMark, StopsSparse, StopsCycle}
+use Rattle.collecting.specs.Collections.{WORKER, StopsSettling, EndsDue, StopsSparse, StopsCycle}
 use Rattle.collecting.specs.Collections.{EndsCollecting, lacks_room, IsNotRoom}
 
 -- ---- rows, line by line

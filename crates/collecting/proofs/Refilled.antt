@@ -1,5 +1,5 @@
 -- Buffers and objects, from one part to the next.
-use Rattle.std.proofs.Common.{◌≡◌, ◌∙◌, ℕ, length, List, [], ◌∷◌, refl, sym, subst, ap, inl, inr, Some}
+use Rattle.std.proofs.Common.{◌≡◌, ◌∙◌, ℕ, length, List, [], ◌∷◌, refl, sym, subst, inl, inr, Some}
 use Rattle.std.specs.Prelude.{Result, Ok, Err, IfOk}
 use Rattle.layout.specs.declared.shape.Layout.{Layout}
 use Rattle.model.specs.declared.records.Buffer.{Buffer}
@@ -19,7 +19,7 @@ use Rattle.refinement.specs.Standing.{Holds}
 use Rattle.entries.specs.declared.entry.Entry.{Entry}
 use Rattle.cycle.specs.Mutating.{DoesThread, ThreadStands}
 use Rattle.cycle.specs.Replays.{Replayed, after_entry, after_entries}
-use Rattle.managed.specs.Goings.{EachIs, Goes}
+use Rattle.managed.specs.Goings.{EachIs}
 use Rattle.managed.specs.Collecting.{IsCollecting, StandsUnseen}
 use Rattle.managed.proofs.Going.{goes_none, goes_then, goes_thread}
 use Rattle.managed.proofs.Gathering.{goes_wider}
