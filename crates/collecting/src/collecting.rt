@@ -4,6 +4,7 @@ ghost use Rattle.model.specs.declared.steps.Step.TheVariants as steps;
 ghost use Rattle.managed.specs.Collecting.{StandsUnseen};
 ghost use Rattle.managed.specs.Goings.{LoadsWhole, LoadStands};
 ghost use Rattle.collecting.specs.Collections.{Collects, CollectsWhole, EndsCollecting, IsNotRoom};
+ghost use Rattle.collecting.specs.Objects.{seen};
 ghost use Rattle.collecting.specs.Rooms.{EndsMaking, EndsRefill, MakingStands, Refills};
 
 use crate::cycles::run_cycle;
@@ -12,6 +13,8 @@ use crate::parts;
 use crate::parts::Parts;
 use crate::policy::Policy;
 use crate::rooms;
+use crate::seeing;
+use crate::seeing::Object;
 use cycle::Mutating;
 use managed::ManagedHeap;
 use model::{Buffer, Refusal};
@@ -41,6 +44,12 @@ pub trait Holding: Mutating {
     /// Loads a global into a register, whole, through the read barrier. Refused as
     /// `Mutating::load_global` is, and nothing was done then.
     fn read_global(&mut self, thread: u32, target: u32, global: u32) -> Result<(), Refusal>;
+
+    /// The object that a register names: its birth, its layout, and how many references and data it has.
+    ///
+    /// Refused as `BadIndex` for a thread or a register that isn't there, and as `Null`, `Stall` or `Stale`
+    /// where the register may not be used.
+    fn object(&self, thread: u32, register: u32) -> Result<Object, Refusal>;
 
     /// A whole collection. What an earlier one has left is ended first. Then a mark runs from its start,
     /// or to its end where one runs; pages of which at most `percent` words of a hundred are live are
@@ -108,6 +117,12 @@ impl Holding for ManagedHeap {
         ensures stands { LoadStands self.old thread (steps.LoadGlobal target global) result self.new }
     {
         ManagedHeap::read_global(self, thread, target, global)
+    }
+
+    fn object(&self, thread: u32, register: u32) -> Result<Object, Refusal>
+        ensures { result ≡ seen self.now thread register }
+    {
+        seeing::object(self, thread, register)
     }
 
     fn collect(&mut self, alloc: Global, percent: u32) -> Result<Collected, Refusal>

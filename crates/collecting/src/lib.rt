@@ -6,12 +6,16 @@
 
 mod collecting;
 mod cycles;
+mod faults;
 mod leftovers;
 mod parts;
 mod policy;
 mod portions;
 mod rooms;
+mod seeing;
 
 pub use collecting::{Collected, Holding};
+pub use faults::Fault;
 pub use parts::Parts;
 pub use policy::Policy;
+pub use seeing::Object;
