@@ -7,6 +7,8 @@
 #                 and says which crates aren't written down
 # make install    puts the program into PREFIX/bin
 # make bench      times the program on generated scripts, and loops over the library's calls
+# make soak       drives heaps by 10,000,000 random steps each, verified now and then; with SOAK_STEPS=.. by so many
+# make fuzz       runs the program on changed scripts for FUZZ_SECONDS seconds; 600, where it isn't set
 # make clean      removes the program, the log and all that earlier checks kept
 #
 # The program is proved before it is built, so a first build takes minutes.
@@ -33,7 +35,7 @@ needs_toolchain = command -v '$(firstword $(RT))' > /dev/null || { \
 # A step failed: shows how its log ends.
 show_log = { echo 'make: this failed; the end of $(LOG):' >&2; tail -n 20 '$(LOG)' >&2; exit 1; }
 
-.PHONY: all try run test edits install bench clean
+.PHONY: all try run test edits install bench soak fuzz clean
 
 # The crates whose edits 'make edits' tries; none: all that have any. How many of them side by side; 0: as many as
 # processors and memory allow.
@@ -84,6 +86,20 @@ bench: pauseless
 	$(PYTHON) bench/calls.py crates/bench/out/bench
 	$(PYTHON) bench/crowds.py
 	$(PYTHON) bench/commands.py ./pauseless
+
+# The heaps that are driven, and the steps of each.
+SOAKED = rows rolling smallest several long many
+SOAK_STEPS = 10000000
+
+soak:
+	@$(needs_toolchain)
+	@cd crates/driver && $(RT) run -- rolling 1 100000 1 > '$(CURDIR)/$(LOG)' 2>&1 || { cd '$(CURDIR)'; $(show_log); }
+	@for heap in $(SOAKED); do crates/driver/out/driver $$heap 1 $(SOAK_STEPS) 1000 1 || exit 1; done
+
+FUZZ_SECONDS = 600
+
+fuzz: pauseless
+	@FUZZ_SECONDS='$(FUZZ_SECONDS)' PYTHON='$(PYTHON)' sh tests/fuzz.sh
 
 clean:
 	rm -f pauseless '$(LOG)'

@@ -1,10 +1,10 @@
 #!/bin/sh
-# The whole test command: 'rt ci', then the programs of README.md; the program on
-# all scripts and faults, on scripts that are cut or changed, on long scripts, and
-# with words, files and outputs that fail; then the program and the library's calls
-# with each of their requests for memory refused, and the program with each start
-# of a thread refused; and the trying of edits itself. 'make test' runs it at the
-# top of the repository.
+# The whole test command: 'rt ci', then the rooms of crates.txt and the programs of
+# README.md; the program on all scripts and faults, on scripts that are cut or
+# changed, on long scripts, and with words, files and outputs that fail; then the
+# program and the library's calls with each of their requests for memory refused,
+# and the program with each start of a thread refused; and the trying of edits
+# itself. 'make test' runs it at the top of the repository.
 # The last line is 'N passed, M failed, K skipped', and the exit status is 0
 # where M is 0: K edits that must fail weren't tried, as tests/refused.txt says
 # that they were refused. What each crate took stands before it.
@@ -44,6 +44,7 @@ count() {
 # The copy in which all is proved has then the program and the tests as they were built.
 proved=$kept/proved
 count 'the proofs' sh tests/proofs.sh "$proved"
+count 'the rooms' "$PYTHON" tests/rooms.py check
 count 'the README' sh tests/readme.sh
 if "$INSTALL" -m 755 "$proved/crates/report/out/report" pauseless; then
     count 'the scripts' sh tests/scripts.sh

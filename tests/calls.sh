@@ -32,12 +32,26 @@ for named in \
     trials_heap:heaps::the_first_fault_is_told \
     trials_heap:protections::a_page_is_protected \
     shortages:protections::four_pages_are_protected \
+    shortages:protections::four_pages_of_a_managed_heap \
+    shortages:emptying::pages_are_emptied \
+    shortages:emptying::a_heap_is_made \
     trials_books:books::a_run_is_accepted \
     trials_books:marks::a_drain \
     trials_verifier:verified::the_image_of_an_object_that_moves \
     trials_scripts:scripts::steps_of_orders \
     trials_scripts:reports::runs \
-    trials_scripts:reports::cycles; do
+    trials_scripts:reports::cycles \
+    trials_scripts:wants::read_and_run \
+    trials_scripts:wants::read_and_checked \
+    trials_sharing:wants::steps_of_seats \
+    trials_sharing:wants::steps_of_threads \
+    trials_sharing:wants::pages_by_halves \
+    trials_sharing:openings::a_book_is_opened \
+    trials_sharing:openings::pages_are_chosen \
+    trials_sharing:runs::a_list_of_steps \
+    trials_sharing:runs::a_drain_in_two_parts \
+    races:wants::hints_come_back \
+    races:wants::runs_by_threads; do
     crate=${named%%:*}
     test=${named#*:}
     refuse_each "$test" "$crates/$crate/out/${crate}_tests" "$test"

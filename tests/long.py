@@ -375,8 +375,53 @@ def smallest_heap():
     return writing
 
 
+def all_pages():
+    """As many frames as a heap may have are used, and one more is asked for. Their pages give them up, but not their
+    numbers: so all page numbers are used while a frame is free, and one more is asked for. A mark frees them."""
+    writing = Writing(16, 4_096, 8_191, 1, 1, 1, 0, [(0, 1)], 2 ** 32, 1_000_000)
+
+    def take(times):
+        writing.block(times, [(0, "take", (16,)), (0, "new", (0, 0)), (0, "give", ())])
+        writing.say(0, "take", 16)
+
+    def mark():
+        writing.say(0, "clear", 0)
+        for command in (0, "mark"), (0, "cross"), (0, "drain"), (0, "endmark"):
+            writing.say(*command)
+
+    take(4_096)
+    mark()
+    writing.say(0, "protect", *range(1, 4_097))
+    writing.say(0, "cross")
+    for page in range(1, 4_097):
+        writing.say(0, "release", page)
+    take(4_095)
+    mark()
+    writing.say(0, "take", 16)
+    writing.demand("all_pages", {"birth": 8_191, "NoFrames": 1, "NoPages": 1, "retired_pages": 4_096})
+    return writing
+
+
+def all_births():
+    """As many objects are born as may be, and one more is asked for, by each thread."""
+    writing = Writing(4_096, 40, 80, 2, 1, 1, 0, [(0, 0)], 150_000, 1_000_000)
+    for _ in range(36):
+        writing.block(1, [(0, "take", (4_096,))])
+        writing.block(4_096, [(0, "new", (0, 0))])
+        writing.say(0, "give")
+    writing.say(0, "take", 4_096)
+    writing.say(1, "take", 2)
+    writing.block(150_000 - 36 * 4_096 - 1, [(0, "new", (0, 0))])
+    writing.say(1, "new", 0, 0)
+    writing.say(0, "new", 0, 0)
+    writing.say(1, "new", 0, 0)
+    writing.demand("all_births", {"birth": 150_000, "Births": 2})
+    return writing
+
+
 def main():
-    for script in (many_pages, full_history, many_marks, long_list, many_moves, fragmentation, smallest_heap):
+    for script in (many_pages, full_history, many_marks, long_list, many_moves, fragmentation, smallest_heap, all_pages,
+                   all_births):
         script().write(sys.argv[1], script.__name__)
 
 

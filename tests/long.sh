@@ -12,7 +12,7 @@ if ! "${PYTHON:-python3}" tests/long.py "$kept"; then
     failed=$((failed + 1))
 fi
 
-for name in many_pages full_history many_marks long_list many_moves fragmentation smallest_heap; do
+for name in many_pages full_history many_marks long_list many_moves fragmentation smallest_heap all_pages all_births; do
     : > "$kept/output"
     "$program" run "$kept/$name.script" > "$kept/output" 2> "$kept/errors"
     status=$?

@@ -15,7 +15,7 @@ refuse_in_turn() {
     variable=$1 name=$2
     shift 2
     number=1
-    while [ "$number" -le 1000 ]; do
+    while [ "$number" -le 3000 ]; do
         rm -f "$kept/refused" "$kept/running"
         timeout 60 env "$variable=$number" "REFUSED=$kept/refused" "RUNNING=$kept/running" \
             "LD_PRELOAD=$kept/refuse.so" "$@" > "$kept/output" 2> "$kept/errors"
@@ -29,7 +29,7 @@ refuse_in_turn() {
         [ -e "$kept/refused" ] || break
         number=$((number + 1))
     done
-    if [ "$number" = 1 ] || [ "$number" -gt 1000 ]; then
+    if [ "$number" = 1 ] || [ "$number" -gt 3000 ]; then
         echo "failed: $name, $variable refuses nothing one by one"
         failed=$((failed + 1))
     fi

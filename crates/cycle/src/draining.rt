@@ -36,7 +36,7 @@ fn next_global(heap: &Heap) -> Option<usize>
     ensures range { IfSome result (λ i. i < 2 ^ 32) }
 {
     heap.law();
-    heap.globals().iter().position(|global| global.todo)
+    heap.first_todo_global()
 }
 
 /// What a worker does next that drains the mark (the paper's Mark phase; the order is ours): it scans

@@ -1,3 +1,4 @@
+pub mod Globals
 pub mod Views
 pub mod Making
 pub mod Relocating

@@ -12,11 +12,13 @@ mod registers;
 mod relocating;
 mod runs;
 
-ghost use Rattle.std.specs.Prelude.{◌≡◌, ◌<◌, ◌≤◌, ◌*◌, ◌+◌};
+ghost use Rattle.std.specs.Prelude.{◌≡◌, ◌<◌, ◌≤◌, ◌*◌, ◌+◌, position, length, IfSome};
 ghost use Rattle.model.specs.Cycles.{is_lent};
 ghost use Rattle.model.specs.Owning.{IsStore};
 ghost use Rattle.model.specs.Holding.{IsHeap};
+ghost use Rattle.heap.specs.Globals.{is_todo};
 
+use crate::globals::Globals;
 use forward::Sides;
 use markbits::{IndexedRows, Rows};
 use model::{Config, Global, Phase, Scan};
@@ -54,7 +56,7 @@ pub struct Heap {
     sides: Sides,
     threads: Threads,
     workers: Vec<Option<Scan>>,
-    globals: Vec<Global>,
+    globals: Globals,
     phase: Phase,
     nmt: bool,
     births: u64,
@@ -176,7 +178,15 @@ impl Heap {
     pub fn globals(&self) -> &[Global]
         ensures { result.now ≡ self.now.globals }
     {
-        &self.globals
+        self.globals.as_slice()
+    }
+
+    /// The number, from 0, of the first global that a mark has still to look at (the paper's Mark phase).
+    pub fn first_todo_global(&self) -> Option<usize>
+        ensures place { result ≡ position is_todo self.now.globals }
+        ensures there { IfSome result (λ i. i < length self.now.globals) }
+    {
+        self.globals.first_todo()
     }
 
     /// Where the collector is in its cycle.

@@ -5,6 +5,7 @@
 #![tactic(auto)]
 
 mod fault;
+mod globals;
 mod heap;
 
 pub use fault::NewFault;

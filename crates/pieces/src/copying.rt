@@ -6,6 +6,7 @@ ghost use Rattle.pieces.specs.Pieces.{source_of, laid_by, laid_from};
 
 use crate::cutter::cut_off;
 use crate::source::{Source, words_from};
+use model::Forwarding;
 use refword::Addr;
 
 /// Writes words over those of a list from a place on, as far as it goes.
@@ -33,6 +34,16 @@ pub(crate) fn place_behind(source: &Source<'_>, to: Addr, base: usize) -> usize
 {
     let place = (to.number() % u64::from(source.size)) as usize;
     place.saturating_sub(base)
+}
+
+/// The entry of a number, if there is one, sought near an offset, if one is known.
+fn entry_near(source: &Source<'_>, index: usize, near: Option<u32>) -> Option<Forwarding>
+    ensures { result ≡ slice_get source.now.side.now index }
+{
+    match near {
+        None => source.side.entry(index),
+        Some(offset) => source.side.entry_near(index, offset),
+    }
 }
 
 /// Copies the object of an entry to its place, if it isn't copied yet. The words of the target begin
@@ -65,12 +76,13 @@ fn fill(here: &mut [u64], words: &[u64], copied: bool)
 
 /// Copies the objects of entries from a number on, each into the next piece that is cut off the
 /// target's words, as long as one begins where the one before it ended or behind that, and they go
-/// that far. Answers how many.
+/// that far. The first is sought near an offset, if one is known. Answers how many.
 fn copy_pieces(
     source: &Source<'_>,
     first: usize,
     count: usize,
     base: usize,
+    near: Option<u32>,
     target: &mut [u64],
 ) -> usize
     requires size { 0 < source.now.size }
@@ -83,7 +95,7 @@ fn copy_pieces(
     if count == 0 {
         return 0;
     }
-    let Some(entry) = source.side.entry(first) else {
+    let Some(entry) = entry_near(source, first, near) else {
         return 0;
     };
     let place = place_behind(source, entry.to, 0);
@@ -99,7 +111,8 @@ fn copy_pieces(
         return 0;
     };
     fill(here, words, entry.copied);
-    1 + copy_pieces(source, first + 1, count - 1, place + words.len(), rest)
+    let (behind, near) = (place + words.len(), Some(entry.offset));
+    1 + copy_pieces(source, first + 1, count - 1, behind, near, rest)
 }
 
 /// How many objects are written one behind another, before the target's words are cut anew.
@@ -121,7 +134,7 @@ fn copy_stretch(
     ensures count { result ≤ count }
     ensures laid { target.new ≡ laid_from (source_of source.now) base first result target.old }
 {
-    let copied = copy_pieces(source, first, count.min(STRETCH), base, target);
+    let copied = copy_pieces(source, first, count.min(STRETCH), base, None, target);
     if copied > 0 {
         return copied;
     }

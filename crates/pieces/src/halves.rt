@@ -31,20 +31,21 @@ fn parts_of(depth: u32) -> u32
     }
 }
 
-/// Where the object of an entry ends in its target, if it doesn't begin below a place.
-fn end_behind(source: &Source<'_>, entry: usize, low: usize) -> Option<usize>
+/// Where the object of an entry ends in its target, if it doesn't begin below a place, and the entry's
+/// offset. It is sought near another one.
+fn end_behind(source: &Source<'_>, entry: usize, low: usize, near: u32) -> Option<(usize, u32)>
     requires { 0 < source.now.size }
-    ensures follows { IfSome result (λ n. Follows (source_of source.now) low (slice_get source.now.side.now entry)) }
-    ensures end { IfSome result (λ n. n ≡ end_by (source_of source.now) low (slice_get source.now.side.now entry)) }
+    ensures follows { IfSome result (λ e. Follows (source_of source.now) low (slice_get source.now.side.now entry)) }
+    ensures end { IfSome result (λ e. e.0 ≡ end_by (source_of source.now) low (slice_get source.now.side.now entry)) }
 {
-    let Some(entry) = source.side.entry(entry) else {
-        return Some(low);
+    let Some(entry) = source.side.entry_near(entry, near) else {
+        return Some((low, near));
     };
     let place = place_behind(source, entry.to, 0);
     if place < low {
         return None;
     }
-    Some(place + source.size_at(entry.offset))
+    Some((place + source.size_at(entry.offset), entry.offset))
 }
 
 /// Whether the objects of entries are to lie one behind the other, and end within so many words.
@@ -55,12 +56,13 @@ fn is_in_order(source: &Source<'_>, first: usize, count: usize, high: usize) -> 
     ensures { result ≡ true → AreInOrder (source_of source.now) 0 high first count }
 {
     let _entries = source.side.len();
-    let mut low = 0;
+    let (mut low, mut near) = (0, 0);
     for index in 0..count {
-        let Some(end) = end_behind(source, first + index, low) else {
+        let Some((end, offset)) = end_behind(source, first + index, low, near) else {
             return false;
         };
         low = end;
+        near = offset;
     }
     low <= high
 }

@@ -1,8 +1,7 @@
 //! Faults in the image of a heap behind its first mark: an object of three words at page 1, offset 0,
 //! in frame 0, which a register of each thread and the global name.
 
-use crate::edits::{set_frame, set_free, set_global, set_start, set_word, word};
-use crate::stories::{closed, new_book};
+use imaging::{closed, new_book, set_frame, set_free, set_global, set_start, set_word, word};
 use std::alloc::Global;
 use std::process::Abort;
 use std::test::Fail;

@@ -2,10 +2,6 @@
 #![tactic(auto)]
 
 #[cfg(test)]
-mod edits;
-#[cfg(test)]
 mod faults;
 #[cfg(test)]
 mod moved;
-#[cfg(test)]
-mod stories;

@@ -1,9 +1,8 @@
 //! Faults in the image of a heap whose object has moved from page 1, which is released, to page 2,
 //! offset 0. Roots name it by its old place until the next mark.
 
-use crate::edits::{entry, set_entry, set_frame, set_load};
 use crate::faults::{NOWHERE, has_fault, is_sound};
-use crate::stories::{moved, new_book, trapped};
+use imaging::{entry, moved, new_book, set_entry, set_frame, set_load, trapped};
 use std::test::Fail;
 use verify::{Fault, Root};
 
@@ -58,7 +57,7 @@ fn nothing_is_planted_in_a_load(rt: HostRuntime) -> Result<(), Fail> {
 #[test]
 fn a_load_that_names_nothing(rt: HostRuntime) -> Result<(), Fail> {
     let mut image = trapped(rt.alloc(), new_book(rt.alloc())?)?;
-    set_load(&mut image, 0, NOWHERE);
+    set_load(&mut image, 0, Some(NOWHERE));
     has_fault(&rt, rt.alloc(), &image, Fault::Root(Root::Pending(0)));
     Ok(())
 }

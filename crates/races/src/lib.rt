@@ -15,3 +15,5 @@ mod strays;
 mod taking;
 #[cfg(test)]
 mod turns;
+#[cfg(test)]
+mod wants;

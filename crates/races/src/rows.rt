@@ -10,7 +10,7 @@ use std::test::Fail;
 use std::thread::Threads;
 use telling::tell_threads;
 
-const SCRIPT: &str =
+pub const SCRIPT: &str =
     "heap words 512 frames 8 pages 40 threads 2 workers 2 registers 4 globals 2\nlayout 1 1\nt0 take 300\n\
     t1 take 300\ntimes 100\nt0 new r1 0\nt0 set r1 0 1\nt0 store r1 0 r0\nt0 mov r0 r1\nt0 storeg 0 r0\n\
     t1 new r1 0\nt1 set r1 0 1\nt1 store r1 0 r0\nt1 mov r0 r1\nt1 storeg 1 r0\nend\nt0 give\nt1 give\n\
@@ -23,10 +23,10 @@ const ROLLING: &str =
     t1 new r1 0\nt1 set r1 0 1\nt1 store r1 0 r0\nt1 mov r0 r1\nt1 storeg 1 r0\nend\nt0 give\nt1 give\n\
     times 100\nt0 datum r0 0\nt0 get r0 r0 0\nt1 datum r0 0\nt1 get r0 r0 0\nend\ntimes 3\nw0 roll 100\nend\n";
 
-const OUTPUT: &str = "thread 0 births 100 data 100\nthread 1 births 100 data 100\nsettled\n";
+pub const OUTPUT: &str = "thread 0 births 100 data 100\nthread 1 births 100 data 100\nsettled\n";
 
 /// What is printed of a run that is settled.
-fn printed(alloc: Global, settled: &Settled) -> Option<Vec<u8>> {
+pub fn printed(alloc: Global, settled: &Settled) -> Option<Vec<u8>> {
     let mut output = Vec::new(alloc);
     match tell_threads(settled, &mut output) {
         Ok(()) => Some(output),

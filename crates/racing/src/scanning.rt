@@ -33,14 +33,7 @@ fn field_of(heap: &Heap, object: Addr, field: u32) -> Option<Addr> {
 
 /// The first global that is still to be marked.
 fn next_global(heap: &Heap) -> Option<u32> {
-    let mut number = 0u32;
-    for global in heap.globals() {
-        if global.todo {
-            return Some(number);
-        }
-        number = number.wrapping_add(1);
-    }
-    None
+    u32::try_from(heap.first_todo_global()?).ok()
 }
 
 /// Hints for what these fields of an object name. Those that aren't taken are dropped.

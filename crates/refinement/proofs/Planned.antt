@@ -43,6 +43,31 @@ pub record IsLive (h : HeapState) (pages : List ℕ) (a : ℕ) : Type 0 where
   pub here : object_at h a ≡ Some object
   pub fits : a % h.store.words + object_size object ≤ h.store.words
 
+-- an offset that is told is one of the page
+module _ (h : HeapState) (l : IsLaid h) where
+  row_of : (n j : ℕ) → slice_get (of_page h.live n) j ≡ Some true → j < h.store.words
+  row_of zero j f = absurd (cc)
+  row_of (suc i) j f = by_row (slice_get h.live i) refl
+    where
+      by_row : (x : Option (List Bool)) → slice_get h.live i ≡ x → j < h.store.words
+      by_row None z = absurd (none [] refl (sym (ap (λ r. slice_get r j) (list_read h.live i ∙ ap list_of z)) ∙ f))
+        where
+          none : (bits : List Bool) → bits ≡ [] → slice_get bits j ≡ Some true → ⊥
+          none [] e y = cc
+          none (b ∷ bits) e y = cc
+      by_row (Some row) z =
+          let long : length row ≡ h.store.words = l.live.words i row z in
+          omega (
+            arith,
+            long,
+            slice_get_within row j true
+                (sym (ap (λ r. slice_get r j) (list_read h.live i ∙ ap list_of z)) ∙ f),
+          )
+
+  pub live_within : (n o : ℕ) → IsIn o (live_offsets h n) → o < h.store.words
+  unfolding live_offsets
+  live_within n o e = let (j, is, set) = offset_told 0 (of_page h.live n) o e in omega (arith, is, row_of n j set)
+
 module _ (h : HeapState) (s : IsStore h.store) (l : IsLaid h) (pages : List ℕ)
     (closed : (n : ℕ) → IsIn n pages → state_at h.store n ≡ Closed) where
   -- an offset that is told on one of the pages
@@ -50,29 +75,10 @@ module _ (h : HeapState) (s : IsStore h.store) (l : IsLaid h) (pages : List ℕ)
   unfolding live_offsets
   live_at n o e k = by_bit n (offset_told 0 (of_page h.live n) o k) e k
     where
-      row_of : (n j : ℕ) → slice_get (of_page h.live n) j ≡ Some true → j < h.store.words
-      row_of zero j f = absurd (cc)
-      row_of (suc i) j f = by_row (slice_get h.live i) refl
-        where
-          by_row : (x : Option (List Bool)) → slice_get h.live i ≡ x → j < h.store.words
-          by_row None z = absurd (none [] refl (sym (ap (λ r. slice_get r j) (list_read h.live i ∙ ap list_of z)) ∙ f))
-            where
-              none : (bits : List Bool) → bits ≡ [] → slice_get bits j ≡ Some true → ⊥
-              none [] e y = cc
-              none (b ∷ bits) e y = cc
-          by_row (Some row) z =
-              let long : length row ≡ h.store.words = l.live.words i row z in
-              omega (
-                arith,
-                long,
-                slice_get_within row j true
-                    (sym (ap (λ r. slice_get r j) (list_read h.live i ∙ ap list_of z)) ∙ f),
-              )
-
       by_bit : (n : ℕ) → (j : ℕ) × (o ≡ 0 + j) × (slice_get (of_page h.live n) j ≡ Some true) → IsIn n pages
           → IsIn o (live_offsets h n) → IsLive h pages (n * h.store.words + o)
       by_bit n (j, is, set) e k =
-          let under : o < h.store.words = omega (arith, is, row_of n j set) in
+          let under : o < h.store.words = live_within h l n o k in
           let page : (n * h.store.words + o) / h.store.words ≡ n = div-mul-add n h.store.words o under in
           let offset : (n * h.store.words + o) % h.store.words ≡ o = mod-mul-add n h.store.words o under in
           let bit : get_or (of_page h.live n) o false ≡ true = get_or_from_slice_get (of_page h.live n) o true false

@@ -443,7 +443,7 @@ ripe_closed h n = by_lent (is_open (state_at h.store n) && is_lent h.threads n)
     by_lent true = tt
     by_lent false = is (state_at h.store n)
 
-all_closed : (h : HeapState) (pages : List ℕ)
+pub all_closed : (h : HeapState) (pages : List ℕ)
     → OnAccepted (λ (u : Unit {0}). (n : ℕ) → IsIn n pages → state_at h.store n ≡ Closed) (all_ripe h pages)
 all_closed h [] = λ n e. absurd e
 all_closed h (k ∷ pages) = on_has (ripe h k) _ _ _ (ripe_closed h k) (λ u first.
@@ -455,7 +455,7 @@ pub record HasRoomFor (h : HeapState) (need : ℕ) : Type 0 where
   pub frames : need ≤ free_count h.store
   pub pages : need ≤ unused_count h.store
 
-has_room : (h : HeapState) (need : ℕ) → OnAccepted (λ (u : Unit {0}). HasRoomFor h need) (room_for h.store need)
+pub has_room : (h : HeapState) (need : ℕ) → OnAccepted (λ (u : Unit {0}). HasRoomFor h need) (room_for h.store need)
 unfolding room_for
 has_room h need = on_test (nat_lt (free_count h.store) need) _ _ _ (λ e.
     on_test (nat_lt (unused_count h.store) need) _ _ _ (λ f.

@@ -4,3 +4,4 @@ pub mod Claims
 pub mod Roots
 pub mod Tallies
 pub mod Standing
+pub mod Packing

@@ -11,6 +11,7 @@
 //! heap.
 #![tactic(auto)]
 
+ghost use Rattle.refinement.specs.Packing.{PagesLieInTwo};
 ghost use Rattle.refinement.specs.Standing.{HeapsStand, HeapsRead, FirstHolds, StepsHold, MarksFind, PhasesMove};
 ghost use Rattle.refinement.specs.Tallies.{StepsCount};
 
@@ -37,4 +38,11 @@ pub fn law()
     ensures phases { PhasesMove }
     // the tallies of threads count what their loads come to, and nothing else
     ensures tallies { StepsCount }
+{}
+
+/// Where the objects of a page go that is protected (ours), in a state that stands for a plain heap: the
+/// entries of its side array lie in two targets at most, in one and in that which was opened next. As
+/// objects don't overlap, those of a page come to no more words than a target has.
+pub fn packing_law()
+    ensures { PagesLieInTwo }
 {}

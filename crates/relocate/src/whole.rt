@@ -1,7 +1,7 @@
 //! All objects of a page are copied at once (the paper's Relocate phase; that they are copied by
 //! runs, one for each target, and by halves on threads, is ours).
 
-ghost use Rattle.std.specs.Prelude.{◌≡◌, ◌+◌, ◌<◌, ◌≤◌, length, true, Some, slice_get};
+ghost use Rattle.std.specs.Prelude.{◌≡◌, ◌+◌, ◌<◌, ◌≤◌, length, Some, IfSome, slice_get};
 ghost use Rattle.heap.specs.Runs.{with_entries};
 ghost use Rattle.model.specs.Bits.{of_page};
 ghost use Rattle.model.specs.Emptying.{copy_page_outcome};
@@ -35,14 +35,20 @@ fn target_of(heap: &Heap, page: u64, entry: u32) -> Option<u64>
     }
 }
 
-/// Whether the object of an entry goes to a target.
-fn is_going_to(heap: &Heap, page: u64, entry: u32, target: u64) -> bool
-    ensures { result ≡ true → goes_to heap.now.store.words (slice_get (of_page heap.now.sides page) entry)
-        ≡ Some target }
+/// The offset of an entry, if its object goes to a target. It is sought near another offset.
+fn next_to(heap: &Heap, page: u64, entry: u32, target: u64, near: u32) -> Option<u32>
+    ensures { IfSome result (λ o. goes_to heap.now.store.words (slice_get (of_page heap.now.sides page) entry)
+        ≡ Some target) }
 {
-    match target_of(heap, page, entry) {
-        None => false,
-        Some(found) => found == target,
+    match heap.sides().entry_near(page, entry, near) {
+        None => None,
+        Some(found) => {
+            if heap.memory().page_of(found.to) == target {
+                Some(found.offset)
+            } else {
+                None
+            }
+        }
     }
 }
 
@@ -54,11 +60,12 @@ fn run_length(heap: &Heap, page: u64, first: u32, end: u32, target: u64) -> u32
     requires here { goes_to heap.now.store.words (slice_get (of_page heap.now.sides page) first) ≡ Some target }
     ensures { IsRun heap.now page first end target result }
 {
-    let mut count = 1;
+    let (mut count, mut near) = (1, 0);
     while count < end - first {
-        if !is_going_to(heap, page, first + count, target) {
+        let Some(offset) = next_to(heap, page, first + count, target, near) else {
             return count;
-        }
+        };
+        near = offset;
         count += 1;
     }
     count

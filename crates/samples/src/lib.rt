@@ -1,6 +1,9 @@
 //! What several tests begin with: configurations, their numbers, and numbers without order.
 #![tactic(auto)]
 
+mod dice;
+
+pub use dice::Dice;
 use layout::{Layout, Layouts};
 use model::Config;
 use std::alloc::{AllocError, Global};

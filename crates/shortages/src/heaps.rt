@@ -3,6 +3,7 @@
 use cycle::{Actor, Reply, Step, Stepping, next_drain};
 use heap::{Config, Heap, NewFault, Refusal};
 use layout::{Layout, Layouts};
+use managed::ManagedHeap;
 use model::Phase;
 use std::alloc::{AllocError, Global};
 use std::fmt::Write as _;
@@ -70,6 +71,32 @@ impl Moving for Heap {
     }
 }
 
+impl Moving for ManagedHeap {
+    fn act(&mut self, step: &Step) -> Reply {
+        self.step(THREAD, step)
+    }
+
+    fn work(&mut self, step: &Step) -> Reply {
+        self.step(WORKER, step)
+    }
+
+    fn scan(&mut self) -> Result<bool, Refusal> {
+        let Some(step) = next_drain(self.heap(), 0) else {
+            return Ok(false);
+        };
+        self.step(WORKER, &step)?;
+        Ok(true)
+    }
+
+    fn progress(&self) -> (Phase, bool, u64) {
+        self.heap().progress()
+    }
+
+    fn text(&self, alloc: Global) -> Result<String, AllocError> {
+        self.heap().text(alloc)
+    }
+}
+
 /// Six frames of 16 words, twelve pages, one thread with two registers, one worker and no globals. An
 /// object has one reference and one datum.
 fn config(alloc: Global) -> Result<Config, AllocError> {
@@ -83,6 +110,11 @@ fn config(alloc: Global) -> Result<Config, AllocError> {
 /// Such a heap.
 pub fn new_heap(alloc: Global) -> Result<Heap, NewFault> {
     Heap::new(alloc, config(alloc)?)
+}
+
+/// The same heap, as a program holds it.
+pub fn new_managed(alloc: Global) -> Result<ManagedHeap, NewFault> {
+    ManagedHeap::new(alloc, config(alloc)?)
 }
 
 /// A new object becomes the head of the list in register 0.

@@ -3,6 +3,10 @@
 #![tactic(auto)]
 
 #[cfg(test)]
+mod emptying;
+#[cfg(test)]
 mod heaps;
 #[cfg(test)]
 mod protections;
+#[cfg(test)]
+mod same;

@@ -1,6 +1,6 @@
 //! Four pages are protected in one step.
 
-use crate::heaps::{Moving, fill_and_close, new_heap};
+use crate::heaps::{Moving, fill_and_close, new_heap, new_managed};
 use heap::Refusal;
 use model::{Answer, PageList, Phase, Reply, Step};
 use std::alloc::{AllocError, Global};
@@ -70,4 +70,9 @@ fn protect(rt: &impl Abort, alloc: Global, mut heap: impl Moving + Drop) -> Resu
 #[test]
 fn four_pages_are_protected(rt: HostRuntime) -> Result<(), Fail> {
     protect(&rt, rt.alloc(), new_heap(rt.alloc())?)
+}
+
+#[test]
+fn four_pages_of_a_managed_heap(rt: HostRuntime) -> Result<(), Fail> {
+    protect(&rt, rt.alloc(), new_managed(rt.alloc())?)
 }

@@ -12,6 +12,8 @@ mod loads;
 #[cfg(test)]
 mod marks;
 #[cfg(test)]
+mod numbered;
+#[cfg(test)]
 mod plans;
 #[cfg(test)]
 mod same;

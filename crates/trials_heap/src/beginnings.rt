@@ -4,7 +4,7 @@ use crate::moves::HeldHeap;
 use crate::same::{same, same_at};
 use heap::{Config, Heap, Row, Thread};
 use layout::{Layout, Layouts};
-use model::{Page, PageState, Phase};
+use model::{Page, PageState, Phase, Tally};
 use page::Store;
 use refword::Word;
 use samples::sizes;
@@ -60,6 +60,16 @@ fn has_threads(rt: &impl Abort, threads: &[Thread]) {
     same(rt, threads.len(), 2);
     for thread in threads {
         is_new(rt, thread);
+    }
+}
+
+/// The loads of each thread have come to nothing yet, and there is no other thread.
+fn has_tallies(rt: &impl Abort, heap: &Heap) {
+    for thread in 0..2 {
+        same_at(rt, thread, heap.tally(thread), Some(Tally::blank()));
+    }
+    for thread in [2, u32::MAX] {
+        same_at(rt, thread, heap.tally(thread), None);
     }
 }
 
@@ -120,6 +130,7 @@ fn has_first_pages(rt: &impl Abort, heap: &Heap) {
 fn has_first_records(rt: &impl Abort, heap: &Heap) {
     has_config(rt, heap.config());
     has_threads(rt, heap.threads());
+    has_tallies(rt, heap);
     has_workers(rt, heap);
     has_globals(rt, heap);
     has_collector(rt, heap);

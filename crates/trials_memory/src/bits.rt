@@ -6,6 +6,11 @@ use samples::scatter;
 use std::process::Abort;
 use std::test::Fail;
 
+/// Every number of words that a page may have.
+pub const PAGE_SIZES: [u32; 12] = [
+    16, 32, 64, 128, 256, 512, 1_024, 2_048, 4_096, 8_192, 16_384, 32_768,
+];
+
 /// How many flags are set below a place, one by one.
 fn flags_below(flags: &[bool], place: usize) -> usize {
     flags.iter().take(place).filter(|flag| **flag).count()
@@ -48,7 +53,7 @@ fn go_along(rt: &impl Abort, row: &mut Row, flags: &mut [bool]) {
 
 #[test]
 fn rows_go_along_with_flags(rt: HostRuntime) -> Result<(), Fail> {
-    for size in [16u32, 32, 64, 128, 256, 512, 1024, 2048, 4096, 32768] {
+    for size in PAGE_SIZES {
         let mut row = Row::new(rt.alloc(), size)?;
         let mut flags = vec![in rt.alloc(); false; size as usize]?;
         go_along(&rt, &mut row, &mut flags);

@@ -7,6 +7,8 @@ mod bits;
 #[cfg(test)]
 mod configs;
 #[cfg(test)]
+mod listed;
+#[cfg(test)]
 mod objects;
 #[cfg(test)]
 mod pages;

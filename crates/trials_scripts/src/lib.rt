@@ -9,3 +9,5 @@ mod same;
 mod scripts;
 #[cfg(test)]
 mod texts;
+#[cfg(test)]
+mod wants;

@@ -67,7 +67,7 @@ fn a_page_without_live_objects(rt: HostRuntime) -> Result<(), Fail> {
 }
 
 /// Two pages of five objects, fifteen words of each, and one free frame.
-const FULL: &str =
+pub const FULL: &str =
     "t0 take 16\ntimes 5\nt0 new r1 0\nt0 store r1 0 r0\nt0 mov r0 r1\nend\nt0 give\nt0 take 16\ntimes 5\n\
     t0 new r1 0\nt0 store r1 0 r0\nt0 mov r0 r1\nend\nt0 give\nw0 mark\nt0 cross\nt1 cross\nw0 scang 0\n\
     w0 pick 2.12\nw0 scan\nw0 scan\nw0 pick 2.9\nw0 scan\nw0 scan\nw0 pick 2.6\nw0 scan\nw0 scan\n\

@@ -8,10 +8,16 @@ mod mirror;
 #[cfg(test)]
 mod opened;
 #[cfg(test)]
+mod openings;
+#[cfg(test)]
 mod rows;
+#[cfg(test)]
+mod runs;
 #[cfg(test)]
 mod same;
 #[cfg(test)]
 mod stops;
 #[cfg(test)]
 mod table;
+#[cfg(test)]
+mod wants;

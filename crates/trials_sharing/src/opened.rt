@@ -1,6 +1,7 @@
 //! Books of scripts.
 
 use cycle::Book;
+use heap::Refusal;
 use held::act;
 use parser::{ParseFault, Script, parse};
 use std::alloc::{AllocError, Global};
@@ -37,11 +38,13 @@ pub fn book_of(alloc: Global, script: &Script) -> Result<Book, Fail> {
     }
 }
 
-/// Does the steps of a script's commands on a book, whatever they are answered.
+/// Does the steps of a script's commands on a book, whatever they are answered, but for want of memory.
 pub fn act_all(alloc: Global, book: &mut Book, script: &Script) -> Result<(), AllocError> {
     for command in script.commands() {
         let step = command.order.step(alloc)?;
-        let _ = act(book, command.actor, step);
+        if act(book, command.actor, step) == Err(Refusal::Memory) {
+            return Err(AllocError);
+        }
     }
     Ok(())
 }

@@ -102,7 +102,7 @@ fn entry_text(alloc: Global, history: &History, index: usize) -> Result<String, 
 }
 
 /// Two histories have the same entries, so many.
-fn same_histories(
+pub fn same_histories(
     rt: &impl Abort,
     alloc: Global,
     left: &History,
@@ -120,7 +120,7 @@ fn same_histories(
 }
 
 /// A table's book, where its seats agree with it.
-fn settled(table: Table) -> Option<Book> {
+pub fn settled(table: Table) -> Option<Book> {
     let Table {
         shared,
         seats,
@@ -133,7 +133,7 @@ fn settled(table: Table) -> Option<Book> {
 }
 
 /// The history of a book is that of another one, of so many entries.
-fn tells_the_same(
+pub fn tells_the_same(
     rt: &impl Abort,
     alloc: Global,
     mut held: impl HeldBook + Drop,

@@ -1,152 +1,15 @@
 //! Verdicts on images of heaps: planted faults, and the order of faults.
 
 use crate::same::same;
-use layout::{Header, Layout};
-use model::{Forwarding, PageState};
-use refword::Addr;
+use imaging::{
+    add_entry, bare, put, set_free, set_global, set_load, set_page, set_register, set_start,
+    set_word,
+};
+use model::PageState;
 use std::alloc::{AllocError, Global};
 use std::process::Abort;
 use std::test::Fail;
-use verify::{Fault, Image, PageImage, Root, Verdict, Words, verify_image};
-
-/// A page of 16 words in which no object starts.
-pub fn page(alloc: Global, state: PageState, frame: Option<u32>) -> Result<PageImage, AllocError> {
-    Ok(PageImage {
-        state,
-        frame,
-        starts: vec![in alloc; false; 16]?,
-        side: Vec::new(alloc),
-    })
-}
-
-/// So many lists of so many zeros.
-fn zeros(alloc: Global, lists: usize, count: usize) -> Result<Vec<Words>, AllocError> {
-    let mut all = Vec::with_capacity(alloc, lists)?;
-    for _ in 0..lists {
-        all.push(Words {
-            words: vec![in alloc; 0; count]?,
-        })?;
-    }
-    Ok(all)
-}
-
-/// Objects of one reference and one datum, of two references, and of one datum.
-fn layouts(alloc: Global) -> Result<Vec<Layout>, AllocError> {
-    let mut layouts = Vec::with_capacity(alloc, 3)?;
-    for (refs, nums) in [(1, 1), (2, 0), (0, 1)] {
-        layouts.push(Layout { refs, nums })?;
-    }
-    Ok(layouts)
-}
-
-/// Three frames, of which 1 and 2 are free, two threads with two registers, a global, and pages of
-/// which the first owns frame 0 and the others are unused. No object is there.
-pub fn bare(alloc: Global, pages: usize) -> Result<Image, AllocError> {
-    let mut all = Vec::with_capacity(alloc, pages)?;
-    all.push(page(alloc, PageState::Open, Some(0))?)?;
-    for _ in 1..pages {
-        all.push(page(alloc, PageState::Unused, None)?)?;
-    }
-    let mut image = Image {
-        words: 16,
-        frame_count: 3,
-        free: vec![in alloc; 0; 2]?,
-        pages: all,
-        frames: zeros(alloc, 3, 16)?,
-        registers: zeros(alloc, 2, 2)?,
-        loads: vec![in alloc; None; 2]?,
-        globals: vec![in alloc; 0; 1]?,
-        layouts: layouts(alloc)?,
-    };
-    set_free(&mut image, 0, 1);
-    set_free(&mut image, 1, 2);
-    Ok(image)
-}
-
-/// One of the free frames is this one.
-pub fn set_free(image: &mut Image, index: usize, frame: u32) {
-    if index < image.free.len() {
-        image.free[index] = frame;
-    }
-}
-
-/// A page is used so, and has this frame.
-pub fn set_page(image: &mut Image, number: usize, state: PageState, frame: Option<u32>) {
-    if number > 0 && number <= image.pages.len() {
-        let page = &mut image.pages[number - 1];
-        page.state = state;
-        page.frame = frame;
-    }
-}
-
-/// An object starts at an offset of a page, or doesn't.
-pub fn set_start(image: &mut Image, number: usize, offset: usize, starts: bool) {
-    if number > 0 && number <= image.pages.len() {
-        let page = &mut image.pages[number - 1];
-        if offset < page.starts.len() {
-            page.starts[offset] = starts;
-        }
-    }
-}
-
-/// A frame has a word at an offset.
-pub fn set_word(image: &mut Image, frame: usize, offset: usize, bits: u64) {
-    if frame < image.frames.len() {
-        let words = &mut image.frames[frame].words;
-        if offset < words.len() {
-            words[offset] = bits;
-        }
-    }
-}
-
-/// A register has a value.
-pub fn set_register(image: &mut Image, thread: usize, register: usize, value: u64) {
-    if thread < image.registers.len() {
-        let words = &mut image.registers[thread].words;
-        if register < words.len() {
-            words[register] = value;
-        }
-    }
-}
-
-/// A thread's load has this word so far.
-pub fn set_load(image: &mut Image, thread: usize, value: Option<u64>) {
-    if thread < image.loads.len() {
-        image.loads[thread] = value;
-    }
-}
-
-/// The global has a value.
-pub fn set_global(image: &mut Image, value: u64) {
-    if !image.globals.is_empty() {
-        image.globals[0] = value;
-    }
-}
-
-/// A page, by its number and its frame, has an object at an offset.
-pub fn put(image: &mut Image, page: (usize, usize), offset: usize, birth: u32, layout: u8) {
-    let (number, frame) = page;
-    set_start(image, number, offset, true);
-    set_word(image, frame, offset, Header { birth, layout }.write());
-}
-
-/// A page's side array has one more entry.
-pub fn add_entry(
-    image: &mut Image,
-    number: usize,
-    entry: (u32, u64, bool),
-) -> Result<(), AllocError> {
-    let (offset, to, copied) = entry;
-    if number == 0 || number > image.pages.len() {
-        return Ok(());
-    }
-    if let Some(to) = Addr::new(to) {
-        image.pages[number - 1]
-            .side
-            .push(Forwarding { offset, to, copied })?;
-    }
-    Ok(())
-}
+use verify::{Fault, Image, Root, Verdict, verify_image};
 
 /// The address of the only object of `sample`, and a word that names it.
 const FIRST: u64 = 16;

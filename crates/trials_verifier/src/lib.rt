@@ -4,10 +4,6 @@
 #[cfg(test)]
 mod images;
 #[cfg(test)]
-mod naive;
-#[cfg(test)]
-mod pictures;
-#[cfg(test)]
 mod same;
 #[cfg(test)]
 mod verified;

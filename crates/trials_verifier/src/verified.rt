@@ -1,11 +1,11 @@
 //! Images of heaps, and their texts; the texts of faults.
 
-use crate::images::{add_entry, set_load, set_page};
 use crate::same::same;
 use checking::{FaultText, verify_book};
 use cycle::{Actor, Answer, Book, Step};
 use heap::NewFault;
 use held::{HeldBook, act};
+use imaging::{add_entry, set_load, set_page};
 use layout::{Layout, Layouts};
 use model::{Config, PageList, PageState, Refusal};
 use std::alloc::{AllocError, Global};

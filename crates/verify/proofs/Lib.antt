@@ -6,5 +6,4 @@ pub mod Sharing
 pub mod Claiming
 pub mod Verdicts
 pub mod Tabling
-mod RowSizes
 mod Listing

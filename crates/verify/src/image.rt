@@ -1,6 +1,7 @@
 //! The image of a heap as plain data, in which anything may be wrong.
 
 use layout::Layout;
+use markbits::Row;
 use model::{Forwarding, PageState};
 use std::marker::Model;
 
@@ -12,7 +13,7 @@ pub struct PageImage {
     /// The number of its frame, from 0.
     pub frame: Option<u32>,
     /// At which offsets objects start. Past its end none does.
-    pub starts: Vec<bool>,
+    pub starts: Row,
     /// The entries of its side array, where it was protected: of two for one offset the first
     /// counts.
     pub side: Vec<Forwarding>,
@@ -23,7 +24,7 @@ impl Model for PageImage {
 
     ghost Value = { PageData };
 
-    ghost view = { λ p. record { state = p.state; frame = p.frame; starts = p.starts.items; side = p.side.items } };
+    ghost view = { λ p. record { state = p.state; frame = p.frame; starts = p.starts; side = p.side.items } };
 }
 
 /// The words of a frame, or the registers of a thread (ours). Any number may stand there.

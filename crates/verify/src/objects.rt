@@ -33,8 +33,7 @@ impl PageImage {
     fn starts_at(&self, offset: u64) -> bool
         ensures { result ≡ get_or self.now.starts offset false }
     {
-        let offset = offset as usize;
-        offset < self.starts.len() && self.starts[offset]
+        self.starts.test(offset as usize)
     }
 }
 

@@ -12,6 +12,7 @@
 
 use crate::image::{Image, PageImage, Words};
 use layout::Layout;
+use markbits::Row;
 use model::{Forwarding, PageState};
 use std::fmt::{Display, Formatter, Result, Write};
 
@@ -37,10 +38,10 @@ fn put_layouts<W: Write>(f: &mut Formatter<W>, layouts: &[Layout]) -> Result {
     Ok(())
 }
 
-fn put_starts<W: Write>(f: &mut Formatter<W>, starts: &[bool]) -> Result {
+fn put_starts<W: Write>(f: &mut Formatter<W>, starts: &Row) -> Result {
     f.write_str(" starts")?;
     for offset in 0..starts.len() {
-        if starts[offset] {
+        if starts.test(offset) {
             write!(f, " {offset}")?;
         }
     }

@@ -74,18 +74,6 @@ fn frames(alloc: Global, frames: &Frames) -> Result<Vec<Words>, AllocError>
     Ok(memory)
 }
 
-/// The places of a row, which has so many.
-fn places(alloc: Global, row: &Row, words: u32) -> Result<Vec<bool>, AllocError>
-    requires { length row.now ≡ words }
-    ensures { IfOk result (λ v. v.items ≡ row.now) }
-{
-    let mut places = Vec::with_capacity(alloc, words as usize)?;
-    for offset in 0..words as usize {
-        places.push(row.test(offset))?;
-    }
-    Ok(places)
-}
-
 /// Whether a frame is there, and free.
 fn is_free(store: &Store, frame: u32) -> bool
     ensures { result ≡ is_free (slice_get store.now.owners frame) }
@@ -109,15 +97,14 @@ fn free_frames(alloc: Global, store: &Store, count: u32) -> Result<Vec<u32>, All
 }
 
 /// Where objects start on a page, by its number from 1.
-#[tactic(auto, using(model::proofs::OfPages::of_page_none, model::proofs::OfPages::of_page_some, crate::proofs::RowSizes::row_sized))]
-fn starts(alloc: Global, heap: &Heap, number: u32) -> Result<Vec<bool>, AllocError>
+#[tactic(auto, using(model::proofs::OfPages::of_page_none, model::proofs::OfPages::of_page_some))]
+fn starts(alloc: Global, heap: &Heap, number: u32) -> Result<Row, AllocError>
     requires { 0 < number }
-    ensures { IfOk result (λ v. v.items ≡ of_page heap.now.starts number) }
+    ensures { IfOk result (λ row. row ≡ of_page heap.now.starts number) }
 {
-    heap.law();
     match heap.starts().get((number - 1) as usize) {
-        None => Ok(Vec::new(alloc)),
-        Some(row) => places(alloc, row, heap.memory().page_words()),
+        None => Ok(Row::empty(alloc)),
+        Some(row) => row.copy(alloc),
     }
 }
 

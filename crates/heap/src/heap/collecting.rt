@@ -1,11 +1,11 @@
 //! Raw edits of a heap that the collector makes: marks, scans, crossings, and the start and the end
 //! of a mark.
 
-ghost use Rattle.std.specs.Prelude.{◌≡◌, ◌+◌, ◌<◌, length, map, slice_get, is_none, true, false, if◌then◌else◌};
+ghost use Rattle.std.specs.Prelude.{◌≡◌, ◌+◌, ◌<◌, length, slice_get, is_none, true, false, if◌then◌else◌};
 ghost use Rattle.refword.specs.Words.{bits_of};
 ghost use Rattle.model.specs.Bits.{bit_at, with_bit};
 ghost use Rattle.model.specs.Checkpoints.{with_crossed, first_behind, phase_behind};
-ghost use Rattle.model.specs.Cycles.{is_lent, set_todo_of, start_mark, end_mark};
+ghost use Rattle.model.specs.Cycles.{is_lent, start_mark, end_mark};
 ghost use Rattle.model.specs.Marks.{with_mark, marked_word};
 ghost use Rattle.model.specs.Scans.{with_scan, with_scan_end, set_marked_of};
 ghost use Rattle.model.specs.States.{change_at};
@@ -16,7 +16,7 @@ ghost use Rattle.page.specs.Ending.{with_mark_ended_at};
 use crate::heap::Heap;
 use crate::heap::marks::{bit_at, put_bit, put_indexed_bit};
 use markbits::{IndexedRows, Rows};
-use model::{Global, PageState, Phase, Scan};
+use model::{PageState, Phase, Scan};
 use page::Store;
 use refword::{Addr, Word};
 use threads::Threads;
@@ -67,16 +67,6 @@ fn mark_at(mark: &mut Rows, todo: &mut IndexedRows, store: &Store, address: Addr
     }
     put_bit(mark, store, address, true);
     is_new
-}
-
-/// All globals have still to be marked.
-#[tactic(auto, using(threads::proofs::Looping::mapped_none, threads::proofs::Looping::mapped_more, threads::proofs::Looping::mapped_all))]
-fn set_all_todo(globals: &mut [Global])
-    ensures { globals.new ≡ map set_todo_of globals.old }
-{
-    for global in globals.iter_mut() {
-        global.todo = true;
-    }
 }
 
 /// Whether the page of an index is open.
@@ -202,11 +192,7 @@ impl CollectorEdits for Heap {
     fn set_marked_global(&mut self, number: u32, word: Word)
         ensures { self.new ≡ record self.old { globals = change_at self.old.globals number (set_marked_of word) } }
     {
-        if (number as usize) < self.globals.len() {
-            let global = &mut self.globals[number as usize];
-            global.word = word;
-            global.todo = false;
-        }
+        self.globals.set_marked(number, word);
     }
 
     #[tactic(auto, unfolding(model::specs::Checkpoints::with_crossed), using(crate::proofs::Marking::phase_keeps))]
@@ -223,7 +209,7 @@ impl CollectorEdits for Heap {
     {
         self.nmt = !self.nmt;
         self.threads.uncross_all();
-        set_all_todo(&mut self.globals);
+        self.globals.set_all_todo();
         self.phase = Phase::MarkCrossing;
     }
 

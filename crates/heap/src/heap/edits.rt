@@ -40,10 +40,7 @@ impl Edits for Heap {
     fn set_global(&mut self, number: u32, word: Word)
         ensures { self.new ≡ with_global self.old number word }
     {
-        if (number as usize) < self.globals.len() {
-            let global = &mut self.globals[number as usize];
-            global.word = word;
-        }
+        self.globals.set_word(number, word);
     }
 
     fn set_place(&mut self, place: Place, word: Word)

@@ -6,12 +6,12 @@ ghost use Rattle.model.specs.First.{first_heap, blank_rows, blank_thread};
 ghost use Rattle.heap.specs.Making.{Makes};
 
 use crate::fault::NewFault;
+use crate::globals::Globals;
 use crate::heap::Heap;
 use forward::Sides;
 use markbits::{IndexedRows, Rows};
-use model::{Config, Global, Phase, Scan};
+use model::{Config, Phase, Scan};
 use page::{Store, many, record_count};
-use refword::Word;
 use std::alloc::{AllocError, Global as Memory};
 use threads::Threads;
 
@@ -20,23 +20,18 @@ use threads::Threads;
 struct BlankActors {
     threads: Threads,
     workers: Vec<Option<Scan>>,
-    globals: Vec<Global>,
+    globals: Globals,
 }
 
 /// As many as the configuration says; all registers and globals are null, and no worker scans.
 fn blank_actors(alloc: Memory, config: &Config) -> Result<BlankActors, AllocError>
     ensures threads { IfOk result (λ a. a.threads ≡ replicate config.now.threads (blank_thread config.now.registers)) }
     ensures workers { IfOk result (λ a. a.workers.items ≡ replicate config.now.workers None) }
-    ensures globals { IfOk result (λ a. a.globals.items
-        ≡ replicate config.now.globals (record { word = None; todo = false })) }
+    ensures globals { IfOk result (λ a. a.globals ≡ replicate config.now.globals (record { word = None; todo = false })) }
 {
-    let global = Global {
-        word: Word::null(),
-        todo: false,
-    };
     let threads = Threads::new(alloc, config.threads, config.registers)?;
     let workers = many(alloc, config.workers, None)?;
-    let globals = many(alloc, config.globals, global)?;
+    let globals = Globals::new(alloc, config.globals)?;
     Ok(BlankActors {
         threads,
         workers,

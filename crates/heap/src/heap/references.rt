@@ -57,7 +57,7 @@ impl Heap {
     pub fn global(&self, number: u32) -> Word
         ensures { result ≡ global_of self.now number }
     {
-        match self.globals.get(number as usize) {
+        match self.globals().get(number as usize) {
             None => Word::null(),
             Some(global) => global.word,
         }

@@ -1,70 +1,54 @@
 //! A thousand images with faults at random, beside the slow verdict.
 
-ghost use Rattle.std.specs.Prelude.{◌<◌};
-
-use crate::images::{
-    add_entry, bare, put, set_free, set_global, set_load, set_page, set_register, set_start,
-    set_word,
-};
 use crate::naive::verdict;
 use crate::same::same;
+use imaging::{
+    add_entry, bare, put, set_free, set_global, set_load, set_page, set_register, set_start,
+    set_word, shorten_starts,
+};
 use model::PageState;
-use samples::scatter;
+use samples::Dice;
 use std::alloc::{AllocError, Global};
 use std::process::Abort;
 use std::test::Fail;
 use verify::{Fault, Image, Root, Verdict, verify_image};
 
-/// Numbers without order, the same in each run.
-#[derive(Drop)]
-struct Dice {
-    number: u64,
+/// One of the ways in which a page may be used.
+pub fn page_state(dice: &mut Dice) -> PageState {
+    match dice.roll(5) {
+        0 => PageState::Unused,
+        1 => PageState::Open,
+        2 => PageState::Closed,
+        3 => PageState::From,
+        _ => PageState::Gone,
+    }
 }
 
-impl Dice {
-    /// A number below a limit.
-    fn roll(&mut self, limit: u64) -> u64
-        requires { 0 < limit }
-        ensures { result < limit }
-    {
-        self.number = scatter(self.number);
-        (self.number >> 33) % limit
+/// No frame, or one of the first five.
+pub fn frame(dice: &mut Dice) -> Option<u32> {
+    if dice.hits(4) {
+        None
+    } else {
+        Some(dice.roll(5) as u32)
     }
+}
 
-    /// Whether it is one of so many.
-    fn hits(&mut self, sides: u64) -> bool
-        requires { 0 < sides }
-    {
-        self.roll(sides) == 0
+/// Null, or a word that names a place of the first three pages, with either bit.
+fn word(dice: &mut Dice) -> u64 {
+    let address = (dice.roll(3) + 1) * 16 + dice.roll(5) * 3;
+    match dice.roll(3) {
+        0 => 0,
+        1 => address,
+        _ => address + (1 << 63),
     }
+}
 
-    fn page_state(&mut self) -> PageState {
-        match self.roll(5) {
-            0 => PageState::Unused,
-            1 => PageState::Open,
-            2 => PageState::Closed,
-            3 => PageState::From,
-            _ => PageState::Gone,
-        }
-    }
-
-    /// Null, or a word that names a place of the first three pages, with either bit.
-    fn word(&mut self) -> u64 {
-        let address = (self.roll(3) + 1) * 16 + self.roll(5) * 3;
-        match self.roll(3) {
-            0 => 0,
-            1 => address,
-            _ => address + (1 << 63),
-        }
-    }
-
-    /// Mostly a word, but any number may come.
-    fn value(&mut self) -> u64 {
-        match self.roll(8) {
-            0 => 1 << self.roll(64),
-            1 => self.roll(100),
-            _ => self.word(),
-        }
+/// Mostly a word, but any number may come.
+pub fn value(dice: &mut Dice) -> u64 {
+    match dice.roll(8) {
+        0 => 1 << dice.roll(64),
+        1 => dice.roll(100),
+        _ => word(dice),
     }
 }
 
@@ -78,8 +62,8 @@ fn fill(image: &mut Image, dice: &mut Dice, place: u32) -> Result<(), AllocError
         (3, 2, place),
     ] {
         put(image, (page, frame), offset, birth, dice.roll(2) as u8);
-        set_word(image, frame, offset.saturating_add(1), dice.word());
-        set_word(image, frame, offset.saturating_add(2), dice.word());
+        set_word(image, frame, offset.saturating_add(1), word(dice));
+        set_word(image, frame, offset.saturating_add(2), word(dice));
     }
     let to = (offset as u64).saturating_add(16);
     add_entry(image, 3, (offset as u32, to, true))
@@ -107,15 +91,15 @@ fn sound(alloc: Global, dice: &mut Dice) -> Result<Image, AllocError> {
 /// The roots name what may be named.
 fn root(image: &mut Image, dice: &mut Dice) {
     for register in 0..2 {
-        set_register(image, 0, register, dice.word());
+        set_register(image, 0, register, word(dice));
     }
-    set_load(image, 1, Some(dice.word()));
-    set_global(image, dice.word());
+    set_load(image, 1, Some(word(dice)));
+    set_global(image, word(dice));
 }
 
 /// Something of the pages and frames changes.
 fn spoil_pages(image: &mut Image, dice: &mut Dice) {
-    let state = dice.page_state();
+    let state = page_state(dice);
     let number = dice.roll(5) as usize;
     match dice.roll(6) {
         0 => set_page(image, number, state, None),
@@ -133,14 +117,8 @@ fn shorten(image: &mut Image, dice: &mut Dice) {
     match dice.roll(4) {
         0 => image.layouts.truncate(length),
         1 => image.globals.truncate(length),
-        2 => shorten_starts(image, length),
+        2 => shorten_starts(image, 1, length as u32),
         _ => shorten_frame(image, length),
-    }
-}
-
-fn shorten_starts(image: &mut Image, length: usize) {
-    if !image.pages.is_empty() {
-        image.pages[0].starts.truncate(length);
     }
 }
 
@@ -156,8 +134,8 @@ fn spoil_objects(image: &mut Image, dice: &mut Dice) {
     let frame = dice.roll(3) as usize;
     match dice.roll(4) {
         0 => set_start(image, frame + 1, dice.roll(16) as usize, dice.hits(2)),
-        1 => set_word(image, frame, dice.roll(16) as usize, dice.value()),
-        2 => set_word(image, frame, place + 1, dice.value()),
+        1 => set_word(image, frame, dice.roll(16) as usize, value(dice)),
+        2 => set_word(image, frame, place + 1, value(dice)),
         _ => put(
             image,
             (frame + 1, frame),
@@ -175,10 +153,10 @@ fn spoil_roots(image: &mut Image, dice: &mut Dice) {
             image,
             dice.roll(2) as usize,
             dice.roll(2) as usize,
-            dice.value(),
+            value(dice),
         ),
-        1 => set_load(image, dice.roll(2) as usize, Some(dice.value())),
-        _ => set_global(image, dice.value()),
+        1 => set_load(image, dice.roll(2) as usize, Some(value(dice))),
+        _ => set_global(image, value(dice)),
     }
 }
 
@@ -204,10 +182,16 @@ fn spoil(image: &mut Image, dice: &mut Dice) -> Result<(), AllocError> {
     Ok(())
 }
 
-/// An image in which up to five things are changed.
-fn picture(alloc: Global, dice: &mut Dice) -> Result<Image, AllocError> {
+/// A sound image with roots.
+pub fn rooted(alloc: Global, dice: &mut Dice) -> Result<Image, AllocError> {
     let mut image = sound(alloc, dice)?;
     root(&mut image, dice);
+    Ok(image)
+}
+
+/// An image in which up to five things are changed.
+fn picture(alloc: Global, dice: &mut Dice) -> Result<Image, AllocError> {
+    let mut image = rooted(alloc, dice)?;
     for _ in 0..dice.roll(6) {
         spoil(&mut image, dice)?;
     }
@@ -228,7 +212,7 @@ fn kind(verdict: Verdict) -> usize {
 }
 
 /// Both verdicts on an image are the same; its kind.
-fn judged(rt: &impl Abort, alloc: Global, image: &Image) -> Result<usize, AllocError> {
+pub fn judged(rt: &impl Abort, alloc: Global, image: &Image) -> Result<usize, AllocError> {
     let wanted = verdict(alloc, image)?;
     same(rt, verify_image(alloc, image), Ok(wanted));
     Ok(kind(wanted))
@@ -237,7 +221,7 @@ fn judged(rt: &impl Abort, alloc: Global, image: &Image) -> Result<usize, AllocE
 /// Each kind comes up often.
 #[test]
 fn verdicts_agree(rt: HostRuntime) -> Result<(), Fail> {
-    let mut dice = Dice { number: 2005 };
+    let mut dice = Dice::new(2005);
     let mut counts = [0usize; 7];
     for _ in 0..1000 {
         let image = picture(rt.alloc(), &mut dice)?;

@@ -36,9 +36,8 @@ fn copy_of(page: &PageImage, offset: usize) -> Option<u64> {
 /// The birth of the object that starts at an address, and how many references it has.
 fn object_at(image: &Image, address: u64) -> Option<(u32, u64)> {
     let (page, offset) = page_of(image, address)?;
-    let starts = page.starts.get(offset).copied()?;
     let bits = word_at(image, address)?;
-    if !starts || bits >> 40 != 0 {
+    if !page.starts.test(offset) || bits >> 40 != 0 {
         return None;
     }
     let layout = image.layouts.get((bits >> 32) as usize).copied()?;

@@ -1,0 +1,86 @@
+//! Drives heaps by random steps, which the verifier looks at: half of them are of threads, with random
+//! operands, and half of workers, in a cycle without end.
+//!
+//! | Words | What is done |
+//! |---|---|
+//! | `HEAP SEED STEPS` | so many steps of a book, whose heap is verified after each accepted one |
+//! | `HEAP SEED STEPS EVERY` | the same without a history, verified after each so many accepted ones |
+//! | `HEAP SEED STEPS EVERY 1` | and it prints how often each kind of step was accepted |
+//!
+//! `setups` has the heaps. A work ends with an error where the verifier finds a fault, where a kind of
+//! step was never accepted, no trap moved a word, or no heal found its place changed. The word `then`
+//! parts one work from the next.
+#![tactic(auto)]
+
+mod counts;
+mod driven;
+mod driving;
+mod moves;
+mod numbers;
+mod setups;
+mod telling;
+mod tending;
+
+use crate::counts::Counts;
+use crate::driven::Driven;
+use crate::driving::{Drive, goes};
+use crate::setups::setup;
+use crate::telling::{misses, tell};
+use anyhow::{Result, bail};
+use heap::Heap;
+use pauseless::{Book, Config};
+use std::alloc::Global;
+use works::{Work, works};
+
+/// Drives what is handed in.
+fn drives(alloc: Global, mut driven: impl Driven + Drop, how: Drive) -> Result<Counts> {
+    goes(alloc, &mut driven, how)
+}
+
+/// Drives a new book of a configuration.
+fn by_book(alloc: Global, config: Config, how: Drive) -> Result<Counts> {
+    drives(alloc, Book::new(alloc, config)?, how)
+}
+
+/// Drives a new heap of a configuration.
+fn by_heap(alloc: Global, config: Config, how: Drive) -> Result<Counts> {
+    drives(alloc, Heap::new(alloc, config)?, how)
+}
+
+/// Does one work, and prints what it has come to.
+fn work<R: Print>(rt: &R, alloc: Global, work: &Work) -> Result<()> {
+    let [seed, steps, every, all, _] = work.numbers;
+    let Some((config, habits)) = setup(alloc, work.name.as_str())? else {
+        bail!("no such heap");
+    };
+    let how = Drive {
+        habits,
+        seed: u64::from(seed),
+        steps,
+        every: every.max(1),
+    };
+    let counts = if every == 0 {
+        by_book(alloc, config, how)?
+    } else {
+        by_heap(alloc, config, how)?
+    };
+    if all > 0 {
+        tell(rt, &counts)?;
+    }
+    misses(&counts, habits)?;
+    println!(rt; "{} {steps}", work.name)?;
+    Ok(())
+}
+
+/// Does each work.
+fn run<R: Print>(rt: &R, alloc: Global, all: &[Work]) -> Result<()> {
+    for each in all {
+        work(rt, alloc, each)?;
+    }
+    Ok(())
+}
+
+fn main(rt: HostRuntime) -> Result<()> {
+    let all = works(&rt)?;
+    run(&rt, rt.alloc(), &all)
+}

@@ -1,0 +1,20 @@
+//! Random operands.
+
+use samples::Dice;
+
+/// Mostly a number below a count, but one in sixteen may name nothing.
+pub fn index(dice: &mut Dice, count: u32) -> u32 {
+    if count == 0 || dice.hits(16) {
+        dice.roll(u64::from(count).saturating_add(2)) as u32
+    } else {
+        below(dice, count)
+    }
+}
+
+/// A number below a count; 0 where that is 0.
+pub fn below(dice: &mut Dice, count: u32) -> u32 {
+    if count == 0 {
+        return 0;
+    }
+    dice.roll(u64::from(count)) as u32
+}

@@ -1,0 +1,15 @@
+-- How many globals are still to be marked.
+use Rattle.std.specs.Prelude.{ℕ, Bool, cond, List, count_by}
+use Rattle.model.specs.declared.records.Global.{Global}
+
+-- a global is still to be marked
+abbrev pub is_todo : Global → Bool
+is_todo g = g.todo
+
+-- as how many it counts of those
+abbrev pub counted_todo : Global → ℕ
+counted_todo g = cond (is_todo g) 1 0
+
+-- how many of these globals they are
+abbrev pub todo_count : List Global → ℕ
+todo_count globals = count_by is_todo globals

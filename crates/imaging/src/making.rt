@@ -1,0 +1,88 @@
+//! Images that are made up.
+
+use crate::edits::{set_free, set_start, set_word};
+use layout::{Header, Layout};
+use markbits::Row;
+use model::{Forwarding, PageState};
+use refword::Addr;
+use std::alloc::{AllocError, Global};
+use verify::{Image, PageImage, Words};
+
+/// A page of 16 words in which no object starts.
+pub fn page(alloc: Global, state: PageState, frame: Option<u32>) -> Result<PageImage, AllocError> {
+    Ok(PageImage {
+        state,
+        frame,
+        starts: Row::new(alloc, 16)?,
+        side: Vec::new(alloc),
+    })
+}
+
+/// So many lists of so many zeros.
+fn zeros(alloc: Global, lists: usize, count: usize) -> Result<Vec<Words>, AllocError> {
+    let mut all = Vec::with_capacity(alloc, lists)?;
+    for _ in 0..lists {
+        all.push(Words {
+            words: vec![in alloc; 0; count]?,
+        })?;
+    }
+    Ok(all)
+}
+
+/// Objects of one reference and one datum, of two references, and of one datum.
+fn layouts(alloc: Global) -> Result<Vec<Layout>, AllocError> {
+    let mut layouts = Vec::with_capacity(alloc, 3)?;
+    for (refs, nums) in [(1, 1), (2, 0), (0, 1)] {
+        layouts.push(Layout { refs, nums })?;
+    }
+    Ok(layouts)
+}
+
+/// Three frames, of which 1 and 2 are free, two threads with two registers, a global, and pages of
+/// which the first owns frame 0 and the others are unused. No object is there.
+pub fn bare(alloc: Global, pages: usize) -> Result<Image, AllocError> {
+    let mut all = Vec::with_capacity(alloc, pages)?;
+    all.push(page(alloc, PageState::Open, Some(0))?)?;
+    for _ in 1..pages {
+        all.push(page(alloc, PageState::Unused, None)?)?;
+    }
+    let mut image = Image {
+        words: 16,
+        frame_count: 3,
+        free: vec![in alloc; 0; 2]?,
+        pages: all,
+        frames: zeros(alloc, 3, 16)?,
+        registers: zeros(alloc, 2, 2)?,
+        loads: vec![in alloc; None; 2]?,
+        globals: vec![in alloc; 0; 1]?,
+        layouts: layouts(alloc)?,
+    };
+    set_free(&mut image, 0, 1);
+    set_free(&mut image, 1, 2);
+    Ok(image)
+}
+
+/// A page, by its number and its frame, has an object at an offset.
+pub fn put(image: &mut Image, page: (usize, usize), offset: usize, birth: u32, layout: u8) {
+    let (number, frame) = page;
+    set_start(image, number, offset, true);
+    set_word(image, frame, offset, Header { birth, layout }.write());
+}
+
+/// A page's side array has one more entry.
+pub fn add_entry(
+    image: &mut Image,
+    number: usize,
+    entry: (u32, u64, bool),
+) -> Result<(), AllocError> {
+    let (offset, to, copied) = entry;
+    if number == 0 || number > image.pages.len() {
+        return Ok(());
+    }
+    if let Some(to) = Addr::new(to) {
+        image.pages[number - 1]
+            .side
+            .push(Forwarding { offset, to, copied })?;
+    }
+    Ok(())
+}

@@ -1,0 +1,122 @@
+//! Hints and runs by threads where memory is refused. These tests are run with each of their requests for
+//! memory refused in turn: the same call is done when it is made again. A test ends with want of memory
+//! then, else well.
+
+use crate::rows::{OUTPUT, SCRIPT, printed};
+use crate::same::{same, same_at};
+use crate::taking::pop;
+use hints::{HintSeat, Hints};
+use parser::{Script, parse};
+use racing::{OpenGate, ThreadsFault, by_threads};
+use refword::Addr;
+use std::alloc::{AllocError, Global};
+use std::process::Abort;
+use std::sync::Wait;
+use std::test::Fail;
+use std::thread::Threads;
+
+/// How many hints there are: more than a deque begins with, and than it grows to at once.
+const COUNT: u64 = 200;
+
+/// Pushes a number; it comes back where the deque doesn't take it.
+fn push_or_back(seat: &mut HintSeat, number: u64) -> Option<u64> {
+    let hint = Addr::new(number)?;
+    match Hints::push(seat, hint) {
+        Ok(()) => None,
+        Err(back) => Some(back.number()),
+    }
+}
+
+/// Pushes a number, and again where it comes back. Whether it came back.
+fn pushes(rt: &impl Abort, seat: &mut HintSeat, number: u64) -> bool {
+    let back = push_or_back(seat, number);
+    if back.is_none() {
+        return false;
+    }
+    same_at(rt, number, back, Some(number));
+    same_at(rt, number, push_or_back(seat, number), None);
+    true
+}
+
+/// Pushes all numbers. Whether one came back.
+fn pushes_all(rt: &impl Abort, seat: &mut HintSeat) -> bool {
+    let mut lacked = false;
+    for number in 1..=COUNT {
+        if pushes(rt, seat, number) {
+            lacked = true;
+        }
+    }
+    lacked
+}
+
+/// All come out, oldest first, and no other.
+fn pops_all(rt: &impl Abort, seat: &mut HintSeat) {
+    for number in 1..=COUNT {
+        same_at(rt, number, pop(seat), Some(number));
+    }
+    same(rt, pop(seat), None);
+}
+
+/// Seats of two workers, and whether they were made the second time alone.
+fn made(alloc: Global) -> Result<(Vec<HintSeat>, bool), AllocError> {
+    if let Ok(seats) = Hints::new(alloc, 2) {
+        return Ok((seats, false));
+    }
+    Ok((Hints::new(alloc, 2)?, true))
+}
+
+#[test]
+fn hints_come_back(rt: HostRuntime) -> Result<(), Fail> {
+    let (mut seats, mut lacked) = made(rt.alloc())?;
+    for seat in &mut seats {
+        lacked = pushes_all(&rt, seat) || lacked;
+        pops_all(&rt, seat);
+    }
+    if lacked {
+        Err(Fail::from(AllocError))
+    } else {
+        Ok(())
+    }
+}
+
+/// What a run by threads prints, and whether it lacked memory; nothing where it ended otherwise.
+fn raced<R: Threads + Wait + Sync>(
+    rt: &R,
+    alloc: Global,
+    script: &Script,
+) -> Result<Option<Vec<u8>>, AllocError> {
+    match by_threads(rt, alloc, script, &OpenGate) {
+        Ok(settled) => Ok(printed(alloc, &settled)),
+        Err(ThreadsFault::Memory) => Err(AllocError),
+        Err(_) => Ok(None),
+    }
+}
+
+/// What was printed is what is wanted.
+fn is_whole(rt: &impl Abort, found: Option<Vec<u8>>) {
+    match found {
+        Some(output) => same(rt, output.as_slice(), OUTPUT.as_bytes()),
+        None => assert!(rt; false, "it isn't settled"),
+    }
+}
+
+/// A run by threads, and a second one where the first lacked memory.
+fn races<R: Abort + Threads + Wait + Sync>(
+    rt: &R,
+    alloc: Global,
+    script: &Script,
+) -> Result<(), AllocError> {
+    if let Ok(found) = raced(rt, alloc, script) {
+        is_whole(rt, found);
+        return Ok(());
+    }
+    is_whole(rt, raced(rt, alloc, script)?);
+    Err(AllocError)
+}
+
+#[test]
+fn runs_by_threads(rt: HostRuntime) -> Result<(), Fail> {
+    let script = parse(rt.alloc(), SCRIPT.as_bytes())?;
+    races(&rt, rt.alloc(), &script)?;
+    Ok(())
+}

@@ -1,0 +1,72 @@
+//! Pages of a managed heap are emptied by one call.
+
+use crate::heaps::{Moving, fill_and_close, new_managed};
+use crate::same::same;
+use heap::Refusal;
+use managed::ManagedHeap;
+use model::Phase;
+use std::alloc::{AllocError, Global};
+use std::process::Abort;
+use std::test::Fail;
+
+/// A heap of which pages are emptied.
+trait Emptying: Moving {
+    /// The pages of eight objects are emptied.
+    fn empty(&mut self, alloc: Global) -> Result<Result<(), Refusal>, AllocError>;
+}
+
+impl Emptying for ManagedHeap {
+    fn empty(&mut self, alloc: Global) -> Result<Result<(), Refusal>, AllocError> {
+        let pages = Vec::from_slice(alloc, &[3, 1, 4, 2])?;
+        Ok(ManagedHeap::empty(self, 0, pages))
+    }
+}
+
+/// All is emptied. Where the call lacks memory, the heap is as it was, and all is done when it is made
+/// again; the test then tells the want of memory.
+fn empties(rt: &impl Abort, alloc: Global, mut heap: impl Emptying + Drop) -> Result<(), Fail> {
+    fill_and_close(&mut heap)??;
+    let before = heap.text(alloc)?;
+    let end = heap.empty(alloc)?;
+    if end == Err(Refusal::Memory) {
+        let after = heap.text(alloc)?;
+        same(rt, after.as_str(), before.as_str());
+        same(rt, heap.empty(alloc)?, Ok(()));
+    } else {
+        same(rt, end, Ok(()));
+    }
+    same(rt, heap.progress(), (Phase::Relocating, true, 0));
+    end?;
+    Ok(())
+}
+
+#[test]
+fn pages_are_emptied(rt: HostRuntime) -> Result<(), Fail> {
+    empties(&rt, rt.alloc(), new_managed(rt.alloc())?)
+}
+
+/// A heap is made, and made again where that lacked memory. The second value tells that.
+fn made(alloc: Global) -> Result<(ManagedHeap, bool), Fail> {
+    if let Ok(heap) = new_managed(alloc) {
+        return Ok((heap, false));
+    }
+    Ok((new_managed(alloc)?, true))
+}
+
+/// A heap works.
+fn works(rt: &impl Abort, mut heap: impl Moving + Drop) -> Result<(), Refusal> {
+    fill_and_close(&mut heap)??;
+    same(rt, heap.progress(), (Phase::Idle, true, 0));
+    Ok(())
+}
+
+#[test]
+fn a_heap_is_made(rt: HostRuntime) -> Result<(), Fail> {
+    let (heap, lacked) = made(rt.alloc())?;
+    works(&rt, heap)?;
+    if lacked {
+        Err(Fail::from(AllocError))
+    } else {
+        Ok(())
+    }
+}

@@ -1,0 +1,54 @@
+#!/bin/sh
+# Runs the program on scripts that nobody wrote, for FUZZ_SECONDS seconds (600, where it isn't set): half of the time
+# by AFL++, where 'afl-fuzz' is there, on the program as it was built, without instruments; else, and in the other
+# half, by tests/fuzz.py. AFL++ looks for a run that a signal ends, that takes 20 seconds, or that ends with status
+# 1, which a heap fault has: a script of that kind is kept in fuzzed/. It begins with the scripts of examples/ and
+# tests/, and with their words. Without Python 3 this test fails. The program is ./pauseless, or the one that the
+# first argument names.
+
+cd "$(dirname "$0")/.." || exit 1
+. tests/begin.sh
+seconds=${FUZZ_SECONDS:-600}
+
+# value NAME: a number of what AFL++ says of its run.
+value() {
+    sed -n "s/^$1 *: *//p" "$kept/found/default/fuzzer_stats"
+}
+
+# afl: runs AFL++ for so many seconds.
+afl() {
+    mkdir "$kept/seeds"
+    for script in examples/*.script examples/threads/*.script tests/scripts/*.script tests/threads/*.script; do
+        cp "$script" "$kept/seeds/$(basename "$(dirname "$script")")-$(basename "$script")"
+    done
+    cat "$kept"/seeds/* | tr -s ' \n' '\n\n' | grep -x '[a-z0-9.]*' | sort -u | sed 's/.*/"&"/' > "$kept/words"
+    AFL_SKIP_CPUFREQ=1 AFL_NO_AFFINITY=1 AFL_NO_UI=1 AFL_I_DONT_CARE_ABOUT_MISSING_CRASHES=1 AFL_CRASH_EXITCODE=1 \
+        afl-fuzz -n -V "$1" -t 20000 -m 2048 -x "$kept/words" -i "$kept/seeds" -o "$kept/found" \
+        -- "$program" run @@ > "$kept/log" 2>&1
+    if [ ! -f "$kept/found/default/fuzzer_stats" ]; then
+        echo 'failed: AFL++ did not run:'
+        tail -n 5 "$kept/log"
+        failed=$((failed + 1))
+        return
+    fi
+    echo "AFL++: $(value execs_done) runs, $(value saved_crashes) faults, $(value saved_hangs) without an end"
+    if [ "$(value saved_crashes)" = 0 ] && [ "$(value saved_hangs)" = 0 ]; then
+        passed=$((passed + 1))
+    else
+        mkdir -p fuzzed
+        cp "$kept"/found/default/crashes/id* "$kept"/found/default/hangs/id* fuzzed/ 2> /dev/null
+        failed=$((failed + 1))
+    fi
+}
+
+if command -v afl-fuzz > /dev/null; then
+    afl $((seconds / 2))
+    seconds=$((seconds - seconds / 2))
+fi
+if "${PYTHON:-python3}" tests/fuzz.py "$program" "$seconds"; then
+    passed=$((passed + 1))
+else
+    failed=$((failed + 1))
+fi
+echo "$passed passed, $failed failed"
+[ "$failed" = 0 ]

@@ -1,0 +1,186 @@
+#!/usr/bin/env python3
+"""Draws the rooms of crates.txt, and holds what is said of them together: python3 tests/rooms.py draw|check.
+
+A line '# NAME: WORDS' of crates.txt begins a room, and the crates behind it are in that room. 'draw' writes
+docs/rooms.svg. 'check' says whether that is what would be drawn, whether each crate stands on crates above it alone,
+and whether the tables of docs/ARCHITECTURE.md have the same crates in the same rooms and order; its last line is
+'N passed, M failed'.
+"""
+
+import os
+import re
+import sys
+
+PICTURE = "docs/rooms.svg"
+PAGE = "docs/ARCHITECTURE.md"
+
+# Where a room stands in the picture: its left edge, its row from the top, and its width, of 12.
+PLACES = {
+    "Tests and benches": (0, 0, 12),
+    "Scripts": (0, 1, 7), "What programs hold": (7, 1, 5),
+    "Sharing": (0, 2, 6), "Verifier": (6, 2, 6),
+    "Heap and steps": (0, 3, 12),
+    "Words and pages": (0, 4, 7), "Theory": (7, 4, 5),
+    "Definitions": (0, 5, 12),
+}
+COLUMN, ROW, GAP, MARGIN = 75, 134, 24, 8
+STYLE = """
+  text { font-family: sans-serif; fill: #1b2733; }
+  .name { font-size: 17px; font-weight: bold; }
+  .words { font-size: 12px; fill: #5a6b7b; }
+  .crate { font-size: 13px; font-family: monospace; }
+  .room { fill: #f3f7fb; stroke: #4a7ba6; stroke-width: 1.5; }
+  .arrow { stroke: #4a7ba6; stroke-width: 1.5; marker-end: url(#head); }
+"""
+
+
+def rooms():
+    """The rooms in order: the words of each, and its crates with what they stand on."""
+    found, room = {}, None
+    with open("crates.txt", encoding="utf-8") as lines:
+        for line in lines:
+            heading = re.fullmatch(r"# ([\w ]+): (.*)\n", line)
+            crate = re.fullmatch(r"(\w+):(.*)\n", line)
+            if heading and heading[1] in PLACES:
+                room = heading[1]
+                found[room] = (heading[2], {})
+            elif crate:
+                found[room][1][crate[1]] = crate[2].split()
+    return found
+
+
+def room_of(found):
+    """The room of each crate."""
+    return {crate: room for room, (_, crates) in found.items() for crate in crates}
+
+
+def is_near(upper, lower):
+    """Whether two rooms stand in one row of the picture, or in rows next to each other."""
+    return PLACES[lower][1] - PLACES[upper][1] <= 1
+
+
+def below(found):
+    """The rooms on which each room stands. One that is far from it is left out, where another of them stands on it."""
+    of = room_of(found)
+    direct = {room: {of[it] for on in crates.values() for it in on if it in of} - {room}
+              for room, (_, crates) in found.items()}
+    every = {}
+    for room in found:
+        every[room] = set().union(direct[room], *(every[it] for it in direct[room]))
+    return {room: [it for it in found if it in direct[room]
+                   and (is_near(room, it) or not any(it in every[other] for other in direct[room]))] for room in found}
+
+
+def box(room):
+    """Left, top, width and height of a room's box."""
+    left, row, width = PLACES[room]
+    return (MARGIN + left * COLUMN + GAP // 2, MARGIN + row * ROW, width * COLUMN - GAP, ROW - GAP)
+
+
+def rows_of(crates, width):
+    """The names of crates, in lines that a box of a width holds."""
+    lines = [[]]
+    for crate in crates:
+        if len("  ".join(lines[-1] + [crate])) * 7.9 > width - 24:
+            lines.append([])
+        lines[-1].append(crate)
+    return ["  ".join(line) for line in lines]
+
+
+def drawn_room(room, words, crates):
+    """The box of a room, with its name and its crates."""
+    left, top, width, height = box(room)
+    yield f'<rect class="room" x="{left}" y="{top}" width="{width}" height="{height}" rx="8"/>'
+    yield f'<text class="name" x="{left + 12}" y="{top + 24}">{room}</text>'
+    yield f'<text class="words" x="{left + 12}" y="{top + 42}">{words}</text>'
+    for number, line in enumerate(rows_of(crates, width)):
+        yield f'<text class="crate" x="{left + 12}" y="{top + 62 + 17 * number}" xml:space="preserve">{line}</text>'
+
+
+def drawn_arrow(upper, lower):
+    """The arrow from a room to one on which it stands: down, or to the side where both are in one row."""
+    left, top, width, height = box(upper)
+    to_left, to_top, to_width, _ = box(lower)
+    if top == to_top:
+        y = top + height // 2
+        ends = (left, y, to_left + to_width + 2, y) if to_left < left else (left + width, y, to_left - 2, y)
+    else:
+        x = (max(left, to_left) + min(left + width, to_left + to_width)) // 2
+        ends = (x, top + height, x, to_top - 2)
+    return '<line class="arrow" x1="{}" y1="{}" x2="{}" y2="{}"/>'.format(*ends)
+
+
+def picture(found):
+    """The picture, as text."""
+    width = 2 * MARGIN + 12 * COLUMN
+    height = 2 * MARGIN + 6 * ROW - GAP
+    parts = [f'<svg xmlns="http://www.w3.org/2000/svg" viewBox="0 0 {width} {height}" role="img">',
+             "<title>The rooms of the code: an arrow goes to what a room stands on</title>",
+             f"<style>{STYLE}</style>",
+             '<defs><marker id="head" viewBox="0 0 8 8" refX="7" refY="4" markerWidth="7" markerHeight="7" '
+             'orient="auto"><path d="M0,0 L8,4 L0,8 z" fill="#4a7ba6"/></marker></defs>',
+             f'<rect width="{width}" height="{height}" fill="#ffffff"/>']
+    for upper, rooms_below in below(found).items():
+        parts += [drawn_arrow(upper, lower) for lower in rooms_below]
+    for room, (words, crates) in found.items():
+        parts += drawn_room(room, words, crates)
+    return "\n".join(parts) + "\n</svg>\n"
+
+
+def order_faults(found):
+    """The crates that stand on one which isn't above them."""
+    above, every = set(), room_of(found)
+    for _, crates in found.values():
+        for crate, on in crates.items():
+            yield from (f"{crate} stands on {it}" for it in on if it in every and it not in above)
+            above.add(crate)
+
+
+def tables(page):
+    """The rooms and crates of the tables of the page: a heading '### ROOM', and behind it lines '| `CRATE` | .. |'."""
+    told, room = {}, None
+    for line in page.splitlines():
+        heading, crate = re.fullmatch(r"### (.*)", line), re.match(r"\| `(\w+)` \| ", line)
+        if heading:
+            room = heading[1]
+        elif crate and room in PLACES:
+            told.setdefault(room, []).append(crate[1])
+    return told
+
+
+def read(path):
+    """What a file holds; nothing, where there is none."""
+    if not os.path.exists(path):
+        return ""
+    with open(path, encoding="utf-8") as file:
+        return file.read()
+
+
+def check(found):
+    """Whether all that is told of the rooms is so."""
+    tried = {
+        f"{PICTURE} is what is drawn": read(PICTURE) == picture(found),
+        "each crate stands on crates above it alone": not list(order_faults(found)),
+        f"{PAGE} has these rooms and crates": tables(read(PAGE)) == {room: list(on) for room, (_, on) in found.items()},
+    }
+    for what, is_so in tried.items():
+        print(f"{'passed' if is_so else 'failed'}: {what}")
+    passed = sum(tried.values())
+    print(f"{passed} passed, {len(tried) - passed} failed")
+    return passed == len(tried)
+
+
+def main():
+    os.chdir(os.path.join(os.path.dirname(os.path.abspath(__file__)), ".."))
+    found = rooms()
+    if sys.argv[1:] == ["draw"]:
+        with open(PICTURE, "w", encoding="utf-8") as file:
+            file.write(picture(found))
+    elif sys.argv[1:] == ["check"]:
+        sys.exit(0 if check(found) else 1)
+    else:
+        sys.exit("python3 tests/rooms.py draw|check")
+
+
+if __name__ == "__main__":
+    main()
