@@ -2,7 +2,8 @@
 
 use crate::numbers::index;
 use crate::setups::Habits;
-use pauseless::{Config, Heap, Step};
+use heap::Heap;
+use pauseless::{Config, Step};
 use samples::Dice;
 
 /// What a thread is about.

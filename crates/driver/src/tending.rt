@@ -3,7 +3,8 @@
 use crate::numbers::index;
 use crate::setups::Habits;
 use model::{PageState, Phase};
-use pauseless::{Heap, PageList, Step, choose, next_drain};
+use heap::Heap;
+use pauseless::{PageList, Step, choose, next_drain};
 use samples::Dice;
 use std::alloc::{AllocError, Global};
 
