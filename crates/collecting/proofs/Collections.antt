@@ -14,6 +14,7 @@ use Rattle.managed.specs.Emptying.{EndsPage, EndsEmptying}
 use Rattle.managed.proofs.Going.{goes_none, goes_then}
 use Rattle.managed.proofs.Gathering.{collected, crossings_collect}
 use Rattle.collecting.specs.declared.collecting.Collected.{Collected}
+use Rattle.collecting.specs.Collections.{MarksWhole}
 use Rattle.collecting.specs.Collections.{WORKER, Collects, EndsLeft, EndsLeftPages, EndsSettling, EndsDue}
 use Rattle.collecting.specs.Collections.{EndsDueMark, EndsChosen, EndsSparse}
 use Rattle.collecting.specs.Collections.{EndsBehind, EndsCycle, CollectsWhole}
