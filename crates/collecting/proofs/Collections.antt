@@ -14,6 +14,7 @@ use Rattle.managed.specs.Emptying.{EndsPage, EndsEmptying}
 use Rattle.managed.proofs.Going.{goes_none, goes_then}
 use Rattle.managed.proofs.Gathering.{collected, crossings_collect}
 use Rattle.collecting.specs.declared.collecting.Collected.{Collected}
+use Rattle.collecting.specs.Collections.{MarksWhole}
 use Rattle.collecting.specs.Collections.{WORKER, Collects, EndsLeft, EndsLeftPages, EndsSettling, EndsDue}
 use Rattle.collecting.specs.Collections.{EndsDueMark, EndsChosen, EndsSparse}
 use Rattle.collecting.specs.Collections.{EndsBehind, EndsCycle, CollectsWhole}
@@ -133,3 +134,17 @@ pub whole_stops : (percent : ℕ) (h g : HeapState) (s : Result Unit Refusal) (e
 whole_stops percent h g s e is a =
     let k : EndsSettling h (Err e) g = subst (λ (x : Result Unit Refusal). EndsSettling h x g) is a in
     (k.0, inl k.1)
+
+-- ---- a mark alone
+
+pub marked_then : (h m g : HeapState) (s : Result Unit Refusal) (u : Unit {0}) (r : Result ℕ Refusal) → s ≡ Ok u
+    → EndsSettling h s m → Collects m g → EndsDueMark m r g → MarksWhole h r g
+marked_then h m g (Err e) u r is a b due = absurd (cc)
+marked_then h m g (Ok v) u (Ok live) is a b due = and_then h m g a b
+marked_then h m g (Ok v) u (Err e) is a b due = (and_then h m g a b, λ percent. inr (m, a, inl due))
+
+pub marked_stops : (h g : HeapState) (s : Result Unit Refusal) (e : Refusal) → s ≡ Err e → EndsSettling h s g
+    → MarksWhole h (Err e) g
+marked_stops h g s e is a =
+    let k : EndsSettling h (Err e) g = subst (λ (x : Result Unit Refusal). EndsSettling h x g) is a in
+    (k.0, λ percent. inl k.1)

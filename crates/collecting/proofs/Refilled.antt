@@ -25,7 +25,7 @@ use Rattle.managed.proofs.Going.{goes_none, goes_then, goes_thread}
 use Rattle.managed.proofs.Gathering.{goes_wider}
 use Rattle.managed.proofs.Running.{runs_one}
 use Rattle.collecting.specs.declared.collecting.Collected.{Collected}
-use Rattle.collecting.specs.Collections.{WORKER, Collects, CollectsWhole, EndsCollecting}
+use Rattle.collecting.specs.Collections.{WORKER, Collects, CollectsWhole, EndsCollecting, MarksWhole}
 use Rattle.collecting.specs.Rooms.{IsRefill, Refills, EndsRefill, RefillsWhole}
 use Rattle.collecting.specs.Rooms.{EndsMaking, MakingStands}
 
@@ -82,6 +82,19 @@ collected_stops t n percent h g c e is a = (
   inr (h, goes_none (IsRefill t) h,
       subst (λ (x : Result Collected Refusal). EndsCollecting percent h x g) is a.1),
 )
+
+-- a mark, and then a buffer
+pub marked_then : (t n percent : ℕ) (h m g : HeapState) (c : Result ℕ Refusal) (live : ℕ) (r : Result Buffer Refusal)
+    → c ≡ Ok live → MarksWhole h c m → RefillsWhole t n percent m r g → RefillsWhole t n percent h r g
+marked_then t n percent h m g (Ok x) live r is a k = ends_after t n percent h m g r (collects_refill t h m a) k
+marked_then t n percent h m g (Err e) live r is a k = absurd (cc)
+
+-- a mark that stopped
+pub marked_stops : (t n percent : ℕ) (h g : HeapState) (c : Result ℕ Refusal) (e : Refusal) → c ≡ Err e
+    → MarksWhole h c g → RefillsWhole t n percent h (Err e) g
+marked_stops t n percent h g c e is a =
+    let k : MarksWhole h (Err e) g = subst (λ (x : Result ℕ Refusal). MarksWhole h x g) is a in
+    (collects_refill t h g k.0, inr (h, goes_none (IsRefill t) h, k.1 percent))
 
 -- what was refused, and what comes then
 pub refused_then : (t n percent : ℕ) (h m g : HeapState) (q r : Result Buffer Refusal) → RefillsWhole t n percent h q m

@@ -102,6 +102,11 @@ EndsCollecting percent h (Err e) g =
 abbrev pub CollectsWhole : ℕ → HeapState → Result Collected Refusal → HeapState → Type 0
 CollectsWhole percent h result g = Collects h g × EndsCollecting percent h result g
 
+-- what an earlier collection had left was ended, and then a mark; or one of these stopped so
+abbrev pub MarksWhole : HeapState → Result ℕ Refusal → HeapState → Type 0
+MarksWhole h (Ok live) g = Collects h g
+MarksWhole h (Err e) g = Collects h g × ((percent : ℕ) → EndsCollecting percent h (Err e) g)
+
 -- it says that there are too few frames or pages
 abbrev pub lacks_room : Refusal → Bool
 lacks_room (refusals.NoFrames need free) = true

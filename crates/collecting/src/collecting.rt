@@ -1,5 +1,6 @@
 //! Collections by one call.
 
+ghost use Rattle.std.specs.Prelude.{◌≡◌};
 ghost use Rattle.model.specs.declared.steps.Step.TheVariants as steps;
 ghost use Rattle.managed.specs.Collecting.{StandsUnseen};
 ghost use Rattle.managed.specs.Goings.{LoadsWhole, LoadStands};
@@ -76,8 +77,8 @@ pub trait Holding: Mutating {
     ) -> Result<bool, Refusal>;
 
     /// A fresh buffer for a thread, of `policy.words`; the one that it has is given back. Where at most
-    /// `policy.free` frames are free the heap is collected before, and where there is no room then, once
-    /// more.
+    /// `policy.free` frames are free, or there is no room, the heap is collected before; and where there is
+    /// no room then, a mark runs once more, which frees the numbers of the pages that were emptied.
     ///
     /// Refused as `take` is, or as `collect` is.
     fn refill(
@@ -122,7 +123,7 @@ impl Holding for ManagedHeap {
     fn object(&self, thread: u32, register: u32) -> Result<Object, Refusal>
         ensures { result ≡ seen self.now thread register }
     {
-        seeing::object(self, thread, register)
+        seeing::look(self, thread, register)
     }
 
     fn collect(&mut self, alloc: Global, percent: u32) -> Result<Collected, Refusal>

@@ -1,8 +1,9 @@
 //! A mark, and the pages that are emptied behind it.
 
-ghost use Rattle.collecting.specs.Collections.{Collects, EndsBehind, EndsDueMark, EndsChosen, EndsSparse, EndsCycle};
+ghost use Rattle.collecting.specs.Collections.{Collects, EndsBehind, EndsDueMark, EndsChosen, EndsSparse, EndsCycle, MarksWhole};
 
 use crate::collecting::Collected;
+use crate::leftovers::settle;
 use choosing::choose;
 use managed::ManagedHeap;
 use model::Refusal;
@@ -17,6 +18,17 @@ fn mark_due(heap: &mut ManagedHeap) -> Result<u64, Refusal>
         heap.finish_mark(0)
     } else {
         heap.mark(0)
+    }
+}
+
+/// What an earlier collection has left is ended, and then the mark that is due runs. Gives how many objects
+/// live.
+pub(crate) fn mark_whole(heap: &mut ManagedHeap) -> Result<u64, Refusal>
+    ensures { MarksWhole heap.old result heap.new }
+{
+    match settle(heap) {
+        Ok(()) => mark_due(heap),
+        Err(refusal) => Err(refusal),
     }
 }
 

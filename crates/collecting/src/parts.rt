@@ -45,6 +45,7 @@ impl Parts {
     fn begin(&mut self, stage: Stage) {
         self.stage = stage;
         self.next = 0;
+        self.found.clear();
     }
 
     /// Measures at most so many pages. True where all are measured.
@@ -80,7 +81,6 @@ impl Parts {
             self.chosen.push(*page)?;
             pages.push(*page)?;
         }
-        self.found = Vec::new(alloc);
         Ok(pages)
     }
 
@@ -112,6 +112,16 @@ fn mark_part(heap: &mut ManagedHeap, parts: &mut Parts, budget: u32) -> Result<b
     }
 }
 
+/// What comes of a refusal to protect pages: where the choice is out of date, as a whole collection came
+/// between, the next part begins anew.
+fn begin_anew(parts: &mut Parts, refusal: Refusal) -> Result<bool, Refusal> {
+    if matches!(refusal, Refusal::Phase | Refusal::Unripe { .. } | Refusal::Lent { .. }) {
+        parts.begin(Stage::Mark);
+        return Ok(false);
+    }
+    Err(refusal)
+}
+
 /// The chosen pages are protected; true where there are none.
 fn protect_part(
     heap: &mut ManagedHeap,
@@ -127,7 +137,7 @@ fn protect_part(
     parts.begin(Stage::Empty);
     match protect(heap, pages) {
         Ok(()) => Ok(false),
-        Err(refusal) => Err(refusal),
+        Err(refusal) => begin_anew(parts, refusal),
     }
 }
 

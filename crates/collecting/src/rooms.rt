@@ -5,6 +5,7 @@ ghost use Rattle.collecting.specs.Collections.{lacks_room};
 ghost use Rattle.collecting.specs.Rooms.{EndsMaking, RefillsWhole};
 
 use crate::collecting::collect_whole;
+use crate::cycles::mark_whole;
 use crate::policy::Policy;
 use cycle::Mutating;
 use managed::ManagedHeap;
@@ -25,6 +26,37 @@ fn take(heap: &mut ManagedHeap, policy: Policy, thread: u32) -> Result<Buffer, R
     heap.take(thread, policy.words)
 }
 
+/// A mark runs, and the buffer is taken: the numbers of pages that a collection has emptied are free at the
+/// end of the next mark alone.
+fn mark_and_take(
+    heap: &mut ManagedHeap,
+    policy: Policy,
+    thread: u32,
+) -> Result<Buffer, Refusal>
+    ensures { RefillsWhole thread policy.words policy.percent heap.old result heap.new }
+{
+    match mark_whole(heap) {
+        Ok(_) => take(heap, policy, thread),
+        Err(refusal) => Err(refusal),
+    }
+}
+
+/// The buffer is taken; where there is no room for it a mark runs before.
+fn take_or_mark(heap: &mut ManagedHeap, policy: Policy, thread: u32) -> Result<Buffer, Refusal>
+    ensures { RefillsWhole thread policy.words policy.percent heap.old result heap.new }
+{
+    match take(heap, policy, thread) {
+        Ok(buffer) => Ok(buffer),
+        Err(refusal) => {
+            if lacks_room(&refusal) {
+                mark_and_take(heap, policy, thread)
+            } else {
+                Err(refusal)
+            }
+        }
+    }
+}
+
 /// The heap is collected, and the buffer is taken.
 fn collect_and_take(
     heap: &mut ManagedHeap,
@@ -35,7 +67,7 @@ fn collect_and_take(
     ensures { RefillsWhole thread policy.words policy.percent heap.old result heap.new }
 {
     match collect_whole(heap, alloc, policy.percent) {
-        Ok(_) => take(heap, policy, thread),
+        Ok(_) => take_or_mark(heap, policy, thread),
         Err(refusal) => Err(refusal),
     }
 }
@@ -61,25 +93,8 @@ fn take_or_collect(
     }
 }
 
-/// The heap is collected, and the buffer is taken, for which it is collected again where there is no room:
-/// the numbers of pages that a collection has emptied are free at the end of the next mark alone.
-fn collect_and_retry(
-    heap: &mut ManagedHeap,
-    alloc: Global,
-    policy: Policy,
-    thread: u32,
-) -> Result<Buffer, Refusal>
-    ensures { RefillsWhole thread policy.words policy.percent heap.old result heap.new }
-{
-    match collect_whole(heap, alloc, policy.percent) {
-        Ok(_) => take_or_collect(heap, alloc, policy, thread),
-        Err(refusal) => Err(refusal),
-    }
-}
-
-/// The buffer is taken; where frames are low the heap is collected before, and where there is no room once
-/// more.
-fn take_or_retry(
+/// The buffer is taken; where frames are low, or where there is no room for it, the heap is collected before.
+fn take_by_policy(
     heap: &mut ManagedHeap,
     alloc: Global,
     policy: Policy,
@@ -88,7 +103,7 @@ fn take_or_retry(
     ensures { RefillsWhole thread policy.words policy.percent heap.old result heap.new }
 {
     if heap.heap().memory().free_frames() <= policy.free {
-        collect_and_retry(heap, alloc, policy, thread)
+        collect_and_take(heap, alloc, policy, thread)
     } else {
         take_or_collect(heap, alloc, policy, thread)
     }
@@ -104,7 +119,7 @@ pub(crate) fn refill(
     ensures { RefillsWhole thread policy.words policy.percent heap.old result heap.new }
 {
     let _ = heap.give_back(thread);
-    take_or_retry(heap, alloc, policy, thread)
+    take_by_policy(heap, alloc, policy, thread)
 }
 
 /// An object is made, behind a fresh buffer.

@@ -22,7 +22,7 @@ pub struct Object {
 /// The object that a register of a thread names. Refused as `Null`, `Stall` and `Stale` where the register may
 /// not be used, and as `BadIndex` where no object stands there.
 #[tactic(auto, unfolding(crate::specs::Objects::seen))]
-pub(crate) fn object(heap: &ManagedHeap, thread: u32, register: u32) -> Result<Object, Refusal>
+pub(crate) fn look(heap: &ManagedHeap, thread: u32, register: u32) -> Result<Object, Refusal>
     ensures { result ≡ seen heap.now thread register }
 {
     let inside = heap.heap();

@@ -5,8 +5,8 @@
 //! |---|---|---|---|
 //! | 1 | 1 | 16 | nothing |
 //! | 1 | 2 | 16 | nothing |
-//! | 2 | 4 | 16 | nothing |
-//! | 3 | 6 | 16 | one object, whose number is still there at the end |
+//! | 2 | 2 | 16 | the last object |
+//! | 3 | 6 | 16 | the last object, and the first one, whose number is still there at the end |
 #![tactic(auto)]
 
 use anyhow::Result;
@@ -44,7 +44,16 @@ fn new_heap(alloc: Global, frames: u32, pages: u32) -> Result<Heap> {
     Ok(Heap::new(alloc, config)?)
 }
 
-/// Makes so many objects that nobody keeps.
+/// Makes so many objects that nobody keeps, not even in a register.
+fn waste_all(alloc: Global, heap: &mut impl Holding, policy: Policy, count: u64) -> Result<()> {
+    for _ in 0..count {
+        heap.make(alloc, policy, ME, LOST, 0)?;
+        heap.clear_register(ME, LOST)?;
+    }
+    Ok(())
+}
+
+/// Makes so many objects that nobody keeps, but for the last one.
 fn waste(alloc: Global, heap: &mut impl Holding, policy: Policy, count: u64) -> Result<()> {
     for _ in 0..count {
         heap.make(alloc, policy, ME, LOST, 0)?;
@@ -52,10 +61,14 @@ fn waste(alloc: Global, heap: &mut impl Holding, policy: Policy, count: u64) -> 
     Ok(())
 }
 
-/// The same in a heap of so many frames and pages that keeps nothing.
-fn waste_all(alloc: Global, frames: u32, pages: u32, count: u64) -> Result<()> {
-    let policy = Policy::usual(WORDS, frames);
-    waste(alloc, &mut new_heap(alloc, frames, pages)?, policy, count)
+/// The same in a heap of one frame and so many pages, where not even the last one is kept.
+fn waste_in_one(alloc: Global, pages: u32, count: u64) -> Result<()> {
+    waste_all(alloc, &mut new_heap(alloc, 1, pages)?, Policy::usual(WORDS, 1), count)
+}
+
+/// The same in a heap of two frames and two pages.
+fn waste_in_two(alloc: Global, count: u64) -> Result<()> {
+    waste(alloc, &mut new_heap(alloc, 2, 2)?, Policy::usual(WORDS, 2), count)
 }
 
 /// The same in a heap that keeps one object. Gives the number in it at the end.
@@ -68,9 +81,9 @@ fn keep_one(alloc: Global, mut heap: impl Holding + Drop, policy: Policy, count:
 
 /// Makes so many objects in each of the four heaps. Gives the number that one of them keeps.
 fn soak(alloc: Global, count: u64) -> Result<u64> {
-    waste_all(alloc, 1, 1, count)?;
-    waste_all(alloc, 1, 2, count)?;
-    waste_all(alloc, 2, 4, count)?;
+    waste_in_one(alloc, 1, count)?;
+    waste_in_one(alloc, 2, count)?;
+    waste_in_two(alloc, count)?;
     keep_one(alloc, new_heap(alloc, 3, 6)?, Policy::usual(WORDS, 3), count)
 }
 

@@ -30,7 +30,16 @@ pub fn new_heap(alloc: Global, frames: u32, pages: u32) -> Result<ManagedHeap, F
     Ok(ManagedHeap::new(alloc, config)?)
 }
 
-/// Makes so many objects that nobody keeps.
+/// Makes so many objects that nobody keeps, not even in a register.
+fn waste_all(alloc: Global, heap: &mut impl Holding, frames: u32, count: u32) -> Result<(), Refusal> {
+    for _ in 0..count {
+        heap.make(alloc, Policy::usual(16, frames), ME, LOST, 0)?;
+        heap.clear_register(ME, LOST)?;
+    }
+    Ok(())
+}
+
+/// Makes so many objects that nobody keeps, but for the last one.
 fn waste(alloc: Global, heap: &mut impl Holding, frames: u32, count: u32) -> Result<(), Refusal> {
     for _ in 0..count {
         heap.make(alloc, Policy::usual(16, frames), ME, LOST, 0)?;
@@ -39,6 +48,17 @@ fn waste(alloc: Global, heap: &mut impl Holding, frames: u32, count: u32) -> Res
 }
 
 /// What nobody keeps can be made for ever.
+fn wastes_all(
+    rt: &impl Abort,
+    alloc: Global,
+    mut heap: impl Holding + Drop,
+    frames: u32,
+) -> Result<(), Fail> {
+    same(rt, waste_all(alloc, &mut heap, frames, 1000), Ok(()));
+    Ok(())
+}
+
+/// So can what nobody keeps but for the last one.
 fn wastes(
     rt: &impl Abort,
     alloc: Global,
@@ -51,8 +71,8 @@ fn wastes(
 
 #[test]
 fn smallest_heaps(rt: HostRuntime) -> Result<(), Fail> {
-    wastes(&rt, rt.alloc(), new_heap(rt.alloc(), 1, 1)?, 1)?;
-    wastes(&rt, rt.alloc(), new_heap(rt.alloc(), 1, 2)?, 1)?;
+    wastes_all(&rt, rt.alloc(), new_heap(rt.alloc(), 1, 1)?, 1)?;
+    wastes_all(&rt, rt.alloc(), new_heap(rt.alloc(), 1, 2)?, 1)?;
     wastes(&rt, rt.alloc(), new_heap(rt.alloc(), 2, 2)?, 2)?;
     wastes(&rt, rt.alloc(), new_heap(rt.alloc(), 3, 6)?, 3)
 }
