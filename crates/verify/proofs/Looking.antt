@@ -1,6 +1,6 @@
 -- Looks at the objects that a walk has found, from one to the next.
-use Rattle.std.proofs.Common.{◌≡◌, ◌≢◌, ◌<◌, ◌≤◌, ◌⊎◌, inl, inr, ℕ, ◌+◌, List, length, Option, Some, None, refl, sym, ap}
-use Rattle.std.proofs.Common.{◌∙◌, Bool, cond, eqb, eq-eqb, ne_eqb, subst, arith}
+use Rattle.std.proofs.Common.{◌≡◌, ◌≢◌, ◌<◌, ◌≤◌, ◌⊎◌, inl, inr, ℕ, ◌+◌, List, Option, Some, None, refl, sym, ap}
+use Rattle.std.proofs.Common.{◌∙◌, cond, eqb, eq-eqb, ne_eqb, subst, arith}
 use Rattle.std.specs.Option.{option_map}
 use Rattle.std.proofs.lemmas.Bool.{cases_eq, cases_lt}
 use Rattle.std.proofs.lemmas.Option.{none-some, same_Some}
@@ -9,9 +9,9 @@ use Rattle.verify.specs.declared.spots.Spot.{Spot}
 use Rattle.verify.specs.declared.spots.Spot.TheVariants.{Empty, Reached}
 use Rattle.verify.specs.declared.verdict.Fault.TheVariants as faults
 use Rattle.verify.specs.Images.{ImageData, object_at, field}
-use Rattle.verify.specs.Soundness.{IsReached, IsGood, IsBirthAt}
-use Rattle.verify.specs.Faults.{HasFault, IsBefore, rank, at}
-use Rattle.verify.specs.Searches.{TellsReached, FoundBad, FoundBadOf, FoundField, GoodBefore}
+use Rattle.verify.specs.Soundness.{IsReached, IsBirthAt}
+use Rattle.verify.specs.Faults.{IsBefore, at}
+use Rattle.verify.specs.Searches.{TellsReached, FoundBadOf, FoundField, GoodBefore}
 use Rattle.verify.specs.Spots.{IsNextFilled}
 use Rattle.verify.specs.Twins.{TellsBirths, SharesBelow, IsLeast}
 use Rattle.verify.specs.Walks.{spot_at}

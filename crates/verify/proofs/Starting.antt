@@ -1,6 +1,6 @@
 -- What stands at each address before a walk, page by page.
 use Rattle.std.proofs.Common.{◌≡◌, eqb, leb, inl, inr, ℕ, suc, ◌+◌, ◌-◌, ◌*◌, ◌/◌, ◌%◌, ◌<◌, ◌≤◌, Bool, true, false, cond}
-use Rattle.std.proofs.Common.{ltb, List, [], ◌∷◌, ◌++◌, length, get_or, Option, Some, None, refl, sym, ◌∙◌, ap, subst, arith}
+use Rattle.std.proofs.Common.{ltb, List, [], ◌∷◌, ◌++◌, length, get_or, Option, Some, None, refl, ◌∙◌, ap, arith}
 use Rattle.std.proofs.Common.{div-add-mod', length-append}
 use Rattle.std.proofs.Math.Nat.{mul-le-mul_right, suc-mul}
 use Rattle.std.proofs.Math.Seq.{get_or-append_seam}
@@ -12,7 +12,6 @@ use Rattle.refword.specs.declared.addr.TheConstants.Addr as addresses
 use Rattle.layout.specs.Objects.{size_of, header_of}
 use Rattle.verify.specs.declared.objects.Object.{Object}
 use Rattle.verify.specs.declared.spots.Spot.{Spot}
-use Rattle.verify.specs.declared.spots.Spot.TheVariants.{Empty, Unseen}
 use Rattle.verify.specs.Images.{ImageData, PageData, ◌>>=◌, page_at, word_at, starts_on, object_in, object_at}
 use Rattle.verify.specs.Spots.{spot_on}
 use Rattle.verify.specs.Walks.{spot_at, first_spot}

@@ -3,6 +3,7 @@ pub mod Soundness
 pub mod Claims
 pub mod Faults
 pub mod Copies
+pub mod Places
 pub mod Walks
 pub mod Spots
 pub mod Searches
