@@ -24,7 +24,7 @@
 #![tactic(auto)]
 
 pub use choosing::choose;
-pub use collecting::{Collected, Fault, Holding, Object, Parts, Policy};
+pub use collecting::{CallFault, Collected, Holding, Object, Parts, Policy};
 pub use cycle::{
     Actor, Answer, Book, Buffer, Entry, EntryRef, History, Mutating, PageList, Reply, Step, Trap,
     next_drain, run, three_traps,
