@@ -17,7 +17,8 @@
 //! `Answer` or a `Refusal`.
 //!
 //! A runtime's author who doubts a heap asks `verify`: it takes the heap's `Image`, all of its memory
-//! and roots as plain data, and says `Sound` or the first fault. An image can be printed.
+//! and roots as plain data, and says `Sound` or the first fault. An image can be printed. Of a `Heap`
+//! `verify_held` says `Sound`, by its contract.
 //!
 //! There is no code here: each name stands in a crate of its own, with its contract. The heap is
 //! `managed::ManagedHeap` there.
@@ -35,3 +36,4 @@ pub use layout::{Layout, Layouts};
 pub use managed::ManagedHeap as Heap;
 pub use sharing::{Seat, Settled, Shared, Stray, settle};
 pub use verify::{Fault, Image, PageImage, Root, Verdict, Words, verify, verify_image};
+pub use verifying::verify_held;
