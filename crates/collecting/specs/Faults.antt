@@ -1,11 +1,11 @@
 -- Few kinds of refusal.
 use Rattle.model.specs.declared.steps.Refusal.{Refusal}
 use Rattle.model.specs.declared.steps.Refusal.TheVariants as refusals
-use Rattle.collecting.specs.declared.faults.Fault.{Fault}
-use Rattle.collecting.specs.declared.faults.Fault.TheVariants as faults
+use Rattle.collecting.specs.declared.faults.CallFault.{CallFault}
+use Rattle.collecting.specs.declared.faults.CallFault.TheVariants as faults
 
 -- the kind of a refusal
-abbrev pub fault_of : Refusal → Fault
+abbrev pub fault_of : Refusal → CallFault
 fault_of refusals.Null = faults.Null
 fault_of refusals.NoActor = faults.Index
 fault_of refusals.BadIndex = faults.Index

@@ -7,7 +7,7 @@ use std::fmt;
 /// Why a call of a program isn't done. A program whose heap nobody else collects or shares meets the first
 /// five kinds alone.
 #[derive(Clone, Copy, Debug, PartialEq, Eq)]
-pub enum Fault {
+pub enum CallFault {
     /// A register is null.
     Null,
     /// A number names nothing: a thread, a register, a global, a layout, a field or a datum.
@@ -22,37 +22,37 @@ pub enum Fault {
     Held(Refusal),
 }
 
-impl From<Refusal> for Fault {
+impl From<Refusal> for CallFault {
     ghost use Rattle.std.specs.Prelude.{◌≡◌};
     ghost use Rattle.collecting.specs.Faults.{fault_of};
 
     ghost from_gives = { λ r f. f ≡ fault_of r };
 
-    fn from(refusal: Refusal) -> Fault
+    fn from(refusal: Refusal) -> CallFault
         ensures { result ≡ fault_of refusal }
     {
         match refusal {
-            Refusal::Null => Fault::Null,
-            Refusal::NoActor | Refusal::BadIndex => Fault::Index,
-            Refusal::NoRoom | Refusal::NoFrames { .. } | Refusal::NoPages => Fault::Full,
-            Refusal::Memory => Fault::Memory,
-            Refusal::Births => Fault::Births,
-            other => Fault::Held(other),
+            Refusal::Null => CallFault::Null,
+            Refusal::NoActor | Refusal::BadIndex => CallFault::Index,
+            Refusal::NoRoom | Refusal::NoFrames { .. } | Refusal::NoPages => CallFault::Full,
+            Refusal::Memory => CallFault::Memory,
+            Refusal::Births => CallFault::Births,
+            other => CallFault::Held(other),
         }
     }
 }
 
-impl fmt::Display for Fault {
+impl fmt::Display for CallFault {
     fn fmt<W: fmt::Write>(&self, f: &mut fmt::Formatter<W>) -> fmt::Result {
         match *self {
-            Fault::Null => f.write_str("the register is null"),
-            Fault::Index => f.write_str("a number names nothing"),
-            Fault::Full => f.write_str("the heap has no room"),
-            Fault::Memory => f.write_str("memory was refused"),
-            Fault::Births => f.write_str("no more objects may be born"),
-            Fault::Held(refusal) => write!(f, "refused {refusal}"),
+            CallFault::Null => f.write_str("the register is null"),
+            CallFault::Index => f.write_str("a number names nothing"),
+            CallFault::Full => f.write_str("the heap has no room"),
+            CallFault::Memory => f.write_str("memory was refused"),
+            CallFault::Births => f.write_str("no more objects may be born"),
+            CallFault::Held(refusal) => write!(f, "refused {refusal}"),
         }
     }
 }
 
-impl Error for Fault {}
+impl Error for CallFault {}

@@ -15,7 +15,7 @@ mod rooms;
 mod seeing;
 
 pub use collecting::{Collected, Holding};
-pub use faults::Fault;
+pub use faults::CallFault;
 pub use parts::Parts;
 pub use policy::Policy;
 pub use seeing::Object;

@@ -17,14 +17,15 @@
 //! `Answer` or a `Refusal`.
 //!
 //! A runtime's author who doubts a heap asks `verify`: it takes the heap's `Image`, all of its memory
-//! and roots as plain data, and says `Sound` or the first fault. An image can be printed.
+//! and roots as plain data, and says `Sound` or the first fault. An image can be printed. Of a `Heap`
+//! `verify_held` says `Sound`, by its contract.
 //!
 //! There is no code here: each name stands in a crate of its own, with its contract. The heap is
 //! `managed::ManagedHeap` there.
 #![tactic(auto)]
 
 pub use choosing::choose;
-pub use collecting::{Collected, Fault, Holding, Object, Parts, Policy};
+pub use collecting::{CallFault, Collected, Holding, Object, Parts, Policy};
 pub use cycle::{
     Actor, Answer, Book, Buffer, Entry, EntryRef, History, Mutating, PageList, Reply, Step, Trap,
     next_drain, run, three_traps,
@@ -35,3 +36,4 @@ pub use layout::{Layout, Layouts};
 pub use managed::ManagedHeap as Heap;
 pub use sharing::{Seat, Settled, Shared, Stray, settle};
 pub use verify::{Fault, Image, PageImage, Root, Verdict, Words, verify, verify_image};
+pub use verifying::verify_held;

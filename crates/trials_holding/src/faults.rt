@@ -1,7 +1,7 @@
 //! Kinds of refusal.
 
 use crate::rooms::same;
-use collecting::Fault;
+use collecting::CallFault;
 use model::Refusal;
 use std::alloc::{AllocError, Global};
 use std::fmt::Write as _;
@@ -11,7 +11,7 @@ use std::test::Fail;
 /// The text of the fault that a refusal is.
 fn text(alloc: Global, refusal: Refusal) -> Result<String, AllocError> {
     let mut text = String::new(alloc);
-    let fault = Fault::from(refusal);
+    let fault = CallFault::from(refusal);
     write!(text, "{fault}")?;
     Ok(text)
 }
