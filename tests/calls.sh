@@ -44,13 +44,13 @@ for named in \
     trials_scripts:reports::cycles \
     trials_scripts:wants::read_and_run \
     trials_scripts:wants::read_and_checked \
-    trials_sharing:wants::steps_of_seats \
-    trials_sharing:wants::steps_of_threads \
-    trials_sharing:wants::pages_by_halves \
-    trials_sharing:openings::a_book_is_opened \
-    trials_sharing:openings::pages_are_chosen \
-    trials_sharing:runs::a_list_of_steps \
-    trials_sharing:runs::a_drain_in_two_parts \
+    shortfalls:steps::steps_of_seats \
+    shortfalls:steps::steps_of_threads \
+    shortfalls:steps::pages_by_halves \
+    shortfalls:openings::a_book_is_opened \
+    shortfalls:openings::pages_are_chosen \
+    shortfalls:lists::a_list_of_steps \
+    shortfalls:lists::a_drain_in_two_parts \
     races:wants::hints_come_back \
     races:wants::runs_by_threads; do
     crate=${named%%:*}

@@ -1,6 +1,5 @@
 //! Pages that are worth to be emptied.
 
-use crate::opened::{HEAD, MARKED, act_all, book_of, script_of};
 use crate::same::same;
 use choosing::choose;
 use cycle::Book;
@@ -9,6 +8,7 @@ use parser::Script;
 use std::alloc::{AllocError, Global};
 use std::process::Abort;
 use std::test::Fail;
+use tables::{FULL, HEAD, MARKED, act_all, book_of, script_of};
 
 /// At most so many words of a hundred are to be live: these pages of a book are chosen.
 fn chooses(
@@ -65,15 +65,6 @@ const DEAD: &str =
 fn a_page_without_live_objects(rt: HostRuntime) -> Result<(), Fail> {
     finds_behind(&rt, rt.alloc(), DEAD, (None, 0))
 }
-
-/// Two pages of five objects, fifteen words of each, and one free frame.
-pub const FULL: &str =
-    "t0 take 16\ntimes 5\nt0 new r1 0\nt0 store r1 0 r0\nt0 mov r0 r1\nend\nt0 give\nt0 take 16\ntimes 5\n\
-    t0 new r1 0\nt0 store r1 0 r0\nt0 mov r0 r1\nend\nt0 give\nw0 mark\nt0 cross\nt1 cross\nw0 scang 0\n\
-    w0 pick 2.12\nw0 scan\nw0 scan\nw0 pick 2.9\nw0 scan\nw0 scan\nw0 pick 2.6\nw0 scan\nw0 scan\n\
-    w0 pick 2.3\nw0 scan\nw0 scan\nw0 pick 2.0\nw0 scan\nw0 scan\nw0 pick 1.12\nw0 scan\nw0 scan\n\
-    w0 pick 1.9\nw0 scan\nw0 scan\nw0 pick 1.6\nw0 scan\nw0 scan\nw0 pick 1.3\nw0 scan\nw0 scan\nw0 pick 1.0\n\
-    w0 scan\nw0 scan\nw0 endmark\n";
 
 #[test]
 fn room_for_one_page(rt: HostRuntime) -> Result<(), Fail> {

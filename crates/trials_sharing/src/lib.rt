@@ -6,18 +6,10 @@ mod choices;
 #[cfg(test)]
 mod mirror;
 #[cfg(test)]
-mod opened;
-#[cfg(test)]
-mod openings;
-#[cfg(test)]
 mod rows;
-#[cfg(test)]
-mod runs;
 #[cfg(test)]
 mod same;
 #[cfg(test)]
 mod stops;
 #[cfg(test)]
 mod table;
-#[cfg(test)]
-mod wants;

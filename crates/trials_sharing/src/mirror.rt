@@ -1,8 +1,7 @@
 //! The same steps, one by one, on a shared book and on a book of one thread.
 
-use crate::opened::{book_of, script_of};
 use crate::same::same_at;
-use crate::table::{Table, ask, image_of, settles, shared_image, table_of};
+use crate::table::settles;
 use cycle::Book;
 use held::{HeldBook, act};
 use parser::{Command, Script};
@@ -11,6 +10,7 @@ use std::process::Abort;
 use std::sync::Wait;
 use std::test::Fail;
 use std::thread::Threads;
+use tables::{Table, ask, book_of, image_of, script_of, shared_image, table_of};
 
 /// The step of the command of a number on both books, whose answers and images are the same.
 fn both<R: Abort + Threads + Wait + Sync>(

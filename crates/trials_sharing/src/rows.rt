@@ -1,8 +1,8 @@
 //! Rows of steps, by which objects are moved while threads run on.
 
 use crate::mirror::{mirrors, mirrors_stopped};
-use crate::opened::{HEAD, MARKED, ROOMY};
 use std::test::Fail;
+use tables::{HEAD, LINKED, MARKED, ROOMY, WHOLE_PAGES};
 
 /// Both threads scrub a register behind the crossings.
 const SCRUBBED: &str =
@@ -39,18 +39,6 @@ const LOADED: &str =
 fn a_load_that_copies(rt: HostRuntime) -> Result<(), Fail> {
     mirrors(&rt, rt.alloc(), &[HEAD, MARKED, LOADED], 0, 25)
 }
-
-/// A page of five objects, each of which names the one before, and the first of all the marked one.
-pub const LINKED: &str =
-    "t1 take 16\ntimes 5\nt1 new r1 0\nt1 store r1 0 r0\nt1 mov r0 r1\nend\nt1 give\nw0 mark\nt0 cross\n\
-    t1 cross\nw0 scang 0\nw0 pick 1.0\nw0 scan\nw0 scan\nw0 pick 2.12\nw0 scan\nw0 scan\nw0 pick 2.9\n\
-    w0 scan\nw0 scan\nw0 pick 2.6\nw0 scan\nw0 scan\nw0 pick 2.3\nw0 scan\nw0 scan\nw0 pick 2.0\nw0 scan\n\
-    w0 scan\nw0 endmark\n";
-
-/// Both pages are protected; a thread moves the last object before a worker copies the others.
-pub const WHOLE_PAGES: &str =
-    "w0 protect 1 2\nt0 cross\nt1 cross\nt1 scrub r0\nt1 set r0 0 3\nw0 copyall 2\nt1 datum r0 0\n\
-    w0 copyall 2\nw0 release 2\n";
 
 #[test]
 fn whole_pages(rt: HostRuntime) -> Result<(), Fail> {

@@ -1,7 +1,6 @@
 //! What is found is what is wanted. An assertion of its own costs a test some seconds of proof, and
 //! one that is made here next to nothing.
 
-use std::alloc::{AllocError, Global};
 use std::fmt::{Debug, Display};
 use std::process::Abort;
 
@@ -18,9 +17,4 @@ pub fn same_at<P: Display + Drop, T: PartialEq + Debug + Drop>(
     wanted: T,
 ) {
     assert_eq!(rt; found, wanted, "at {place}");
-}
-
-/// All of a value, as a text.
-pub fn text_of<T: Debug>(alloc: Global, value: &T) -> Result<String, AllocError> {
-    format!(in alloc; "{value:?}")
 }

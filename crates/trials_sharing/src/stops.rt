@@ -1,8 +1,6 @@
 //! Stops of shared books, and waits for a step that is refused for a while.
 
-use crate::opened::{HEAD, MARKED, script_of};
-use crate::same::{same, text_of};
-use crate::table::{Table, ask, seat_of, shared_image, table_of};
+use crate::same::same;
 use cycle::{Actor, Answer, Reply, Step};
 use model::Refusal;
 use parser::Script;
@@ -14,6 +12,7 @@ use std::sync::atomic::{AtomicU64, Ordering};
 use std::test::Fail;
 use std::thread;
 use std::thread::{Threads, join};
+use tables::{HEAD, MARKED, Table, ask, script_of, seat_of, shared_image, table_of, text_of};
 
 /// The marked object's page is protected, and one thread of two has crossed: it may not use the object yet.
 const HALF_CROSSED: &str = "w0 protect 1\nt0 cross\n";

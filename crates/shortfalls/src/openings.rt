@@ -2,10 +2,7 @@
 //! and the same call is done when it is made again. These tests are run with each of their requests for
 //! memory refused in turn, and end with want of memory then.
 
-use crate::choices::FULL;
-use crate::opened::{HEAD, MARKED, act_all, book_of, script_of};
 use crate::same::same;
-use crate::table::{Table, image_of, settled};
 use choosing::choose;
 use cycle::Book;
 use heap::Heap;
@@ -15,6 +12,7 @@ use sharing::Shared;
 use std::alloc::{AllocError, Global};
 use std::process::Abort;
 use std::test::Fail;
+use tables::{FULL, HEAD, MARKED, Table, act_all, book_of, image_of, script_of, settled};
 
 /// A book that can be opened.
 trait Opening: Sized {
@@ -49,43 +47,51 @@ impl Opening for Book {
     }
 }
 
+/// Whether a book opens, and its seats agree with it.
+fn opens(alloc: Global, book: impl Opening + Drop) -> bool {
+    match book.open(alloc) {
+        Ok(table) => settled(table).is_some(),
+        Err(_) => false,
+    }
+}
+
 /// A book that has come back is as it was, and opens then.
 fn opens_again(
     rt: &impl Abort,
     alloc: Global,
     back: impl Opening + Drop,
     before: &(String, usize),
-) -> Result<(), Fail> {
+) -> Result<(), AllocError> {
     let after = back.seen(alloc)?;
     same(rt, after.0.as_str(), before.0.as_str());
     same(rt, after.1, before.1);
-    match back.open(alloc) {
-        Ok(table) => same(rt, settled(table).is_some(), true),
-        Err(_) => return Err("it doesn't open".into()),
-    }
-    Err(Fail::from(AllocError))
+    same(rt, opens(alloc, back), true);
+    Err(AllocError)
 }
 
 /// A book of a script's steps is opened.
-fn opens(
+fn opens_behind(
     rt: &impl Abort,
     alloc: Global,
     mut book: impl Opening + Drop,
     script: &Script,
-) -> Result<(), Fail> {
+) -> Result<(), AllocError> {
     book.act_all(alloc, script)?;
     let before = book.seen(alloc)?;
     match book.open(alloc) {
-        Ok(table) => same(rt, settled(table).is_some(), true),
-        Err(back) => return opens_again(rt, alloc, back, &before),
+        Ok(table) => {
+            same(rt, settled(table).is_some(), true);
+            Ok(())
+        }
+        Err(back) => opens_again(rt, alloc, back, &before),
     }
-    Ok(())
 }
 
 #[test]
 fn a_book_is_opened(rt: HostRuntime) -> Result<(), Fail> {
     let script = script_of(rt.alloc(), &[HEAD, MARKED])?;
-    opens(&rt, rt.alloc(), book_of(rt.alloc(), &script)?, &script)
+    opens_behind(&rt, rt.alloc(), book_of(rt.alloc(), &script)?, &script)?;
+    Ok(())
 }
 
 /// Of a heap the first page is chosen. Where that lacks memory, the heap is as it was.

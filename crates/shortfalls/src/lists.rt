@@ -2,9 +2,8 @@
 //! tests are run with each of their requests for memory refused in turn: a step of a list that lacks memory
 //! says so, and the others are done as if it weren't in the list. A test ends with want of memory then.
 
-use crate::opened::{HEAD, MARKED, act_all, book_of, script_of};
+use crate::histories::same_histories;
 use crate::same::same;
-use crate::table::{image_of, same_histories};
 use cycle::{Actor, Book, Reply, Step, run};
 use heap::Refusal;
 use held::HeldBook;
@@ -12,6 +11,7 @@ use parser::Script;
 use std::alloc::{AllocError, Global};
 use std::process::Abort;
 use std::test::Fail;
+use tables::{HEAD, MARKED, act_all, book_of, image_of, script_of};
 
 /// The object moves, and its page is released.
 const MOVED: &str =
