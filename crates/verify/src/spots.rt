@@ -147,7 +147,11 @@ impl Spots {
             let offset = at % words;
             if let Some(found) = next_on(&self.pages, at / words, offset) {
                 let address = at + (found - offset);
-                return if address < self.count { Some(address) } else { None };
+                return if address < self.count {
+                    Some(address)
+                } else {
+                    None
+                };
             }
             at += words - offset;
         }
@@ -210,7 +214,12 @@ fn spot_of(image: &Image, page: &PageImage, address: u64, offset: u64) -> Spot
 }
 
 /// What stands on a page with memory, which begins at an address, before a walk.
-fn filled(alloc: Global, image: &Image, page: &PageImage, base: u64) -> Result<PageSpots, AllocError>
+fn filled(
+    alloc: Global,
+    image: &Image,
+    page: &PageImage,
+    base: u64,
+) -> Result<PageSpots, AllocError>
     requires sized { 0 < image.now.words }
     requires page { page_at image.now base ≡ Some page.now }
     requires base { base % image.now.words ≡ 0 }
