@@ -7,7 +7,8 @@
 #                 and says which crates aren't written down
 # make install    puts the program into PREFIX/bin
 # make bench      times the program on generated scripts, and loops over the library's calls
-# make soak       drives heaps by 10,000,000 random steps each, verified now and then; with SOAK_STEPS=.. by so many
+# make soak       drives heaps by 10,000,000 random steps each, verified now and then, with SOAK_STEPS=.. by so many;
+#                 and makes 100,000,000 objects that nobody keeps in the smallest heaps, with SOAK_OBJECTS=.. so many
 # make fuzz       runs the program on changed scripts for FUZZ_SECONDS seconds; 600, where it isn't set
 # make clean      removes the program, the log and all that earlier checks kept
 #
@@ -90,10 +91,13 @@ bench: pauseless
 # The heaps that are driven, and the steps of each.
 SOAKED = rows rolling smallest several long many
 SOAK_STEPS = 10000000
+SOAK_OBJECTS = 100000000
 
 soak:
 	@$(needs_toolchain)
 	@cd crates/driver && $(RT) run -- rolling 1 100000 1 > '$(CURDIR)/$(LOG)' 2>&1 || { cd '$(CURDIR)'; $(show_log); }
+	@cd crates/soak && $(RT) run > '$(CURDIR)/$(LOG)' 2>&1 || { cd '$(CURDIR)'; $(show_log); }
+	@crates/soak/out/soak $(SOAK_OBJECTS)
 	@for heap in $(SOAKED); do crates/driver/out/driver $$heap 1 $(SOAK_STEPS) 1000 1 || exit 1; done
 
 FUZZ_SECONDS = 600

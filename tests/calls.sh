@@ -35,6 +35,7 @@ for named in \
     shortages:protections::four_pages_of_a_managed_heap \
     shortages:emptying::pages_are_emptied \
     shortages:emptying::a_heap_is_made \
+    shortages:emptying::a_heap_is_verified \
     trials_books:books::a_run_is_accepted \
     trials_books:marks::a_drain \
     trials_verifier:verified::the_image_of_an_object_that_moves \

@@ -10,9 +10,9 @@ cd "$(dirname "$0")/.." || exit 1
 . tests/begin.sh
 seconds=${FUZZ_SECONDS:-600}
 
-# value NAME: a number of what AFL++ says of its run.
-value() {
-    sed -n "s/^$1 *: *//p" "$kept/found/default/fuzzer_stats"
+# kept_of FOLDER: how many scripts AFL++ has kept there.
+kept_of() {
+    find "$kept/found/$1" -name 'id*' | wc -l
 }
 
 # afl: runs AFL++ for so many seconds.
@@ -25,18 +25,20 @@ afl() {
     AFL_SKIP_CPUFREQ=1 AFL_NO_AFFINITY=1 AFL_NO_UI=1 AFL_I_DONT_CARE_ABOUT_MISSING_CRASHES=1 AFL_CRASH_EXITCODE=1 \
         afl-fuzz -n -V "$1" -t 20000 -m 2048 -x "$kept/words" -i "$kept/seeds" -o "$kept/found" \
         -- "$program" run @@ > "$kept/log" 2>&1
-    if [ ! -f "$kept/found/default/fuzzer_stats" ]; then
+    if ! grep -q 'Time limit was reached' "$kept/log"; then
         echo 'failed: AFL++ did not run:'
         tail -n 5 "$kept/log"
         failed=$((failed + 1))
         return
     fi
-    echo "AFL++: $(value execs_done) runs, $(value saved_crashes) faults, $(value saved_hangs) without an end"
-    if [ "$(value saved_crashes)" = 0 ] && [ "$(value saved_hangs)" = 0 ]; then
+    runs=$(tail -n 1 "$kept/found/plot_data" | cut -d, -f12)
+    faults=$(kept_of crashes) endless=$(kept_of hangs)
+    echo "AFL++:$runs runs, $faults faults, $endless without an end"
+    if [ "$faults$endless" = 00 ]; then
         passed=$((passed + 1))
     else
         mkdir -p fuzzed
-        cp "$kept"/found/default/crashes/id* "$kept"/found/default/hangs/id* fuzzed/ 2> /dev/null
+        cp "$kept"/found/crashes/id* "$kept"/found/hangs/id* fuzzed/ 2> /dev/null
         failed=$((failed + 1))
     fi
 }

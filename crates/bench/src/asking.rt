@@ -1,7 +1,9 @@
 //! What the loops ask. Nothing is promised here: a loop that held a `Heap` or a `Book` itself would
 //! carry all that each of its steps promises through its proof, which would take minutes.
 
-use pauseless::{Actor, Book, Heap, Mutating, Reply, Step, Stepping};
+use cycle::Stepping;
+use heap::Heap;
+use pauseless::{Actor, Book, Mutating, Reply, Step};
 
 /// The one thread of each heap.
 pub const THREAD: Actor = Actor::Thread(0);

@@ -3,7 +3,8 @@
 use crate::asking::Calls;
 use crate::mixes::{LAST, LIST, Mix, OBJECTS, OTHER, WORDS, config};
 use anyhow::Result;
-use pauseless::{Heap, Mutating, Refusal, Trap};
+use heap::Heap;
+use pauseless::{Mutating, Refusal, Trap};
 use std::alloc::Global;
 
 const THREAD: u32 = 0;

@@ -6,7 +6,9 @@ use crate::lists::build;
 use crate::mixes::{LAST, OTHER, WORDS};
 use crate::trees::trees;
 use anyhow::Result;
-use pauseless::{Config, Heap, Layout, Layouts, Refusal, Step, drain, is_ready, next_drain};
+use drains::drain;
+use heap::Heap;
+use pauseless::{Config, Layout, Layouts, Refusal, Step, is_ready, next_drain};
 use std::alloc::Global;
 
 /// The number of the worker.

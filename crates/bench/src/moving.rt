@@ -3,7 +3,8 @@
 use crate::asking::{Steps, THREAD, WORKER};
 use crate::mixes::WORDS;
 use anyhow::Result;
-use pauseless::{Config, Heap, Layout, Layouts, PageList, Refusal, Step};
+use heap::Heap;
+use pauseless::{Config, Layout, Layouts, PageList, Refusal, Step};
 use std::alloc::Global;
 
 /// How the objects of a page are copied.

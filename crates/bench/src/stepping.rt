@@ -4,7 +4,8 @@ use crate::asking::{Steps, THREAD};
 use crate::lists::build;
 use crate::mixes::{LAST, LIST, Mix, OBJECTS, OTHER, config};
 use anyhow::Result;
-use pauseless::{Answer, Book, Heap, Refusal, Reply, Step};
+use heap::Heap;
+use pauseless::{Answer, Book, Refusal, Reply, Step};
 use std::alloc::Global;
 
 /// A step of the thread.

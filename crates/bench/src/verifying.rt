@@ -3,7 +3,8 @@
 use crate::asking::Steps;
 use crate::moving::{fill_live, objects_of};
 use anyhow::Result;
-use pauseless::{Config, Heap, Layout, Layouts, verify};
+use heap::Heap;
+use pauseless::{Config, Layout, Layouts, verify};
 use std::alloc::{AllocError, Global};
 
 /// A heap is verified once.

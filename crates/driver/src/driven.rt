@@ -2,7 +2,9 @@
 //! would carry all that each of its steps promises through its proof.
 
 use checking::verify_book;
-use pauseless::{Actor, Book, Heap, Reply, Step, Stepping, Verdict, verify};
+use cycle::Stepping;
+use heap::Heap;
+use pauseless::{Actor, Book, Reply, Step, Verdict, verify};
 use std::alloc::{AllocError, Global};
 
 /// A heap that is driven, or a book, which keeps the history of it.

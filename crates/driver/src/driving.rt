@@ -7,7 +7,8 @@ use crate::numbers::below;
 use crate::setups::Habits;
 use crate::tending::next_work;
 use anyhow::{Result, bail};
-use pauseless::{Actor, Heap, Step, Verdict};
+use heap::Heap;
+use pauseless::{Actor, Step, Verdict};
 use samples::Dice;
 use std::alloc::{AllocError, Global};
 

@@ -27,7 +27,8 @@ use crate::driving::{Drive, goes};
 use crate::setups::setup;
 use crate::telling::{misses, tell};
 use anyhow::{Result, bail};
-use pauseless::{Book, Config, Heap};
+use heap::Heap;
+use pauseless::{Book, Config};
 use std::alloc::Global;
 use works::{Work, works};
 

@@ -1,8 +1,9 @@
 //! The steps of threads.
 
-use crate::numbers::index;
+use crate::numbers::{index, small};
 use crate::setups::Habits;
-use pauseless::{Config, Heap, Step};
+use heap::Heap;
+use pauseless::{Config, Step};
 use samples::Dice;
 
 /// What a thread is about.
@@ -11,6 +12,7 @@ struct Stance {
     is_loading: bool,
     is_parked: bool,
     has_crossed: bool,
+    has_buffer: bool,
 }
 
 /// What a thread of a heap is about.
@@ -20,11 +22,13 @@ fn stance_of(heap: &Heap, thread: u32) -> Stance {
             is_loading: false,
             is_parked: false,
             has_crossed: true,
+            has_buffer: false,
         },
         Some(thread) => Stance {
             is_loading: thread.barrier().is_some(),
             is_parked: thread.is_parked(),
             has_crossed: thread.has_crossed(),
+            has_buffer: thread.buffer().is_some(),
         },
     }
 }
@@ -32,9 +36,9 @@ fn stance_of(heap: &Heap, thread: u32) -> Stance {
 /// A load that is open goes on.
 fn in_a_load(dice: &mut Dice) -> Step {
     match dice.roll(6) {
-        0 | 1 => Step::Heal,
-        2 => Step::Finish,
-        _ => Step::Trap,
+        0 | 1 | 2 => Step::Trap,
+        3 => Step::Heal,
+        _ => Step::Finish,
     }
 }
 
@@ -55,8 +59,8 @@ fn on_memory(dice: &mut Dice, config: &Config) -> Step {
             object,
             field,
         },
-        3 | 4 => Step::LoadGlobal { target, global },
-        5 | 6 | 7 => Step::Store {
+        3 => Step::LoadGlobal { target, global },
+        4 | 5 | 6 | 7 => Step::Store {
             object,
             field,
             source,
@@ -106,13 +110,14 @@ fn size(dice: &mut Dice, config: &Config) -> u32 {
 }
 
 /// An object is born, or memory is taken for it or given back, with random operands.
-fn births(dice: &mut Dice, config: &Config) -> Step {
+fn births(dice: &mut Dice, config: &Config, has_buffer: bool) -> Step {
     let target = index(dice, config.registers);
-    let layout = index(dice, config.layouts.as_slice().len() as u32);
+    let layout = index(dice, small(config.layouts.as_slice().len()));
     match dice.roll(8) {
         0 | 1 => Step::GiveBack,
-        2 | 3 => Step::Take(size(dice, config)),
-        _ => Step::New { target, layout },
+        2 => Step::Take(size(dice, config)),
+        _ if has_buffer => Step::New { target, layout },
+        _ => Step::Take(size(dice, config)),
     }
 }
 
@@ -131,7 +136,7 @@ fn nonsense(dice: &mut Dice) -> Step {
 }
 
 /// Any step, with random operands.
-fn any(dice: &mut Dice, config: &Config, habits: Habits) -> Step {
+fn any(dice: &mut Dice, config: &Config, habits: Habits, has_buffer: bool) -> Step {
     if dice.roll(64) == 0 {
         return Step::Park;
     }
@@ -139,7 +144,7 @@ fn any(dice: &mut Dice, config: &Config, habits: Habits) -> Step {
         return nonsense(dice);
     }
     match dice.roll(8) {
-        0 | 1 | 2 => births(dice, config),
+        0 | 1 | 2 => births(dice, config, has_buffer),
         3 => on_registers(dice, config),
         _ => on_memory(dice, config),
     }
@@ -158,5 +163,5 @@ pub fn next_move(heap: &Heap, thread: u32, dice: &mut Dice, habits: Habits) -> S
     if !own.has_crossed && dice.roll(habits.lateness.max(1)) == 0 {
         return Step::Cross;
     }
-    any(dice, heap.config(), habits)
+    any(dice, heap.config(), habits, own.has_buffer)
 }

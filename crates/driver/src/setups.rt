@@ -23,7 +23,7 @@ const PLAIN: Habits = Habits {
 
 /// Threads go on before they cross, pages are copied whole too, and marks start while objects move.
 const ROLLING: Habits = Habits {
-    lateness: 4,
+    lateness: 2,
     rolls: true,
     nonsense: 16,
 };
@@ -74,13 +74,13 @@ fn several(alloc: Global) -> Result<Config, AllocError> {
 /// Pages whose rows of bits have many words, so side arrays of more than a hundred entries.
 fn long(alloc: Global) -> Result<Config, AllocError> {
     let fields = [(1, 1), (2, 0), (30, 20)];
-    Ok(config([1024, 4, 6, 3, 2, 8, 2], layouts(alloc, &fields)?))
+    Ok(config([1024, 8, 12, 3, 2, 8, 2], layouts(alloc, &fields)?))
 }
 
-/// Many threads, and fewer page numbers than twice the frames.
+/// Six threads, and fewer page numbers than twice the frames.
 fn many(alloc: Global) -> Result<Config, AllocError> {
     let fields = [(2, 1), (0, 1)];
-    Ok(config([32, 40, 50, 16, 4, 16, 8], layouts(alloc, &fields)?))
+    Ok(config([32, 24, 40, 6, 4, 12, 8], layouts(alloc, &fields)?))
 }
 
 /// A heap by its name, and how it is driven; nothing where no heap has the name.

@@ -1,17 +1,22 @@
 //! The steps of workers: those of a cycle without end.
 
-use crate::numbers::index;
+use crate::numbers::{index, small};
 use crate::setups::Habits;
 use model::{PageState, Phase};
-use pauseless::{Heap, PageList, Step, choose, next_drain};
+use heap::Heap;
+use pauseless::{PageList, Step, choose, next_drain};
 use samples::Dice;
 use std::alloc::{AllocError, Global};
 
 /// A mark ends; now and then pages are to be emptied first: those that have been chosen.
 fn idle(alloc: Global, heap: &Heap, dice: &mut Dice) -> Result<Step, AllocError> {
-    let percent = (dice.roll(100) as u32).saturating_add(1);
+    let percent = if dice.hits(4) {
+        dice.roll(100) as u32
+    } else {
+        100
+    };
     let pages = choose(alloc, heap, percent)?;
-    if pages.is_empty() || dice.roll(4) == 0 {
+    if pages.is_empty() || dice.roll(8) == 0 {
         return Ok(Step::StartMark);
     }
     Ok(Step::Protect(PageList::new(pages)))
@@ -19,14 +24,21 @@ fn idle(alloc: Global, heap: &Heap, dice: &mut Dice) -> Result<Step, AllocError>
 
 /// The first thread that hasn't crossed is crossed, if it is parked.
 fn crossing(heap: &Heap) -> Step {
-    let behind = heap.threads().iter().position(|thread| !thread.has_crossed());
-    Step::CrossFor(behind.unwrap_or(0) as u32)
+    let behind = heap
+        .threads()
+        .iter()
+        .position(|thread| !thread.has_crossed());
+    Step::CrossFor(small(behind.unwrap_or(0)))
 }
 
 /// The first page that is protected and has its memory, by its number from 1.
 fn protected(heap: &Heap) -> Option<u32> {
-    let place = heap.memory().pages().iter().position(|page| page.state == PageState::From)?;
-    Some((place as u32).saturating_add(1))
+    let place = heap
+        .memory()
+        .pages()
+        .iter()
+        .position(|page| page.state == PageState::From)?;
+    Some(small(place).saturating_add(1))
 }
 
 /// The first entry of a page that isn't copied.

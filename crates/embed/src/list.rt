@@ -1,21 +1,22 @@
 //! A list that stays.
 
-use crate::nodes::{HERE, KEY, ME, NODE, NodeHeap, ROOT, make, new_heap, waste};
+use crate::nodes::{HERE, KEY, ME, NODE, ROOT, make, new_heap, waste};
 use anyhow::Result;
+use pauseless::Holding;
 use std::alloc::Global;
 
 /// The reference of a node to the next one.
 const NEXT: u32 = 0;
 
 /// A new node becomes the head of the list.
-fn push(alloc: Global, heap: &mut impl NodeHeap, key: u64) -> Result<()> {
+fn push(alloc: Global, heap: &mut impl Holding, key: u64) -> Result<()> {
     make(alloc, heap, key)?;
     heap.store(ME, NODE, NEXT, ROOT)?;
     Ok(heap.copy_register(ME, ROOT, NODE)?)
 }
 
 /// The sum of the keys of a list of at most so many nodes.
-fn sum(heap: &mut impl NodeHeap, most: u64) -> Result<u64> {
+fn sum(heap: &mut impl Holding, most: u64) -> Result<u64> {
     let mut total = 0u64;
     heap.copy_register(ME, HERE, ROOT)?;
     for _ in 0..most {
@@ -23,13 +24,13 @@ fn sum(heap: &mut impl NodeHeap, most: u64) -> Result<u64> {
             break;
         }
         total = total.wrapping_add(heap.datum(ME, HERE, KEY)?);
-        heap.read(HERE, HERE, NEXT)?;
+        heap.read(ME, HERE, HERE, NEXT)?;
     }
     Ok(total)
 }
 
 /// Pushes the keys below 100, with 200 nodes wasted for each. Gives the sum of the list.
-fn push_and_sum(alloc: Global, mut heap: impl NodeHeap + Drop) -> Result<u64> {
+fn push_and_sum(alloc: Global, mut heap: impl Holding + Drop) -> Result<u64> {
     for key in 0..100 {
         push(alloc, &mut heap, key)?;
         waste(alloc, &mut heap, 200)?;

@@ -1,8 +1,9 @@
 //! Small programs on the library, as a user's own may begin: a list and a tree that stay among many
-//! nodes that are dropped, each on a heap that is collected where it is full; and a list on a heap
-//! that keeps its history.
+//! nodes that are dropped, each on a heap that is collected where it is full; a cache that lives for
+//! millions of steps; and a list on a heap that keeps its history.
 #![tactic(auto)]
 
+mod cache;
 mod history;
 mod list;
 mod nodes;
@@ -15,5 +16,7 @@ fn main(rt: HostRuntime) -> Result<()> {
     let sum = list::run(alloc)?;
     let found = tree::run(alloc)?;
     println!(rt; "list {sum}, tree {found}")?;
+    let hits = cache::run(alloc)?;
+    println!(rt; "cache {hits}")?;
     history::run(&rt)
 }

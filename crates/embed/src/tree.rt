@@ -1,8 +1,8 @@
 //! A search tree that stays.
 
-use crate::nodes::{CHILD, HERE, KEY, ME, NODE, NodeHeap, ROOT, make, new_heap, waste};
+use crate::nodes::{CHILD, HERE, KEY, ME, NODE, ROOT, make, new_heap, waste};
 use anyhow::Result;
-use pauseless::Refusal;
+use pauseless::{Holding, Refusal};
 use std::alloc::Global;
 
 /// The references of a node to what has lesser keys, and to the rest.
@@ -11,16 +11,16 @@ const LESS: u32 = 0;
 const MORE: u32 = 1;
 
 /// Where a key stands below a node.
-fn side(heap: &impl NodeHeap, key: u64) -> Result<u32, Refusal> {
+fn side(heap: &impl Holding, key: u64) -> Result<u32, Refusal> {
     let here = heap.datum(ME, HERE, KEY)?;
     Ok(if key < here { LESS } else { MORE })
 }
 
 /// A new node goes below the node that is looked at, or one of its children is looked at next; true
 /// where it has its place.
-fn hang(heap: &mut impl NodeHeap, key: u64) -> Result<bool, Refusal> {
+fn hang(heap: &mut impl Holding, key: u64) -> Result<bool, Refusal> {
     let side = side(heap, key)?;
-    heap.read(CHILD, HERE, side)?;
+    heap.read(ME, CHILD, HERE, side)?;
     if heap.is_null(ME, CHILD)? {
         heap.store(ME, HERE, side, NODE)?;
         return Ok(true);
@@ -30,7 +30,7 @@ fn hang(heap: &mut impl NodeHeap, key: u64) -> Result<bool, Refusal> {
 }
 
 /// A new node has its place in the tree, of at most so many levels.
-fn insert(alloc: Global, heap: &mut impl NodeHeap, key: u64, levels: u64) -> Result<()> {
+fn insert(alloc: Global, heap: &mut impl Holding, key: u64, levels: u64) -> Result<()> {
     make(alloc, heap, key)?;
     if heap.is_null(ME, ROOT)? {
         return Ok(heap.copy_register(ME, ROOT, NODE)?);
@@ -45,7 +45,7 @@ fn insert(alloc: Global, heap: &mut impl NodeHeap, key: u64, levels: u64) -> Res
 }
 
 /// Whether the tree has a key.
-fn has(heap: &mut impl NodeHeap, key: u64, levels: u64) -> Result<bool, Refusal> {
+fn has(heap: &mut impl Holding, key: u64, levels: u64) -> Result<bool, Refusal> {
     heap.copy_register(ME, HERE, ROOT)?;
     for _ in 0..levels {
         if heap.is_null(ME, HERE)? {
@@ -55,13 +55,13 @@ fn has(heap: &mut impl NodeHeap, key: u64, levels: u64) -> Result<bool, Refusal>
             return Ok(true);
         }
         let side = side(heap, key)?;
-        heap.read(HERE, HERE, side)?;
+        heap.read(ME, HERE, HERE, side)?;
     }
     Ok(false)
 }
 
 /// Inserts 100 keys below 101, with 100 nodes wasted for each.
-fn fill(alloc: Global, heap: &mut impl NodeHeap) -> Result<()> {
+fn fill(alloc: Global, heap: &mut impl Holding) -> Result<()> {
     for number in 0..100u64 {
         insert(alloc, heap, number * 37 % 101, 100)?;
         waste(alloc, heap, 100)?;
@@ -70,7 +70,7 @@ fn fill(alloc: Global, heap: &mut impl NodeHeap) -> Result<()> {
 }
 
 /// How many of the keys below 101 the tree has.
-fn count(heap: &mut impl NodeHeap) -> Result<u64, Refusal> {
+fn count(heap: &mut impl Holding) -> Result<u64, Refusal> {
     let mut found = 0u64;
     for key in 0..101u64 {
         found = found.wrapping_add(u64::from(has(heap, key, 100)?));
@@ -79,7 +79,7 @@ fn count(heap: &mut impl NodeHeap) -> Result<u64, Refusal> {
 }
 
 /// Fills a tree. Gives how many of the keys below 101 it has.
-fn fill_and_count(alloc: Global, mut heap: impl NodeHeap + Drop) -> Result<u64> {
+fn fill_and_count(alloc: Global, mut heap: impl Holding + Drop) -> Result<u64> {
     fill(alloc, &mut heap)?;
     Ok(count(&mut heap)?)
 }

@@ -15,12 +15,12 @@ use Rattle.model.specs.States.{HeapState}
 use Rattle.refinement.specs.Standing.{Holds, KeepsStanding}
 use Rattle.entries.specs.declared.entry.Entry.{Entry}
 use Rattle.cycle.specs.Replays.{Replayed, after_entry, after_entries}
-use Rattle.managed.specs.Goings.{Scans}
-use Rattle.managed.specs.Collecting.{IsOfMark}
-use Rattle.managed.specs.Goings.{EachIs, Goes, IsScan, IsCrossing, EndsDrain}
-use Rattle.managed.specs.Collecting.{IsCollecting, StandsUnseen, EndsMark, IsStopped, Marks, live_told}
+use Rattle.managed.specs.Goings.{EachIs, Goes, IsScan, IsCrossing, IsScrub, EndsDrain, AllTried}
+use Rattle.managed.specs.Collecting.{IsCollecting, StandsUnseen, EndsWell, EndsHere, live_told}
+use Rattle.managed.specs.Collecting.{Marks, MarksRest, MarksScanned}
 use Rattle.model.specs.Checkpoints.{all_crossed}
-use Rattle.managed.proofs.Going.{goes_none, goes_step, goes_then, next_scans}
+use Rattle.managed.proofs.Going.{goes_none, goes_step, goes_then}
+use Rattle.managed.proofs.Running.{runs_one}
 
 each_wider : (P Q : Actor → Step → Type 0) → ((actor : Actor) (step : Step) → P actor step → Q actor step)
     → (es : List Entry) → EachIs P es → EachIs Q es
@@ -28,7 +28,7 @@ each_wider P Q f [] k = tt
 each_wider P Q f (e ∷ es) k = (f e.actor e.step k.0, each_wider P Q f es k.1)
 
 -- what goes by such steps goes by a wider kind
-goes_wider : (P Q : Actor → Step → Type 0) → ((actor : Actor) (step : Step) → P actor step → Q actor step)
+pub goes_wider : (P Q : Actor → Step → Type 0) → ((actor : Actor) (step : Step) → P actor step → Q actor step)
     → (h g : HeapState) → Goes P h g → Goes Q h g
 goes_wider P Q f h g k = record { entries = k.entries; each = each_wider P Q f k.entries k.each; runs = k.runs }
 
@@ -47,6 +47,14 @@ scans_collect w h g k = goes_wider (IsScan w) (IsCollecting w) (scan_collects w)
 
 pub crossings_collect : (w : ℕ) (h g : HeapState) → Goes (IsCrossing w) h g → Goes (IsCollecting w) h g
 crossings_collect w h g k = goes_wider (IsCrossing w) (IsCollecting w) (crossing_collects w) h g k
+
+scrub_collects : (w : ℕ) (actor : Actor) (step : Step) → IsScrub actor step → IsCollecting w actor step
+scrub_collects w (Thread t) (steps.Scrub r) is = tt
+scrub_collects w (Thread t) _ is = absurd is
+scrub_collects w (Worker v) step is = absurd is
+
+pub scrubs_collect : (w : ℕ) (h g : HeapState) → Goes IsScrub h g → Goes (IsCollecting w) h g
+scrubs_collect w h g k = goes_wider IsScrub (IsCollecting w) (scrub_collects w) h g k
 
 -- a step of the worker
 pub collect_step : (w : ℕ) (h g : HeapState) (step : Step) (result : Result Answer Refusal)
@@ -82,30 +90,27 @@ collected w h g k = record {
 }
 
 -- a mark's last step
-pub end_marks : (w : ℕ) (h g : HeapState) (reply : Result Answer Refusal) (result : Result ℕ Refusal)
+pub end_here : (w : ℕ) (h g : HeapState) (reply : Result Answer Refusal) (result : Result ℕ Refusal)
     → result ≡ live_told reply → DoesStep h steps.EndMark reply g (outcome h (Worker w) steps.EndMark)
-    → KeepsStanding h (Worker w) steps.EndMark reply g → Marks w h result g
+    → KeepsStanding h (Worker w) steps.EndMark reply g → EndsHere w h result g
 unfolding plain_step
-end_marks w h g (Ok a) result told does keeps = (
+end_here w h g (Ok a) result told does keeps = subst (λ (r : Result ℕ Refusal). EndsHere w h r g) (sym told) (
   collect_step w h g steps.EndMark (Ok a) does keeps,
-  subst (λ (r : Result ℕ Refusal). EndsMark w h r g) (sym told) (record {
+  record {
     before = h;
     answer = a;
     goes = goes_none (IsCollecting w) h;
     last = does;
     told = refl;
     finds = λ p p0 k. (p0, (keeps p p0 k).stands.holds, (keeps p p0 k).finds);
-  }),
+  },
 )
-end_marks w h g (Err e) result told does keeps = (
-  collect_step w h g steps.EndMark (Err e) does keeps,
-  subst (λ (r : Result ℕ Refusal). EndsMark w h r g) (sym told)
-      (subst (λ (x : HeapState). IsStopped w x e) (sym does.1) (inl (steps.EndMark, does.0, tt))),
-)
+end_here w h g (Err e) result told does keeps = subst (λ (r : Result ℕ Refusal). EndsHere w h r g) (sym told) does
 
-ends_after : (w : ℕ) (h m g : HeapState) (result : Result ℕ Refusal) → Goes (IsCollecting w) h m
-    → EndsMark w m result g → EndsMark w h result g
-ends_after w h m g (Ok live) a b = record {
+-- what comes before the end of a mark that has ended
+well_after : (w : ℕ) (h m g : HeapState) (live : ℕ) → Goes (IsCollecting w) h m → EndsWell w m live g
+    → EndsWell w h live g
+well_after w h m g live a b = record {
   before = b.before;
   answer = b.answer;
   goes = goes_then (IsCollecting w) h m b.before a b.goes;
@@ -113,35 +118,60 @@ ends_after w h m g (Ok live) a b = record {
   told = b.told;
   finds = λ p p0 k. let s = (collected w h m a).same p p0 k in b.finds p s.0 s.1;
 }
-ends_after w h m g (Err e) a b = b
 
--- what comes before the rest of a mark
-pub marks_after : (w : ℕ) (h m g : HeapState) (result : Result ℕ Refusal) → Goes (IsCollecting w) h m
-    → Marks w m result g → Marks w h result g
-marks_after w h m g result a b = (goes_then (IsCollecting w) h m g a b.0, ends_after w h m g result a b.1)
+-- a drain, and then the end
+pub scanned_then : (w : ℕ) (h m g : HeapState) (d : Result Unit Refusal) (u : Unit {0}) (result : Result ℕ Refusal)
+    → d ≡ Ok u → Goes (IsScan w) h m → EndsDrain w d m → EndsHere w m result g → MarksScanned w h result g
+scanned_then w h m g d u (Ok live) is a ends b =
+    let k = scans_collect w h m a in
+    (goes_then (IsCollecting w) h m g k b.0, well_after w h m g live k b.1)
+scanned_then w h m g d u (Err e) is a ends b = subst (λ (x : HeapState). MarksScanned w h (Err e) x) (sym b.1) (
+  scans_collect w h m a,
+  (a, inr (subst (λ (r : Result Unit Refusal). EndsDrain w r m) is ends, b.0)),
+)
 
-pub start_refused : (w : ℕ) (h g : HeapState) (e : Refusal) (reply : Result Answer Refusal) → reply ≡ Err e
-    → DoesStep h steps.StartMark reply g (outcome h (Worker w) steps.StartMark) → IsStopped w g e
-start_refused w h g e reply is does =
+-- a drain that stopped
+pub scanned_stops : (w : ℕ) (h g : HeapState) (e : Refusal) (d : Result Unit Refusal) → d ≡ Err e → Goes (IsScan w) h g
+    → EndsDrain w d g → MarksScanned w h (Err e) g
+scanned_stops w h g e d is a ends =
+    (scans_collect w h g a, (a, inl (subst (λ (r : Result Unit Refusal). EndsDrain w r g) is ends)))
+
+-- all threads cross, and then the rest of a mark
+pub crossed_then : (w : ℕ) (h m g : HeapState) (c : Result Unit Refusal) (u : Unit {0}) (result : Result ℕ Refusal)
+    → c ≡ Ok u → c ≡ all_crossed m → Goes (IsCrossing w) h m → MarksScanned w m result g → MarksRest w h result g
+crossed_then w h m g c u (Ok live) is all a b =
+    let k = crossings_collect w h m a in
+    (goes_then (IsCollecting w) h m g k b.0, well_after w h m g live k b.1)
+crossed_then w h m g c u (Err e) is all a b = (
+  goes_then (IsCollecting w) h m g (crossings_collect w h m a) b.0,
+  inr (m, (a, sym all ∙ is), b.1),
+)
+
+-- crossings that stopped
+pub crossed_stops : (w : ℕ) (h g : HeapState) (e : Refusal) (c : Result Unit Refusal) → c ≡ Err e → c ≡ all_crossed g
+    → Goes (IsCrossing w) h g → AllTried w c g → MarksRest w h (Err e) g
+crossed_stops w h g e c is all a behind =
+    (crossings_collect w h g a, inl (a, sym all ∙ is, subst (λ (r : Result Unit Refusal). AllTried w r g) is behind))
+
+-- a mark begins, and then its rest
+pub begun_then : (w : ℕ) (h m g : HeapState) (r : Result Answer Refusal) (a : Answer) (result : Result ℕ Refusal)
+    → r ≡ Ok a → DoesStep h steps.StartMark r m (outcome h (Worker w) steps.StartMark)
+    → KeepsStanding h (Worker w) steps.StartMark r m → MarksRest w m result g → Marks w h result g
+begun_then w h m g (Err x) a result is does keeps b = absurd (cc)
+begun_then w h m g (Ok x) a (Ok live) is does keeps b = (
+  goes_then (IsCollecting w) h m g (collect_step w h m steps.StartMark (Ok x) does keeps) b.0,
+  (m, (x, runs_one h m (Worker w) steps.StartMark x does keeps), b.1),
+)
+begun_then w h m g (Ok x) a (Err e) is does keeps b = (
+  goes_then (IsCollecting w) h m g (collect_step w h m steps.StartMark (Ok x) does keeps) b.0,
+  inr (m, (x, runs_one h m (Worker w) steps.StartMark x does keeps), b.1),
+)
+
+-- a mark that doesn't begin
+pub begun_stops : (w : ℕ) (h g : HeapState) (r : Result Answer Refusal) (e : Refusal) → r ≡ Err e
+    → DoesStep h steps.StartMark r g (outcome h (Worker w) steps.StartMark) → Marks w h (Err e) g
+begun_stops w h g r e is does =
     let d : DoesStep h steps.StartMark (Err e) g (outcome h (Worker w) steps.StartMark) =
     subst (λ (r : Result Answer Refusal). DoesStep h steps.StartMark r g (outcome h (Worker w) steps.StartMark)) is
     does in
-    subst (λ (x : HeapState). IsStopped w x e) (sym d.1) (inl (steps.StartMark, d.0, tt))
-
-pub crossing_refused : (w : ℕ) (g : HeapState) (e : Refusal) (r : Result Unit Refusal) → r ≡ Err e → r ≡ all_crossed g
-    → IsStopped w g e
-crossing_refused w g e r is same = inr (inl (sym same ∙ is))
-
-scans_mark : (step : Step) → Scans step → IsOfMark step
-scans_mark (steps.Pick page offset) k = k
-scans_mark steps.ScanField k = k
-scans_mark (steps.ScanGlobal g) k = k
-scans_mark _ k = absurd k
-
-pub drain_refused : (w : ℕ) (g : HeapState) (e : Refusal) (r : Result Unit Refusal) → r ≡ Err e → EndsDrain w r g
-    → IsStopped w g e
-drain_refused w g e r is ends = by_end (subst (λ (x : Result Unit Refusal). EndsDrain w x g) is ends)
-  where
-    by_end : EndsDrain w (Err e) g → IsStopped w g e
-    by_end (inl todo) = inr (inr todo)
-    by_end (inr next) = inl (next.0, next.2, scans_mark next.0 (next_scans g w next.0 next.1))
+    (subst (Goes (IsCollecting w) h) (sym d.1) (goes_none (IsCollecting w) h), inl d)

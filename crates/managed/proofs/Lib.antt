@@ -1,3 +1,6 @@
 pub mod Running
 pub mod Going
 pub mod Gathering
+pub mod Draining
+pub mod Crossed
+pub mod Emptied

@@ -1,5 +1,5 @@
 -- Steps that the plain heap doesn't see.
-use Rattle.std.specs.Prelude.{◌≡◌, ◌⊎◌, ℕ, Result, Ok, Err}
+use Rattle.std.specs.Prelude.{◌≡◌, ◌⊎◌, ℕ, None, Result, Ok, Err}
 use Rattle.model.specs.declared.steps.Actor.{Actor}
 use Rattle.model.specs.declared.steps.Actor.TheVariants.{Thread, Worker}
 use Rattle.model.specs.declared.steps.Step.{Step}
@@ -7,13 +7,13 @@ use Rattle.model.specs.declared.steps.Step.TheVariants as steps
 use Rattle.model.specs.declared.steps.Answer.{Answer}
 use Rattle.model.specs.declared.steps.Answer.TheVariants as answers
 use Rattle.model.specs.declared.steps.Refusal.{Refusal}
-use Rattle.model.specs.declared.steps.Refusal.TheVariants as refusals
 use Rattle.model.specs.Checkpoints.{all_crossed}
 use Rattle.model.specs.Outcome.{outcome}
 use Rattle.model.specs.Plain.{PlainHeap}
 use Rattle.model.specs.States.{HeapState}
 use Rattle.refinement.specs.Standing.{Holds, FindsLive}
-use Rattle.managed.specs.Goings.{Goes, Scans}
+use Rattle.model.specs.Scans.{next_drain}
+use Rattle.managed.specs.Goings.{Goes, Steps, IsScan, IsCrossing, IsBehind, EndsDrain}
 
 -- a step of a collection: any of worker w, and of any thread to cross or to scrub
 abbrev pub IsCollecting : ℕ → Actor → Step → Type 0
@@ -37,10 +37,8 @@ live_told (Ok a) = Ok (live_in a)
 live_told (Err e) = Err e
 
 -- a mark has ended: its last step was EndMark, whose answer told how many live; and where heap h stood for a plain
--- heap,
--- g stands for the same, all that can be reached is live, and what is live could be reached as the mark began, or is
--- born
--- since
+-- heap, g stands for the same, all that can be reached is live, and what is live could be reached as the mark began, or
+-- is born since
 pub record EndsWell (w : ℕ) (h : HeapState) (live : ℕ) (g : HeapState) : Type 0 where
   pub before : HeapState
   pub answer : Answer
@@ -49,24 +47,59 @@ pub record EndsWell (w : ℕ) (h : HeapState) (live : ℕ) (g : HeapState) : Typ
   pub told : live ≡ live_in answer
   pub finds : (p p0 : PlainHeap) → Holds h p p0 → (q0 : PlainHeap) × Holds g p q0 × FindsLive g p q0
 
--- a worker's step of a mark
-abbrev pub IsOfMark : Step → Type 0
-IsOfMark steps.StartMark = Unit {0}
-IsOfMark steps.EndMark = Unit {0}
-IsOfMark step = Scans step
+-- all threads have crossed, by crossings
+abbrev pub Crosses : ℕ → HeapState → HeapState → Type 0
+Crosses w h g = Goes (IsCrossing w) h g × (all_crossed g ≡ Ok tt)
 
--- a mark stopped: such a step of worker w is refused so as the heap stands, or not all have crossed, or too much was
--- left
-abbrev pub IsStopped : ℕ → HeapState → Refusal → Type 0
-IsStopped w g e =
-    ((step : Step) × (outcome g (Worker w) step ≡ Err e) × IsOfMark step)
-    ⊎ ((all_crossed g ≡ Err e) ⊎ (e ≡ refusals.TodoLeft))
+-- crossings were done, and a thread is left that can't cross
+abbrev pub StopsCrossing : ℕ → HeapState → Refusal → HeapState → Type 0
+StopsCrossing w h e g = Goes (IsCrossing w) h g × (all_crossed g ≡ Err e) × IsBehind w g e
 
--- how a mark ended
+-- what is left of a mark that all threads have crossed stopped so: its next scan is refused, or too much was left; or
+-- nothing was left, and EndMark is refused
+abbrev pub StopsScanning : ℕ → HeapState → Refusal → HeapState → Type 0
+StopsScanning w h e g =
+    Goes (IsScan w) h g
+    × (EndsDrain w (Err e) g ⊎ ((next_drain g w ≡ None) × (outcome g (Worker w) steps.EndMark ≡ Err e)))
+
+-- how the rest of a mark that all threads have crossed ended
+abbrev pub EndsScanned : ℕ → HeapState → Result ℕ Refusal → HeapState → Type 0
+EndsScanned w h (Ok live) g = EndsWell w h live g
+EndsScanned w h (Err e) g = StopsScanning w h e g
+
+-- what is left of a mark that has begun stopped so: while threads cross, or after they have
+abbrev pub StopsMarking : ℕ → HeapState → Refusal → HeapState → Type 0
+StopsMarking w h e g = StopsCrossing w h e g ⊎ ((m : HeapState) × Crosses w h m × StopsScanning w m e g)
+
+-- how the rest of a mark ended
+abbrev pub EndsRest : ℕ → HeapState → Result ℕ Refusal → HeapState → Type 0
+EndsRest w h (Ok live) g = EndsWell w h live g
+EndsRest w h (Err e) g = StopsMarking w h e g
+
+-- a mark has begun
+abbrev pub Begins : ℕ → HeapState → HeapState → Type 0
+Begins w h g = (a : Answer) × Steps (Worker w) steps.StartMark a h g
+
+-- how a mark ended: it has begun, and its rest has ended; or its beginning is refused, and nothing is done
 abbrev pub EndsMark : ℕ → HeapState → Result ℕ Refusal → HeapState → Type 0
-EndsMark w h (Ok live) g = EndsWell w h live g
-EndsMark w h (Err e) g = IsStopped w g e
+EndsMark w h (Ok live) g = (m : HeapState) × Begins w h m × EndsWell w m live g
+EndsMark w h (Err e) g =
+    ((outcome h (Worker w) steps.StartMark ≡ Err e) × (g ≡ h))
+    ⊎ ((m : HeapState) × Begins w h m × StopsMarking w m e g)
+
+-- how the last step of a mark ended
+abbrev pub EndsHere : ℕ → HeapState → Result ℕ Refusal → HeapState → Type 0
+EndsHere w h (Ok live) g = Goes (IsCollecting w) h g × EndsWell w h live g
+EndsHere w h (Err e) g = (outcome h (Worker w) steps.EndMark ≡ Err e) × (g ≡ h)
 
 -- the steps of a mark, and how it ended
 abbrev pub Marks : ℕ → HeapState → Result ℕ Refusal → HeapState → Type 0
 Marks w h result g = Goes (IsCollecting w) h g × EndsMark w h result g
+
+-- the same of the rest of a mark
+abbrev pub MarksRest : ℕ → HeapState → Result ℕ Refusal → HeapState → Type 0
+MarksRest w h result g = Goes (IsCollecting w) h g × EndsRest w h result g
+
+-- the same of the rest of a mark that all threads have crossed
+abbrev pub MarksScanned : ℕ → HeapState → Result ℕ Refusal → HeapState → Type 0
+MarksScanned w h result g = Goes (IsCollecting w) h g × EndsScanned w h result g

@@ -1,5 +1,6 @@
 -- Calls of several steps.
-use Rattle.std.specs.Prelude.{◌≡◌, ◌⊎◌, ℕ, Bool, true, false, List, [], ◌∷◌, Some, None, Result, Ok, Err}
+use Rattle.std.specs.Prelude.{◌≡◌, ◌⊎◌, ◌≤◌, ℕ, Bool, true, false, List, [], ◌∷◌, length}
+use Rattle.std.specs.Prelude.{Some, None, Result, Ok, Err, slice_get}
 use Rattle.layout.specs.declared.shape.Layout.{Layout}
 use Rattle.model.specs.declared.steps.Actor.{Actor}
 use Rattle.model.specs.declared.steps.Actor.TheVariants.{Thread, Worker}
@@ -9,7 +10,9 @@ use Rattle.model.specs.declared.steps.Answer.{Answer}
 use Rattle.model.specs.declared.steps.Answer.TheVariants as answers
 use Rattle.model.specs.declared.steps.Refusal.{Refusal}
 use Rattle.model.specs.declared.steps.Refusal.TheVariants as refusals
-use Rattle.model.specs.Outcome.{outcome}
+use Rattle.model.specs.Outcome.{outcome, is_loading_in}
+use Rattle.model.specs.Phases.{is_crossing}
+use Rattle.model.specs.Threads.{has_crossed, is_parked_in}
 use Rattle.model.specs.Plain.{PlainHeap, plain_step}
 use Rattle.model.specs.Scans.{next_drain}
 use Rattle.model.specs.States.{HeapState}
@@ -116,3 +119,28 @@ IsCrossing w (Thread t) steps.Cross = Unit {0}
 IsCrossing w (Thread t) _ = ⊥
 IsCrossing w (Worker v) (steps.CrossFor t) = v ≡ w
 IsCrossing w (Worker v) _ = ⊥
+
+-- thread t can't cross: it has an open barrier; or it is parked, and there is no worker w; or no checkpoint is open
+abbrev pub IsStuck : ℕ → HeapState → ℕ → Type 0
+IsStuck w g t =
+    (is_loading_in (slice_get g.threads t) ≡ true)
+    ⊎ (((is_parked_in (slice_get g.threads t) ≡ true) × (length g.workers ≤ w)) ⊎ (is_crossing g.phase ≡ false))
+
+-- thread t has crossed, or can't
+abbrev pub HasTried : ℕ → HeapState → ℕ → Type 0
+HasTried w g t = (has_crossed (slice_get g.threads t) ≡ true) ⊎ IsStuck w g t
+
+-- the refusal is that this thread hasn't crossed, which can't
+abbrev pub IsBehind : ℕ → HeapState → Refusal → Type 0
+IsBehind w g e = (t : ℕ) × (e ≡ refusals.NotCrossed t) × IsStuck w g t
+
+-- where not all threads have crossed, the refusal is that of one which can't
+abbrev pub AllTried : ℕ → Result Unit Refusal → HeapState → Type 0
+AllTried w (Ok u) g = Unit {0}
+AllTried w (Err e) g = IsBehind w g e
+
+-- a register of any thread is corrected
+abbrev pub IsScrub : Actor → Step → Type 0
+IsScrub (Thread t) (steps.Scrub r) = Unit {0}
+IsScrub (Thread t) _ = ⊥
+IsScrub (Worker w) step = ⊥

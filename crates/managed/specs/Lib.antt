@@ -1,4 +1,5 @@
 pub mod Runs
 pub mod Goings
 pub mod Collecting
+pub mod Emptying
 pub mod Managing

@@ -1,8 +1,8 @@
 //! Crossings of all threads.
 
-ghost use Rattle.std.specs.Prelude.{◌≡◌};
+ghost use Rattle.std.specs.Prelude.{◌≡◌, ◌<◌, ℕ};
 ghost use Rattle.model.specs.Checkpoints.{all_crossed};
-ghost use Rattle.managed.specs.Goings.{Goes, IsCrossing, StandsForSame};
+ghost use Rattle.managed.specs.Goings.{AllTried, Goes, HasTried, IsCrossing, StandsForSame};
 
 use crate::managed::ManagedHeap;
 use cycle::Mutating;
@@ -11,18 +11,21 @@ use model::{Actor, Refusal, Step};
 impl ManagedHeap {
     /// Each thread that hasn't crossed the open checkpoint crosses it, if it has no open barrier; for a
     /// parked one the worker does it. Answers `NotCrossed` with the least thread that hasn't crossed
-    /// then: it has an open barrier, or there is no such worker.
+    /// then: it has an open barrier, or it is parked and there is no such worker.
     pub fn cross_all(&mut self, worker: u32) -> Result<(), Refusal>
         ensures goes { Goes (IsCrossing worker) self.old self.new }
         ensures stands { StandsForSame self.old self.new }
         ensures ends { result ≡ all_crossed self.new }
+        ensures behind { AllTried worker result self.new }
     {
+        self.heap().law();
         self.cross_each(worker);
         self.heap().all_crossed()
     }
 
     fn cross_each(&mut self, worker: u32)
-        ensures { Goes (IsCrossing worker) self.old self.new }
+        ensures goes { Goes (IsCrossing worker) self.old self.new }
+        ensures tried { (t : ℕ) → t < self.old.config.threads → HasTried worker self.new t }
     {
         let threads = self.heap().config().threads;
         for thread in 0..threads {
@@ -31,7 +34,8 @@ impl ManagedHeap {
     }
 
     fn cross_one(&mut self, worker: u32, thread: u32)
-        ensures { Goes (IsCrossing worker) self.old self.new }
+        ensures goes { Goes (IsCrossing worker) self.old self.new }
+        ensures tried { HasTried worker self.new thread }
     {
         if self.heap().has_crossed(thread) {
             return;

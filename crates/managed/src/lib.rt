@@ -9,6 +9,7 @@
 
 mod collecting;
 mod crossing;
+mod emptying;
 mod loading;
 mod managed;
 mod mutating;

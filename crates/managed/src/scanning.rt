@@ -1,10 +1,13 @@
 //! Scans of one worker.
 
-ghost use Rattle.std.specs.Prelude.{◌≡◌};
+ghost use Rattle.std.specs.Prelude.{◌≡◌, ◌<◌, ◌≤◌, None};
+ghost use Rattle.drains.specs.Drains.{IsReady};
+ghost use Rattle.model.specs.Scans.{next_drain};
 ghost use Rattle.managed.specs.Goings.{EndsDrain, EndsScan, Goes, IsScan, StandsForSame};
 
 use crate::managed::ManagedHeap;
 use cycle::next_drain;
+use drains::{drain, is_ready};
 use model::{Actor, Refusal};
 
 impl ManagedHeap {
@@ -34,9 +37,49 @@ impl ManagedHeap {
         Ok(false)
     }
 
-    /// A whole drain: scans until nothing is left that no other worker has. It answers `TodoLeft` where
-    /// 2^64 - 1 steps weren't enough.
+    /// A worker that is ready scans objects whole, at most so many, until none is left that no other
+    /// worker has, as one call; it answers how many. `drains::is_ready` tells whether it is ready. Where
+    /// it answers fewer than the most, nothing is left. Each object takes time by its references.
+    pub fn scan_objects(&mut self, worker: u32, most: u64) -> u64
+        requires { IsReady self.old worker }
+        ensures goes { Goes (IsScan worker) self.old self.new }
+        ensures stands { StandsForSame self.old self.new }
+        ensures few { result ≤ most }
+        ensures end { result < most → next_drain self.new worker ≡ None }
+    {
+        refinement::law();
+        drain(&mut self.heap, worker, most)
+    }
+
+    /// A whole drain: scans until nothing is left that no other worker has; object by object, where the
+    /// worker is ready for that, else step by step. It answers `TodoLeft` where 2^64 - 1 objects or
+    /// steps weren't enough.
     pub fn drain(&mut self, worker: u32) -> Result<(), Refusal>
+        ensures goes { Goes (IsScan worker) self.old self.new }
+        ensures stands { StandsForSame self.old self.new }
+        ensures ends { EndsDrain worker result self.new }
+    {
+        if is_ready(self.heap(), worker) {
+            self.drain_objects(worker)
+        } else {
+            self.drain_steps(worker)
+        }
+    }
+
+    fn drain_objects(&mut self, worker: u32) -> Result<(), Refusal>
+        requires { IsReady self.old worker }
+        ensures goes { Goes (IsScan worker) self.old self.new }
+        ensures stands { StandsForSame self.old self.new }
+        ensures ends { EndsDrain worker result self.new }
+    {
+        if self.scan_objects(worker, u64::MAX) < u64::MAX {
+            Ok(())
+        } else {
+            Err(Refusal::TodoLeft)
+        }
+    }
+
+    fn drain_steps(&mut self, worker: u32) -> Result<(), Refusal>
         ensures goes { Goes (IsScan worker) self.old self.new }
         ensures stands { StandsForSame self.old self.new }
         ensures ends { EndsDrain worker result self.new }

@@ -3,24 +3,37 @@
 //!
 //! Make a `Config` by `Config::new`, and of it a `Heap`. What a mutator thread does is a call of the
 //! trait `Mutating` each, such as `heap.datum(thread, object, index)`, which gives a plain value or a
-//! `Refusal`. What workers do is asked by the trait `Stepping`, where any `Actor` asks for a `Step`;
-//! what comes is a `Reply`: an `Answer` or a `Refusal`. A `Book` is a heap that keeps the history of
-//! its steps. Calls that need memory take an allocator first, which a program gets from its runtime by
-//! `rt.alloc()`.
+//! `Refusal`. The trait `Holding` has what a program asks besides: `heap.read` loads a reference, through
+//! the read barrier; `heap.make` makes an object, and collects by itself where frames run low;
+//! `heap.collect` is a whole collection. Calls that need memory take an allocator first, which a program
+//! gets from its runtime by `rt.alloc()`.
+//!
+//! A `Heap` keeps, as the invariant of its type, that it stands for a plain heap, which never moves or
+//! frees an object; `Heap::law` hands that out. `Heap::heap` lends the bare heap inside for reading, and
+//! nothing here lends it for writing.
+//!
+//! A `Book` is a heap that keeps the history of its steps, and `Shared` a book that threads of the
+//! system share. What their actors do is asked as a `Step` of an `Actor`; what comes is a `Reply`: an
+//! `Answer` or a `Refusal`.
 //!
 //! A runtime's author who doubts a heap asks `verify`: it takes the heap's `Image`, all of its memory
-//! and roots as plain data, and says `Sound` or the first fault. An image can be printed.
+//! and roots as plain data, and says `Sound` or the first fault. An image can be printed. Of a `Heap`
+//! `verify_held` says `Sound`, by its contract.
 //!
-//! There is no code here: each name stands in a crate of its own, with its contract.
+//! There is no code here: each name stands in a crate of its own, with its contract. The heap is
+//! `managed::ManagedHeap` there.
 #![tactic(auto)]
 
 pub use choosing::choose;
+pub use collecting::{CallFault, Collected, Holding, Object, Parts, Policy};
 pub use cycle::{
-    Actor, Answer, Book, Buffer, Entry, EntryRef, History, Mutating, PageList, Reply, Step,
-    Stepping, Trap, next_drain, run, three_traps,
+    Actor, Answer, Book, Buffer, Entry, EntryRef, History, Mutating, PageList, Reply, Step, Trap,
+    next_drain, run, three_traps,
 };
-pub use drains::{drain, is_ready};
-pub use heap::{Config, ConfigFault, Heap, NewFault, Refusal};
+pub use drains::is_ready;
+pub use heap::{Config, ConfigFault, NewFault, Refusal};
 pub use layout::{Layout, Layouts};
-pub use managed::ManagedHeap;
+pub use managed::ManagedHeap as Heap;
+pub use sharing::{Seat, Settled, Shared, Stray, settle};
 pub use verify::{Fault, Image, PageImage, Root, Verdict, Words, verify, verify_image};
+pub use verifying::verify_held;

@@ -8,6 +8,7 @@ use model::Phase;
 use std::alloc::{AllocError, Global};
 use std::process::Abort;
 use std::test::Fail;
+use verify::Verdict;
 
 /// A heap of which pages are emptied.
 trait Emptying: Moving {
@@ -69,4 +70,18 @@ fn a_heap_is_made(rt: HostRuntime) -> Result<(), Fail> {
     } else {
         Ok(())
     }
+}
+
+/// A heap is verified, and again where that lacked memory.
+fn looks(rt: &impl Abort, alloc: Global, mut heap: impl Moving + Drop) -> Result<(), Fail> {
+    fill_and_close(&mut heap)??;
+    let first = heap.verdict(alloc);
+    same(rt, heap.verdict(alloc)?, Verdict::Sound);
+    same(rt, first?, Verdict::Sound);
+    Ok(())
+}
+
+#[test]
+fn a_heap_is_verified(rt: HostRuntime) -> Result<(), Fail> {
+    looks(&rt, rt.alloc(), new_managed(rt.alloc())?)
 }

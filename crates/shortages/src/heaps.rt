@@ -7,7 +7,7 @@ use managed::ManagedHeap;
 use model::Phase;
 use std::alloc::{AllocError, Global};
 use std::fmt::Write as _;
-use verify::Image;
+use verify::{Image, Verdict, verify};
 
 const THREAD: Actor = Actor::Thread(0);
 
@@ -30,6 +30,9 @@ pub trait Moving {
 
     /// The text of its image.
     fn text(&self, alloc: Global) -> Result<String, AllocError>;
+
+    /// What the verifier says of it.
+    fn verdict(&self, alloc: Global) -> Result<Verdict, AllocError>;
 }
 
 /// Whether all threads have crossed.
@@ -69,6 +72,10 @@ impl Moving for Heap {
         let image = Image::of(alloc, self)?;
         text_of(alloc, &image)
     }
+
+    fn verdict(&self, alloc: Global) -> Result<Verdict, AllocError> {
+        verify(alloc, self)
+    }
 }
 
 impl Moving for ManagedHeap {
@@ -94,6 +101,10 @@ impl Moving for ManagedHeap {
 
     fn text(&self, alloc: Global) -> Result<String, AllocError> {
         self.heap().text(alloc)
+    }
+
+    fn verdict(&self, alloc: Global) -> Result<Verdict, AllocError> {
+        self.heap().verdict(alloc)
     }
 }
 

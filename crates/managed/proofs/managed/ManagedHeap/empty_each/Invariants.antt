@@ -1,7 +1,7 @@
-use Rattle.managed.specs.Goings.{Goes}
-use Rattle.managed.specs.Collecting.{IsCollecting}
+use Rattle.std.proofs.Common.{drop}
+use Rattle.managed.proofs.Emptied.{IsRest}
 use Rattle.managed.proofs.managed.ManagedHeap.empty_each.Given as goal
 
--- steps of a collection have led here
-abbrev pub invariant-loop-page : goal.invariant-loop-page
-invariant-loop-page l = Goes (IsCollecting l.worker) l.fn.self l.self
+-- what is left ends as all of it does
+abbrev pub invariant-loop-index : goal.invariant-loop-index
+invariant-loop-index l = IsRest l.worker l.fn.self l.pages l.self (drop l.index l.pages)

@@ -1,12 +1,12 @@
-use Rattle.managed.specs.Collecting.{IsCollecting}
-use Rattle.managed.proofs.Gathering.{crossings_collect}
-use Rattle.managed.proofs.Going.{goes_then}
+use Rattle.managed.proofs.Emptied.{pages_crossed, pages_not_crossed}
 use Rattle.managed.proofs.managed.ManagedHeap.empty_protected.Goals as goal
 
 pub returns-in-Ok : goal.returns-in-Ok
-returns-in-Ok c = goes_then (IsCollecting c.args.worker) c.args.self.now c.cross_all.new.self c.empty_crossed.new.self
-    (crossings_collect c.args.worker c.args.self.now c.cross_all.new.self c.cross_all.ensures.goes)
-    c.empty_crossed.ensures
+returns-in-Ok c = pages_crossed c.args.worker c.args.self.now c.cross_all.new.self c.empty_crossed.new.self
+    c.args.pages.now c.cross_all.result c.empty_crossed.result tt c.in-Ok.is c.cross_all.ensures.ends
+    c.cross_all.ensures.goes c.empty_crossed.ensures
 
 pub returns-in-Err : goal.returns-in-Err
-returns-in-Err c = crossings_collect c.args.worker c.args.self.now c.cross_all.new.self c.cross_all.ensures.goes
+returns-in-Err c = pages_not_crossed c.args.worker c.args.self.now c.cross_all.new.self c.args.pages.now
+    c.cross_all.result c.in-Err.refusal c.in-Err.is c.cross_all.ensures.ends c.cross_all.ensures.goes
+    c.cross_all.ensures.behind

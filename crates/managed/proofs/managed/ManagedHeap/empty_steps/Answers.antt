@@ -1,11 +1,11 @@
-use Rattle.model.specs.declared.steps.Step.TheVariants as steps
-use Rattle.managed.specs.Collecting.{IsCollecting}
-use Rattle.managed.proofs.Gathering.{collect_step}
-use Rattle.managed.proofs.Going.{goes_then}
+use Rattle.std.proofs.Common.{List, ℕ, subst}
+use Rattle.managed.specs.Emptying.{Empties}
+use Rattle.managed.proofs.Emptied.{pages_protected}
 use Rattle.managed.proofs.managed.ManagedHeap.empty_steps.Goals as goal
 
 pub returns-in-Ok : goal.returns-in-Ok
-returns-in-Ok c = goes_then (IsCollecting c.args.worker) c.args.self.now c.step.new.self c.empty_listed.new.self
-    (collect_step c.args.worker c.args.self.now c.step.new.self (steps.Protect c.new.result) c.step.result
-    c.step.ensures.does
-    c.step.ensures.stands) c.empty_listed.ensures
+returns-in-Ok c = subst (λ (ns : List ℕ). Empties c.args.worker c.args.self.now ns c.empty_listed.result
+    c.empty_listed.new.self) c.new.ensures
+    (pages_protected c.args.worker c.args.self.now c.step.new.self c.empty_listed.new.self c.new.result c.step.result
+    c.in-Ok.field-0 c.empty_listed.result c.in-Ok.is c.step.ensures.does c.step.ensures.stands
+    c.empty_listed.ensures)

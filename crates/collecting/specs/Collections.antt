@@ -1,0 +1,119 @@
+-- Whole collections.
+use Rattle.std.specs.Prelude.{◌≡◌, ◌⊎◌, ℕ, Bool, true, false, List, [], ◌∷◌, length, Result, Ok, Err}
+use Rattle.choosing.specs.Choices.{IsChoice}
+use Rattle.model.specs.declared.steps.Refusal.{Refusal}
+use Rattle.model.specs.declared.steps.Refusal.TheVariants as refusals
+use Rattle.model.specs.Phases.{is_marking}
+use Rattle.model.specs.States.{HeapState}
+use Rattle.managed.specs.Goings.{Goes}
+use Rattle.managed.specs.Collecting.{IsCollecting, StopsCrossing, EndsMark, EndsRest}
+use Rattle.managed.specs.Emptying.{PagesFreed, StopsPage, Protects, EndsEmptying}
+use Rattle.collecting.specs.declared.collecting.Collected.{Collected}
+
+-- the worker that collects
+abbrev pub WORKER : ℕ
+WORKER = 0
+
+-- steps of a collection lead from heap h to g
+abbrev pub Collects : HeapState → HeapState → Type 0
+Collects h g = Goes (IsCollecting WORKER) h g
+
+-- what came of a page that an earlier collection may have left
+abbrev pub EndsLeft : HeapState → ℕ → Result Unit Refusal → HeapState → Type 0
+EndsLeft h n (Ok u) g = Collects h g
+EndsLeft h n (Err e) g = Collects h g × StopsPage WORKER h n e g
+
+-- what came of all such pages
+abbrev pub EndsLeftPages : HeapState → Result Unit Refusal → HeapState → Type 0
+EndsLeftPages h (Ok u) g = Collects h g
+EndsLeftPages h (Err e) g = Collects h g × ((m : HeapState) × (n : ℕ) × Collects h m × StopsPage WORKER m n e g)
+
+-- what an earlier collection has left stopped so: while threads cross, or at a page
+abbrev pub StopsSettling : HeapState → Refusal → HeapState → Type 0
+StopsSettling h e g =
+    StopsCrossing WORKER h e g ⊎ ((m : HeapState) × (n : ℕ) × Collects h m × StopsPage WORKER m n e g)
+
+-- what came of all that an earlier collection has left
+abbrev pub EndsSettling : HeapState → Result Unit Refusal → HeapState → Type 0
+EndsSettling h (Ok u) g = Collects h g
+EndsSettling h (Err e) g = Collects h g × StopsSettling h e g
+
+-- how the mark ended that is due: what is left of the one that runs, else a whole one
+abbrev pub EndsDue : Bool → HeapState → Result ℕ Refusal → HeapState → Type 0
+EndsDue true h result g = EndsRest WORKER h result g
+EndsDue false h result g = EndsMark WORKER h result g
+
+-- the same, by what phase the heap is in
+abbrev pub EndsDueMark : HeapState → Result ℕ Refusal → HeapState → Type 0
+EndsDueMark h result g = EndsDue (is_marking h.phase) h result g
+
+-- chosen pages were emptied; where none was chosen, nothing was done
+abbrev pub EmptiesChosen : HeapState → List ℕ → HeapState → Type 0
+EmptiesChosen h [] g = g ≡ h
+EmptiesChosen h (n ∷ ns) g = (m : HeapState) × Protects WORKER h (n ∷ ns) m × PagesFreed WORKER m (n ∷ ns) g
+
+-- how the emptying of chosen pages ended, and how many they were
+abbrev pub EndsChosen : HeapState → List ℕ → Result ℕ Refusal → HeapState → Type 0
+EndsChosen h ns (Ok k) g = Collects h g × (k ≡ length ns) × EmptiesChosen h ns g
+EndsChosen h ns (Err e) g = Collects h g × EndsEmptying WORKER h ns (Err e) g
+
+-- pages were chosen of heap h, so many, and emptied
+abbrev pub EmptiesSparse : ℕ → HeapState → ℕ → HeapState → Type 0
+EmptiesSparse percent h k g = (ns : List ℕ) × IsChoice h percent ns × (k ≡ length ns) × EmptiesChosen h ns g
+
+-- memory for the choice was refused, and nothing was done; or the emptying of the chosen pages stopped so
+abbrev pub StopsSparse : ℕ → HeapState → Refusal → HeapState → Type 0
+StopsSparse percent h e g =
+    ((e ≡ refusals.Memory) × (g ≡ h))
+    ⊎ ((ns : List ℕ) × IsChoice h percent ns × EndsEmptying WORKER h ns (Err e) g)
+
+-- what came of the choice of pages
+abbrev pub EndsSparse : ℕ → HeapState → Result ℕ Refusal → HeapState → Type 0
+EndsSparse percent h (Ok k) g = Collects h g × EmptiesSparse percent h k g
+EndsSparse percent h (Err e) g = Collects h g × StopsSparse percent h e g
+
+-- the same, with how many objects live
+abbrev pub EndsBehind : ℕ → ℕ → HeapState → Result Collected Refusal → HeapState → Type 0
+EndsBehind percent live h (Ok r) g = (r.live ≡ live) × Collects h g × EmptiesSparse percent h r.emptied g
+EndsBehind percent live h (Err e) g = Collects h g × StopsSparse percent h e g
+
+-- a mark stopped so, or what comes behind it
+abbrev pub StopsCycle : ℕ → HeapState → Refusal → HeapState → Type 0
+StopsCycle percent h e g =
+    EndsDueMark h (Err e) g ⊎ ((m : HeapState) × (live : ℕ) × EndsDueMark h (Ok live) m × StopsSparse percent m e g)
+
+-- a mark has ended, and then pages were chosen and emptied
+abbrev pub EndsWhole : ℕ → HeapState → Collected → HeapState → Type 0
+EndsWhole percent h r g = (m : HeapState) × EndsDueMark h (Ok r.live) m × EmptiesSparse percent m r.emptied g
+
+-- what came of a mark, and of what comes behind it
+abbrev pub EndsCycle : ℕ → HeapState → Result Collected Refusal → HeapState → Type 0
+EndsCycle percent h (Ok r) g = Collects h g × EndsWhole percent h r g
+EndsCycle percent h (Err e) g = Collects h g × StopsCycle percent h e g
+
+-- how a collection ended. What an earlier one had left was ended first; then a mark, and pages were emptied; or one of
+-- these stopped so
+abbrev pub EndsCollecting : ℕ → HeapState → Result Collected Refusal → HeapState → Type 0
+EndsCollecting percent h (Ok r) g = (m : HeapState) × Collects h m × EndsWhole percent m r g
+EndsCollecting percent h (Err e) g =
+    StopsSettling h e g ⊎ ((m : HeapState) × Collects h m × StopsCycle percent m e g)
+
+-- the steps of a collection, and how it ended
+abbrev pub CollectsWhole : ℕ → HeapState → Result Collected Refusal → HeapState → Type 0
+CollectsWhole percent h result g = Collects h g × EndsCollecting percent h result g
+
+-- what an earlier collection had left was ended, and then a mark; or one of these stopped so
+abbrev pub MarksWhole : HeapState → Result ℕ Refusal → HeapState → Type 0
+MarksWhole h (Ok live) g = Collects h g
+MarksWhole h (Err e) g = Collects h g × ((percent : ℕ) → EndsCollecting percent h (Err e) g)
+
+-- it says that there are too few frames or pages
+abbrev pub lacks_room : Refusal → Bool
+lacks_room (refusals.NoFrames need free) = true
+lacks_room refusals.NoPages = true
+lacks_room _ = false
+
+-- a refusal that says something else
+abbrev pub IsNotRoom : {A : Type 0} → Result A Refusal → Type 0
+IsNotRoom (Ok x) = Unit {0}
+IsNotRoom (Err e) = lacks_room e ≡ false

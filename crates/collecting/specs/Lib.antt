@@ -1,0 +1,4 @@
+pub mod Collections
+pub mod Rooms
+pub mod Faults
+pub mod Objects

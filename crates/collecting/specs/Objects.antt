@@ -1,0 +1,17 @@
+-- What a register names.
+use Rattle.std.specs.Prelude.{ℕ, ◌/◌, ◌%◌, ◌^◌, slice_get, Result, Ok}
+use Rattle.model.specs.declared.steps.Refusal.{Refusal}
+use Rattle.model.specs.declared.steps.Refusal.TheVariants as refusals
+use Rattle.model.specs.Refusing.{◌>>=◌, or_refuse}
+use Rattle.model.specs.Registers.{usable}
+use Rattle.model.specs.States.{HeapState}
+use Rattle.model.specs.Stores.{word_at}
+use Rattle.collecting.specs.declared.seeing.Object.{Object}
+
+-- the object that register r of thread t names, by the header at its address
+unfoldable pub seen : HeapState → ℕ → ℕ → Result Object Refusal
+seen h t r = do
+  address ← usable h t r
+  header ← or_refuse (word_at h.store address) refusals.BadIndex
+  layout ← or_refuse (slice_get h.config.layouts (header / 2 ^ 32)) refusals.BadIndex
+  Ok (record { birth = header % 2 ^ 32; layout = header / 2 ^ 32; refs = layout.refs; nums = layout.nums })

@@ -1,0 +1,187 @@
+//! Collections by one call.
+
+ghost use Rattle.std.specs.Prelude.{◌≡◌};
+ghost use Rattle.model.specs.declared.steps.Step.TheVariants as steps;
+ghost use Rattle.managed.specs.Collecting.{StandsUnseen};
+ghost use Rattle.managed.specs.Goings.{LoadsWhole, LoadStands};
+ghost use Rattle.collecting.specs.Collections.{Collects, CollectsWhole, EndsCollecting, IsNotRoom};
+ghost use Rattle.collecting.specs.Objects.{seen};
+ghost use Rattle.collecting.specs.Rooms.{EndsMaking, EndsRefill, MakingStands, Refills};
+
+use crate::cycles::run_cycle;
+use crate::leftovers::settle;
+use crate::parts;
+use crate::parts::Parts;
+use crate::policy::Policy;
+use crate::rooms;
+use crate::seeing;
+use crate::seeing::Object;
+use cycle::Mutating;
+use managed::ManagedHeap;
+use model::{Buffer, Refusal};
+use std::alloc::Global;
+
+/// What a collection has done.
+#[derive(Clone, Copy, Debug, PartialEq, Eq)]
+pub struct Collected {
+    /// How many objects its mark found.
+    pub live: u64,
+    /// How many pages were emptied.
+    pub emptied: u64,
+}
+
+/// What a program asks of the heap that it holds, beside the steps of `Mutating`: whole loads, objects with
+/// the room that they need, and collections, which worker 0 does.
+///
+/// `thread`, registers (`target`, `object`), `field`, `global` and `layout` are numbers from 0. Each call is
+/// as its contract says on a `ManagedHeap`; a function that is generic over this trait knows nothing of
+/// what it calls, and is proved in short time.
+pub trait Holding: Mutating {
+    /// Loads a reference field of an object into a register, whole, through the read barrier.
+    ///
+    /// Refused as `Mutating::load` is, and nothing was done then.
+    fn read(&mut self, thread: u32, target: u32, object: u32, field: u32) -> Result<(), Refusal>;
+
+    /// Loads a global into a register, whole, through the read barrier. Refused as
+    /// `Mutating::load_global` is, and nothing was done then.
+    fn read_global(&mut self, thread: u32, target: u32, global: u32) -> Result<(), Refusal>;
+
+    /// The object that a register names: its birth, its layout, and how many references and data it has.
+    ///
+    /// Refused as `BadIndex` for a thread or a register that isn't there, and as `Null`, `Stall` or `Stale`
+    /// where the register may not be used.
+    fn object(&self, thread: u32, register: u32) -> Result<Object, Refusal>;
+
+    /// A whole collection. What an earlier one has left is ended first. Then a mark runs from its start,
+    /// or to its end where one runs; pages of which at most `percent` words of a hundred are live are
+    /// chosen, as many as there is room for; and these are emptied: all threads cross, live objects are
+    /// copied, the pages' frames are free, and registers that named them are corrected.
+    ///
+    /// Refused as `NotCrossed` or `Pending` for a thread with an open barrier, and as `Memory`; never as
+    /// `NoFrames` or `NoPages`. What was done by then is done, and another call goes on from there once that
+    /// load has ended.
+    fn collect(&mut self, alloc: Global, percent: u32) -> Result<Collected, Refusal>;
+
+    /// The next part of a collection, for a program that can't stop for a whole one: the beginning of a mark
+    /// with all crossings; the scan of at most `budget` objects; the mark's end; the measuring of
+    /// `budget / 64 + 1` pages; the protection of at most as many, with all crossings; or the emptying of one
+    /// page. True where the collection has ended, and the next part begins another.
+    ///
+    /// Refused as `collect` is; another call goes on from there.
+    fn collect_some(
+        &mut self,
+        alloc: Global,
+        parts: &mut Parts,
+        percent: u32,
+        budget: u32,
+    ) -> Result<bool, Refusal>;
+
+    /// A fresh buffer for a thread, of `policy.words`; the one that it has is given back. Where at most
+    /// `policy.free` frames are free, or there is no room, the heap is collected before; and where there is
+    /// no room then, a mark runs once more, which frees the numbers of the pages that were emptied.
+    ///
+    /// Refused as `take` is, or as `collect` is.
+    fn refill(
+        &mut self,
+        alloc: Global,
+        policy: Policy,
+        thread: u32,
+    ) -> Result<Buffer, Refusal>;
+
+    /// Makes an object as `new_object` does; where the thread has no buffer with room for it, `refill` gets
+    /// it one before. Gives the object's birth number.
+    ///
+    /// Refused as `new_object` is, as `NoRoom` for an object that is larger than `policy.words`, or as
+    /// `refill` is.
+    fn make(
+        &mut self,
+        alloc: Global,
+        policy: Policy,
+        thread: u32,
+        target: u32,
+        layout: u32,
+    ) -> Result<u32, Refusal>;
+}
+
+impl Holding for ManagedHeap {
+    #[inline(always)]
+    fn read(&mut self, thread: u32, target: u32, object: u32, field: u32) -> Result<(), Refusal>
+        ensures loads { LoadsWhole self.old thread (steps.Load target object field) result self.new }
+        ensures stands { LoadStands self.old thread (steps.Load target object field) result self.new }
+    {
+        ManagedHeap::read(self, thread, target, object, field)
+    }
+
+    #[inline(always)]
+    fn read_global(&mut self, thread: u32, target: u32, global: u32) -> Result<(), Refusal>
+        ensures loads { LoadsWhole self.old thread (steps.LoadGlobal target global) result self.new }
+        ensures stands { LoadStands self.old thread (steps.LoadGlobal target global) result self.new }
+    {
+        ManagedHeap::read_global(self, thread, target, global)
+    }
+
+    fn object(&self, thread: u32, register: u32) -> Result<Object, Refusal>
+        ensures { result ≡ seen self.now thread register }
+    {
+        seeing::look(self, thread, register)
+    }
+
+    fn collect(&mut self, alloc: Global, percent: u32) -> Result<Collected, Refusal>
+        ensures goes { Collects self.old self.new }
+        ensures stands { StandsUnseen self.old self.new }
+        ensures ends { EndsCollecting percent self.old result self.new }
+        ensures room { IsNotRoom result }
+    {
+        collect_whole(self, alloc, percent)
+    }
+
+    fn collect_some(
+        &mut self,
+        alloc: Global,
+        parts: &mut Parts,
+        percent: u32,
+        budget: u32,
+    ) -> Result<bool, Refusal>
+        ensures goes { Collects self.old self.new }
+        ensures stands { StandsUnseen self.old self.new }
+    {
+        parts::collect_some(self, alloc, parts, percent, budget)
+    }
+
+    fn refill(
+        &mut self,
+        alloc: Global,
+        policy: Policy,
+        thread: u32,
+    ) -> Result<Buffer, Refusal>
+        ensures goes { Refills thread self.old self.new }
+        ensures stands { StandsUnseen self.old self.new }
+        ensures ends { EndsRefill thread policy.words policy.percent self.old result self.new }
+    {
+        rooms::refill(self, alloc, policy, thread)
+    }
+
+    #[inline(always)]
+    fn make(
+        &mut self,
+        alloc: Global,
+        policy: Policy,
+        thread: u32,
+        target: u32,
+        layout: u32,
+    ) -> Result<u32, Refusal>
+        ensures stands { MakingStands thread target layout self.old result self.new }
+        ensures ends { EndsMaking thread policy.words policy.percent target layout self.old result self.new }
+    {
+        rooms::make(self, alloc, policy, thread, target, layout)
+    }
+}
+
+pub(crate) fn collect_whole(heap: &mut ManagedHeap, alloc: Global, percent: u32) -> Result<Collected, Refusal>
+    ensures { CollectsWhole percent heap.old result heap.new }
+{
+    match settle(heap) {
+        Ok(()) => run_cycle(heap, alloc, percent),
+        Err(refusal) => Err(refusal),
+    }
+}

@@ -1,0 +1,86 @@
+//! A mark, and the pages that are emptied behind it.
+
+ghost use Rattle.collecting.specs.Collections.{Collects, EndsBehind, EndsDueMark, EndsChosen, EndsSparse, EndsCycle, MarksWhole};
+
+use crate::collecting::Collected;
+use crate::leftovers::settle;
+use choosing::choose;
+use managed::ManagedHeap;
+use model::Refusal;
+use std::alloc::Global;
+
+/// The mark that is due: what is left of the one that runs, else a whole one.
+fn mark_due(heap: &mut ManagedHeap) -> Result<u64, Refusal>
+    ensures goes { Collects heap.old heap.new }
+    ensures ends { EndsDueMark heap.old result heap.new }
+{
+    if heap.heap().phase().is_marking() {
+        heap.finish_mark(0)
+    } else {
+        heap.mark(0)
+    }
+}
+
+/// What an earlier collection has left is ended, and then the mark that is due runs. Gives how many objects
+/// live.
+pub(crate) fn mark_whole(heap: &mut ManagedHeap) -> Result<u64, Refusal>
+    ensures { MarksWhole heap.old result heap.new }
+{
+    match settle(heap) {
+        Ok(()) => mark_due(heap),
+        Err(refusal) => Err(refusal),
+    }
+}
+
+/// Empties chosen pages, and gives how many they are.
+fn empty_chosen(heap: &mut ManagedHeap, pages: Vec<u32>) -> Result<u64, Refusal>
+    ensures { EndsChosen heap.old pages.items result heap.new }
+{
+    let count = pages.len() as u64;
+    if count == 0 {
+        return Ok(0);
+    }
+    match heap.empty(0, pages) {
+        Ok(()) => Ok(count),
+        Err(refusal) => Err(refusal),
+    }
+}
+
+/// Chooses pages and empties them, and gives how many they are.
+fn empty_sparse(heap: &mut ManagedHeap, alloc: Global, percent: u32) -> Result<u64, Refusal>
+    ensures { EndsSparse percent heap.old result heap.new }
+{
+    match choose(alloc, heap.heap(), percent) {
+        Ok(pages) => empty_chosen(heap, pages),
+        Err(_) => Err(Refusal::Memory),
+    }
+}
+
+/// Behind a mark that found so many objects, chooses pages and empties them.
+fn empty_behind(
+    heap: &mut ManagedHeap,
+    alloc: Global,
+    percent: u32,
+    live: u64,
+) -> Result<Collected, Refusal>
+    ensures { EndsBehind percent live heap.old result heap.new }
+{
+    match empty_sparse(heap, alloc, percent) {
+        Ok(emptied) => Ok(Collected { live, emptied }),
+        Err(refusal) => Err(refusal),
+    }
+}
+
+/// A mark, and then pages are chosen and emptied.
+pub(crate) fn run_cycle(
+    heap: &mut ManagedHeap,
+    alloc: Global,
+    percent: u32,
+) -> Result<Collected, Refusal>
+    ensures { EndsCycle percent heap.old result heap.new }
+{
+    match mark_due(heap) {
+        Ok(live) => empty_behind(heap, alloc, percent, live),
+        Err(refusal) => Err(refusal),
+    }
+}

@@ -1,0 +1,21 @@
+//! A managed heap that is collected by one call, whole or in parts, and by itself where frames run low
+//! (ours).
+//!
+//! `docs/COLLECTING.md` says when a program collects, and what it may expect.
+#![tactic(auto)]
+
+mod collecting;
+mod cycles;
+mod faults;
+mod leftovers;
+mod parts;
+mod policy;
+mod portions;
+mod rooms;
+mod seeing;
+
+pub use collecting::{Collected, Holding};
+pub use faults::CallFault;
+pub use parts::Parts;
+pub use policy::Policy;
+pub use seeing::Object;

@@ -1,0 +1,43 @@
+//! What a register names.
+
+ghost use Rattle.std.specs.Prelude.{◌≡◌};
+ghost use Rattle.collecting.specs.Objects.{seen};
+
+use managed::ManagedHeap;
+use model::Refusal;
+
+/// An object, as its header tells it.
+#[derive(Clone, Copy, Debug, PartialEq, Eq)]
+pub struct Object {
+    /// Its birth number: how many were born before it. It stays when the object moves.
+    pub birth: u32,
+    /// The number of its layout.
+    pub layout: u32,
+    /// How many references it has.
+    pub refs: u16,
+    /// How many data words it has.
+    pub nums: u16,
+}
+
+/// The object that a register of a thread names. Refused as `Null`, `Stall` and `Stale` where the register may
+/// not be used, and as `BadIndex` where no object stands there.
+#[tactic(auto, unfolding(crate::specs::Objects::seen))]
+pub(crate) fn look(heap: &ManagedHeap, thread: u32, register: u32) -> Result<Object, Refusal>
+    ensures { result ≡ seen heap.now thread register }
+{
+    let inside = heap.heap();
+    let address = inside.usable(thread, register)?;
+    let Some(header) = inside.memory().first_word(address) else {
+        return Err(Refusal::BadIndex);
+    };
+    let layout = (header >> 32) as u32;
+    let Some(shape) = inside.config().layouts.get(layout) else {
+        return Err(Refusal::BadIndex);
+    };
+    Ok(Object {
+        birth: (header % 4_294_967_296) as u32,
+        layout,
+        refs: shape.refs,
+        nums: shape.nums,
+    })
+}

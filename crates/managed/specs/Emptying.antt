@@ -1,0 +1,105 @@
+-- Pages that are emptied.
+use Rattle.std.specs.Prelude.{◌≡◌, ◌⊎◌, ◌+◌, ℕ, List, [], ◌∷◌, ◌++◌, length, None, Result, Ok, Err}
+use Rattle.std.specs.List.{AllByRecursion}
+use Rattle.model.specs.declared.steps.Actor.TheVariants.{Worker}
+use Rattle.model.specs.declared.steps.Step.{Step}
+use Rattle.model.specs.declared.steps.Step.TheVariants as steps
+use Rattle.model.specs.declared.steps.Answer.{Answer}
+use Rattle.model.specs.declared.steps.Refusal.{Refusal}
+use Rattle.model.specs.Outcome.{outcome}
+use Rattle.model.specs.Protections.{free_count}
+use Rattle.model.specs.Refusing.{DoesStep}
+use Rattle.model.specs.States.{HeapState}
+use Rattle.model.specs.Stores.{page_at, frame_in}
+use Rattle.managed.specs.Goings.{Goes, Steps}
+use Rattle.managed.specs.Collecting.{IsCollecting, Crosses, StopsCrossing}
+
+-- page n has no frame
+abbrev pub IsBare : HeapState → ℕ → Type 0
+IsBare h n = frame_in (page_at h.store n) ≡ None
+
+-- page n was emptied by worker w: it has no frame, no page that had none has got one, and one frame more is free
+pub record PageFreed (w : ℕ) (h : HeapState) (n : ℕ) (g : HeapState) : Type 0 where
+  pub goes : Goes (IsCollecting w) h g
+  pub bare : IsBare g n
+  pub stay : (m : ℕ) → IsBare h m → IsBare g m
+  pub more : free_count g.store ≡ free_count h.store + 1
+
+-- pages were emptied: each has no frame, no page that had none has got one, and as many frames more are free
+pub record PagesFreed (w : ℕ) (h : HeapState) (ns : List ℕ) (g : HeapState) : Type 0 where
+  pub goes : Goes (IsCollecting w) h g
+  pub bare : AllByRecursion (IsBare g) ns
+  pub stay : (m : ℕ) → IsBare h m → IsBare g m
+  pub more : free_count g.store ≡ free_count h.store + length ns
+
+-- page n isn't emptied: that all of it is copied is refused so, or that it gives its memory up
+abbrev pub StopsPage : ℕ → HeapState → ℕ → Refusal → HeapState → Type 0
+StopsPage w h n e g =
+    ((outcome h (Worker w) (steps.CopyPage n) ≡ Err e) × (g ≡ h))
+    ⊎ ((m : HeapState) × (a : Answer) × Steps (Worker w) (steps.CopyPage n) a h m
+    × (outcome m (Worker w) (steps.Release n) ≡ Err e) × (g ≡ m))
+
+-- how the emptying of a page ended
+abbrev pub EndsPage : ℕ → HeapState → ℕ → Result Unit Refusal → HeapState → Type 0
+EndsPage w h n (Ok u) g = PageFreed w h n g
+EndsPage w h n (Err e) g = Goes (IsCollecting w) h g × StopsPage w h n e g
+
+-- how it ended that a page gave its memory up
+abbrev pub EndsRelease : ℕ → HeapState → ℕ → Result Unit Refusal → HeapState → Type 0
+EndsRelease w h n (Ok u) g = PageFreed w h n g
+EndsRelease w h n (Err e) g = (outcome h (Worker w) (steps.Release n) ≡ Err e) × (g ≡ h)
+
+-- pages were emptied up to one that isn't
+pub record StopsPages (w : ℕ) (h : HeapState) (ns : List ℕ) (e : Refusal) (g : HeapState) : Type 0 where
+  pub goes : Goes (IsCollecting w) h g
+  pub before : List ℕ
+  pub page : ℕ
+  pub behind : List ℕ
+  pub order : ns ≡ before ++ page ∷ behind
+  pub there : HeapState
+  pub freed : PagesFreed w h before there
+  pub stops : StopsPage w there page e g
+
+-- how the emptying of pages ended, one after another
+abbrev pub EndsPages : ℕ → HeapState → List ℕ → Result Unit Refusal → HeapState → Type 0
+EndsPages w h ns (Ok u) g = PagesFreed w h ns g
+EndsPages w h ns (Err e) g = StopsPages w h ns e g
+
+-- the emptying of protected pages stopped so: while threads cross, or at a page
+abbrev pub StopsProtected : ℕ → HeapState → List ℕ → Refusal → HeapState → Type 0
+StopsProtected w h ns e g = StopsCrossing w h e g ⊎ ((m : HeapState) × Crosses w h m × StopsPages w m ns e g)
+
+-- how the emptying of protected pages ended
+abbrev pub EndsProtected : ℕ → HeapState → List ℕ → Result Unit Refusal → HeapState → Type 0
+EndsProtected w h ns (Ok u) g = PagesFreed w h ns g
+EndsProtected w h ns (Err e) g = StopsProtected w h ns e g
+
+-- pages are protected
+abbrev pub Protects : ℕ → HeapState → List ℕ → HeapState → Type 0
+Protects w h ns g = (a : Answer) × Steps (Worker w) (steps.Protect ns) a h g
+
+-- how the emptying of pages ended, from their protection on: they are protected, and then emptied as far as it was told;
+-- or that they are protected is refused so, or lacked memory, and nothing is done
+abbrev pub EndsEmptying : ℕ → HeapState → List ℕ → Result Unit Refusal → HeapState → Type 0
+EndsEmptying w h ns (Ok u) g = (m : HeapState) × Protects w h ns m × PagesFreed w m ns g
+EndsEmptying w h ns (Err e) g =
+    DoesStep h (steps.Protect ns) (Err e) g (outcome h (Worker w) (steps.Protect ns))
+    ⊎ ((m : HeapState) × Protects w h ns m × StopsProtected w m ns e g)
+
+-- the steps of an emptying, and how it ended
+abbrev pub Empties : ℕ → HeapState → List ℕ → Result Unit Refusal → HeapState → Type 0
+Empties w h ns result g = Goes (IsCollecting w) h g × EndsEmptying w h ns result g
+
+-- the same of protected pages
+abbrev pub EmptiesProtected : ℕ → HeapState → List ℕ → Result Unit Refusal → HeapState → Type 0
+EmptiesProtected w h ns result g = Goes (IsCollecting w) h g × EndsProtected w h ns result g
+
+-- the pages that a step protects
+abbrev pub pages_in : Step → List ℕ
+pages_in (steps.Protect ns) = ns
+pages_in _ = []
+
+-- whether a step was accepted
+abbrev pub whether_told : Result Answer Refusal → Result Unit Refusal
+whether_told (Ok a) = Ok tt
+whether_told (Err e) = Err e

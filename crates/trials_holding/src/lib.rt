@@ -1,0 +1,9 @@
+//! Tests of heaps that a program holds: collections in parts, buffers by the policy, and the smallest heaps.
+#![tactic(auto)]
+
+#[cfg(test)]
+mod faults;
+#[cfg(test)]
+mod parts;
+#[cfg(test)]
+mod rooms;

@@ -1,0 +1,23 @@
+//! A managed heap is verified.
+
+ghost use Rattle.std.specs.Prelude.{◌≡◌, IfOk};
+ghost use Rattle.verify.specs.Faults.{VerdictIs};
+ghost use Rattle.verify.specs.Pictures.{image_of};
+ghost use Rattle.verify.specs.declared.verdict.Verdict.TheVariants.{Sound};
+
+use managed::ManagedHeap;
+use std::alloc::{AllocError, Global};
+use verify::{Verdict, one_verdict, verify};
+
+/// Whether a managed heap is sound as it stands, or else its first fault (ours): the verdict on its image,
+/// which is that it is sound. Its time is linear in the words of all frames and pages. Fails only by memory.
+pub fn verify_held(alloc: Global, heap: &ManagedHeap) -> Result<Verdict, AllocError>
+    ensures verdict { IfOk result (VerdictIs (image_of heap.now)) }
+    ensures sound { IfOk result (λ verdict. verdict ≡ Sound) }
+{
+    heap.law();
+    heap.heap().law();
+    soundness::law();
+    one_verdict();
+    verify(alloc, heap.heap())
+}
