@@ -1,6 +1,7 @@
 -- The objects of a page that is protected lie in two targets at most. Letters are those of `Planned` and `Protections`.
 use Rattle.std.proofs.Common.{◌≡◌, ◌⊎◌, inl, inr, ℕ, zero, suc, ◌+◌, ◌*◌, ◌/◌, ◌%◌, ◌<◌, ◌≤◌, ◌==◌, ◌||◌, Bool, true}
-use Rattle.std.proofs.Common.{false, cond, not, List, [], ◌∷◌, ◌++◌, length, map, take, drop, Option, Some, None, refl, sym}
+use Rattle.std.proofs.Common.{false, cond, not, List, [], ◌∷◌, ◌++◌, length, map, take, drop, Option, Some, None}
+use Rattle.std.proofs.Common.{refl, sym}
 use Rattle.std.proofs.Common.{◌∙◌, ap, subst, arith, eq-eqb}
 use Rattle.std.specs.List.{slice_get, flat_map, list_any, sum_by}
 use Rattle.std.specs.Option.{option_map}
@@ -290,7 +291,8 @@ module _ (h : HeapState) (s : IsStore h.store) (l : IsLaid h) (pages : List ℕ)
 
       target_is : (a to : ℕ) (x : IsPlanned h s l pages closed targets enough a to)
           → slice_get targets x.place.0 ≡ Some (to / h.store.words)
-      target_is a to x = x.in_target ∙ ap Some (sym (div-mul-add x.target h.store.words x.place.1 (omega (arith, x.room)))
+      target_is a to x = x.in_target
+          ∙ ap Some (sym (div-mul-add x.target h.store.words x.place.1 (omega (arith, x.room)))
           ∙ ap (λ z. z / h.store.words) x.is)
 
       pub lies_in_two : LiesInTwo h.store.words targets side

@@ -1,7 +1,8 @@
 //! What a walk knows of each address: a list for each page with memory, and nothing of other pages, where no object
 //! is.
 
-ghost use Rattle.std.specs.Prelude.{◌≡◌, ◌≢◌, ◌<◌, ◌≤◌, ◌+◌, ℕ, [], length, IfOk, MatchBool, count_by, get_or, slice_set};
+ghost use Rattle.std.specs.Prelude.{◌≡◌, ◌≢◌, ◌<◌, ◌≤◌, ◌+◌, ℕ, [], length, IfOk, MatchBool, count_by};
+ghost use Rattle.std.specs.Prelude.{get_or, slice_set};
 ghost use Rattle.std.specs.Prelude.{◌%◌, ◌^◌, Some, IfSome, false};
 ghost use Rattle.model.specs.declared.limits.TheConstants.{MOST_WORDS};
 ghost use Rattle.verify.specs.Images.{object_at, page_at};
@@ -225,7 +226,8 @@ fn filled(
     requires base { base % image.now.words ≡ 0 }
     requires range { base ≤ 2 ^ 40 }
     ensures len { IfOk result (λ p. length p ≡ image.now.words) }
-    ensures each { IfOk result (λ p. (o : ℕ) → o < image.now.words → spot_at p o ≡ first_spot (object_at image.now (base + o))) }
+    ensures each { IfOk result (λ p. (o : ℕ) → o < image.now.words
+        → spot_at p o ≡ first_spot (object_at image.now (base + o))) }
 {
     let mut spots = Vec::with_capacity(alloc, image.words as usize)?;
     for offset in 0..u64::from(image.words) {
@@ -249,7 +251,8 @@ fn page_spots(alloc: Global, image: &Image, base: u64) -> Result<PageSpots, Allo
     requires base { base % image.now.words ≡ 0 }
     requires range { base ≤ 2 ^ 40 }
     ensures short { IfOk result (λ p. length p ≤ image.now.words) }
-    ensures each { IfOk result (λ p. (o : ℕ) → o < image.now.words → spot_at p o ≡ first_spot (object_at image.now (base + o))) }
+    ensures each { IfOk result (λ p. (o : ℕ) → o < image.now.words
+        → spot_at p o ≡ first_spot (object_at image.now (base + o))) }
 {
     let Some(page) = image.page_at(base) else {
         return Ok(unfilled(alloc));
