@@ -1,6 +1,7 @@
 -- The objects of a page that is protected lie in two targets at most. Letters are those of `Planned` and `Protections`.
 use Rattle.std.proofs.Common.{◌≡◌, ◌⊎◌, inl, inr, ℕ, zero, suc, ◌+◌, ◌*◌, ◌/◌, ◌%◌, ◌<◌, ◌≤◌, ◌==◌, ◌||◌, Bool, true}
-use Rattle.std.proofs.Common.{false, cond, not, List, [], ◌∷◌, ◌++◌, length, map, take, drop, Option, Some, None, refl, sym}
+use Rattle.std.proofs.Common.{false, cond, not, List, [], ◌∷◌, ◌++◌, length, map, take, drop, Option, Some, None}
+use Rattle.std.proofs.Common.{refl, sym}
 use Rattle.std.proofs.Common.{◌∙◌, ap, subst, arith, eq-eqb}
 use Rattle.std.specs.List.{slice_get, flat_map, list_any, sum_by}
 use Rattle.std.specs.Option.{option_map}
@@ -208,8 +209,12 @@ module _ (h : HeapState) (s : IsStore h.store) (l : IsLaid h) (pages : List ℕ)
   fits_on : (n : ℕ) → IsIn n pages → (o : ℕ) → IsIn o (live_offsets h n) → o + size_on n o ≤ h.store.words
   fits_on n there o e =
       let x = live_at h s l pages closed n o there e in
-      omega (arith, x.fits, words_are h (n * h.store.words + o) x.object x.here,
-      mod-mul-add n h.store.words o (live_within h l n o e))
+      omega (
+        arith,
+        x.fits,
+        words_are h (n * h.store.words + o) x.object x.here,
+        mod-mul-add n h.store.words o (live_within h l n o e),
+      )
 
   -- so they come to no more words than the page has
   spaced_on : (n : ℕ) → IsIn n pages → AreSpaced (size_on n) h.store.words 0 (live_offsets h n)
@@ -286,7 +291,8 @@ module _ (h : HeapState) (s : IsStore h.store) (l : IsLaid h) (pages : List ℕ)
 
       target_is : (a to : ℕ) (x : IsPlanned h s l pages closed targets enough a to)
           → slice_get targets x.place.0 ≡ Some (to / h.store.words)
-      target_is a to x = x.in_target ∙ ap Some (sym (div-mul-add x.target h.store.words x.place.1 (omega (arith, x.room)))
+      target_is a to x = x.in_target
+          ∙ ap Some (sym (div-mul-add x.target h.store.words x.place.1 (omega (arith, x.room)))
           ∙ ap (λ z. z / h.store.words) x.is)
 
       pub lies_in_two : LiesInTwo h.store.words targets side
@@ -347,9 +353,9 @@ module _ {h : HeapState} {p p0 : PlainHeap} (s : IsStore h.store) (d : IsHeap h)
         enough = x.many;
       } in
       λ i n at.
-          let there = at_in n pages i at in
-          subst (LiesInTwo h.store.words (targets_of h pages)) (sym (side_after h _ p p0 _ pages m n there))
-          (lies_in_two h s k.laid pages closed twice n there (targets_of h pages) x.many))))
+      let there = at_in n pages i at in
+      subst (LiesInTwo h.store.words (targets_of h pages)) (sym (side_after h _ p p0 _ pages m n there))
+      (lies_in_two h s k.laid pages closed twice n there (targets_of h pages) x.many))))
 
   row_packs : (w : ℕ) (pages : List ℕ)
       → OnAccepted (λ (z : HeapState × Answer). Packs h pages z.0) (outcome h (Worker w) (steps.Protect pages))

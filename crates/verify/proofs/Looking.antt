@@ -65,7 +65,8 @@ module _ (i : ImageData) (spots : List Spot) (t : TellsReached i spots) where
     | inr m ↦ absurd (unreached b (none b m) r)
   ]
 
-  pub bad_found : (from a n : ℕ) → IsNextFilled spots from (Some a) → GoodBefore i (at 4 from 0) → FoundBadOf i a (Some n)
+  pub bad_found : (from a n : ℕ) → IsNextFilled spots from (Some a) → GoodBefore i (at 4 from 0)
+      → FoundBadOf i a (Some n)
       → FoundField i (Some (faults.Field a n))
   bad_found from a n next good f = (
     (f.1.0, f.0, f.1.1, f.1.2),

@@ -1,5 +1,6 @@
 -- What stands at each address before a walk, page by page.
-use Rattle.std.proofs.Common.{◌≡◌, eqb, leb, inl, inr, ℕ, suc, ◌+◌, ◌-◌, ◌*◌, ◌/◌, ◌%◌, ◌<◌, ◌≤◌, Bool, true, false, cond}
+use Rattle.std.proofs.Common.{◌≡◌, eqb, leb, inl, inr, ℕ, suc, ◌+◌, ◌-◌, ◌*◌, ◌/◌, ◌%◌, ◌<◌, ◌≤◌, Bool, true, false}
+use Rattle.std.proofs.Common.{cond}
 use Rattle.std.proofs.Common.{ltb, List, [], ◌∷◌, ◌++◌, length, get_or, Option, Some, None, refl, ◌∙◌, ap, arith}
 use Rattle.std.proofs.Common.{div-add-mod', length-append}
 use Rattle.std.proofs.Math.Nat.{mul-le-mul_right, suc-mul}

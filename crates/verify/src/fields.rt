@@ -4,8 +4,8 @@ ghost use Rattle.std.specs.Prelude.{◌<◌};
 ghost use Rattle.verify.specs.Searches.{TellsReached, FoundField, FoundBad, FoundBadOf};
 
 use crate::chart::Chart;
-use crate::verdict::Fault;
 use crate::spots::Spots;
+use crate::verdict::Fault;
 use crate::walk::is_reached;
 
 /// The first field of the object at an address whose value isn't good.

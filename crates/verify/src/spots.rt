@@ -1,7 +1,8 @@
 //! What a walk knows of each address: a list for each page with memory, and nothing of other pages, where no object
 //! is.
 
-ghost use Rattle.std.specs.Prelude.{◌≡◌, ◌≢◌, ◌<◌, ◌≤◌, ◌+◌, ℕ, [], length, IfOk, MatchBool, count_by, get_or, slice_set};
+ghost use Rattle.std.specs.Prelude.{◌≡◌, ◌≢◌, ◌<◌, ◌≤◌, ◌+◌, ℕ, [], length, IfOk, MatchBool, count_by};
+ghost use Rattle.std.specs.Prelude.{get_or, slice_set};
 ghost use Rattle.std.specs.Prelude.{◌%◌, ◌^◌, Some, IfSome, false};
 ghost use Rattle.model.specs.declared.limits.TheConstants.{MOST_WORDS};
 ghost use Rattle.verify.specs.Images.{object_at, page_at};
@@ -147,7 +148,11 @@ impl Spots {
             let offset = at % words;
             if let Some(found) = next_on(&self.pages, at / words, offset) {
                 let address = at + (found - offset);
-                return if address < self.count { Some(address) } else { None };
+                return if address < self.count {
+                    Some(address)
+                } else {
+                    None
+                };
             }
             at += words - offset;
         }
@@ -210,13 +215,19 @@ fn spot_of(image: &Image, page: &PageImage, address: u64, offset: u64) -> Spot
 }
 
 /// What stands on a page with memory, which begins at an address, before a walk.
-fn filled(alloc: Global, image: &Image, page: &PageImage, base: u64) -> Result<PageSpots, AllocError>
+fn filled(
+    alloc: Global,
+    image: &Image,
+    page: &PageImage,
+    base: u64,
+) -> Result<PageSpots, AllocError>
     requires sized { 0 < image.now.words }
     requires page { page_at image.now base ≡ Some page.now }
     requires base { base % image.now.words ≡ 0 }
     requires range { base ≤ 2 ^ 40 }
     ensures len { IfOk result (λ p. length p ≡ image.now.words) }
-    ensures each { IfOk result (λ p. (o : ℕ) → o < image.now.words → spot_at p o ≡ first_spot (object_at image.now (base + o))) }
+    ensures each { IfOk result (λ p. (o : ℕ) → o < image.now.words
+        → spot_at p o ≡ first_spot (object_at image.now (base + o))) }
 {
     let mut spots = Vec::with_capacity(alloc, image.words as usize)?;
     for offset in 0..u64::from(image.words) {
@@ -240,7 +251,8 @@ fn page_spots(alloc: Global, image: &Image, base: u64) -> Result<PageSpots, Allo
     requires base { base % image.now.words ≡ 0 }
     requires range { base ≤ 2 ^ 40 }
     ensures short { IfOk result (λ p. length p ≤ image.now.words) }
-    ensures each { IfOk result (λ p. (o : ℕ) → o < image.now.words → spot_at p o ≡ first_spot (object_at image.now (base + o))) }
+    ensures each { IfOk result (λ p. (o : ℕ) → o < image.now.words
+        → spot_at p o ≡ first_spot (object_at image.now (base + o))) }
 {
     let Some(page) = image.page_at(base) else {
         return Ok(unfilled(alloc));

@@ -9,8 +9,8 @@ loop-address-preserved c =
     let noted = get eqb c.args.self.now.addresses in
     let l = c.loop-address in
     let next = c.in-Some.ensures.next in
-    let jumped = shares_jump c.args.chart.now c.args.spots.now c.requires.spots noted l.from c.in-Some.address l.least next
-    l.invariant.least in
+    let jumped = shares_jump c.args.chart.now c.args.spots.now c.requires.spots noted l.from c.in-Some.address l.least
+    next l.invariant.least in
     record {
       least = rw c.lesser-least.ensures (least_next c.args.chart.now noted c.in-Some.address l.least c.shared_at.result
           jumped c.shared_at.ensures);
