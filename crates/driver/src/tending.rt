@@ -2,8 +2,8 @@
 
 use crate::numbers::index;
 use crate::setups::Habits;
-use model::{PageState, Phase};
 use heap::Heap;
+use model::{PageState, Phase};
 use pauseless::{PageList, Step, choose, next_drain};
 use samples::Dice;
 use std::alloc::{AllocError, Global};
@@ -20,13 +20,20 @@ fn idle(alloc: Global, heap: &Heap, dice: &mut Dice) -> Result<Step, AllocError>
 
 /// The first thread that hasn't crossed is crossed, if it is parked.
 fn crossing(heap: &Heap) -> Step {
-    let behind = heap.threads().iter().position(|thread| !thread.has_crossed());
+    let behind = heap
+        .threads()
+        .iter()
+        .position(|thread| !thread.has_crossed());
     Step::CrossFor(behind.unwrap_or(0) as u32)
 }
 
 /// The first page that is protected and has its memory, by its number from 1.
 fn protected(heap: &Heap) -> Option<u32> {
-    let place = heap.memory().pages().iter().position(|page| page.state == PageState::From)?;
+    let place = heap
+        .memory()
+        .pages()
+        .iter()
+        .position(|page| page.state == PageState::From)?;
     Some((place as u32).saturating_add(1))
 }
 
