@@ -79,8 +79,11 @@ pub collected_stops : (t n percent : ℕ) (h g : HeapState) (c : Result Collecte
     → CollectsWhole percent h c g → RefillsWhole t n percent h (Err e) g
 collected_stops t n percent h g c e is a = (
   collects_refill t h g a.0,
-  inr (h, goes_none (IsRefill t) h,
-      subst (λ (x : Result Collected Refusal). EndsCollecting percent h x g) is a.1),
+  inr (
+    h,
+    goes_none (IsRefill t) h,
+    subst (λ (x : Result Collected Refusal). EndsCollecting percent h x g) is a.1,
+  ),
 )
 
 -- a mark, and then a buffer

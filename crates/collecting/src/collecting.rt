@@ -10,12 +10,10 @@ ghost use Rattle.collecting.specs.Rooms.{EndsMaking, EndsRefill, MakingStands, R
 
 use crate::cycles::run_cycle;
 use crate::leftovers::settle;
-use crate::parts;
 use crate::parts::Parts;
 use crate::policy::Policy;
-use crate::rooms;
-use crate::seeing;
 use crate::seeing::Object;
+use crate::{parts, rooms, seeing};
 use cycle::Mutating;
 use managed::ManagedHeap;
 use model::{Buffer, Refusal};
@@ -81,12 +79,7 @@ pub trait Holding: Mutating {
     /// no room then, a mark runs once more, which frees the numbers of the pages that were emptied.
     ///
     /// Refused as `take` is, or as `collect` is.
-    fn refill(
-        &mut self,
-        alloc: Global,
-        policy: Policy,
-        thread: u32,
-    ) -> Result<Buffer, Refusal>;
+    fn refill(&mut self, alloc: Global, policy: Policy, thread: u32) -> Result<Buffer, Refusal>;
 
     /// Makes an object as `new_object` does; where the thread has no buffer with room for it, `refill` gets
     /// it one before. Gives the object's birth number.
@@ -148,12 +141,7 @@ impl Holding for ManagedHeap {
         parts::collect_some(self, alloc, parts, percent, budget)
     }
 
-    fn refill(
-        &mut self,
-        alloc: Global,
-        policy: Policy,
-        thread: u32,
-    ) -> Result<Buffer, Refusal>
+    fn refill(&mut self, alloc: Global, policy: Policy, thread: u32) -> Result<Buffer, Refusal>
         ensures goes { Refills thread self.old self.new }
         ensures stands { StandsUnseen self.old self.new }
         ensures ends { EndsRefill thread policy.words policy.percent self.old result self.new }
@@ -177,7 +165,11 @@ impl Holding for ManagedHeap {
     }
 }
 
-pub(crate) fn collect_whole(heap: &mut ManagedHeap, alloc: Global, percent: u32) -> Result<Collected, Refusal>
+pub(crate) fn collect_whole(
+    heap: &mut ManagedHeap,
+    alloc: Global,
+    percent: u32,
+) -> Result<Collected, Refusal>
     ensures { CollectsWhole percent heap.old result heap.new }
 {
     match settle(heap) {

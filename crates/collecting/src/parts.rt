@@ -115,7 +115,10 @@ fn mark_part(heap: &mut ManagedHeap, parts: &mut Parts, budget: u32) -> Result<b
 /// What comes of a refusal to protect pages: where the choice is out of date, as a whole collection came
 /// between, the next part begins anew.
 fn begin_anew(parts: &mut Parts, refusal: Refusal) -> Result<bool, Refusal> {
-    if matches!(refusal, Refusal::Phase | Refusal::Unripe { .. } | Refusal::Lent { .. }) {
+    if matches!(
+        refusal,
+        Refusal::Phase | Refusal::Unripe { .. } | Refusal::Lent { .. }
+    ) {
         parts.begin(Stage::Mark);
         return Ok(false);
     }
@@ -123,11 +126,7 @@ fn begin_anew(parts: &mut Parts, refusal: Refusal) -> Result<bool, Refusal> {
 }
 
 /// The chosen pages are protected; true where there are none.
-fn protect_part(
-    heap: &mut ManagedHeap,
-    parts: &mut Parts,
-    pages: Vec<u32>,
-) -> Result<bool, Refusal>
+fn protect_part(heap: &mut ManagedHeap, parts: &mut Parts, pages: Vec<u32>) -> Result<bool, Refusal>
     ensures { Collects heap.old heap.new }
 {
     if pages.is_empty() {

@@ -28,11 +28,7 @@ fn take(heap: &mut ManagedHeap, policy: Policy, thread: u32) -> Result<Buffer, R
 
 /// A mark runs, and the buffer is taken: the numbers of pages that a collection has emptied are free at the
 /// end of the next mark alone.
-fn mark_and_take(
-    heap: &mut ManagedHeap,
-    policy: Policy,
-    thread: u32,
-) -> Result<Buffer, Refusal>
+fn mark_and_take(heap: &mut ManagedHeap, policy: Policy, thread: u32) -> Result<Buffer, Refusal>
     ensures { RefillsWhole thread policy.words policy.percent heap.old result heap.new }
 {
     match mark_whole(heap) {

@@ -96,7 +96,10 @@ fn ask_all(alloc: Global, mut heap: impl Holding + Drop) -> Result<u64> {
 
 /// A heap of a table and of entries.
 fn new_heap(alloc: Global) -> Result<Heap> {
-    let table = Layout { refs: PLACES, nums: 0 };
+    let table = Layout {
+        refs: PLACES,
+        nums: 0,
+    };
     let layouts = Layouts::new(vec![in alloc; table, Layout { refs: 0, nums: 2 }]?);
     Ok(Heap::new(alloc, Config::new(WORDS, FRAMES, layouts))?)
 }

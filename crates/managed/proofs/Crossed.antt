@@ -125,7 +125,7 @@ register_stays h t r =
     let v = marked_word (copied_for h (register_of h t r)) (register_of h t r) in
     record {
       each = λ u. subst (λ (ts : List ThreadState). Stays (slice_get ts u)
-      (slice_get (change_at (copied_for h (register_of h t r)).threads t (set_register_of r v)) u)) k.threads
+          (slice_get (change_at (copied_for h (register_of h t r)).threads t (set_register_of r v)) u)) k.threads
           (changed_stays (copied_for h (register_of h t r)).threads t (set_register_of r v)
           (λ x. record { loading = refl; parked = refl; crossed = λ e. e }) u);
       workers = k.workers;

@@ -63,16 +63,31 @@ fn waste(alloc: Global, heap: &mut impl Holding, policy: Policy, count: u64) -> 
 
 /// The same in a heap of one frame and so many pages, where not even the last one is kept.
 fn waste_in_one(alloc: Global, pages: u32, count: u64) -> Result<()> {
-    waste_all(alloc, &mut new_heap(alloc, 1, pages)?, Policy::usual(WORDS, 1), count)
+    waste_all(
+        alloc,
+        &mut new_heap(alloc, 1, pages)?,
+        Policy::usual(WORDS, 1),
+        count,
+    )
 }
 
 /// The same in a heap of two frames and two pages.
 fn waste_in_two(alloc: Global, count: u64) -> Result<()> {
-    waste(alloc, &mut new_heap(alloc, 2, 2)?, Policy::usual(WORDS, 2), count)
+    waste(
+        alloc,
+        &mut new_heap(alloc, 2, 2)?,
+        Policy::usual(WORDS, 2),
+        count,
+    )
 }
 
 /// The same in a heap that keeps one object. Gives the number in it at the end.
-fn keep_one(alloc: Global, mut heap: impl Holding + Drop, policy: Policy, count: u64) -> Result<u64> {
+fn keep_one(
+    alloc: Global,
+    mut heap: impl Holding + Drop,
+    policy: Policy,
+    count: u64,
+) -> Result<u64> {
     heap.make(alloc, policy, ME, KEPT, 0)?;
     heap.set_datum(ME, KEPT, 0, NUMBER)?;
     waste(alloc, &mut heap, policy, count)?;
@@ -84,7 +99,12 @@ fn soak(alloc: Global, count: u64) -> Result<u64> {
     waste_in_one(alloc, 1, count)?;
     waste_in_one(alloc, 2, count)?;
     waste_in_two(alloc, count)?;
-    keep_one(alloc, new_heap(alloc, 3, 6)?, Policy::usual(WORDS, 3), count)
+    keep_one(
+        alloc,
+        new_heap(alloc, 3, 6)?,
+        Policy::usual(WORDS, 3),
+        count,
+    )
 }
 
 fn main(rt: HostRuntime) -> Result<()> {

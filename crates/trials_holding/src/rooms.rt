@@ -31,7 +31,12 @@ pub fn new_heap(alloc: Global, frames: u32, pages: u32) -> Result<ManagedHeap, F
 }
 
 /// Makes so many objects that nobody keeps, not even in a register.
-fn waste_all(alloc: Global, heap: &mut impl Holding, frames: u32, count: u32) -> Result<(), Refusal> {
+fn waste_all(
+    alloc: Global,
+    heap: &mut impl Holding,
+    frames: u32,
+    count: u32,
+) -> Result<(), Refusal> {
     for _ in 0..count {
         heap.make(alloc, Policy::usual(16, frames), ME, LOST, 0)?;
         heap.clear_register(ME, LOST)?;
