@@ -2,9 +2,8 @@
 
 use crate::numbers::{index, small};
 use crate::setups::Habits;
-use heap::Heap;
 use model::{PageState, Phase};
-use pauseless::{PageList, Step, choose, next_drain};
+use pauseless::{Heap, PageList, Step, choose, next_drain};
 use samples::Dice;
 use std::alloc::{AllocError, Global};
 
@@ -28,11 +27,7 @@ fn crossing(heap: &Heap) -> Step {
         .threads()
         .iter()
         .position(|thread| !thread.has_crossed());
-<<<<<<< HEAD
     Step::CrossFor(small(behind.unwrap_or(0)))
-=======
-    Step::CrossFor(behind.unwrap_or(0) as u32)
->>>>>>> users
 }
 
 /// The first page that is protected and has its memory, by its number from 1.
@@ -42,11 +37,7 @@ fn protected(heap: &Heap) -> Option<u32> {
         .pages()
         .iter()
         .position(|page| page.state == PageState::From)?;
-<<<<<<< HEAD
     Some(small(place).saturating_add(1))
-=======
-    Some((place as u32).saturating_add(1))
->>>>>>> users
 }
 
 /// The first entry of a page that isn't copied.
