@@ -75,10 +75,22 @@ fn wastes(
 }
 
 #[test]
-fn smallest_heaps(rt: HostRuntime) -> Result<(), Fail> {
-    wastes_all(&rt, rt.alloc(), new_heap(rt.alloc(), 1, 1)?, 1)?;
-    wastes_all(&rt, rt.alloc(), new_heap(rt.alloc(), 1, 2)?, 1)?;
-    wastes(&rt, rt.alloc(), new_heap(rt.alloc(), 2, 2)?, 2)?;
+fn one_page(rt: HostRuntime) -> Result<(), Fail> {
+    wastes_all(&rt, rt.alloc(), new_heap(rt.alloc(), 1, 1)?, 1)
+}
+
+#[test]
+fn one_frame(rt: HostRuntime) -> Result<(), Fail> {
+    wastes_all(&rt, rt.alloc(), new_heap(rt.alloc(), 1, 2)?, 1)
+}
+
+#[test]
+fn two_frames(rt: HostRuntime) -> Result<(), Fail> {
+    wastes(&rt, rt.alloc(), new_heap(rt.alloc(), 2, 2)?, 2)
+}
+
+#[test]
+fn three_frames(rt: HostRuntime) -> Result<(), Fail> {
     wastes(&rt, rt.alloc(), new_heap(rt.alloc(), 3, 6)?, 3)
 }
 
