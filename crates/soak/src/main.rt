@@ -45,7 +45,12 @@ fn new_heap(alloc: Global, frames: u32, pages: u32) -> Result<Heap> {
 }
 
 /// Makes so many objects that nobody keeps, not even in a register.
-fn waste_all(alloc: Global, heap: &mut impl Holding, policy: Policy, count: u64) -> Result<()> {
+fn waste_all(
+    alloc: Global,
+    mut heap: impl Holding + Drop,
+    policy: Policy,
+    count: u64,
+) -> Result<()> {
     for _ in 0..count {
         heap.make(alloc, policy, ME, LOST, 0)?;
         heap.clear_register(ME, LOST)?;
@@ -61,11 +66,21 @@ fn waste(alloc: Global, heap: &mut impl Holding, policy: Policy, count: u64) -> 
     Ok(())
 }
 
+/// The same in a heap that is let go then.
+fn waste_last(
+    alloc: Global,
+    mut heap: impl Holding + Drop,
+    policy: Policy,
+    count: u64,
+) -> Result<()> {
+    waste(alloc, &mut heap, policy, count)
+}
+
 /// The same in a heap of one frame and so many pages, where not even the last one is kept.
 fn waste_in_one(alloc: Global, pages: u32, count: u64) -> Result<()> {
     waste_all(
         alloc,
-        &mut new_heap(alloc, 1, pages)?,
+        new_heap(alloc, 1, pages)?,
         Policy::usual(WORDS, 1),
         count,
     )
@@ -73,10 +88,20 @@ fn waste_in_one(alloc: Global, pages: u32, count: u64) -> Result<()> {
 
 /// The same in a heap of two frames and two pages.
 fn waste_in_two(alloc: Global, count: u64) -> Result<()> {
-    waste(
+    waste_last(
         alloc,
-        &mut new_heap(alloc, 2, 2)?,
+        new_heap(alloc, 2, 2)?,
         Policy::usual(WORDS, 2),
+        count,
+    )
+}
+
+/// The same in a heap of three frames, which keeps one object.
+fn keep_in_three(alloc: Global, count: u64) -> Result<u64> {
+    keep_one(
+        alloc,
+        new_heap(alloc, 3, 6)?,
+        Policy::usual(WORDS, 3),
         count,
     )
 }
