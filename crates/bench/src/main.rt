@@ -26,7 +26,7 @@ mod mixes;
 mod moving;
 mod stepping;
 mod trees;
-mod verifying;
+mod verified;
 
 use anyhow::{Result, bail};
 use draining::{DrainBy, Shape};
@@ -78,7 +78,7 @@ fn work(alloc: Global, name: &str, numbers: [u32; 3]) -> Result<u64> {
         "copies" => moving::copies(alloc, CopyBy::Object, first, second, third),
         "pages" => moving::copies(alloc, CopyBy::Page, first, second, third),
         "slices" => moving::slices(alloc, first, second),
-        "verified" => verifying::verifications(alloc, first, second, third),
+        "verified" => verified::verifications(alloc, first, second, third),
         _ => parted(alloc, name, numbers),
     }
 }

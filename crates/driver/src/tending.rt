@@ -2,8 +2,9 @@
 
 use crate::numbers::{index, small};
 use crate::setups::Habits;
+use heap::Heap;
 use model::{PageState, Phase};
-use pauseless::{Heap, PageList, Step, choose, next_drain};
+use pauseless::{PageList, Step, choose, next_drain};
 use samples::Dice;
 use std::alloc::{AllocError, Global};
 

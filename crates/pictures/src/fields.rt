@@ -63,8 +63,8 @@ fn change_page(image: &mut Image, dice: &mut Dice, field: usize) {
 fn change_row(image: &mut Image, dice: &mut Dice, place: usize, field: usize) {
     let length = dice.roll(17);
     if field == 8 {
-        shorten_starts(image, place + 1, length as u32);
-    } else {
+        shorten_starts(image, place.saturating_add(1), length as u32);
+    } else if place < image.pages.len() {
         image.pages[place].side.truncate(length as usize);
     }
 }
