@@ -1,10 +1,11 @@
 #!/bin/sh
 # The whole test command: 'rt ci', then the rooms of crates.txt and the programs of
 # README.md; the program on all scripts and faults, on scripts that are cut or
-# changed, on long scripts, and with words, files and outputs that fail; then the
+# changed, on long scripts, and with words, files and outputs that fail; films of
+# scripts, and the states that they are made of; then the
 # program and the library's calls with each of their requests for memory refused,
-# and the program with each start of a thread refused; and the trying of edits
-# itself. 'make test' runs it at the top of the repository.
+# and the program with each start of a thread refused; the library for C and a
+# Lisp on it; and the trying of edits itself. 'make test' runs it at the top of the repository.
 # The last line is 'N passed, M failed, K skipped', and the exit status is 0
 # where M is 0: K edits that must fail weren't tried, as tests/refused.txt says
 # that they were refused. What each crate took stands before it.
@@ -41,6 +42,11 @@ count() {
     fi
 }
 
+# The library for C is proved and built beside the rest, in a copy of its own, as 'rt ci' builds none.
+library=$kept/library
+{ "$PYTHON" tests/edits.py copy "$library" && ${MAKE:-make} -C "$library" lib RT="$RT"; } > "$kept/lib.log" 2>&1 &
+building=$!
+
 # The copy in which all is proved has then the program and the tests as they were built.
 proved=$kept/proved
 count 'the proofs' sh tests/proofs.sh "$proved"
@@ -53,6 +59,7 @@ if "$INSTALL" -m 755 "$proved/crates/report/out/report" pauseless; then
     count 'the faults' sh tests/faults.sh
     count 'cut and changed scripts' sh tests/cuts.sh
     count 'the program' sh tests/program.sh
+    count 'states and films' sh tests/film.sh "$proved/crates/states/out/states"
     count 'the threads' sh tests/threads.sh
     count 'threads that lack memory' sh tests/starved.sh
     count 'long scripts' sh tests/long.sh
@@ -60,6 +67,14 @@ if "$INSTALL" -m 755 "$proved/crates/report/out/report" pauseless; then
     count 'refused memory of calls' sh tests/calls.sh "$proved/crates"
 else
     echo 'failed: the program could not be built'
+    failed=$((failed + 1))
+fi
+if wait "$building"; then
+    count 'the library for C' sh tests/c.sh "$library/libpauseless.a"
+    count 'the Lisp' sh tests/lisp.sh "$library/libpauseless.a"
+else
+    tail -n 20 "$kept/lib.log"
+    echo 'failed: the library for C could not be built'
     failed=$((failed + 1))
 fi
 count 'the trying of edits' sh tests/edits.sh

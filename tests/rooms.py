@@ -40,7 +40,7 @@ def rooms():
     with open("crates.txt", encoding="utf-8") as lines:
         for line in lines:
             heading = re.fullmatch(r"# ([\w ]+): (.*)\n", line)
-            crate = re.fullmatch(r"(\w+):(.*)\n", line)
+            crate = re.fullmatch(r"(\w+)(?: staticlib)?:(.*)\n", line)
             if heading and heading[1] in PLACES:
                 room = heading[1]
                 found[room] = (heading[2], {})

@@ -1,13 +1,29 @@
 //! The mixes by the calls of `Mutating`.
 
-use crate::asking::Calls;
 use crate::mixes::{LAST, LIST, Mix, OBJECTS, OTHER, WORDS, config};
 use anyhow::Result;
 use heap::Heap;
-use pauseless::{Mutating, Refusal, Trap};
+use pauseless::{Heap as HeldHeap, Mutating, Refusal, Trap};
 use std::alloc::Global;
 
 const THREAD: u32 = 0;
+
+/// A heap that is asked by calls, and says how many objects were born.
+trait Counted: Mutating {
+    fn births(&self) -> u64;
+}
+
+impl Counted for Heap {
+    fn births(&self) -> u64 {
+        Heap::births(self)
+    }
+}
+
+impl Counted for HeldHeap {
+    fn births(&self) -> u64 {
+        self.heap().births()
+    }
+}
 
 /// A datum is written and read so many times. Gives the sum of what was read.
 fn data(heap: &mut impl Mutating, count: u32) -> Result<u64, Refusal> {
@@ -96,12 +112,12 @@ fn globals(heap: &mut impl Mutating, count: u32) -> Result<u64, Refusal> {
 }
 
 /// The turns of a mix, on a heap that has what it needs.
-fn turns(heap: &mut impl Calls, mix: Mix, count: u32) -> Result<u64, Refusal> {
+fn turns(heap: &mut impl Counted, mix: Mix, count: u32) -> Result<u64, Refusal> {
     match mix {
         Mix::Data => data(heap, count),
         Mix::Build => {
             build(heap, count)?;
-            Ok(heap.heap().births())
+            Ok(heap.births())
         }
         Mix::Walk => walk(heap, count),
         Mix::Registers => registers(heap, count),
@@ -111,7 +127,7 @@ fn turns(heap: &mut impl Calls, mix: Mix, count: u32) -> Result<u64, Refusal> {
 
 /// Makes a list, whose head is in both registers, and does so many turns of a mix. Gives a number
 /// that the turns give.
-fn mixed(mut heap: impl Calls + Drop, mix: Mix, count: u32) -> Result<u64, Refusal> {
+fn mixed(mut heap: impl Counted + Drop, mix: Mix, count: u32) -> Result<u64, Refusal> {
     build(&mut heap, LIST)?;
     turns(&mut heap, mix, count)
 }
@@ -119,5 +135,11 @@ fn mixed(mut heap: impl Calls + Drop, mix: Mix, count: u32) -> Result<u64, Refus
 /// So many turns of a mix on a heap of its own. Gives a number that they give.
 pub fn run(alloc: Global, mix: Mix, count: u32) -> Result<u64> {
     let heap = Heap::new(alloc, config(alloc, mix)?)?;
+    Ok(mixed(heap, mix, count)?)
+}
+
+/// The same on a heap as a program holds it.
+pub fn run_held(alloc: Global, mix: Mix, count: u32) -> Result<u64> {
+    let heap = HeldHeap::new(alloc, config(alloc, mix)?)?;
     Ok(mixed(heap, mix, count)?)
 }

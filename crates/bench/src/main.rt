@@ -4,6 +4,7 @@
 //! | Words | What is done |
 //! |---|---|
 //! | `call-MIX TURNS` | turns of a mix of steps (`mixes`) by the calls of `Mutating` |
+//! | `held-MIX TURNS` | the same on a heap as a program holds it |
 //! | `step-MIX TURNS` | the same by `Heap::step` |
 //! | `act-MIX TURNS` | the same by `Book::act` |
 //! | `copies WORDS PAGES COPIED` | of full pages of objects of so many words that are protected, some are copied, an object a step |
@@ -53,6 +54,7 @@ fn turns(alloc: Global, form: &str, name: &str, numbers: [u32; 3]) -> Result<u64
     let [count, _, _] = numbers;
     match form {
         "call" => calling::run(alloc, mix, count),
+        "held" => calling::run_held(alloc, mix, count),
         "step" => stepping::run(alloc, mix, count),
         "act" => stepping::run_book(alloc, mix, count),
         _ => bail!("no such form"),

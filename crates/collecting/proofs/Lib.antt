@@ -1,3 +1,4 @@
 pub mod Collections
 pub mod NotRoom
 pub mod Refilled
+pub mod Parted

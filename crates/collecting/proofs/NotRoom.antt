@@ -33,6 +33,8 @@ use Rattle.managed.proofs.Going.{next_scans}
 use Rattle.collecting.specs.declared.collecting.Collected.{Collected}
 use Rattle.collecting.specs.Collections.{WORKER, StopsSettling, EndsDue, StopsSparse, StopsCycle}
 use Rattle.collecting.specs.Collections.{EndsCollecting, lacks_room, IsNotRoom}
+use Rattle.collecting.specs.Parts.{EndsPart, StopsAt}
+use Rattle.collecting.specs.Parts.{Listing, Beginning, Crossing, Scanning, Ending, Protecting, Emptying}
 
 -- ---- rows, line by line
 
@@ -275,3 +277,20 @@ pub collecting_not : (percent : ℕ) (h : HeapState) (r : Result Collected Refus
 collecting_not percent h (Ok r) g k = tt
 collecting_not percent h (Err e) g (inl k) = settling_not h e g k
 collecting_not percent h (Err e) g (inr k) = cycle_not percent k.0 e g k.2
+
+-- ---- a part of one
+
+at_not : (h : HeapState) (e : Refusal) (g : HeapState) → StopsAt h e g → lacks_room e ≡ false
+at_not h e g (Listing memory same) = ap lacks_room memory
+at_not h e g (Beginning may refused same) =
+    of_refused (outcome h (Worker WORKER) steps.StartMark) e (start_not h WORKER) refused
+at_not h e g (Crossing k) = crossing_stops_not h e g k
+at_not h e g (Scanning a k) = drain_stops_not e g (inr k)
+at_not h e g (Ending nothing refused same) =
+    of_refused (outcome h (Worker WORKER) steps.EndMark) e (end_not h WORKER) refused
+at_not h e g (Protecting ns k room) = room
+at_not h e g (Emptying n k) = page_stops_not h n e g k
+
+pub part_not : (h : HeapState) (r : Result Bool Refusal) (g : HeapState) → EndsPart h r g → IsNotRoom r
+part_not h (Ok b) g k = tt
+part_not h (Err e) g k = at_not k.1.0 e g k.1.2

@@ -2,3 +2,4 @@ pub mod Collections
 pub mod Rooms
 pub mod Faults
 pub mod Objects
+pub mod Parts

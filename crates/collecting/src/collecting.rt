@@ -6,6 +6,7 @@ ghost use Rattle.managed.specs.Collecting.{StandsUnseen};
 ghost use Rattle.managed.specs.Goings.{LoadsWhole, LoadStands};
 ghost use Rattle.collecting.specs.Collections.{Collects, CollectsWhole, EndsCollecting, IsNotRoom};
 ghost use Rattle.collecting.specs.Objects.{seen};
+ghost use Rattle.collecting.specs.Parts.{EndsPart};
 ghost use Rattle.collecting.specs.Rooms.{EndsMaking, EndsRefill, MakingStands, Refills};
 
 use crate::cycles::run_cycle;
@@ -63,7 +64,9 @@ pub trait Holding: Mutating {
     /// The next part of a collection, for a program that can't stop for a whole one: the beginning of a mark
     /// with all crossings; the scan of at most `budget` objects; the mark's end; the measuring of
     /// `budget / 64 + 1` pages; the protection of at most as many, with all crossings; or the emptying of one
-    /// page. True where the collection has ended, and the next part begins another.
+    /// page. True where the collection has ended: no mark runs, and nothing is left to be copied or emptied; the
+    /// next part begins another. Where the program itself has begun a mark or protected pages meanwhile, it
+    /// isn't true at the end, and the next part goes on with these.
     ///
     /// Refused as `collect` is; another call goes on from there.
     fn collect_some(
@@ -137,6 +140,8 @@ impl Holding for ManagedHeap {
     ) -> Result<bool, Refusal>
         ensures goes { Collects self.old self.new }
         ensures stands { StandsUnseen self.old self.new }
+        ensures ends { EndsPart self.old result self.new }
+        ensures room { IsNotRoom result }
     {
         parts::collect_some(self, alloc, parts, percent, budget)
     }

@@ -1,12 +1,15 @@
 //! Collections in parts, for a program that can't stop for a whole one.
 
-ghost use Rattle.collecting.specs.Collections.{Collects};
+ghost use Rattle.std.specs.Prelude.{◌≡◌, true};
+ghost use Rattle.model.specs.declared.records.Page.{Page};
+ghost use Rattle.collecting.specs.Parts.{EndsPart, HasEnded, TellsAnew, has_from};
 
-use crate::portions::{empty_one, mark_some, protect};
+use crate::portions::{cross_and_scrub, empty_one, mark_some, may_start_mark, protect};
+use crate::rooms::lacks_room;
 use choosing::{first_packing, measured, packed_page, room};
 use heap::Heap;
 use managed::ManagedHeap;
-use model::Refusal;
+use model::{Page, PageState, Refusal};
 use std::alloc::{AllocError, Global};
 
 /// Which part comes next.
@@ -70,12 +73,13 @@ impl Parts {
         self.chosen = Vec::new(alloc);
         let mut pages = Vec::new(alloc);
         let mut packing = first_packing();
+        let room = u64::from(room(heap));
         for (_, page) in self.found.iter().take(most as usize) {
             match packed_page(heap, *page, packing) {
                 Some(behind) => packing = behind,
                 None => break,
             }
-            if packing.count > u64::from(room(heap)) {
+            if packing.count > room {
                 break;
             }
             self.chosen.push(*page)?;
@@ -85,10 +89,13 @@ impl Parts {
     }
 
     /// The page that is emptied next, if one is left.
-    fn next_page(&mut self) -> Option<u32> {
-        let page = *self.chosen.get(self.next as usize)?;
+    fn next_page(&self) -> Option<u32> {
+        Some(*self.chosen.get(self.next as usize)?)
+    }
+
+    /// That page was emptied.
+    fn pass(&mut self) {
         self.next = self.next.saturating_add(1);
-        Some(page)
     }
 }
 
@@ -97,9 +104,33 @@ fn pages_in(budget: u32) -> u32 {
     budget / 64 + 1
 }
 
+/// Whether some page is being emptied, and has memory.
+fn has_from(pages: &[Page]) -> bool
+    ensures { result ≡ has_from pages.now }
+{
+    pages
+        .iter()
+        .any(|page| matches!(page.state, PageState::From))
+}
+
+/// Whether nothing is left of a collection.
+fn has_ended(heap: &Heap) -> bool
+    ensures { result ≡ true → HasEnded heap.now }
+{
+    may_start_mark(heap.phase()) && heap.sides().uncopied() == 0 && !has_from(heap.memory().pages())
+}
+
+/// The next part begins another collection. True where nothing is left of this one.
+fn end_part(heap: &ManagedHeap, parts: &mut Parts) -> bool
+    ensures { result ≡ true → HasEnded heap.now }
+{
+    parts.begin(Stage::Mark);
+    has_ended(heap.heap())
+}
+
 /// A portion of the mark.
 fn mark_part(heap: &mut ManagedHeap, parts: &mut Parts, budget: u32) -> Result<bool, Refusal>
-    ensures { Collects heap.old heap.new }
+    ensures { EndsPart heap.old result heap.new }
 {
     match mark_some(heap, u64::from(budget.max(1))) {
         Ok(ended) => {
@@ -112,45 +143,66 @@ fn mark_part(heap: &mut ManagedHeap, parts: &mut Parts, budget: u32) -> Result<b
     }
 }
 
+/// Whether a refusal to protect pages says that they aren't as they were when they were chosen.
+fn is_out_of_date(refusal: &Refusal) -> bool {
+    matches!(
+        *refusal,
+        Refusal::Phase | Refusal::Unripe { .. } | Refusal::Lent { .. }
+    )
+}
+
 /// What comes of a refusal to protect pages: where the choice is out of date, as a whole collection came
 /// between, the next part begins anew.
-fn begin_anew(parts: &mut Parts, refusal: Refusal) -> Result<bool, Refusal> {
-    if matches!(
-        refusal,
-        Refusal::Phase | Refusal::Unripe { .. } | Refusal::Lent { .. }
-    ) {
+fn begin_anew(parts: &mut Parts, refusal: Refusal) -> Result<bool, Refusal>
+    ensures { TellsAnew refusal result }
+{
+    if lacks_room(&refusal) || is_out_of_date(&refusal) {
         parts.begin(Stage::Mark);
         return Ok(false);
     }
     Err(refusal)
 }
 
-/// The chosen pages are protected; true where there are none.
-fn protect_part(heap: &mut ManagedHeap, parts: &mut Parts, pages: Vec<u32>) -> Result<bool, Refusal>
-    ensures { Collects heap.old heap.new }
+/// All threads cross behind the protection of pages.
+fn cross_part(heap: &mut ManagedHeap) -> Result<bool, Refusal>
+    ensures { EndsPart heap.old result heap.new }
 {
-    if pages.is_empty() {
-        parts.begin(Stage::Mark);
-        return Ok(true);
-    }
-    parts.begin(Stage::Empty);
-    match protect(heap, pages) {
+    match cross_and_scrub(heap) {
         Ok(()) => Ok(false),
+        Err(refusal) => Err(refusal),
+    }
+}
+
+/// The chosen pages are protected, and all threads cross.
+fn protect_part(heap: &mut ManagedHeap, parts: &mut Parts, pages: Vec<u32>) -> Result<bool, Refusal>
+    ensures { EndsPart heap.old result heap.new }
+{
+    match protect(heap, pages) {
+        Ok(()) => {
+            parts.begin(Stage::Empty);
+            cross_part(heap)
+        }
         Err(refusal) => begin_anew(parts, refusal),
     }
 }
 
-/// The choice is made, and the chosen pages are protected.
+/// The choice is made, and the chosen pages are protected; where there are none the collection has ended.
 fn choose_part(
     heap: &mut ManagedHeap,
     alloc: Global,
     parts: &mut Parts,
     budget: u32,
 ) -> Result<bool, Refusal>
-    ensures { Collects heap.old heap.new }
+    ensures { EndsPart heap.old result heap.new }
 {
     match parts.choose(alloc, heap.heap(), pages_in(budget)) {
-        Ok(pages) => protect_part(heap, parts, pages),
+        Ok(pages) => {
+            if pages.is_empty() {
+                Ok(end_part(heap, parts))
+            } else {
+                protect_part(heap, parts, pages)
+            }
+        }
         Err(_) => Err(Refusal::Memory),
     }
 }
@@ -163,7 +215,7 @@ fn measure_part(
     percent: u32,
     budget: u32,
 ) -> Result<bool, Refusal>
-    ensures { Collects heap.old heap.new }
+    ensures { EndsPart heap.old result heap.new }
 {
     match parts.measure(heap.heap(), percent, pages_in(budget)) {
         Ok(true) => choose_part(heap, alloc, parts, budget),
@@ -172,17 +224,17 @@ fn measure_part(
     }
 }
 
-/// A page is emptied; true where it was the last.
+/// A page is emptied; where none is left the collection has ended.
 fn empty_part(heap: &mut ManagedHeap, parts: &mut Parts) -> Result<bool, Refusal>
-    ensures { Collects heap.old heap.new }
+    ensures { EndsPart heap.old result heap.new }
 {
     match parts.next_page() {
-        None => {
-            parts.begin(Stage::Mark);
-            Ok(true)
-        }
+        None => Ok(end_part(heap, parts)),
         Some(page) => match empty_one(heap, page) {
-            Ok(()) => Ok(false),
+            Ok(()) => {
+                parts.pass();
+                Ok(false)
+            }
             Err(refusal) => Err(refusal),
         },
     }
@@ -196,7 +248,7 @@ pub(crate) fn collect_some(
     percent: u32,
     budget: u32,
 ) -> Result<bool, Refusal>
-    ensures { Collects heap.old heap.new }
+    ensures { EndsPart heap.old result heap.new }
 {
     match parts.stage {
         Stage::Mark => mark_part(heap, parts, budget),

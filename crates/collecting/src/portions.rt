@@ -1,25 +1,57 @@
 //! Portions of a collection, each of bounded work.
 
-ghost use Rattle.collecting.specs.Collections.{Collects};
+ghost use Rattle.std.specs.Prelude.{◌≡◌, true, None};
+ghost use Rattle.drains.specs.Drains.{IsReady};
+ghost use Rattle.model.specs.Phases.{may_start_mark};
+ghost use Rattle.model.specs.Scans.{next_drain};
+ghost use Rattle.collecting.specs.Collections.{WORKER};
+ghost use Rattle.collecting.specs.Parts.{EndsPortion, EndsProtecting, EndsScanning};
 
 use crate::leftovers::settle_page;
 use drains::is_ready;
 use managed::ManagedHeap;
 use model::{Actor, PageList, Phase, Refusal, Step};
 
+/// Whether a mark may start.
+pub(crate) fn may_start_mark(phase: Phase) -> bool
+    ensures { result ≡ may_start_mark phase }
+{
+    matches!(phase, Phase::Idle | Phase::Relocating)
+}
+
+/// All threads cross the open checkpoint.
+fn cross(heap: &mut ManagedHeap) -> Result<(), Refusal>
+    ensures { EndsPortion heap.old result heap.new }
+{
+    heap.cross_all(0)
+}
+
 /// A mark begins, and all threads cross.
 fn begin_mark(heap: &mut ManagedHeap) -> Result<(), Refusal>
-    ensures { Collects heap.old heap.new }
+    requires { may_start_mark heap.old.phase ≡ true }
+    ensures { EndsPortion heap.old result heap.new }
 {
     match heap.step(Actor::Worker(0), &Step::StartMark) {
-        Ok(_) => heap.cross_all(0),
+        Ok(_) => cross(heap),
         Err(refusal) => Err(refusal),
     }
 }
 
-/// A mark ends.
+/// A mark begins; or all threads cross the open checkpoint.
+fn begin_or_cross(heap: &mut ManagedHeap) -> Result<(), Refusal>
+    ensures { EndsPortion heap.old result heap.new }
+{
+    if may_start_mark(heap.heap().phase()) {
+        begin_mark(heap)
+    } else {
+        cross(heap)
+    }
+}
+
+/// A mark ends. It is true.
 fn end_mark(heap: &mut ManagedHeap) -> Result<bool, Refusal>
-    ensures { Collects heap.old heap.new }
+    requires { next_drain heap.old WORKER ≡ None }
+    ensures { EndsPortion heap.old result heap.new }
 {
     match heap.step(Actor::Worker(0), &Step::EndMark) {
         Ok(_) => Ok(true),
@@ -27,13 +59,25 @@ fn end_mark(heap: &mut ManagedHeap) -> Result<bool, Refusal>
     }
 }
 
+/// At most so many objects are scanned, by a worker that is ready for that. True where nothing is left.
+fn scan_ready(heap: &mut ManagedHeap, budget: u64) -> Result<bool, Refusal>
+    requires { IsReady heap.old WORKER }
+    ensures { EndsScanning heap.old result heap.new }
+{
+    if heap.scan_objects(0, budget) < budget {
+        Ok(true)
+    } else {
+        Ok(false)
+    }
+}
+
 /// At most so many objects are scanned, or so many steps done where objects have still to be copied. True
 /// where nothing is left.
 fn scan_some(heap: &mut ManagedHeap, budget: u64) -> Result<bool, Refusal>
-    ensures { Collects heap.old heap.new }
+    ensures { EndsScanning heap.old result heap.new }
 {
     if is_ready(heap.heap(), 0) {
-        Ok(heap.scan_objects(0, budget) < budget)
+        scan_ready(heap, budget)
     } else {
         heap.scan(0, budget)
     }
@@ -41,7 +85,7 @@ fn scan_some(heap: &mut ManagedHeap, budget: u64) -> Result<bool, Refusal>
 
 /// The same; where nothing is left the mark ends, and it is true.
 fn scan_or_end(heap: &mut ManagedHeap, budget: u64) -> Result<bool, Refusal>
-    ensures { Collects heap.old heap.new }
+    ensures { EndsPortion heap.old result heap.new }
 {
     match scan_some(heap, budget) {
         Ok(true) => end_mark(heap),
@@ -50,20 +94,9 @@ fn scan_or_end(heap: &mut ManagedHeap, budget: u64) -> Result<bool, Refusal>
     }
 }
 
-/// A mark begins; or all threads cross the open checkpoint.
-fn begin_or_cross(heap: &mut ManagedHeap) -> Result<(), Refusal>
-    ensures { Collects heap.old heap.new }
-{
-    if matches!(heap.heap().phase(), Phase::Idle | Phase::Relocating) {
-        begin_mark(heap)
-    } else {
-        heap.cross_all(0)
-    }
-}
-
 /// A portion of a mark. True where the mark has ended.
 pub(crate) fn mark_some(heap: &mut ManagedHeap, budget: u64) -> Result<bool, Refusal>
-    ensures { Collects heap.old heap.new }
+    ensures { EndsPortion heap.old result heap.new }
 {
     if matches!(heap.heap().phase(), Phase::Scanning) {
         return scan_or_end(heap, budget);
@@ -74,11 +107,21 @@ pub(crate) fn mark_some(heap: &mut ManagedHeap, budget: u64) -> Result<bool, Ref
     }
 }
 
+/// Pages are protected.
+pub(crate) fn protect(heap: &mut ManagedHeap, pages: Vec<u32>) -> Result<(), Refusal>
+    ensures { EndsProtecting heap.old pages.items result heap.new }
+{
+    match heap.step(Actor::Worker(0), &Step::Protect(PageList::new(pages))) {
+        Ok(_) => Ok(()),
+        Err(refusal) => Err(refusal),
+    }
+}
+
 /// All threads cross, and registers that name protected pages are corrected.
 pub(crate) fn cross_and_scrub(heap: &mut ManagedHeap) -> Result<(), Refusal>
-    ensures { Collects heap.old heap.new }
+    ensures { EndsPortion heap.old result heap.new }
 {
-    match heap.cross_all(0) {
+    match cross(heap) {
         Ok(()) => {
             heap.scrub_all();
             Ok(())
@@ -87,19 +130,9 @@ pub(crate) fn cross_and_scrub(heap: &mut ManagedHeap) -> Result<(), Refusal>
     }
 }
 
-/// Pages are protected, and all threads cross.
-pub(crate) fn protect(heap: &mut ManagedHeap, pages: Vec<u32>) -> Result<(), Refusal>
-    ensures { Collects heap.old heap.new }
-{
-    match heap.step(Actor::Worker(0), &Step::Protect(PageList::new(pages))) {
-        Ok(_) => cross_and_scrub(heap),
-        Err(refusal) => Err(refusal),
-    }
-}
-
 /// All threads have crossed, and a page is emptied, where it is protected.
 pub(crate) fn empty_one(heap: &mut ManagedHeap, page: u32) -> Result<(), Refusal>
-    ensures { Collects heap.old heap.new }
+    ensures { EndsPortion heap.old result heap.new }
 {
     match cross_and_scrub(heap) {
         Ok(()) => settle_page(heap, page),

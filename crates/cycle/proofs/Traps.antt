@@ -143,13 +143,13 @@ clear_behind h p p0 t b k first free due y f =
     (marked_free k t b c free due) f)
 
 -- a trap is clear, or marks and the next one is clear
-abbrev ClearNext : Actor → HeapState × Answer → Type 0
+abbrev pub ClearNext : Actor → HeapState × Answer → Type 0
 ClearNext actor x = (x.1 ≡ answers.Clear)
     ⊎ ((x.1 ≡ answers.Marked)
     × ((y : HeapState × Answer) → outcome x.0 actor steps.Trap ≡ Ok y → y.1 ≡ answers.Clear))
 
 -- or it forwards, and the next one is so
-abbrev ClearSoon : Actor → HeapState × Answer → Type 0
+abbrev pub ClearSoon : Actor → HeapState × Answer → Type 0
 ClearSoon actor x = ClearNext actor x
     ⊎ ((x.1 ≡ answers.Moved)
     × ((y : HeapState × Answer) → outcome x.0 actor steps.Trap ≡ Ok y → ClearNext actor y))
@@ -218,7 +218,7 @@ module _ (h : HeapState) (p p0 : PlainHeap) (s : IsStore h.store) (d : IsHeap h)
           by_phase true z = absurd cc
           by_phase false z = behind_it w f (same_outcome _ x z)
 
-  outcome_clear : (actor : Actor) (x : HeapState × Answer) → outcome h actor steps.Trap ≡ Ok x → ClearSoon actor x
+  pub outcome_clear : (actor : Actor) (x : HeapState × Answer) → outcome h actor steps.Trap ≡ Ok x → ClearSoon actor x
   unfolding outcome trap_outcome
   outcome_clear (Worker w) x e =
       absurd (let z = gate_passed (worker_gate h w steps.Trap) (worker_row h w steps.Trap) x e in cc)

@@ -1,3 +1,5 @@
 pub mod Scanned
 pub mod Drained
 pub mod Ended
+pub mod Bits
+pub mod Waiting

@@ -1,12 +1,14 @@
 //! Objects are scanned, one after another (the paper's Mark phase; that it is one call, and the
 //! order, is ours).
 
-ghost use Rattle.std.specs.Prelude.{◌≡◌, ◌≢◌, ◌<◌, ◌≤◌, true, Ok, Some, None, IfSome, IfNone, MatchBool, slice_get};
-ghost use Rattle.model.specs.Scans.{is_scan_of, is_taken, is_free_todo, may_scan, next_todo, next_drain};
+ghost use Rattle.std.specs.Prelude.{◌≡◌, ◌≢◌, ◌<◌, ◌≤◌, ◌∷◌, Ok, Some, None, MatchBool, slice_get};
+ghost use Rattle.std.specs.Prelude.{reverse};
+ghost use Rattle.model.specs.Scans.{is_scan_of, is_taken, may_scan, next_todo, next_drain};
 ghost use Rattle.drains.specs.Drains.{IsDrained, IsReady, ObjectsDone, KeepsPlain};
+ghost use Rattle.drains.specs.Waiting.{AreWaiting, IsNext};
 
+use crate::backlog::{Waiting, note_all};
 use crate::globals::mark_globals;
-use crate::hints::Hints;
 use crate::whole::scan_object;
 use heap::Heap;
 use marker::next_todo;
@@ -33,43 +35,42 @@ fn is_taken(heap: &Heap, address: u64) -> bool
     heap.workers().iter().any(|scan| is_scan_of(address, *scan))
 }
 
-/// Whether the object at an address is still to be scanned, and no worker has it.
-#[inline(always)]
-#[tactic(auto, unfolding(model::specs::Scans::is_free_todo))]
-fn is_free_todo(heap: &Heap, address: Addr) -> bool
-    ensures { result ≡ is_free_todo heap.now address }
+/// The next object, where none waits: the one with the least address of those that are still to be
+/// scanned and that no worker has.
+fn noted_next(heap: &mut Heap, waiting: &mut Waiting) -> Option<Addr>
+    requires { AreWaiting heap.old.mark heap.old.store.words (reverse waiting.old.items) }
+    ensures { IsNext heap.old (reverse waiting.old.items) result heap.new (reverse waiting.new.items) }
 {
-    let page = heap.memory().page_of(address);
-    let offset = heap.memory().offset_of(address);
-    heap.todo().bit_on(page, offset) && !is_taken(heap, address.number())
+    note_all(heap, waiting);
+    next_todo(heap)
 }
 
-/// The newest hint at which an object is that is still to be scanned and that no worker has.
+/// An object that waited is the next one. Where another worker has it, which no heap comes to, all are
+/// noted, and the next one is found there.
 #[inline(always)]
-fn hinted(heap: &Heap, hints: &mut Hints) -> Option<Addr>
-    ensures { IfSome result (λ a. is_free_todo heap.now a ≡ true) }
+fn waited_next(heap: &mut Heap, address: Addr, waiting: &mut Waiting) -> Option<Addr>
+    requires { AreWaiting heap.old.mark heap.old.store.words (address ∷ reverse waiting.old.items) }
+    ensures { IsNext heap.old (address ∷ reverse waiting.old.items) result heap.new (reverse waiting.new.items) }
 {
-    for _ in 0..64 {
-        let address = hints.pop()?;
-        if is_free_todo(heap, address) {
-            return Some(address);
-        }
-    }
-    None
-}
-
-/// An object that is still to be scanned and that no worker has, if there is one: where a hint says,
-/// else the one with the least address.
-#[inline(always)]
-#[tactic(auto, using(crate::proofs::Drained::next_passes))]
-fn next_free(heap: &Heap, hints: &mut Hints) -> Option<Addr>
-    ensures free { IfSome result (λ a. is_free_todo heap.now a ≡ true) }
-    ensures none { IfNone result (next_todo heap.now ≡ None) }
-{
-    if let Some(address) = hinted(heap, hints) {
+    heap.law();
+    if !is_taken(heap, address.number()) {
         return Some(address);
     }
-    next_todo(heap)
+    heap.set_todo(address);
+    noted_next(heap, waiting)
+}
+
+/// The next object that a drain scans: the one that waits and was marked last, else one that the heap
+/// has noted.
+#[inline(always)]
+fn next_object(heap: &mut Heap, waiting: &mut Waiting) -> Option<Addr>
+    requires { AreWaiting heap.old.mark heap.old.store.words (reverse waiting.old.items) }
+    ensures { IsNext heap.old (reverse waiting.old.items) result heap.new (reverse waiting.new.items) }
+{
+    match waiting.pop() {
+        None => noted_next(heap, waiting),
+        Some(number) => waited_next(heap, Addr::new(number).unwrap(), waiting),
+    }
 }
 
 /// Whether a worker is there, and has no object.
@@ -127,13 +128,14 @@ fn scan_objects(heap: &mut Heap, worker: u32, most: u64) -> u64
     ensures few { result ≤ most }
     ensures end { result < most → next_todo heap.new ≡ None }
 {
-    let mut hints = Hints::new();
+    let mut waiting = Waiting::new();
     for done in 0..most {
         heap.law();
-        let Some(address) = next_free(heap, &mut hints) else {
+        let Some(address) = next_object(heap, &mut waiting) else {
             return done;
         };
-        scan_object(heap, worker, address, &mut hints);
+        scan_object(heap, worker, address, &mut waiting);
     }
+    note_all(heap, &mut waiting);
     most
 }

@@ -1,9 +1,9 @@
 //! Drains of a mark, without a history: a worker scans object after object, and each is scanned whole.
 #![tactic(auto)]
 
+mod backlog;
 mod draining;
 mod globals;
-mod hints;
 mod whole;
 
 pub use draining::{drain, is_ready};

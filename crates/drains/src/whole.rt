@@ -2,12 +2,15 @@
 //! (the paper's Mark phase; that it is done at once is ours).
 
 ghost use Rattle.std.specs.Prelude.{◌≡◌, ◌+◌, ◌<◌, ◌^◌, slice_get, Some, None};
+ghost use Rattle.std.specs.Prelude.{reverse};
 ghost use Rattle.drains.specs.Drains.{refs_at, marked_field, marked_fields, scanned};
+ghost use Rattle.drains.specs.Waiting.{all_noted, AreWaiting, WaitBeside};
+ghost use Rattle.model.specs.Marks.{marked_word, with_mark};
 ghost use Rattle.model.specs.References.{field_address};
 ghost use Rattle.model.specs.Scans.{reference_in};
 ghost use Rattle.model.specs.Stores.{word_at};
 
-use crate::hints::Hints;
+use crate::backlog::{Waiting, wait};
 use heap::{CollectorEdits, Heap, read_reference};
 use model::Scan;
 use refword::{Addr, Word};
@@ -37,43 +40,61 @@ fn refs_at(heap: &Heap, address: Addr) -> u32
     }
 }
 
+/// Marks a word while the object at an address is scanned, and gives the word that marking leaves. What
+/// is marked first waits.
+#[inline(always)]
+fn mark(heap: &mut Heap, address: Addr, word: Word, waiting: &mut Waiting) -> Word
+    requires { WaitBeside heap.old address (reverse waiting.old.items) }
+    ensures word { result ≡ marked_word heap.old word }
+    ensures marks { all_noted heap.new (reverse waiting.new.items)
+        ≡ with_mark (all_noted heap.old (reverse waiting.old.items)) word }
+    ensures waits { WaitBeside heap.new address (reverse waiting.new.items) }
+{
+    let (marked, first) = heap.mark_apart(word);
+    wait(heap, address, first, waiting);
+    marked
+}
+
 /// Marks the word of a reference, and writes it back.
 #[inline(always)]
-#[tactic(auto, unfolding(crate::specs::Drains::marked_field, model::specs::Scans::with_marked_place, model::specs::Marks::with_mark), using(crate::proofs::Scanned::field_behind))]
-fn mark_field(heap: &mut Heap, address: Addr, index: u32, hints: &mut Hints)
-    requires { index < 2 ^ 16 }
-    ensures { heap.new ≡ marked_field heap.old (field_address address index) }
+fn mark_field(heap: &mut Heap, address: Addr, index: u32, waiting: &mut Waiting)
+    requires few { index < 2 ^ 16 }
+    requires waits { WaitBeside heap.old address (reverse waiting.old.items) }
+    ensures field { all_noted heap.new (reverse waiting.new.items)
+        ≡ marked_field (all_noted heap.old (reverse waiting.old.items)) (field_address address index) }
+    ensures waits { WaitBeside heap.new address (reverse waiting.new.items) }
 {
     let ahead = 1 + u64::from(index);
     let word = reference_behind(heap, address, ahead);
-    let (marked, is_new) = heap.mark_word(word);
+    let marked = mark(heap, address, word, waiting);
     heap.set_word_behind(address, ahead, marked.bits());
-    if let Some(target) = marked.addr() {
-        if is_new {
-            hints.push(target);
-        }
-    }
 }
 
 /// Marks the words of all references, so many, and writes them back.
-fn mark_fields(heap: &mut Heap, address: Addr, refs: u32, hints: &mut Hints)
-    requires { refs < 2 ^ 16 }
-    ensures { heap.new ≡ marked_fields heap.old address 0 refs }
+#[inline(always)]
+fn mark_fields(heap: &mut Heap, address: Addr, refs: u32, waiting: &mut Waiting)
+    requires few { refs < 2 ^ 16 }
+    requires waits { WaitBeside heap.old address (reverse waiting.old.items) }
+    ensures fields { all_noted heap.new (reverse waiting.new.items)
+        ≡ marked_fields (all_noted heap.old (reverse waiting.old.items)) address 0 refs }
+    ensures waits { WaitBeside heap.new address (reverse waiting.new.items) }
 {
     for index in 0..refs {
-        mark_field(heap, address, index, hints);
+        mark_field(heap, address, index, waiting);
     }
 }
 
 /// An object that no worker has is scanned whole, by a worker that has none. Nothing is left to be
 /// copied.
-#[tactic(auto, unfolding(crate::specs::Drains::scanned))]
-pub fn scan_object(heap: &mut Heap, worker: u32, address: Addr, hints: &mut Hints)
-    requires { slice_get heap.old.workers worker ≡ Some None }
-    ensures { heap.new ≡ scanned heap.old address }
+pub fn scan_object(heap: &mut Heap, worker: u32, address: Addr, waiting: &mut Waiting)
+    requires worker { slice_get heap.old.workers worker ≡ Some None }
+    requires waits { WaitBeside heap.old address (reverse waiting.old.items) }
+    ensures scanned { all_noted heap.new (reverse waiting.new.items)
+        ≡ scanned (all_noted heap.old (reverse waiting.old.items)) address }
+    ensures waits { AreWaiting heap.new.mark heap.new.store.words (reverse waiting.new.items) }
 {
     let refs = refs_at(heap, address);
-    mark_fields(heap, address, refs, hints);
+    mark_fields(heap, address, refs, waiting);
     heap.end_scan(
         worker,
         Scan {

@@ -3,3 +3,4 @@ pub mod Views
 pub mod Making
 pub mod Relocating
 pub mod Runs
+pub mod Marking

@@ -22,7 +22,6 @@ use Rattle.entries.specs.declared.entry.Entry.{Entry}
 use Rattle.cycle.specs.Mutating.{DoesThread, ThreadStands}
 use Rattle.cycle.specs.Replays.{Replayed, after_entry, after_entries}
 use Rattle.cycle.proofs.Stepped.{step_accepted, step_refused}
-use Rattle.managed.specs.Goings.{IsOfLoad}
 use Rattle.managed.specs.Goings.{EachIs, Goes, StandsForSame, IsInBarrier, Scans, IsScan, EndsLoad}
 use Rattle.managed.specs.Goings.{LoadsWhole, LoadStands, EndsScan, IsCrossing, entry}
 use Rattle.managed.proofs.Running.{runs_none, runs_then, runs_one}
@@ -178,19 +177,6 @@ scan_ends w m g step result e next is does =
     let r = scan_refused m g step e (outcome m (Worker w) step) (next_scans m w step next)
     (subst (λ (r : Result Answer Refusal). DoesStep m step r g (outcome m (Worker w) step)) is does) in
     subst (EndsScan w (Err e)) (sym r.1) (step, next, r.0)
-
--- a step of a load is refused
-pub refused_ends : (h g : HeapState) (t : ℕ) (step : Step) (e : Refusal) → IsOfLoad step
-    → (outcome h (Thread t) step ≡ Err e) × (g ≡ h) → EndsLoad h t (Err e) g
-refused_ends h g t step e is does =
-    subst (EndsLoad h t (Err e)) (sym does.1) (goes_none (IsInBarrier t) h, (step, does.0, is))
-
--- the end of a load
-pub finish_ends : (h g : HeapState) (t : ℕ) (result : Result Unit Refusal)
-    → DoesThread done h t steps.Finish result g → ThreadStands done h t steps.Finish result g → EndsLoad h t result g
-finish_ends h g t (Ok u) does keeps =
-    (h, goes_none (IsInBarrier t) h, runs_one h g (Thread t) steps.Finish answers.Done does keeps)
-finish_ends h g t (Err e) does keeps = refused_ends h g t steps.Finish e tt does
 
 -- what comes before the end of a load
 pub ends_after : (h m g : HeapState) (t : ℕ) (result : Result Unit Refusal) → Goes (IsInBarrier t) h m

@@ -4,3 +4,4 @@ pub mod Gathering
 pub mod Draining
 pub mod Crossed
 pub mod Emptied
+pub mod Clearing

@@ -1,5 +1,5 @@
 -- Calls of several steps.
-use Rattle.std.specs.Prelude.{◌≡◌, ◌⊎◌, ◌≤◌, ℕ, Bool, true, false, List, [], ◌∷◌, length}
+use Rattle.std.specs.Prelude.{◌≡◌, ◌⊎◌, ◌≤◌, ℕ, zero, suc, Bool, true, false, List, [], ◌∷◌, length}
 use Rattle.std.specs.Prelude.{Some, None, Result, Ok, Err, slice_get}
 use Rattle.layout.specs.declared.shape.Layout.{Layout}
 use Rattle.model.specs.declared.steps.Actor.{Actor}
@@ -54,22 +54,33 @@ abbrev pub IsInBarrier : ℕ → Actor → Step → Type 0
 IsInBarrier t (Thread u) step = (u ≡ t) × IsTrapOrHeal step
 IsInBarrier t (Worker w) step = ⊥
 
--- a step that goes on with a load that has begun
-abbrev pub IsOfLoad : Step → Type 0
-IsOfLoad steps.Trap = Unit {0}
-IsOfLoad steps.Heal = Unit {0}
-IsOfLoad steps.Finish = Unit {0}
-IsOfLoad _ = ⊥
+-- how a trap of thread t ended: it says that none was due, or that one was
+abbrev pub EndsTrap : HeapState → ℕ → Result Bool Refusal → HeapState → Type 0
+EndsTrap h t (Ok true) g = outcome h (Thread t) steps.Trap ≡ Ok (g, answers.Clear)
+EndsTrap h t (Ok false) g =
+    (outcome h (Thread t) steps.Trap ≡ Ok (g, answers.Moved))
+    ⊎ (outcome h (Thread t) steps.Trap ≡ Ok (g, answers.Marked))
+EndsTrap h t (Err e) g = outcome g (Thread t) steps.Trap ≡ Err e
 
--- such a step of thread t is refused so, as the heap stands
-abbrev pub IsRefused : HeapState → ℕ → Refusal → Type 0
-IsRefused g t e = (step : Step) × (outcome g (Thread t) step ≡ Err e) × IsOfLoad step
+-- of so many traps of thread t, one after another, one is clear, if none is refused
+abbrev pub TrapsLeft : ℕ → HeapState → ℕ → Type 0
+TrapsLeft zero h t = ⊥
+TrapsLeft (suc n) h t = (g : HeapState) (a : Answer) → outcome h (Thread t) steps.Trap ≡ Ok (g, a)
+    → (a ≡ answers.Clear) ⊎ TrapsLeft n g t
 
--- a load that had begun is ended: by traps and heals, and then Finish; where a step is refused, those before it are
--- done
+-- thread t may end its load: its trap is clear
+abbrev pub IsClear : HeapState → ℕ → Type 0
+IsClear h t = (m : HeapState) × (outcome m (Thread t) steps.Trap ≡ Ok (h, answers.Clear))
+
+-- a load whose trap is clear was ended: by a heal, where the word was corrected and its place isn't healed, and Finish
+abbrev pub EndsClear : HeapState → ℕ → HeapState → Type 0
+EndsClear h t g = (m : HeapState) × Goes (IsInBarrier t) h m × Steps (Thread t) steps.Finish answers.Done m g
+
+-- a load that had begun is ended: by traps and heals, and then Finish. It is refused only as its trap is, as the heap
+-- stands, which is the step that is due then; those before it are done
 abbrev pub EndsLoad : HeapState → ℕ → Result Unit Refusal → HeapState → Type 0
-EndsLoad h t (Ok u) g = (m : HeapState) × Goes (IsInBarrier t) h m × Steps (Thread t) steps.Finish answers.Done m g
-EndsLoad h t (Err e) g = Goes (IsInBarrier t) h g × IsRefused g t e
+EndsLoad h t (Ok u) g = EndsClear h t g
+EndsLoad h t (Err e) g = Goes (IsInBarrier t) h g × (outcome g (Thread t) steps.Trap ≡ Err e)
 
 -- a whole load: the step that begins it, and those that end it; where the first is refused, nothing is done
 abbrev pub LoadsWhole : HeapState → ℕ → Step → Result Unit Refusal → HeapState → Type 0

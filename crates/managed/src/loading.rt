@@ -2,18 +2,42 @@
 
 ghost use Rattle.std.specs.Prelude.{◌≡◌};
 ghost use Rattle.model.specs.declared.steps.Step.TheVariants as steps;
-ghost use Rattle.managed.specs.Goings.{EndsLoad, LoadsWhole, LoadStands};
+ghost use Rattle.managed.specs.Goings.{EndsLoad, EndsTrap, Goes, IsClear, IsInBarrier, LoadsWhole, LoadStands, TrapsLeft};
 
 use crate::managed::ManagedHeap;
-use cycle::{Mutating, heal_is_due};
+use cycle::{MOST_TRAPS, Mutating, heal_is_due};
 use model::{Refusal, Trap};
 
 impl ManagedHeap {
-    /// The place of the load is healed, where a trap was due, and the load ends.
-    fn finish_read(&mut self, thread: u32, due: bool) -> Result<(), Refusal>
+    /// Of three traps one is clear, if none is refused. It does nothing: its contract is the law.
+    fn three_traps(&self, thread: u32)
+        ensures { TrapsLeft 3 self.now thread }
+    {
+        self.law();
+        self.heap().law();
+    }
+
+    /// A trap. True where it is clear.
+    #[inline(always)]
+    fn trap_is_clear(&mut self, thread: u32) -> Result<bool, Refusal>
+        ensures goes { Goes (IsInBarrier thread) self.old self.new }
+        ensures ends { EndsTrap self.old thread result self.new }
+    {
+        match self.trap(thread) {
+            Ok(Trap::Clear) => Ok(true),
+            Ok(Trap::Moved) => Ok(false),
+            Ok(Trap::Marked) => Ok(false),
+            Err(refusal) => Err(refusal),
+        }
+    }
+
+    /// Ends a load whose trap is clear: its place is healed, where the word was corrected and the place
+    /// wasn't healed yet, and the load ends. Neither is refused then.
+    fn finish_read(&mut self, thread: u32) -> Result<(), Refusal>
+        requires { IsClear self.old thread }
         ensures { EndsLoad self.old thread result self.new }
     {
-        if due {
+        if heal_is_due(self.heap(), thread) {
             match self.heal(thread) {
                 Ok(_) => self.finish(thread),
                 Err(refusal) => Err(refusal),
@@ -23,23 +47,25 @@ impl ManagedHeap {
         }
     }
 
-    /// Ends a load that has begun: traps until one is clear, heals where one wasn't or where a trap was
-    /// due before, and finishes. It stops at the first refusal; the steps before it are done, and it
-    /// may be asked again.
+    /// Ends a load that has begun: traps until one is clear, heals where the word was corrected, and
+    /// finishes. It is refused only as `trap` is then: `NoActor`, `Parked`, `NotBusy` where no load is
+    /// open, or `Stall` where the object is about to be copied. The steps before that are done, and it may
+    /// be asked again.
     pub fn end_read(&mut self, thread: u32) -> Result<(), Refusal>
         ensures { EndsLoad self.old thread result self.new }
     {
-        let mut due = heal_is_due(self.heap(), thread);
-        for _ in 0..3 {
-            match self.trap(thread)? {
-                Trap::Clear => return self.finish_read(thread, due),
-                _ => due = true,
+        self.three_traps(thread);
+        for _ in 0..MOST_TRAPS {
+            match self.trap_is_clear(thread) {
+                Ok(true) => return self.finish_read(thread),
+                Ok(false) => {}
+                Err(refusal) => return Err(refusal),
             }
         }
-        self.finish_read(thread, due)
+        unreachable!()
     }
 
-    /// Loads a reference field of an object into a register, whole.
+    /// Loads a reference field of an object into a register, whole. Refused as `load` or as `end_read` is.
     pub fn read(&mut self, thread: u32, target: u32, object: u32, field: u32) -> Result<(), Refusal>
         ensures loads { LoadsWhole self.old thread (steps.Load target object field) result self.new }
         ensures stands { LoadStands self.old thread (steps.Load target object field) result self.new }
@@ -48,7 +74,7 @@ impl ManagedHeap {
         self.end_read(thread)
     }
 
-    /// Loads a global into a register, whole.
+    /// Loads a global into a register, whole. Refused as `load_global` or as `end_read` is.
     pub fn read_global(&mut self, thread: u32, target: u32, global: u32) -> Result<(), Refusal>
         ensures loads { LoadsWhole self.old thread (steps.LoadGlobal target global) result self.new }
         ensures stands { LoadStands self.old thread (steps.LoadGlobal target global) result self.new }

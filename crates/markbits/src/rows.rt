@@ -1,11 +1,11 @@
 //! Rows of bits, one bit for each word of a page.
 
 ghost use Rattle.std.specs.Prelude.{◌≡◌, ℕ, ◌-◌, ◌*◌, ◌/◌, ◌<◌, ◌≤◌, ◌^◌, length, replicate, take, slice_get};
-ghost use Rattle.std.specs.Prelude.{slice_index_or, Some, map, false, [], IfOk, count_by};
+ghost use Rattle.std.specs.Prelude.{slice_index_or, Some, map, true, false, [], IfOk, count_by};
 ghost use Rattle.std.specs.Int.{div_ceil};
 ghost use Rattle.std.specs.Option.{option_copied};
 ghost use Rattle.model.specs.States.{change_at};
-ghost use Rattle.model.specs.Bits.{blank_row, put_bit, bit_on, bit_count};
+ghost use Rattle.model.specs.Bits.{blank_row, put_bit, of_page, bit_on, bit_count};
 ghost use Rattle.markbits.specs.Words.{bit_of, IsNextPlace};
 ghost use Rattle.std.specs.Borrow.{sem};
 ghost use Rattle.markbits.specs.Lending.{LendsRow};
@@ -88,6 +88,7 @@ impl Row {
     }
 
     /// Sets or clears a bit, if the row goes that far.
+    #[inline(always)]
     pub fn put(&mut self, offset: usize, bit: bool)
         ensures { self.new ≡ put_bit offset bit self.old }
     {
@@ -99,6 +100,20 @@ impl Row {
                 self.total -= 1;
             }
         }
+    }
+
+    /// Sets a bit, and gives it as it was; none past the end of the row, where nothing is set.
+    #[inline(always)]
+    pub fn set(&mut self, offset: usize) -> Option<bool>
+        ensures was { result ≡ slice_get self.old offset }
+        ensures row { self.new ≡ put_bit offset true self.old }
+    {
+        if offset >= self.len as usize {
+            return None;
+        }
+        let was = self.test(offset);
+        self.put(offset, true);
+        Some(was)
     }
 
     /// Clears all bits.
@@ -275,6 +290,22 @@ impl Rows {
             let row = &mut self.rows[index];
             row.put(offset, bit);
         }
+    }
+
+    /// Sets the bit of an offset of a page, by the page's number from 1, and gives it as it was; none
+    /// where there is no such row or bit. For page 0 the row of page 1 is set.
+    #[inline(always)]
+    pub fn set_on(&mut self, page: u64, offset: u32) -> Option<bool>
+        ensures was { result ≡ slice_get (of_page self.old page) offset }
+        ensures rows { self.new ≡ change_at self.old (page - 1) (put_bit offset true) }
+    {
+        let index = page.saturating_sub(1) as usize;
+        if index >= self.rows.len() {
+            return None;
+        }
+        let row = &mut self.rows[index];
+        let was = row.set(offset as usize);
+        if page == 0 { None } else { was }
     }
 
     /// The row of an index from 0, which is there, to be changed. When the borrow ends, the table

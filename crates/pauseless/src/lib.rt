@@ -18,7 +18,7 @@
 //!
 //! A runtime's author who doubts a heap asks `verify`: it takes the heap's `Image`, all of its memory
 //! and roots as plain data, and says `Sound` or the first fault. An image can be printed. Of a `Heap`
-//! `verify_held` says `Sound`, by its contract.
+//! `verify_held` says `Sound`, by its contract. `report_heap` writes how a heap stands, in lines of text.
 //!
 //! There is no code here: each name stands in a crate of its own, with its contract. The heap is
 //! `managed::ManagedHeap` there.
@@ -34,6 +34,7 @@ pub use drains::is_ready;
 pub use heap::{Config, ConfigFault, NewFault, Refusal};
 pub use layout::{Layout, Layouts};
 pub use managed::ManagedHeap as Heap;
+pub use reporting::{ReportFault, report_heap};
 pub use sharing::{Seat, Settled, Shared, Stray, settle};
 pub use verify::{Fault, Image, PageImage, Root, Verdict, Words, verify, verify_image};
 pub use verifying::verify_held;

@@ -5,6 +5,7 @@ ghost use Rattle.script.specs.Faults.{is_line};
 ghost use Rattle.script.specs.declared.fault.RunFault.TheVariants.{Memory};
 
 use parser::LineFault;
+use reporting::ReportFault;
 use std::alloc::{AllocError, AllocFailed};
 use thiserror::Error;
 
@@ -35,6 +36,15 @@ impl<T: Drop> From<AllocFailed<T>> for RunFault {
 
     fn from(_error: AllocFailed<T>) -> RunFault {
         RunFault::Memory
+    }
+}
+
+impl From<ReportFault> for RunFault {
+    fn from(fault: ReportFault) -> RunFault {
+        match fault {
+            ReportFault::Memory => RunFault::Memory,
+            ReportFault::Write => RunFault::Write,
+        }
     }
 }
 

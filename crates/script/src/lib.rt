@@ -3,12 +3,12 @@
 
 mod doing;
 mod fault;
-mod reporting;
 mod schedule;
+mod writing;
 
 pub use fault::RunFault;
 pub use parser::{
     Command, FaultKind, LineFault, MOST_BYTES, Order, ParseFault, Script, Then, Verb, parse,
 };
-pub use reporting::{report, tell};
 pub use schedule::{by_schedule, new_book, tell_command};
+pub use writing::{report, tell};

@@ -11,7 +11,7 @@ ghost use Rattle.script.specs.Output.{output_text, lines_text, command_line, dra
 
 use crate::doing::do_command;
 use crate::fault::RunFault;
-use crate::reporting::{report, tell};
+use crate::writing::{report, tell};
 use cycle::{Book, verdict};
 use heap::NewFault;
 use model::{Actor, Answer, Refusal};

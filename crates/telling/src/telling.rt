@@ -18,7 +18,7 @@ pub fn tell_stray<W: io::Write>(actor: Actor, w: &mut W) -> io::Result<()>
 }
 
 /// Writes the line of a seat of a thread; nothing for a worker's.
-#[tactic(auto, using(script::proofs::Telling::appends_nothing))]
+#[tactic(auto, using(reporting::proofs::Telling::appends_nothing))]
 fn tell_seat<W: io::Write>(seat: &Seat, w: &mut W) -> io::Result<()>
     ensures { OnOk result (Appends (W.contents w.old) (W.contents w.new) (seat_text seat.now)) }
 {

@@ -1,9 +1,10 @@
 //! Raw edits of a heap that the collector makes: marks, scans, crossings, and the start and the end
 //! of a mark.
 
-ghost use Rattle.std.specs.Prelude.{◌≡◌, ◌+◌, ◌<◌, length, slice_get, is_none, true, false, if◌then◌else◌};
+ghost use Rattle.std.specs.Prelude.{◌≡◌, ◌+◌, ◌/◌, ◌%◌, ◌<◌, length, slice_get, is_none, true, false};
+ghost use Rattle.std.specs.Prelude.{if◌then◌else◌};
 ghost use Rattle.refword.specs.Words.{bits_of};
-ghost use Rattle.model.specs.Bits.{bit_at, with_bit};
+ghost use Rattle.model.specs.Bits.{bit_at, of_page, with_bit};
 ghost use Rattle.model.specs.Checkpoints.{with_crossed, first_behind, phase_behind};
 ghost use Rattle.model.specs.Cycles.{is_lent, start_mark, end_mark};
 ghost use Rattle.model.specs.Marks.{with_mark, marked_word};
@@ -11,6 +12,7 @@ ghost use Rattle.model.specs.Scans.{with_scan, with_scan_end, set_marked_of};
 ghost use Rattle.model.specs.States.{change_at};
 ghost use Rattle.model.specs.Stores.{store_after_mark, with_word, is_open, state_in};
 ghost use Rattle.model.specs.Threads.{set_crossed_of};
+ghost use Rattle.heap.specs.Marking.{bit_in, noted, MarksApart};
 ghost use Rattle.page.specs.Ending.{with_mark_ended_at};
 
 use crate::heap::Heap;
@@ -152,6 +154,50 @@ impl Heap {
         let place = self.resolve(address);
         let is_new = mark_at(&mut self.mark, &mut self.todo, &self.store, place);
         (Word::of(place, self.nmt), is_new)
+    }
+}
+
+/// Marks the object at an address, and gives whether it was marked, if its page has rows.
+#[inline(always)]
+fn set_first(mark: &mut Rows, store: &Store, address: Addr) -> Option<bool>
+    ensures was { result ≡ bit_in mark.old store.now.words address }
+    ensures mark { mark.new ≡ with_bit mark.old store.now.words address true }
+{
+    mark.set_on(store.page_of(address), store.offset_of(address))
+}
+
+impl Heap {
+    /// A raw edit: marks the object that a word names, as `set_mark` does, and gives the word that
+    /// marking leaves (the paper's Mark phase). Where the object wasn't marked before, it gives its
+    /// address besides, and doesn't note that the object is to be scanned: who calls this does, by
+    /// `set_todo`, or scans it.
+    #[inline(always)]
+    #[tactic(auto, unfolding(model::specs::Marks::with_mark, model::specs::Marks::marked_word))]
+    pub fn mark_apart(&mut self, word: Word) -> (Word, Option<Addr>)
+        ensures heap { MarksApart self.old word result.1 self.new }
+        ensures word { result.0 ≡ marked_word self.old word }
+    {
+        let Some(address) = word.addr() else {
+            return (word, None);
+        };
+        let place = self.resolve(address);
+        let marked = Word::of(place, self.nmt);
+        match set_first(&mut self.mark, &self.store, place) {
+            Some(false) => (marked, Some(place)),
+            Some(true) => (marked, None),
+            None => {
+                put_indexed_bit(&mut self.todo, &self.store, place, true);
+                (marked, None)
+            }
+        }
+    }
+
+    /// A raw edit: the object at an address is to be scanned.
+    #[tactic(auto, unfolding(crate::specs::Marking::noted))]
+    pub fn set_todo(&mut self, address: Addr)
+        ensures { self.new ≡ noted self.old address }
+    {
+        put_indexed_bit(&mut self.todo, &self.store, address, true);
     }
 }
 

@@ -1,7 +1,13 @@
-use Rattle.std.proofs.Common.{refl}
-use Rattle.drains.proofs.Scanned.{scan_done}
+use Rattle.std.proofs.Common.{refl, reverse}
+use Rattle.drains.proofs.Waiting.{scan_ends, scan_waits}
 use Rattle.drains.proofs.whole.scan_object.Goals as goal
 
-pub returns : goal.returns
-returns c = scan_done c.args.heap.now c.mark_fields.new.heap c.end_scan.new.self c.args.worker c.args.address
-    c.refs_at-refs.result _ c.requires c.refs_at-refs.ensures.value c.mark_fields.ensures c.end_scan.ensures refl
+pub returns-clause-scanned : goal.returns-clause-scanned
+returns-clause-scanned c = scan_ends c.args.heap.now c.mark_fields.new.heap c.end_scan.new.self c.args.worker
+    c.args.address c.refs_at-refs.result (reverse c.args.waiting.now.items) (reverse c.mark_fields.new.waiting.items) _
+    c.requires.worker c.refs_at-refs.ensures.value c.mark_fields.ensures.fields c.end_scan.ensures refl
+    c.mark_fields.ensures.waits
+
+pub returns-clause-waits : goal.returns-clause-waits
+returns-clause-waits c = scan_waits c.mark_fields.new.heap c.end_scan.new.self c.args.worker c.args.address
+    (reverse c.mark_fields.new.waiting.items) _ c.mark_fields.ensures.waits c.end_scan.ensures

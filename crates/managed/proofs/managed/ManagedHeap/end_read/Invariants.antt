@@ -1,6 +1,10 @@
-use Rattle.managed.specs.Goings.{Goes, IsInBarrier}
+use Rattle.std.proofs.Common.{◌-◌}
+use Rattle.managed.specs.Goings.{Goes, IsInBarrier, TrapsLeft}
 use Rattle.managed.proofs.managed.ManagedHeap.end_read.Given as goal
 
--- traps and heals have led here
+-- traps have led here, and one of those that are left is clear, if none is refused
 abbrev pub invariant-loop : goal.invariant-loop
-invariant-loop l = Goes (IsInBarrier l.thread) l.fn.self l.self
+invariant-loop l = record {
+  goes : Goes (IsInBarrier l.thread) l.fn.self l.self;
+  left : TrapsLeft (3 - l.counter) l.self l.thread;
+}

@@ -1,0 +1,5 @@
+use Rattle.collecting.proofs.Parted.{part_ends, part_stops, portion_goes}
+use Rattle.collecting.proofs.parts.empty_part.Goals as goal
+
+pub returns-in-None : goal.returns-in-None
+returns-in-None c = part_ends c.args.heap.now c.end_part.result c.end_part.ensures

@@ -1,0 +1,6 @@
+use Rattle.collecting.proofs.Parted.{crossed}
+use Rattle.collecting.proofs.portions.cross.Goals as goal
+
+pub returns : goal.returns
+returns c = crossed c.args.heap.now c.cross_all.new.self c.cross_all.result c.cross_all.ensures.ends
+    c.cross_all.ensures.goes c.cross_all.ensures.behind

@@ -1,0 +1,419 @@
+-- Objects that wait for their scan, and the heap in which it is noted that they are to be scanned.
+use Rattle.std.proofs.Common.{◌≡◌, ◌≢◌, inl, inr, ℕ, zero, suc, ◌+◌, ◌-◌, ◌/◌, ◌%◌, ◌<◌, ◌&&◌, not, Bool}
+use Rattle.std.proofs.Common.{true, false, List, [], ◌∷◌, ◌++◌, reverse, get_or, length, Option, Some, None, refl, sym}
+use Rattle.std.proofs.Common.{◌∙◌, ap}
+use Rattle.std.proofs.Common.{arith}
+use Rattle.std.proofs.lemmas.List.{reverse-append}
+use Rattle.std.proofs.Common.{subst}
+use Rattle.std.specs.List.{slice_get}
+use Rattle.std.specs.Prelude.{if◌then◌else◌}
+use Rattle.std.proofs.lemmas.Bool.{and_parts}
+use Rattle.std.proofs.lemmas.Option.{slice_get-get_or, slice_get_within}
+use Rattle.refword.specs.Words.{bits_of, IsAddress}
+use Rattle.heap.specs.Marking.{bit_in, noted, MarksFirst, MarksApart}
+use Rattle.heap.proofs.Marking.{marks_keep, bit_keeps}
+use Rattle.model.specs.declared.config.Config.{Config}
+use Rattle.model.specs.declared.records.Scan.{Scan}
+use Rattle.model.specs.Bits.{of_page, bit_at, with_bit}
+use Rattle.model.specs.Data.{layout_at}
+use Rattle.model.specs.Holding.{IsHeap, AreRows, AreRowsFor}
+use Rattle.model.specs.Marks.{with_mark, marked_word, resolve, entry_at}
+use Rattle.model.specs.Owning.{IsStore}
+use Rattle.model.specs.References.{field_address}
+use Rattle.model.specs.Scans.{is_taken, is_free_todo, next_todo, with_marked_place, reference_in, with_scan}
+use Rattle.model.specs.Scans.{with_scan_end}
+use Rattle.model.specs.States.{Reference, HeapState}
+use Rattle.model.specs.Stores.{word_at, with_word, with_words}
+use Rattle.drains.specs.Drains.{marked_field, marked_fields, without_todo, refs_at, scanned, IsReady, ObjectsDone}
+use Rattle.drains.specs.Waiting.{noting, all_noted, AreWaiting, WaitBeside, WaitsIf, IsNextObject, IsNext}
+use Rattle.drains.proofs.Bits.{bit_again, noting_two, page_there, noting_apart, bit_here, bit_read}
+use Rattle.drains.proofs.Bits.{waiting_stay, one_waits}
+use Rattle.drains.proofs.Scanned.{ended, workers_stay, field_behind}
+use Rattle.drains.proofs.Drained.{next_passes}
+use Rattle.drains.proofs.Ended.{objects_first, objects_next}
+
+-- ---- a word is marked
+
+-- marking a word is the same beside objects that wait
+mark_all : (h : HeapState) (v : Reference) (xs : List ℕ) → with_mark (all_noted h xs) v ≡ all_noted (with_mark h v) xs
+unfolding with_mark all_noted resolve entry_at
+mark_all h None xs = refl
+mark_all h (Some x) xs =
+    ap (λ (t : List (List Bool)). record h { mark = with_bit h.mark h.store.words (resolve h x.0) true; todo = t })
+    (by_bit (bit_at h.mark h.store.words (resolve h x.0)))
+  where
+    by_bit : (b : Bool)
+        → (if b then noting h.todo h.store.words xs
+        else with_bit (noting h.todo h.store.words xs) h.store.words (resolve h x.0) true)
+        ≡ noting (if b then h.todo else with_bit h.todo h.store.words (resolve h x.0) true) h.store.words xs
+    by_bit true = refl
+    by_bit false = sym (noting_two h.todo h.store.words (resolve h x.0) xs)
+
+-- an object that is marked first, and then waits
+pub first_waits : (h g : HeapState) (v : Reference) (t : ℕ) (xs : List ℕ) → MarksFirst h v t g
+    → all_noted g (t ∷ xs) ≡ with_mark (all_noted h xs) v
+unfolding all_noted noted
+first_waits h g v t xs m =
+    ap (λ (r : List (List Bool)). record g { todo = r }) (sym (noting_two g.todo g.store.words t xs))
+    ∙ ap (λ k. all_noted k xs) m.rest
+    ∙ sym (mark_all h v xs)
+
+-- a word that is marked, where none is to wait
+pub none_more : (h g : HeapState) (v : Reference) (xs : List ℕ) → g ≡ with_mark h v
+    → all_noted g xs ≡ with_mark (all_noted h xs) v
+none_more h g v xs e = ap (λ k. all_noted k xs) e ∙ sym (mark_all h v xs)
+
+word_same : (h : HeapState) (v : Reference) (xs : List ℕ) → marked_word (all_noted h xs) v ≡ marked_word h v
+unfolding marked_word all_noted resolve entry_at
+word_same h None xs = refl
+word_same h (Some x) xs = refl
+
+-- a field is marked, and written back
+pub field_noted : (h g k : HeapState) (xs ys : List ℕ) (place bits : ℕ)
+    → all_noted g ys ≡ with_mark (all_noted h xs) (reference_in (word_at h.store place))
+    → bits ≡ bits_of (marked_word h (reference_in (word_at h.store place)))
+    → k ≡ record g { store = with_word g.store place bits }
+    → all_noted k ys ≡ marked_field (all_noted h xs) place
+unfolding marked_field with_marked_place all_noted with_mark with_word with_words
+field_noted h g k xs ys place bits e f d =
+    ap (λ x. all_noted x ys) d
+    ∙ ap (λ (x : HeapState). record x { store = with_word x.store place bits }) e
+    ∙ ap (λ n. record (with_mark (all_noted h xs) v) { store = with_word h.store place n })
+    (f ∙ ap bits_of (sym (word_same h v xs)))
+  where
+    v : Reference
+    v = reference_in (word_at h.store place)
+
+-- ---- an object
+
+-- whether objects are to be scanned doesn't show in a field
+one_noted : (h : HeapState) (place : ℕ) (xs : List ℕ)
+    → marked_field (all_noted h xs) place ≡ all_noted (marked_field h place) xs
+unfolding marked_field with_marked_place with_mark
+one_noted h place xs = sym (field_noted h (with_mark h v) (marked_field h place) xs xs place
+    (bits_of (marked_word h v)) (sym (mark_all h v xs)) refl refl)
+  where
+    v : Reference
+    v = reference_in (word_at h.store place)
+
+-- nor in all fields
+fields_noted : (h : HeapState) (a i k : ℕ) (xs : List ℕ)
+    → marked_fields (all_noted h xs) a i k ≡ all_noted (marked_fields h a i k) xs
+fields_noted h a i zero xs = refl
+fields_noted h a i (suc k) xs =
+    ap (λ g. marked_fields g a (i + 1) k) (one_noted h (field_address a i) xs)
+    ∙ fields_noted (marked_field h (field_address a i)) a (i + 1) k xs
+
+-- nor in what its scan leaves
+pub own_scan : (h : HeapState) (a : ℕ) (xs : List ℕ)
+    → scanned (all_noted h (a ∷ xs)) a ≡ scanned (all_noted h xs) a
+unfolding scanned without_todo refs_at layout_at all_noted
+own_scan h a xs =
+    ap (λ k. without_todo k a) (fields_noted (all_noted h xs) a 0 refs (a ∷ []))
+    ∙ ap (λ (t : List (List Bool)). record done { todo = t }) (bit_again done.todo done.store.words a)
+  where
+    refs : ℕ
+    refs = refs_at h a
+
+    done : HeapState
+    done = marked_fields (all_noted h xs) a 0 refs
+
+-- the object is scanned, while others wait
+pub scan_ends : (h g k : HeapState) (w a refs : ℕ) (xs ys : List ℕ) (s : Scan) → slice_get h.workers w ≡ Some None
+    → refs ≡ refs_at h a → all_noted g ys ≡ marked_fields (all_noted h xs) a 0 refs → k ≡ with_scan_end g w s
+    → s.object ≡ a → WaitBeside g a ys → all_noted k ys ≡ scanned (all_noted h xs) a
+unfolding scanned without_todo all_noted refs_at layout_at
+scan_ends h g k w a refs xs ys s worker r f e o wait =
+    ap (λ x. all_noted x ys) (e ∙ ended g w a s free o)
+    ∙ ap (λ (t : List (List Bool)). record g { todo = t })
+    (noting_apart g.mark g.todo g.store.words a ys wait.page wait.other wait.waiting)
+    ∙ ap (λ x. without_todo x a) (f ∙ ap (marked_fields (all_noted h xs) a 0) r)
+  where
+    free : slice_get g.workers w ≡ Some None
+    free = ap (λ (x : HeapState). slice_get x.workers w) f
+        ∙ ap (λ (ws : List (Option Scan)). slice_get ws w) (workers_stay (all_noted h xs) a 0 refs) ∙ worker
+
+-- ---- what is picked
+
+-- rows of one size have the same bits
+bit_there : (count size w a : ℕ) (mark todo : List (List Bool)) (b : Bool) → AreRows count size mark
+    → AreRows count size todo → bit_in mark w a ≡ Some b → (c : Bool) × (bit_in todo w a ≡ Some c)
+bit_there count size w a mark todo b m t e = by_page (a / w) e
+  where
+    by_row : (n : ℕ) (row : List Bool) → slice_get mark n ≡ Some row → slice_get row (a % w) ≡ Some b
+        → (other : List Bool) → slice_get todo n ≡ Some other → (c : Bool) × (slice_get other (a % w) ≡ Some c)
+    by_row n row p f other q =
+        let low : a % w < length row = slice_get_within row (a % w) b f in
+        let here : a % w < length other = omega (arith, low, m.words n row p, t.words n other q) in
+        (get_or other (a % w) false, slice_get-get_or other (a % w) false here)
+
+    read : (rows : List (List Bool)) (n : ℕ) → n < length rows → slice_get rows n ≡ Some (get_or rows n [])
+    read rows n low = slice_get-get_or rows n [] low
+
+    within : (rows : List (List Bool)) (n k : ℕ) (c : Bool) → slice_get (get_or rows n []) k ≡ Some c → n < length rows
+    within [] n k c f = absurd (cc)
+    within (r ∷ rs) zero k c f = omega arith
+    within (r ∷ rs) (suc n) k c f = let l = within rs n k c f in omega (arith, l)
+
+    by_page : (n : ℕ) → slice_get (of_page mark n) (a % w) ≡ Some b
+        → (c : Bool) × (slice_get (of_page todo n) (a % w) ≡ Some c)
+    by_page zero f = absurd (cc)
+    by_page (suc n) f =
+        let low : n < length mark = within mark n (a % w) b f in
+        let there : n < length todo = omega (arith, low, m.pages, t.pages) in
+        by_row n (get_or mark n []) (read mark n low) f (get_or todo n []) (read todo n there)
+
+noting_rows : (c : Config) (rows : List (List Bool)) (w : ℕ) (xs : List ℕ) → AreRowsFor c rows
+    → AreRowsFor c (noting rows w xs)
+noting_rows c rows w [] r = r
+noting_rows c rows w (a ∷ xs) r =
+    bit_keeps c (noting rows w xs) (noting rows w (a ∷ xs)) w a true (noting_rows c rows w xs r) refl
+
+pub noted_store : (h : HeapState) (xs : List ℕ) → IsStore h.store → IsStore (all_noted h xs).store
+unfolding all_noted
+noted_store h xs s = s
+
+pub noted_heap : (h : HeapState) (xs : List ℕ) → IsHeap h → IsHeap (all_noted h xs)
+unfolding all_noted
+noted_heap h xs i = marks_keep h h.live h.mark (noting h.todo h.store.words xs) i i.live i.mark
+    (noting_rows h.config h.todo h.store.words xs i.todo)
+
+not_false : (b : Bool) → b ≡ false → not b ≡ true
+not_false false e = refl
+not_false true e = absurd (cc)
+
+both : (a b : Bool) → a ≡ true → b ≡ true → (a && b) ≡ true
+both true true e f = refl
+both true false e f = absurd (cc)
+both false b e f = absurd (cc)
+
+-- one that waits, and that no worker has, may be picked
+pub first_free : (h : HeapState) (a : ℕ) (xs : List ℕ) → IsHeap h → AreWaiting h.mark h.store.words (a ∷ xs)
+    → is_taken h a ≡ false → is_free_todo (all_noted h (a ∷ xs)) a ≡ true
+unfolding is_free_todo is_taken all_noted
+first_free h a xs i wait free =
+    let rows = noting_rows h.config h.todo h.store.words xs i.todo in
+    let (b, there) = bit_there _ _ h.store.words a h.mark (noting h.todo h.store.words xs) true i.mark rows wait.1 in
+    both _ _
+    (bit_read (noting h.todo h.store.words (a ∷ xs)) h.store.words a true
+    (bit_here (noting h.todo h.store.words xs) h.store.words a b there))
+    (not_false _ free)
+
+-- what is to be scanned lies on a page
+pub free_page : (h : HeapState) (a : ℕ) → is_free_todo h a ≡ true → 0 < a / h.store.words
+unfolding is_free_todo
+free_page h a e = by_page (a / h.store.words) (and_parts _ _ e).0
+  where
+    by_page : (n : ℕ) → get_or (of_page h.todo n) (a % h.store.words) false ≡ true → 0 < n
+    by_page zero f = absurd (cc)
+    by_page (suc n) f = omega arith
+
+-- ---- what the code does
+
+pub none_wait : (h : HeapState) (a : ℕ) → is_free_todo h a ≡ true → WaitBeside h a []
+none_wait h a e = record { page = free_page h a e; other = tt; waiting = tt }
+
+pub rest_waits : (h : HeapState) (a : ℕ) (xs : List ℕ) → AreWaiting h.mark h.store.words (a ∷ xs) → WaitBeside h a xs
+rest_waits h a xs k = record {
+  page = page_there h.mark h.store.words a true k.1;
+  other = k.2;
+  waiting = k.3;
+}
+
+-- one more waits beside the object that is scanned
+pub more_wait : (h g : HeapState) (v : Reference) (a t : ℕ) (xs : List ℕ) → WaitBeside h a xs → MarksFirst h v t g
+    → t ≢ a → IsAddress t → WaitBeside g a (t ∷ xs)
+more_wait h g v a t xs k m apart i = subst (λ x. WaitBeside x a (t ∷ xs)) (sym m.marked) (record {
+  page = k.page;
+  other = (apart, k.other);
+  waiting = one_waits h.mark h.store.words t xs i m.fresh k.waiting;
+})
+
+marks_after : (h : HeapState) (v : Reference) (xs : List ℕ) → AreWaiting h.mark h.store.words xs
+    → AreWaiting (with_mark h v).mark h.store.words xs
+unfolding with_mark
+marks_after h None xs k = k
+marks_after h (Some x) xs k = waiting_stay h.mark h.store.words (resolve h x.0) xs k
+
+pub still_wait : (h g : HeapState) (v : Reference) (a : ℕ) (xs : List ℕ) → WaitBeside h a xs → g ≡ with_mark h v
+    → WaitBeside g a xs
+unfolding with_mark
+still_wait h g v a xs k e = subst (λ x. WaitBeside x a xs) (sym e) (record {
+  page = k.page;
+  other = k.other;
+  waiting = marks_after h v xs k.waiting;
+})
+
+-- a word is marked, and then what was marked first waits, or is noted
+pub marks_wait : (h g k : HeapState) (v : Reference) (a : ℕ) (first : Option ℕ) (xs ys : List ℕ) → WaitBeside h a xs
+    → MarksApart h v first g → WaitsIf a first g xs k ys
+    → (all_noted k ys ≡ with_mark (all_noted h xs) v) × WaitBeside k a ys
+marks_wait h g k v a None xs ys wait m w =
+    let e : k ≡ with_mark h v = w.1 ∙ m in (
+      (λ i. all_noted (e i) (w.0 i)) ∙ sym (mark_all h v xs),
+      subst (WaitBeside k a) (sym w.0) (still_wait h k v a xs wait e),
+    )
+marks_wait h g k v a (Some t) xs ys wait m (inl w) = (
+  (λ i. all_noted (w.1 i) (w.0 i)) ∙ first_waits h g v t xs m,
+  subst (WaitBeside k a) (sym w.0) (subst (λ x. WaitBeside x a (t ∷ xs)) (sym w.1)
+      (more_wait h g v a t xs wait m w.2 w.3)),
+)
+marks_wait h g k v a (Some t) xs ys wait m (inr w) =
+    let e : k ≡ with_mark h v = w.1 ∙ m.rest in (
+      (λ i. all_noted (e i) (w.0 i)) ∙ sym (mark_all h v xs),
+      subst (WaitBeside k a) (sym w.0) (still_wait h k v a xs wait e),
+    )
+
+-- a word in memory is written
+pub written_beside : (g k : HeapState) (a place bits : ℕ) (xs : List ℕ) → WaitBeside g a xs
+    → k ≡ record g { store = with_word g.store place bits } → WaitBeside k a xs
+unfolding with_word with_words
+written_beside g k a place bits xs w e = subst (λ x. WaitBeside x a xs) (sym e) (record {
+  page = w.page;
+  other = w.other;
+  waiting = w.waiting;
+})
+
+-- one that waited is noted
+pub one_noted_too : (h : HeapState) (a : ℕ) (xs : List ℕ) → all_noted (noted h a) xs ≡ all_noted h (a ∷ xs)
+unfolding all_noted noted
+one_noted_too h a xs = ap (λ (t : List (List Bool)). record h { todo = t }) (noting_two h.todo h.store.words a xs)
+
+pub none_noted : (h : HeapState) → all_noted h [] ≡ h
+unfolding all_noted
+none_noted h = refl
+
+-- the object that waited last is the next one
+pub waited_is_next : (h : HeapState) (a : ℕ) (xs : List ℕ) → IsHeap h → AreWaiting h.mark h.store.words (a ∷ xs)
+    → is_taken h a ≡ false → IsNextObject h (a ∷ xs) a h xs
+waited_is_next h a xs i wait free = record {
+  free = first_free h a xs i wait free;
+  same = sym (own_scan h a xs);
+  waits = rest_waits h a xs wait;
+  workers = refl;
+}
+
+-- one that was noted is the next one
+pub noted_is_next : (h g : HeapState) (a : ℕ) (xs : List ℕ) → g ≡ all_noted h xs → is_free_todo g a ≡ true
+    → IsNextObject h xs a g []
+unfolding all_noted
+noted_is_next h g a xs e free = record {
+  free = ap (λ x. is_free_todo x a) (sym e) ∙ free;
+  same = ap (λ x. scanned x a) e;
+  waits = none_wait g a free;
+  workers = ap (λ (x : HeapState). x.workers) e;
+}
+
+-- the same of a heap in which one more was noted
+pub next_of_noted : (h g : HeapState) (a : ℕ) (r : Option ℕ) (xs ys : List ℕ) → IsNext (noted h a) xs r g ys
+    → IsNext h (a ∷ xs) r g ys
+unfolding noted
+next_of_noted h g a None xs ys k = (k.0 ∙ one_noted_too h a xs, k.1)
+next_of_noted h g a (Some b) xs ys k = record {
+  free = ap (λ x. is_free_todo x b) (sym (one_noted_too h a xs)) ∙ k.free;
+  same = k.same ∙ ap (λ x. scanned x b) (one_noted_too h a xs);
+  waits = k.waits;
+  workers = k.workers;
+}
+
+-- one that is pushed stands first in the reversed list
+pub pushed_first : (xs : List ℕ) (t : ℕ) → reverse (xs ++ (t ∷ [])) ≡ t ∷ reverse xs
+pushed_first xs t = reverse-append xs (t ∷ [])
+
+-- what is read, marked and written of a field, by its place behind the object
+pub field_of_word : (h g k : HeapState) (xs ys : List ℕ) (a i j bits : ℕ) (word marked : Reference)
+    → j ≡ i → word ≡ reference_in (word_at h.store (a + (1 + j)))
+    → all_noted g ys ≡ with_mark (all_noted h xs) word
+    → marked ≡ marked_word h word → bits ≡ bits_of marked
+    → k ≡ record g { store = with_word g.store (a + (1 + j)) bits }
+    → all_noted k ys ≡ marked_field (all_noted h xs) (field_address a i)
+field_of_word h g k xs ys a i j bits word marked at read marks e f d =
+    field_noted h g k xs ys (a + (1 + j)) bits (marks ∙ ap (with_mark (all_noted h xs)) read)
+    (f ∙ ap bits_of (e ∙ ap (marked_word h) read)) d
+    ∙ ap (λ n. marked_field (all_noted h xs) (a + (1 + n))) at
+    ∙ ap (marked_field (all_noted h xs)) (field_behind a i)
+
+-- the newest of some that wait
+pub popped : (old rest : List ℕ) (n : ℕ) → old ≡ rest ++ (n ∷ []) → reverse old ≡ n ∷ reverse rest
+popped old rest n e = ap reverse e ∙ pushed_first rest n
+
+pub note_more : (h g k : HeapState) (xs rest : List ℕ) (n : ℕ) → all_noted g xs ≡ h → xs ≡ n ∷ rest → k ≡ noted g n
+    → all_noted k rest ≡ h
+note_more h g k xs rest n e f d =
+    ap (λ x. all_noted x rest) d ∙ one_noted_too g n rest ∙ ap (all_noted g) (sym f) ∙ e
+
+pub wait_less : (h k : HeapState) (xs rest : List ℕ) (n : ℕ) → AreWaiting h.mark h.store.words xs → xs ≡ n ∷ rest
+    → k ≡ noted h n → AreWaiting k.mark k.store.words rest
+unfolding noted
+wait_less h k xs rest n w f d =
+    subst (λ (x : HeapState). AreWaiting x.mark x.store.words rest) (sym d)
+    (subst (AreWaiting h.mark h.store.words) f w).3
+
+pub first_address : (mark : List (List Bool)) (words : ℕ) (xs rest : List ℕ) (n : ℕ) → AreWaiting mark words xs
+    → xs ≡ n ∷ rest → IsAddress n
+first_address mark words xs rest n w f = (subst (AreWaiting mark words) f w).0
+
+-- those that wait go on waiting when the object is scanned
+pub scan_waits : (g k : HeapState) (w a : ℕ) (xs : List ℕ) (s : Scan) → WaitBeside g a xs → k ≡ with_scan_end g w s
+    → AreWaiting k.mark k.store.words xs
+unfolding with_scan_end with_scan
+scan_waits g k w a xs s b e = subst (λ (x : HeapState). AreWaiting x.mark x.store.words xs) (sym e) b.waiting
+
+none_there : (xs : List ℕ) → length xs ≡ 0 → xs ≡ []
+none_there [] e = refl
+none_there (x ∷ xs) e = absurd (omega (arith, e))
+
+-- where none waits any more, all is noted
+pub all_done : (g h : HeapState) (xs : List ℕ) → all_noted g (reverse xs) ≡ h → length xs ≡ 0 → g ≡ h
+all_done g h xs e f =
+    sym (none_noted g) ∙ ap (λ ys. all_noted g (reverse ys)) (sym (none_there xs f)) ∙ e
+
+pub none_left : (xs : List ℕ) (r : Option ℕ) → r ≡ slice_get xs (length xs - 1) → r ≡ None → length xs ≡ 0
+none_left [] r e f = refl
+none_left (x ∷ xs) r e f =
+    let there = slice_get-get_or (x ∷ xs) (length (x ∷ xs) - 1) 0 (omega arith) in
+    absurd (some_none _ (sym there ∙ sym e ∙ f))
+  where
+    some_none : (n : ℕ) → Some n ≡ None → ⊥
+    some_none n q = absurd (cc)
+
+pub push_length : (xs : List ℕ) (n : ℕ) → length (xs ++ (n ∷ [])) ≡ length xs + 1
+push_length [] n = refl
+push_length (x ∷ xs) n = let e = push_length xs n in omega (arith, e)
+
+-- what the next one is, of what the heap has noted
+pub noted_next_is : (h g : HeapState) (xs ys : List ℕ) (r : Option ℕ) → g ≡ all_noted h xs → ys ≡ [] → next_todo g ≡ r
+    → IsNext h xs r g ys
+noted_next_is h g xs ys None e n f = (e, f)
+noted_next_is h g xs ys (Some a) e n f =
+    subst (λ zs. IsNextObject h xs a g zs) (sym n) (noted_is_next h g a xs e (next_passes g a f))
+
+pub rest_wait : (h : HeapState) (a : ℕ) (xs : List ℕ) → AreWaiting h.mark h.store.words (a ∷ xs)
+    → AreWaiting (noted h a).mark (noted h a).store.words xs
+unfolding noted
+rest_wait h a xs w = w.3
+
+-- ---- the loop
+
+pub objects_begin : (h : HeapState) (w : ℕ) (xs : List ℕ) → IsReady h w → xs ≡ []
+    → ObjectsDone h w 0 (all_noted h (reverse xs)) × AreWaiting h.mark h.store.words (reverse xs)
+objects_begin h w xs r e = (
+  subst (λ g. ObjectsDone h w 0 g) (sym (ap (λ ys. all_noted h (reverse ys)) e ∙ none_noted h)) (objects_first h w r),
+  subst (λ ys. AreWaiting h.mark h.store.words (reverse ys)) (sym e) tt,
+)
+
+pub still_free : (h f g : HeapState) (w n a : ℕ) (xs ys : List ℕ) → ObjectsDone f w n (all_noted h xs)
+    → IsNextObject h xs a g ys → slice_get g.workers w ≡ Some None
+unfolding all_noted
+still_free h f g w n a xs ys d k =
+    ap (λ (ws : List (Option Scan)). slice_get ws w) k.workers ∙ d.drained.ready.worker
+
+pub object_more : (f h g k : HeapState) (w n a : ℕ) (xs ys zs : List ℕ) → ObjectsDone f w n (all_noted h xs)
+    → IsStore h.store → IsHeap h → IsNextObject h xs a g ys → all_noted k zs ≡ scanned (all_noted g ys) a
+    → ObjectsDone f w (n + 1) (all_noted k zs)
+object_more f h g k w n a xs ys zs d s i next e =
+    objects_next f (all_noted h xs) (all_noted k zs) w n a d (noted_store h xs s) (noted_heap h xs i) next.free
+    (e ∙ next.same)
+
+pub not_taken : (h : HeapState) (a n : ℕ) (b : Bool) → n ≡ a → b ≡ is_taken h n → b ≡ false → is_taken h a ≡ false
+not_taken h a n b e f g = ap (is_taken h) (sym e) ∙ sym f ∙ g

@@ -1,0 +1,70 @@
+-- What a call did to the heap that a handle holds.
+use Rattle.std.specs.Prelude.{◌≡◌, ℕ, Bool, Option, Some, None, Result, IfOk}
+use Rattle.model.specs.declared.records.Buffer.{Buffer}
+use Rattle.model.specs.declared.steps.Step.{Step}
+use Rattle.model.specs.declared.steps.Answer.{Answer}
+use Rattle.model.specs.declared.steps.Refusal.{Refusal}
+use Rattle.model.specs.States.{HeapState}
+use Rattle.cycle.specs.Mutating.{DoesThread, ThreadStands}
+use Rattle.collecting.specs.declared.collecting.Collected.{Collected}
+use Rattle.collecting.specs.declared.seeing.Object.{Object}
+use Rattle.collecting.specs.Collections.{Collects, EndsCollecting}
+use Rattle.collecting.specs.Objects.{seen}
+use Rattle.collecting.specs.Rooms.{EndsMaking, EndsRefill, MakingStands}
+use Rattle.managed.specs.Collecting.{StandsUnseen}
+use Rattle.managed.specs.Goings.{LoadsWhole, LoadStands}
+use Rattle.foreign.specs.declared.held.Held.{Held}
+use Rattle.foreign.specs.declared.cycles.CollectedOfC.{CollectedOfC}
+use Rattle.foreign.specs.declared.objects.ObjectOfC.{ObjectOfC}
+use Rattle.foreign.specs.Codes.{NO_HEAP, code_of}
+
+-- where there is no heap, the code says so, and there is none still; else there is one, on which a call was done whose
+-- result has this code
+abbrev pub Calls : {A : Type 0} → (HeapState → Result A Refusal → HeapState → Type 0)
+    → Option Held → ℕ → Option Held → Type 0
+Calls P None code new = (code ≡ NO_HEAP) × (new ≡ None)
+Calls {A} P (Some h) code new =
+    (r : Result A Refusal) × (g : Held) × P h.heap r g.heap × (code ≡ code_of r) × (new ≡ Some g)
+
+-- the same; where it was done, what it gave is so
+abbrev pub Gives : {A : Type 0} → (HeapState → Result A Refusal → HeapState → Type 0) → (A → Type 0)
+    → Option Held → ℕ → Option Held → Type 0
+Gives P Q None code new = (code ≡ NO_HEAP) × (new ≡ None)
+Gives {A} P Q (Some h) code new =
+    (r : Result A Refusal) × (g : Held) × P h.heap r g.heap × IfOk r Q × (code ≡ code_of r) × (new ≡ Some g)
+
+-- a step of thread t did what its outcome says; and where the heap stood for a plain heap, it does after the step
+abbrev pub Stepped : {A : Type 0} → (A → Answer) → ℕ → Step → HeapState → Result A Refusal → HeapState → Type 0
+Stepped answer t step h r g = DoesThread answer h t step r g × ThreadStands answer h t step r g
+
+-- a whole load of thread t, by its first step; and where the heap stood for a plain heap, it does after the load
+abbrev pub Loaded : ℕ → Step → HeapState → Result Unit Refusal → HeapState → Type 0
+Loaded t begin h r g = LoadsWhole h t begin r g × LoadStands h t begin r g
+
+-- thread t was to make an object, for which the heap was collected where there was no room
+abbrev pub Made : ℕ → ℕ → ℕ → ℕ → ℕ → HeapState → Result ℕ Refusal → HeapState → Type 0
+Made words percent t target layout h r g =
+    EndsMaking t words percent target layout h r g × MakingStands t target layout h r g
+
+-- thread t was to get a fresh buffer, for which the heap was collected where there was no room
+abbrev pub Refilled : ℕ → ℕ → ℕ → HeapState → Result Buffer Refusal → HeapState → Type 0
+Refilled words percent t h r g = EndsRefill t words percent h r g × StandsUnseen h g
+
+-- what register r of thread t names was looked at, and nothing changed
+abbrev pub Sees : ℕ → ℕ → HeapState → Result Object Refusal → HeapState → Type 0
+Sees t register h r g = (r ≡ seen h t register) × (g ≡ h)
+
+-- a whole collection, which the plain heap doesn't see
+abbrev pub CollectedBy : ℕ → HeapState → Result Collected Refusal → HeapState → Type 0
+CollectedBy percent h r g = EndsCollecting percent h r g × StandsUnseen h g
+
+-- a part of one
+abbrev pub PartOf : HeapState → Result Bool Refusal → HeapState → Type 0
+PartOf h r g = Collects h g × StandsUnseen h g
+
+-- what C gets of an object, and of a collection
+abbrev pub IsSeen : ObjectOfC → Object → Type 0
+IsSeen c o = (c.birth ≡ o.birth) × (c.layout ≡ o.layout) × (c.refs ≡ o.refs) × (c.nums ≡ o.nums)
+
+abbrev pub IsTold : CollectedOfC → Collected → Type 0
+IsTold c r = (c.live ≡ r.live) × (c.emptied ≡ r.emptied)

@@ -1,0 +1,5 @@
+pub mod Calls
+pub mod Codes
+pub mod Holding
+pub mod Looking
+pub mod Making

@@ -1,0 +1,24 @@
+-- Looks at the heap that a handle holds.
+use Rattle.std.specs.Prelude.{◌≡◌, ◌⊎◌, ℕ, Option, Some, None}
+use Rattle.model.specs.States.{HeapState}
+use Rattle.foreign.specs.declared.held.Held.{Held}
+use Rattle.foreign.specs.declared.looking.CountsOfC.{CountsOfC}
+use Rattle.foreign.specs.Codes.{NO_HEAP, NO_MEMORY}
+
+-- what there is of a heap
+abbrev pub IsCountOf : HeapState → CountsOfC → Type 0
+IsCountOf h c = (c.births ≡ h.births) × (c.words ≡ h.config.words) × (c.frames ≡ h.config.frames)
+
+-- C gets it, where there is a heap
+abbrev pub Counts : Option Held → ℕ → CountsOfC → Type 0
+Counts None code c = code ≡ NO_HEAP
+Counts (Some h) code c = (code ≡ 0) × IsCountOf h.heap c
+
+-- the heap is sound, or memory was refused
+abbrev pub Verifies : ℕ → Type 0
+Verifies code = (code ≡ 0) ⊎ (code ≡ NO_MEMORY)
+
+-- the same, where there is one
+abbrev pub VerifiesHeld : Option Held → ℕ → Type 0
+VerifiesHeld None code = code ≡ NO_HEAP
+VerifiesHeld (Some h) code = Verifies code

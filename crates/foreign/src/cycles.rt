@@ -1,0 +1,80 @@
+//! Collections.
+
+ghost use Rattle.std.specs.Prelude.{◌≡◌, IfOk};
+ghost use Rattle.foreign.specs.Codes.{code_of};
+ghost use Rattle.foreign.specs.Calls.{Gives, CollectedBy, PartOf, IsTold};
+
+use crate::codes::{DONE, NO_HEAP, give_truth, refusal_code};
+use crate::handle::Handle;
+use crate::held::Held;
+use collecting::{Collected, Holding};
+use model::Refusal;
+use std::alloc::Global;
+
+/// `pauseless_collected`: what a collection has done.
+#[repr(C)]
+#[derive(Clone, Copy)]
+pub struct CollectedOfC {
+    /// How many objects its mark found.
+    pub live: u64,
+    /// How many pages were emptied.
+    pub emptied: u64,
+}
+
+/// The code of a collection, and what it has done, which C gets.
+fn give_collected(answer: Result<Collected, Refusal>, done: &mut CollectedOfC) -> u32
+    ensures code { result ≡ code_of answer }
+    ensures done { IfOk answer (IsTold done.new) }
+{
+    match answer {
+        Ok(collected) => {
+            done.live = collected.live;
+            done.emptied = collected.emptied;
+            DONE
+        }
+        Err(refusal) => refusal_code(refusal),
+    }
+}
+
+/// A whole collection. Refused as `Holding::collect` is.
+#[tactic(auto, using(crate::proofs::Calling::given))]
+#[unsafe(no_mangle)]
+pub extern "C" fn pauseless_collect(
+    alloc: Global,
+    heap: &mut Handle,
+    percent: u32,
+    done: &mut CollectedOfC,
+) -> u32
+    ensures { Gives (CollectedBy percent) (IsTold done.new) heap.old.slot.held result heap.new.slot.held }
+{
+    let Some(mut held) = heap.take(alloc) else {
+        return NO_HEAP;
+    };
+    let answer = held.heap.collect(alloc, percent);
+    heap.put(held);
+    give_collected(answer, done)
+}
+
+/// The next part of a collection, with a budget of so many objects. Refused as `Holding::collect_some` is.
+#[tactic(auto, using(crate::proofs::Calling::parted))]
+#[unsafe(no_mangle)]
+pub extern "C" fn pauseless_collect_some(
+    alloc: Global,
+    heap: &mut Handle,
+    percent: u32,
+    budget: u32,
+    has_ended: &mut bool,
+) -> u32
+    ensures { Gives PartOf (λ x. has_ended.new ≡ x) heap.old.slot.held result heap.new.slot.held }
+{
+    let Some(mut held) = heap.take(alloc) else {
+        return NO_HEAP;
+    };
+    let Held {
+        heap: inside,
+        parts,
+    } = &mut *held;
+    let answer = inside.collect_some(alloc, parts, percent, budget);
+    heap.put(held);
+    give_truth(answer, has_ended)
+}

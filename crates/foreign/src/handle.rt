@@ -1,0 +1,56 @@
+//! What C holds.
+
+ghost use Rattle.std.specs.Prelude.{◌≡◌, ◌==◌, Some, None};
+ghost use Rattle.foreign.specs.Holding.{held_in, is_held};
+
+use crate::held::Held;
+use crate::hidden::Hidden;
+use crate::slot::Slot;
+use std::alloc::Global;
+
+/// The mark of a handle that has a heap: the letters `pauseles` in a word, the first one lowest.
+const MARK: u64 = 8_315_171_469_994_058_096;
+
+/// What C holds: `pauseless_heap`. It has a heap where it is marked, and else none.
+#[repr(C)]
+#[derive(Drop)]
+pub struct Handle {
+    mark: u64,
+    slot: Slot,
+    ghost marked: { is_held slot.held ≡ (mark == 8315171469994058096) },
+}
+
+impl Handle {
+    /// One without a heap.
+    fn empty() -> Handle
+        ensures { result.slot.held ≡ None }
+    {
+        Handle {
+            mark: 0,
+            slot: Slot::empty(),
+        }
+    }
+
+    /// The handle gets a heap.
+    pub(crate) fn put(&mut self, held: Box<Held>)
+        ensures { self.new.slot.held ≡ Some held.value }
+    {
+        *self = Handle {
+            mark: MARK,
+            slot: Slot::of(Hidden::of(held)),
+        };
+    }
+
+    /// Takes the heap out, where there is one.
+    pub(crate) fn take(&mut self, alloc: Global) -> Option<Box<Held>>
+        ensures taken { held_in result ≡ self.old.slot.held }
+        ensures empty { self.new.slot.held ≡ None }
+    {
+        let Handle { mark, slot } = std::mem::replace(self, Handle::empty());
+        if mark == MARK {
+            Some(slot.into_hidden(alloc).into_box())
+        } else {
+            None
+        }
+    }
+}

@@ -1,0 +1,77 @@
+//! What a heap is like, and whether it is sound.
+
+ghost use Rattle.std.specs.Prelude.{◌≡◌};
+ghost use Rattle.foreign.specs.Looking.{Counts, IsCountOf, Verifies, VerifiesHeld};
+
+use crate::codes::{DONE, NO_HEAP, NO_MEMORY, UNSOUND};
+use crate::handle::Handle;
+use managed::ManagedHeap;
+use std::alloc::Global;
+use verify::Verdict;
+use verifying::verify_held;
+
+/// `pauseless_counts`: what there is of a heap.
+#[repr(C)]
+#[derive(Clone, Copy)]
+pub struct CountsOfC {
+    /// How many objects were born.
+    pub births: u64,
+    /// The words of a page.
+    pub words: u32,
+    /// The frames.
+    pub frames: u32,
+    /// The frames that no page has.
+    pub free: u32,
+}
+
+/// Counts what there is.
+fn count(heap: &ManagedHeap) -> CountsOfC
+    ensures { IsCountOf heap.now result }
+{
+    let inside = heap.heap();
+    CountsOfC {
+        births: inside.births(),
+        words: inside.config().words,
+        frames: inside.config().frames,
+        free: inside.memory().free_frames(),
+    }
+}
+
+/// Counts what there is of a heap.
+#[unsafe(no_mangle)]
+pub extern "C" fn pauseless_count(alloc: Global, heap: &mut Handle, counts: &mut CountsOfC) -> u32
+    ensures counts { Counts heap.old.slot.held result counts.new }
+    ensures same { heap.new.slot.held ≡ heap.old.slot.held }
+{
+    let Some(held) = heap.take(alloc) else {
+        return NO_HEAP;
+    };
+    *counts = count(&held.heap);
+    heap.put(held);
+    DONE
+}
+
+/// The code of a verdict: that the heap is sound, or that memory was refused.
+fn verify_code(alloc: Global, heap: &ManagedHeap) -> u32
+    ensures { Verifies result }
+{
+    match verify_held(alloc, heap) {
+        Ok(Verdict::Sound) => DONE,
+        Ok(Verdict::Faulty(_)) => UNSOUND,
+        Err(_) => NO_MEMORY,
+    }
+}
+
+/// Verifies the heap as it stands: that it is sound, by contract, or that memory was refused.
+#[unsafe(no_mangle)]
+pub extern "C" fn pauseless_verify(alloc: Global, heap: &mut Handle) -> u32
+    ensures same { heap.new.slot.held ≡ heap.old.slot.held }
+    ensures sound { VerifiesHeld heap.old.slot.held result }
+{
+    let Some(held) = heap.take(alloc) else {
+        return NO_HEAP;
+    };
+    let code = verify_code(alloc, &held.heap);
+    heap.put(held);
+    code
+}

@@ -1,0 +1,192 @@
+//! Buffers and objects.
+
+ghost use Rattle.std.specs.Prelude.{◌≡◌, IfOk};
+ghost use Rattle.model.specs.Saying.{done, lent};
+ghost use Rattle.model.specs.declared.steps.Step.TheVariants as steps;
+ghost use Rattle.model.specs.declared.steps.Answer.TheVariants as answers;
+ghost use Rattle.collecting.specs.Objects.{seen};
+ghost use Rattle.foreign.specs.Codes.{code_of};
+ghost use Rattle.foreign.specs.Calls.{Calls, Gives, Made, Refilled, Stepped, Sees, IsSeen};
+
+use crate::codes::{DONE, NO_HEAP, code, refusal_code};
+use crate::handle::Handle;
+use collecting::{Holding, Object, Policy};
+use cycle::Mutating;
+use model::Refusal;
+use std::alloc::Global;
+
+/// `pauseless_policy`: when a heap is collected for a buffer, as `Policy` says.
+#[repr(C)]
+#[derive(Clone, Copy)]
+pub struct PolicyOfC {
+    /// The words of a fresh buffer.
+    pub words: u32,
+    /// At most so many frames are free when the heap is collected for it.
+    pub free: u32,
+    /// Pages of which at most so many words of a hundred are live are emptied.
+    pub percent: u32,
+}
+
+/// `pauseless_object`: what an object's header tells.
+#[repr(C)]
+#[derive(Clone, Copy)]
+pub struct ObjectOfC {
+    /// How many objects were born before it.
+    pub birth: u32,
+    /// The number of its layout.
+    pub layout: u32,
+    /// How many references it has.
+    pub refs: u16,
+    /// How many data words it has.
+    pub nums: u16,
+}
+
+fn policy_of(policy: &PolicyOfC) -> Policy
+    ensures { (result.words ≡ policy.now.words) × (result.percent ≡ policy.now.percent) }
+{
+    Policy {
+        words: policy.words,
+        free: policy.free,
+        percent: policy.percent,
+    }
+}
+
+/// The code of a call whose answer C doesn't get.
+fn code_of<T: Copy>(answer: Result<T, Refusal>) -> u32
+    ensures { result ≡ code_of answer }
+{
+    match answer {
+        Ok(_) => DONE,
+        Err(refusal) => refusal_code(refusal),
+    }
+}
+
+/// Takes a buffer of `words` for a thread. Refused as `Mutating::take` is.
+#[tactic(auto, using(crate::proofs::Calling::called))]
+#[unsafe(no_mangle)]
+pub extern "C" fn pauseless_take(alloc: Global, heap: &mut Handle, thread: u32, words: u32) -> u32
+    ensures { Calls (Stepped lent thread (steps.Take words)) heap.old.slot.held result heap.new.slot.held }
+{
+    let Some(mut held) = heap.take(alloc) else {
+        return NO_HEAP;
+    };
+    let answer = held.heap.take(thread, words);
+    heap.put(held);
+    code_of(answer)
+}
+
+/// Gives a thread's buffer back. Refused as `Mutating::give_back` is.
+#[tactic(auto, using(crate::proofs::Calling::called))]
+#[unsafe(no_mangle)]
+pub extern "C" fn pauseless_give_back(alloc: Global, heap: &mut Handle, thread: u32) -> u32
+    ensures { Calls (Stepped done thread (steps.GiveBack)) heap.old.slot.held result heap.new.slot.held }
+{
+    let Some(mut held) = heap.take(alloc) else {
+        return NO_HEAP;
+    };
+    let answer = held.heap.give_back(thread);
+    heap.put(held);
+    code(answer)
+}
+
+/// Makes an object in the thread's buffer. Refused as `Mutating::new_object` is.
+#[tactic(auto, using(crate::proofs::Calling::called))]
+#[unsafe(no_mangle)]
+pub extern "C" fn pauseless_new_object(
+    alloc: Global,
+    heap: &mut Handle,
+    thread: u32,
+    target: u32,
+    layout: u32,
+) -> u32
+    ensures { Calls (Stepped answers.Birth thread (steps.New target layout)) heap.old.slot.held result
+        heap.new.slot.held }
+{
+    let Some(mut held) = heap.take(alloc) else {
+        return NO_HEAP;
+    };
+    let answer = held.heap.new_object(thread, target, layout);
+    heap.put(held);
+    code_of(answer)
+}
+
+/// Makes an object; where the thread's buffer has no room for it, `pauseless_refill` gets it one before. Refused as
+/// `Holding::make` is.
+#[tactic(auto, using(crate::proofs::Calling::called))]
+#[unsafe(no_mangle)]
+pub extern "C" fn pauseless_make(
+    alloc: Global,
+    heap: &mut Handle,
+    policy: &PolicyOfC,
+    thread: u32,
+    target: u32,
+    layout: u32,
+) -> u32
+    ensures { Calls (Made policy.now.words policy.now.percent thread target layout) heap.old.slot.held result
+        heap.new.slot.held }
+{
+    let Some(mut held) = heap.take(alloc) else {
+        return NO_HEAP;
+    };
+    let answer = held
+        .heap
+        .make(alloc, policy_of(policy), thread, target, layout);
+    heap.put(held);
+    code_of(answer)
+}
+
+/// Gets a thread a fresh buffer, for which the heap is collected by the policy. Refused as `Holding::refill` is.
+#[tactic(auto, using(crate::proofs::Calling::called))]
+#[unsafe(no_mangle)]
+pub extern "C" fn pauseless_refill(
+    alloc: Global,
+    heap: &mut Handle,
+    policy: &PolicyOfC,
+    thread: u32,
+) -> u32
+    ensures { Calls (Refilled policy.now.words policy.now.percent thread) heap.old.slot.held result heap.new.slot.held }
+{
+    let Some(mut held) = heap.take(alloc) else {
+        return NO_HEAP;
+    };
+    let answer = held.heap.refill(alloc, policy_of(policy), thread);
+    heap.put(held);
+    code_of(answer)
+}
+
+/// The code of a look at an object, which C gets.
+fn give_object(answer: Result<Object, Refusal>, object: &mut ObjectOfC) -> u32
+    ensures code { result ≡ code_of answer }
+    ensures object { IfOk answer (IsSeen object.new) }
+{
+    match answer {
+        Ok(seen) => {
+            object.birth = seen.birth;
+            object.layout = seen.layout;
+            object.refs = seen.refs;
+            object.nums = seen.nums;
+            DONE
+        }
+        Err(refusal) => refusal_code(refusal),
+    }
+}
+
+/// Tells what object a register names. Refused as `Holding::object` is.
+#[tactic(auto, using(crate::proofs::Calling::given))]
+#[unsafe(no_mangle)]
+pub extern "C" fn pauseless_look(
+    alloc: Global,
+    heap: &mut Handle,
+    thread: u32,
+    register: u32,
+    object: &mut ObjectOfC,
+) -> u32
+    ensures { Gives (Sees thread register) (IsSeen object.new) heap.old.slot.held result heap.new.slot.held }
+{
+    let Some(held) = heap.take(alloc) else {
+        return NO_HEAP;
+    };
+    let answer = held.heap.object(thread, register);
+    heap.put(held);
+    give_object(answer, object)
+}

@@ -1,0 +1,26 @@
+//! Why a report ends before its end.
+
+ghost use Rattle.std.specs.Prelude.{◌≡◌};
+ghost use Rattle.reporting.specs.declared.fault.ReportFault.TheVariants.{Memory};
+
+use std::alloc::AllocError;
+use thiserror::Error;
+
+/// Why a report ends before its end. What was written before stays written.
+#[derive(Clone, Copy, Debug, PartialEq, Eq, Error)]
+pub enum ReportFault {
+    /// Memory was refused.
+    #[error("out of memory")]
+    Memory,
+    /// The writer failed.
+    #[error("cannot write")]
+    Write,
+}
+
+impl From<AllocError> for ReportFault {
+    ghost from_gives = { λ _ fault. fault ≡ Memory };
+
+    fn from(_error: AllocError) -> ReportFault {
+        ReportFault::Memory
+    }
+}

@@ -1,9 +1,0 @@
-use Rattle.std.proofs.Common.{drop}
-use Rattle.text.specs.Texts.{Leads}
-use Rattle.text.specs.Reports.{texts_from}
-use Rattle.script.specs.Output.{global_line}
-use Rattle.script.proofs.reporting.tell_globals.Given as goal
-
-abbrev pub invariant-loop-number : goal.invariant-loop-number
-invariant-loop-number g l = Leads (g.W.Write.contents l.initial.w) (g.W.Write.contents l.w) (texts_from
-    (global_line l.words) l.number (drop l.number l.globals)) (texts_from (global_line l.words) 0 l.globals)

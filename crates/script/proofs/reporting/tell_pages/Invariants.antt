@@ -1,9 +1,0 @@
-use Rattle.std.proofs.Common.{drop}
-use Rattle.text.specs.Texts.{Leads}
-use Rattle.text.specs.Reports.{texts_from}
-use Rattle.script.specs.Output.{page_line}
-use Rattle.script.proofs.reporting.tell_pages.Given as goal
-
-abbrev pub invariant-loop-index : goal.invariant-loop-index
-invariant-loop-index g l = Leads (g.W.Write.contents l.initial.w) (g.W.Write.contents l.w)
-    (texts_from (page_line l.heap) l.index (drop l.index l.pages)) (texts_from (page_line l.heap) 0 l.pages)

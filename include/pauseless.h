@@ -1,0 +1,228 @@
+/* The heap of Click, Tene and Wolf, "The Pauseless GC Algorithm" (VEE 2005), for C. docs/C.md says how to build and
+ * link it, with the smallest program, and what of it is proved.
+ *
+ * One call at a time: the library takes no lock. The caller has one thread of the system, or holds a lock of its own
+ * round each call; the threads of a heap are numbers, whatever calls for them. No call is made from a signal handler,
+ * or in the forked child of a program with threads.
+ *
+ * Nothing can check that a pointer leads where its type says, that a handle is the only copy of itself, and that its
+ * words are those which the library wrote. Copy no handle, and write nothing to one but PAUSELESS_NONE before its
+ * first use. A handle without a heap, as one that was let go, is told by its mark, and answers PAUSELESS_NO_HEAP.
+ *
+ * Threads, registers, globals, layouts, references and data are numbers from 0. Objects have no address here: a
+ * register names one, and registers and globals are all the roots. An object's references come first, then its data,
+ * each counted from 0. Each call answers a code; where that isn't PAUSELESS_DONE, what was asked for wasn't done, and
+ * what a pointer leads to isn't written. No call ends the program. */
+#ifndef PAUSELESS_H
+#define PAUSELESS_H
+
+#include <stdbool.h>
+#include <stddef.h>
+#include <stdint.h>
+
+#ifdef __cplusplus
+extern "C" {
+#endif
+
+/* A handle: a mark, and where the heap is. */
+typedef struct pauseless_heap {
+    uint64_t mark;
+    void *held;
+} pauseless_heap;
+
+/* A handle without a heap: pauseless_heap heap = PAUSELESS_NONE; */
+#define PAUSELESS_NONE {0, NULL}
+
+/* The codes, each with its text; the texts are those of pauseless_text. A program whose heap one caller uses by these
+ * calls alone meets NO_ACTOR, BAD_INDEX, NULL, NO_ROOM, HAS_BUFFER, NO_FRAMES, NO_PAGES, BIRTHS and MEMORY, and when it
+ * makes a heap those of ranges. */
+#define PAUSELESS_CODES(CODE) \
+    CODE(DONE, 0, "done") \
+    CODE(NO_HEAP, 1, "the handle has no heap") \
+    CODE(HAS_HEAP, 2, "the handle has a heap already") \
+    CODE(NO_ACTOR, 3, "there is no such thread") \
+    CODE(BAD_INDEX, 4, "a number names nothing") \
+    CODE(PARKED, 5, "the thread is parked") \
+    CODE(NOT_PARKED, 6, "the thread isn't parked") \
+    CODE(BUSY, 7, "a load isn't finished") \
+    CODE(NOT_BUSY, 8, "no load has begun") \
+    CODE(NULL, 9, "the register is null") \
+    CODE(STALL, 10, "the register names a page whose objects can't be copied yet") \
+    CODE(STALE, 11, "the register names a protected page") \
+    CODE(NO_ROOM, 12, "there is no buffer, or it is too small") \
+    CODE(HAS_BUFFER, 13, "the thread has a buffer") \
+    CODE(NO_FRAMES, 14, "there are too few free frames") \
+    CODE(NO_PAGES, 15, "there are too few unused page numbers") \
+    CODE(PHASE, 16, "the collector's phase has no such step") \
+    CODE(ALREADY_CROSSED, 17, "the thread has crossed already") \
+    CODE(NOT_CROSSED, 18, "a thread hasn't crossed") \
+    CODE(NOT_TODO, 19, "nothing there is to be scanned") \
+    CODE(TAKEN, 20, "a worker has it") \
+    CODE(TODO_LEFT, 21, "something is still to be scanned") \
+    CODE(PENDING, 22, "a thread's load isn't finished") \
+    CODE(UNRIPE, 23, "a page isn't closed") \
+    CODE(UNCOPIED, 24, "a page has an object that isn't copied") \
+    CODE(COPIED, 25, "the object is copied already") \
+    CODE(LENT, 26, "a page has a buffer that is lent") \
+    CODE(BIRTHS, 27, "no more objects may be born") \
+    CODE(HISTORY_FULL, 28, "the history is full") \
+    CODE(MEMORY, 29, "memory was refused") \
+    CODE(RANGE_OF_WORDS, 30, "words of a page out of range") \
+    CODE(RANGE_OF_FRAMES, 31, "frames out of range") \
+    CODE(RANGE_OF_PAGES, 32, "page numbers out of range") \
+    CODE(RANGE_OF_THREADS, 33, "threads out of range") \
+    CODE(RANGE_OF_WORKERS, 34, "workers out of range") \
+    CODE(RANGE_OF_REGISTERS, 35, "registers out of range") \
+    CODE(RANGE_OF_GLOBALS, 36, "globals out of range") \
+    CODE(RANGE_OF_LAYOUTS, 37, "layouts out of range") \
+    CODE(RANGE_OF_BIRTHS, 38, "births out of range") \
+    CODE(RANGE_OF_HISTORY, 39, "history out of range") \
+    CODE(UNSOUND, 40, "the heap is not sound")
+
+#define PAUSELESS_CODE(name, number, text) PAUSELESS_##name = number,
+typedef enum pauseless_code { PAUSELESS_CODES(PAUSELESS_CODE) } pauseless_code;
+#undef PAUSELESS_CODE
+
+/* The text of a code. */
+static inline const char *pauseless_text(uint32_t code) {
+    switch (code) {
+#define PAUSELESS_CODE(name, number, text) \
+    case number: return text;
+        PAUSELESS_CODES(PAUSELESS_CODE)
+#undef PAUSELESS_CODE
+    default: return "no code of pauseless";
+    }
+}
+
+/* The sizes and limits of a heap. */
+typedef struct pauseless_sizes {
+    uint32_t words;     /* the words of 64 bits of a page: 16 to 32,768, a power of two */
+    uint32_t frames;    /* the frames, each the memory of one page: 1 to 4,096 */
+    uint32_t pages;     /* the page numbers: at least as many as frames, to 1,048,575 */
+    uint32_t threads;   /* 1 to 64 */
+    uint32_t workers;   /* the collector's: 1 to 16; these calls use the first alone */
+    uint32_t registers; /* of each thread: 1 to 16 */
+    uint32_t globals;   /* 0 to 64 */
+    uint64_t births;    /* how many objects may be born: 1 to 2^32 */
+} pauseless_sizes;
+
+/* How many references, and how many data of 64 bits, an object has: 0 to 1,023 each. It has a header besides, and one
+ * object has to fit a page. */
+typedef struct pauseless_layout {
+    uint16_t refs, nums;
+} pauseless_layout;
+
+/* When a heap is collected for a fresh buffer. */
+typedef struct pauseless_policy {
+    uint32_t words;   /* of a fresh buffer: 1 to the words of a page, and at least those of any object that is made */
+    uint32_t free;    /* the heap is collected where at most so many frames are free */
+    uint32_t percent; /* pages of which at most so many words of a hundred are live are emptied */
+} pauseless_policy;
+
+/* What a register names. */
+typedef struct pauseless_object {
+    uint32_t birth;  /* how many objects were born before it; it stays when the object moves */
+    uint32_t layout; /* the number of its layout */
+    uint16_t refs, nums;
+} pauseless_object;
+
+/* What a collection has done: how many objects it found to live, and how many pages it emptied. */
+typedef struct pauseless_collected {
+    uint64_t live, emptied;
+} pauseless_collected;
+
+/* What there is of a heap. */
+typedef struct pauseless_counts {
+    uint64_t births; /* the objects that were born */
+    uint32_t words;  /* of a page */
+    uint32_t frames;
+    uint32_t free; /* the frames that no page has */
+} pauseless_counts;
+
+/* Making a heap, and letting it go */
+
+/* Sizes that serve most heaps: twice as many page numbers as frames, one thread, one worker, and as many registers,
+ * globals and births as there may be. */
+void pauseless_usual(uint32_t words, uint32_t frames, pauseless_sizes *sizes);
+
+/* Makes a heap with layouts numbered from 0: 1 to 64 of them. All its memory is asked for here, by malloc: the frames,
+ * and some bits for each word of each page number. RANGE_OF_.. for the first size that is out of its range, HAS_HEAP,
+ * MEMORY. */
+pauseless_code pauseless_new(pauseless_heap *heap, const pauseless_sizes *sizes, const pauseless_layout *layouts,
+                             size_t count);
+
+/* Lets the heap go, with all its memory; nothing, where the handle has none. */
+void pauseless_free(pauseless_heap *heap);
+
+/* Objects. Each of these, and each call below, answers NO_HEAP for a handle without a heap, NO_ACTOR for a thread that
+ * isn't there, and BAD_INDEX for any other number that names nothing. */
+
+/* Makes an object in a register, with null references and data of 0. Where the thread's buffer has no room for it, it
+ * gets a fresh one first, for which the heap is collected by the policy. NO_FRAMES or NO_PAGES: the heap is full;
+ * NO_ROOM: the object is larger than the policy's buffers; BIRTHS; MEMORY. */
+pauseless_code pauseless_make(pauseless_heap *heap, const pauseless_policy *policy, uint32_t thread, uint32_t target,
+                              uint32_t layout);
+
+/* Makes an object in the buffer that the thread has. NO_ROOM: there is none, or it is too small; BIRTHS. */
+pauseless_code pauseless_new_object(pauseless_heap *heap, uint32_t thread, uint32_t target, uint32_t layout);
+
+/* Takes a buffer of words for a thread, without a collection. BAD_INDEX also for words that no page has; HAS_BUFFER;
+ * NO_FRAMES, NO_PAGES. */
+pauseless_code pauseless_take(pauseless_heap *heap, uint32_t thread, uint32_t words);
+
+/* Gives a thread's buffer back, whose rest is lost until its page is emptied. NO_ROOM where there is none. */
+pauseless_code pauseless_give_back(pauseless_heap *heap, uint32_t thread);
+
+/* A fresh buffer for a thread, as pauseless_make gets it. NO_FRAMES, NO_PAGES, MEMORY. */
+pauseless_code pauseless_refill(pauseless_heap *heap, const pauseless_policy *policy, uint32_t thread);
+
+/* Tells what object a register names. NULL. */
+pauseless_code pauseless_look(pauseless_heap *heap, uint32_t thread, uint32_t reg, pauseless_object *object);
+
+/* References. NULL where the register of an object is null. */
+
+/* A register gets what an object's reference leads to: the read barrier, whole. */
+pauseless_code pauseless_load(pauseless_heap *heap, uint32_t thread, uint32_t target, uint32_t object, uint32_t field);
+
+/* An object's reference leads to what a register names, or nowhere. */
+pauseless_code pauseless_store(pauseless_heap *heap, uint32_t thread, uint32_t object, uint32_t field, uint32_t source);
+
+/* The same of a global. */
+pauseless_code pauseless_load_global(pauseless_heap *heap, uint32_t thread, uint32_t target, uint32_t global);
+pauseless_code pauseless_store_global(pauseless_heap *heap, uint32_t thread, uint32_t global, uint32_t source);
+
+/* A register names what another one names; or nothing. */
+pauseless_code pauseless_copy(pauseless_heap *heap, uint32_t thread, uint32_t target, uint32_t source);
+pauseless_code pauseless_clear(pauseless_heap *heap, uint32_t thread, uint32_t target);
+
+/* Whether two registers name the same object, or both none; and whether one names none. */
+pauseless_code pauseless_same(pauseless_heap *heap, uint32_t thread, uint32_t left, uint32_t right, bool *is_so);
+pauseless_code pauseless_is_null(pauseless_heap *heap, uint32_t thread, uint32_t reg, bool *is_so);
+
+/* Data. NULL where the register of the object is null. */
+
+pauseless_code pauseless_get(pauseless_heap *heap, uint32_t thread, uint32_t object, uint32_t index, uint64_t *value);
+pauseless_code pauseless_set(pauseless_heap *heap, uint32_t thread, uint32_t object, uint32_t index, uint64_t value);
+
+/* Collections. pauseless_make and pauseless_refill collect by themselves. */
+
+/* A whole collection, which empties pages of which at most so many words of a hundred are live. MEMORY. */
+pauseless_code pauseless_collect(pauseless_heap *heap, uint32_t percent, pauseless_collected *done);
+
+/* The next part of a collection, for a caller that can't stop for a whole one; budget is how many objects it may scan.
+ * *has_ended where it was the last one, and the next part begins another. MEMORY. */
+pauseless_code pauseless_collect_some(pauseless_heap *heap, uint32_t percent, uint32_t budget, bool *has_ended);
+
+/* Looking at the heap */
+
+pauseless_code pauseless_count(pauseless_heap *heap, pauseless_counts *counts);
+
+/* Whether the heap is sound as it stands; its time is linear in the words of all frames and pages. DONE by contract,
+ * unless MEMORY was refused: UNSOUND says that memory was overwritten from outside, or that a proof doesn't hold. */
+pauseless_code pauseless_verify(pauseless_heap *heap);
+
+#ifdef __cplusplus
+}
+#endif
+
+#endif
