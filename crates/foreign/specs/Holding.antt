@@ -2,16 +2,16 @@
 use Rattle.std.specs.Prelude.{Bool, true, false, Option, Some, None}
 use base.Fml.{Fml, ftrue}
 use denote.RawPtr.{Ptr}
-use Rattle.libc.specs.Heap.{chunk}
 use Rattle.std_alloc.specs.Box.Ownership.{box_owns}
 use Rattle.std_alloc.specs.declared.boxed.Box.{Box}
+use Rattle.std_heap.specs.contracts.GlobalAllocator.TheImpl.{ghosts}
 use Rattle.foreign.specs.declared.held.Held.{Held}
 use Rattle.foreign.specs.contracts.held.Held.{the_row}
 
 -- a pointer that leads to a heap owns it, and the right to free its block
 abbrev pub slot_owns : Ptr → Option Held → Fml
 slot_owns p None = ftrue
-slot_owns p (Some h) = box_owns chunk the_row p h
+slot_owns p (Some h) = box_owns (ghosts.dealloc_token tt) the_row p h
 
 -- whether there is a heap
 abbrev pub is_held : Option Held → Bool
