@@ -61,11 +61,14 @@ pauseless: $(SOURCES)
 		> '$(CURDIR)/$(LOG)' 2>&1 || { cd '$(CURDIR)'; $(show_log); }
 	@$(INSTALL) -m 755 crates/report/out/report $@
 
-# What 'rt lib' makes, with the toolchain's functions round malloc, realloc and free.
+# What makes crates/foreign/out/libforeign.a.
+LIBRARY = (cd crates/foreign && $(RT) lib)
+
+# That, with the toolchain's functions round malloc, realloc and free.
 libpauseless.a: $(SOURCES)
 	@$(needs_toolchain)
 	@echo 'Proving the library, then building it. A first time takes some 20 minutes; $(LOG) has the rest.'
-	@cd crates/foreign && $(RT) lib > '$(CURDIR)/$(LOG)' 2>&1 || { cd '$(CURDIR)'; $(show_log); }
+	@{ $(LIBRARY); } > '$(LOG)' 2>&1 || { $(show_log); }
 	@printf 'create %s\naddlib %s\naddlib %s\nsave\nend\n' $@ crates/foreign/out/libforeign.a \
 		"$$(dirname "$$($(RT) doc)")/c/liblibc_c.a" | $(AR) -M
 

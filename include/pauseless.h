@@ -221,6 +221,12 @@ pauseless_code pauseless_count(pauseless_heap *heap, pauseless_counts *counts);
  * unless MEMORY was refused: UNSOUND says that memory was overwritten from outside, or that a proof doesn't hold. */
 pauseless_code pauseless_verify(pauseless_heap *heap);
 
+/* Writes how the heap stands, in lines of ASCII text: the phase, each page in use, each thread, each global, and what
+ * the loads of each thread have come to. docs/SCRIPT.md describes the lines, under 'The report'. Of the text, the first
+ * size bytes are written to where text leads, with no byte 0 behind them; *length is that of the whole, so a caller may
+ * ask with a size of 0 first. MEMORY. */
+pauseless_code pauseless_report(pauseless_heap *heap, char *text, size_t size, uint64_t *length);
+
 #ifdef __cplusplus
 }
 #endif

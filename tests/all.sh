@@ -42,11 +42,6 @@ count() {
     fi
 }
 
-# The library for C is proved and built beside the rest, in a copy of its own, as 'rt ci' builds none.
-library=$kept/library
-{ "$PYTHON" tests/edits.py copy "$library" && ${MAKE:-make} -C "$library" lib RT="$RT"; } > "$kept/lib.log" 2>&1 &
-building=$!
-
 # The copy in which all is proved has then the program and the tests as they were built.
 proved=$kept/proved
 count 'the proofs' sh tests/proofs.sh "$proved"
@@ -69,9 +64,10 @@ else
     echo 'failed: the program could not be built'
     failed=$((failed + 1))
 fi
-if wait "$building"; then
-    count 'the library for C' sh tests/c.sh "$library/libpauseless.a"
-    count 'the Lisp' sh tests/lisp.sh "$library/libpauseless.a"
+# The library for C is built over what was proved there, as 'rt ci' builds none.
+if ${MAKE:-make} -C "$proved" lib RT="$RT" LIBRARY="'$PYTHON' tests/archive.py ." > "$kept/lib.log" 2>&1; then
+    count 'the library for C' sh tests/c.sh "$proved/libpauseless.a"
+    count 'the Lisp' sh tests/lisp.sh "$proved/libpauseless.a"
 else
     tail -n 20 "$kept/lib.log"
     echo 'failed: the library for C could not be built'

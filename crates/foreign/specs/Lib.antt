@@ -3,3 +3,4 @@ pub mod Codes
 pub mod Holding
 pub mod Looking
 pub mod Making
+pub mod Telling

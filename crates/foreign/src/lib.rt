@@ -20,3 +20,4 @@ mod making;
 mod objects;
 mod references;
 mod slot;
+mod texts;
