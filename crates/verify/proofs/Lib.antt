@@ -5,6 +5,7 @@ pub mod Passing
 pub mod Sharing
 pub mod Claiming
 pub mod Verdicts
+pub mod Searching
 pub mod Tabling
 mod Listing
 mod Spotting

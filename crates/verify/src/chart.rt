@@ -64,8 +64,10 @@ impl<'a> Chart<'a> {
         if page == 0 {
             return None;
         }
-        let table = table_of(&self.tables, (page - 1) as usize)?;
-        table.get(address % words)
+        let index = (page - 1) as usize;
+        let table = table_of(&self.tables, index)?;
+        let page = page_of(&image.pages, index)?;
+        table.get(&page.side, image.words, address % words)
     }
 
     /// Whether the page of an address is protected.
@@ -165,4 +167,11 @@ fn table_of(tables: &[Table], index: usize) -> Option<&Table>
     ensures { option_copied result ≡ slice_get tables.now index }
 {
     tables.get(index)
+}
+
+/// The page of an index, if there is one.
+fn page_of(pages: &[PageImage], index: usize) -> Option<&PageImage>
+    ensures { option_copied result ≡ slice_get pages.now index }
+{
+    pages.get(index)
 }

@@ -1,8 +1,9 @@
 //! Side arrays by offset, so that nobody searches them.
 
-ghost use Rattle.std.specs.Prelude.{◌≡◌, ◌<◌, ◌==◌, ℕ, IfOk, length, get_or, replicate, None, if◌then◌else◌};
+ghost use Rattle.std.specs.Prelude.{◌≡◌, ◌<◌, ◌==◌, ℕ, true, IfOk, length, get_or, replicate, None, if◌then◌else◌};
+ghost use Rattle.model.specs.Holding.{AreRising};
 ghost use Rattle.verify.specs.Images.{copy_in, copy_of};
-ghost use Rattle.verify.specs.Copies.{Tells};
+ghost use Rattle.verify.specs.Copies.{ArePlaces, Tells};
 
 use model::Forwarding;
 use refword::Addr;
@@ -55,18 +56,19 @@ impl Place {
     }
 }
 
-/// Where the object of each offset of a page was copied to. That of an empty side array is empty.
+/// A side array, so that nobody searches it from its beginning. One whose offsets rise, as those of a heap do, has
+/// no places, and is halved; of another one, the places say where the object of each offset of a page was copied to.
 #[derive(Drop)]
 pub(crate) struct Table {
-    places: Vec<Place>,
+    places: Option<Vec<Place>>,
 }
 
 impl Model for Table {
-    ghost use Rattle.std.specs.Prelude.{List, Option, ℕ};
+    ghost use Rattle.std.specs.Prelude.{List, Option, ℕ, option_map};
 
-    ghost Value = { List (Option ℕ) };
+    ghost Value = { Option (List (Option ℕ)) };
 
-    ghost view = { λ t. t.places.items };
+    ghost view = { λ t. option_map (λ v. v.items) t.places };
 }
 
 impl Table {
@@ -74,28 +76,74 @@ impl Table {
     pub(crate) fn new(alloc: Global, side: &[Forwarding], words: u32) -> Result<Table, AllocError>
         ensures { IfOk result (Tells side.now words) }
     {
-        if side.is_empty() {
-            return Ok(Table {
-                places: Vec::new(alloc),
-            });
+        if is_rising(side, words) {
+            return Ok(Table { places: None });
         }
-        let mut places = nowhere(alloc, words)?;
-        for k in 0..side.len() {
-            put(&mut places, side[side.len() - 1 - k]);
-        }
-        Ok(Table { places })
+        let places = places_of(alloc, side, words)?;
+        Ok(Table {
+            places: Some(places),
+        })
     }
 
-    /// Where the object of an offset was copied to.
-    pub(crate) fn get(&self, offset: u64) -> Option<Addr>
-        ensures { result ≡ get_or self.now offset None }
+    /// Where the object of an offset was copied to, by the table of a side array in a page of so many words.
+    pub(crate) fn get(&self, side: &[Forwarding], words: u32, offset: u64) -> Option<Addr>
+        requires table { Tells side.now words self.now }
+        requires within { offset < words }
+        ensures { result ≡ copy_in side.now offset }
     {
-        let offset = offset as usize;
-        if offset < self.places.len() {
-            self.places[offset].address()
-        } else {
-            None
+        match &self.places {
+            None => search(side, words, offset),
+            Some(places) => place_at(places, offset),
         }
+    }
+}
+
+/// Whether the offsets of a side array rise, in a page of so many words.
+fn is_rising(side: &[Forwarding], words: u32) -> bool
+    ensures { result ≡ true → AreRising words 0 side.now }
+{
+    let mut above = words;
+    for k in 0..side.len() {
+        let entry = side[side.len() - 1 - k];
+        if entry.offset >= above {
+            return false;
+        }
+        above = entry.offset;
+    }
+    true
+}
+
+/// Where the object of an offset was copied to, by a side array whose offsets rise.
+fn search(side: &[Forwarding], words: u32, offset: u64) -> Option<Addr>
+    requires { AreRising words 0 side.now }
+    ensures { result ≡ copy_in side.now offset }
+{
+    match side.binary_search_by_key(&offset, |entry| u64::from(entry.offset)) {
+        Ok(k) => copy_of(side[k]),
+        Err(_) => None,
+    }
+}
+
+/// The places of a side array, in a page of so many words. Fails only by memory.
+fn places_of(alloc: Global, side: &[Forwarding], words: u32) -> Result<Vec<Place>, AllocError>
+    ensures { IfOk result (λ places. ArePlaces side.now words places.items) }
+{
+    let mut places = nowhere(alloc, words)?;
+    for k in 0..side.len() {
+        put(&mut places, side[side.len() - 1 - k]);
+    }
+    Ok(places)
+}
+
+/// The place of an offset; none, where there is no such offset.
+fn place_at(places: &[Place], offset: u64) -> Option<Addr>
+    ensures { result ≡ get_or places.now offset None }
+{
+    let offset = offset as usize;
+    if offset < places.len() {
+        places[offset].address()
+    } else {
+        None
     }
 }
 

@@ -1,5 +1,5 @@
 use Rattle.verify.proofs.Tabling.{table_more}
-use Rattle.verify.proofs.tables.Table.new.Goals as goal
+use Rattle.verify.proofs.tables.places_of.Goals as goal
 
 pub loop-k-preserved : goal.loop-k-preserved
 loop-k-preserved c =
