@@ -48,10 +48,8 @@ impl ManagedHeap {
     }
 
     /// Ends a load that has begun: traps until one is clear, heals where the word was corrected, and
-    /// finishes. It is refused only as `trap` is then: `NoActor`, `Parked`, `NotBusy` where no load is
-    /// open, or `Stall` where the object is about to be copied. The steps before that are done, and it may
-    /// be asked again.
-    pub fn end_read(&mut self, thread: u32) -> Result<(), Refusal>
+    /// finishes. It is refused only as `trap` is then.
+    fn end_by_traps(&mut self, thread: u32) -> Result<(), Refusal>
         ensures { EndsLoad self.old thread result self.new }
     {
         self.three_traps(thread);
@@ -63,6 +61,20 @@ impl ManagedHeap {
             }
         }
         unreachable!()
+    }
+
+    /// Ends a load that has begun: finishes at once where nothing is due, as most loads do; else traps
+    /// until one is clear, heals where the word was corrected, and finishes. It is refused only as `trap`
+    /// is then: `NoActor`, `Parked`, `NotBusy` where no load is open, or `Stall` where the object is about
+    /// to be copied. The steps before that are done, and it may be asked again.
+    #[inline(always)]
+    pub fn end_read(&mut self, thread: u32) -> Result<(), Refusal>
+        ensures { EndsLoad self.old thread result self.new }
+    {
+        match self.finish(thread) {
+            Ok(()) => Ok(()),
+            Err(_) => self.end_by_traps(thread),
+        }
     }
 
     /// Loads a reference field of an object into a register, whole. Refused as `load` or as `end_read` is.

@@ -2,31 +2,13 @@
 
 use crate::same::same;
 use cycle::{Actor, Answer, Book, Step};
-use layout::{Layout, Layouts};
-use model::Config;
+use samples::shared_by_two;
 use sharing::{Seat, Shared, settle};
 use std::alloc::{AllocError, Global};
 use std::process::Abort;
 use std::sync::Wait;
 use std::test::Fail;
 use telling::tell_stray;
-
-/// Three pages of 16 words, two threads, one worker, and one layout of a reference and a datum.
-fn config(alloc: Global) -> Result<Config, AllocError> {
-    let layouts = vec![in alloc; Layout { refs: 1, nums: 1 }]?;
-    Ok(Config {
-        words: 16,
-        frames: 3,
-        pages: 8,
-        threads: 2,
-        workers: 1,
-        registers: 4,
-        globals: 1,
-        layouts: Layouts::new(layouts),
-        births: 1 << 32,
-        history: 1_000_000,
-    })
-}
 
 /// A book that is shared, and its seats.
 fn open(alloc: Global, book: Book) -> Result<(Shared, Vec<Seat>), AllocError> {
@@ -35,7 +17,7 @@ fn open(alloc: Global, book: Book) -> Result<(Shared, Vec<Seat>), AllocError> {
 
 /// A new book.
 fn new_book(alloc: Global) -> Result<Book, Fail> {
-    match Book::new(alloc, config(alloc)?) {
+    match Book::new(alloc, shared_by_two(alloc)?) {
         Ok(book) => Ok(book),
         Err(_) => Err(Fail::from(AllocError)),
     }

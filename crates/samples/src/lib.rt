@@ -31,6 +31,24 @@ pub fn linked(alloc: Global) -> Result<Config, AllocError> {
     Ok(Config::new(16, 1, Layouts::new(layouts)))
 }
 
+/// Three frames of 16 words and 8 page numbers, two threads with 4 registers, a worker, a global, and one layout of a
+/// reference and a datum.
+pub fn shared_by_two(alloc: Global) -> Result<Config, AllocError> {
+    let layouts = vec![in alloc; Layout { refs: 1, nums: 1 }]?;
+    Ok(Config {
+        words: 16,
+        frames: 3,
+        pages: 8,
+        threads: 2,
+        workers: 1,
+        registers: 4,
+        globals: 1,
+        layouts: Layouts::new(layouts),
+        births: 1 << 32,
+        history: 1_000_000,
+    })
+}
+
 /// The numbers of a configuration that are no counts of births or entries.
 pub fn sizes(config: &Config) -> [u32; 7] {
     [

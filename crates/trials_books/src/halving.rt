@@ -4,7 +4,7 @@ use crate::same::same;
 use cycle::{Actor, Answer, Book, PageList, PieceGate, Reply, Step};
 use heap::{Config, NewFault};
 use held::{HeldBook, act};
-use layout::{Layout, Layouts};
+use samples::shared_by_two;
 use std::alloc::{AllocError, Global};
 use std::process::Abort;
 use std::sync::atomic::{AtomicU64, Ordering};
@@ -64,19 +64,9 @@ impl PieceGate for Meeting {
 
 /// Four frames of 16 words, two threads and a worker; an object has one reference and one datum.
 fn config(alloc: Global) -> Result<Config, AllocError> {
-    let layouts = vec![in alloc; Layout { refs: 1, nums: 1 }]?;
-    Ok(Config {
-        words: 16,
-        frames: 4,
-        pages: 8,
-        threads: 2,
-        workers: 1,
-        registers: 4,
-        globals: 1,
-        layouts: Layouts::new(layouts),
-        births: 1 << 32,
-        history: 1_000_000,
-    })
+    let mut config = shared_by_two(alloc)?;
+    config.frames = 4;
+    Ok(config)
 }
 
 /// A step is accepted.

@@ -3,8 +3,8 @@
 use crate::same::same;
 use cycle::Stepping;
 use heap::{Heap, NewFault};
-use layout::{Layout, Layouts};
-use model::{Actor, Answer, Config, PageList, PageState, Phase, Refusal, Step};
+use model::{Actor, Answer, PageList, PageState, Phase, Refusal, Step};
+use samples::shared_by_two;
 use std::alloc::{AllocError, Global};
 use std::process::Abort;
 use std::test::Fail;
@@ -26,23 +26,6 @@ impl HeldHeap for Heap {
     fn heap(&self) -> &Heap {
         self
     }
-}
-
-/// Three frames of 16 words, two threads and a worker; an object has one reference and one datum.
-fn config(alloc: Global) -> Result<Config, AllocError> {
-    let layouts = vec![in alloc; Layout { refs: 1, nums: 1 }]?;
-    Ok(Config {
-        words: 16,
-        frames: 3,
-        pages: 8,
-        threads: 2,
-        workers: 1,
-        registers: 4,
-        globals: 1,
-        layouts: Layouts::new(layouts),
-        births: 1 << 32,
-        history: 1_000_000,
-    })
 }
 
 /// A step of this actor has this reply.
@@ -135,7 +118,7 @@ pub fn close(rt: &impl Abort, heap: &mut impl Stepping) {
 
 /// A new heap of that configuration.
 pub fn new_heap(alloc: Global) -> Result<Heap, NewFault> {
-    Heap::new(alloc, config(alloc)?)
+    Heap::new(alloc, shared_by_two(alloc)?)
 }
 
 /// The list of page 1.

@@ -3,8 +3,8 @@
 use crate::same::same;
 use cycle::{Actor, Answer, Buffer, Mutating, PageList, Step, Stepping, Trap};
 use heap::{Heap, NewFault};
-use layout::{Layout, Layouts};
 use model::{Config, Refusal};
+use samples::shared_by_two;
 use std::alloc::{AllocError, Global};
 use std::process::Abort;
 use std::test::Fail;
@@ -17,19 +17,10 @@ const WORKER: Actor = Actor::Worker(0);
 
 /// Three frames of 16 words, two threads and a worker; an object has one reference and one datum.
 fn config(alloc: Global) -> Result<Config, AllocError> {
-    let layouts = vec![in alloc; Layout { refs: 1, nums: 1 }]?;
-    Ok(Config {
-        words: 16,
-        frames: 3,
-        pages: 8,
-        threads: 2,
-        workers: 1,
-        registers: 4,
-        globals: 1,
-        layouts: Layouts::new(layouts),
-        births: 2,
-        history: 1,
-    })
+    let mut config = shared_by_two(alloc)?;
+    config.births = 2;
+    config.history = 1;
+    Ok(config)
 }
 
 /// A step of the worker is accepted.

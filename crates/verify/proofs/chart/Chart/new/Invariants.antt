@@ -8,5 +8,5 @@ abbrev pub invariant-loop-page : goal.invariant-loop-page
 invariant-loop-page l = record {
   len : length l.tables.items ≡ l.page-index;
   each : (n : ℕ) (p : PageData) → n < l.page-index → slice_get l.image.pages n ≡ Some p
-      → (t : List (Option ℕ)) × (slice_get l.tables.items n ≡ Some t) × Tells p.side l.image.words t;
+      → (t : Option (List (Option ℕ))) × (slice_get l.tables.items n ≡ Some t) × Tells p.side l.image.words t;
 }

@@ -1,6 +1,6 @@
 use Rattle.std.proofs.Common.{◌-◌}
 use Rattle.managed.specs.Goings.{Goes, IsInBarrier, TrapsLeft}
-use Rattle.managed.proofs.managed.ManagedHeap.end_read.Given as goal
+use Rattle.managed.proofs.managed.ManagedHeap.end_by_traps.Given as goal
 
 -- traps have led here, and one of those that are left is clear, if none is refused
 abbrev pub invariant-loop : goal.invariant-loop
