@@ -1,17 +1,11 @@
 -- The table of a side array, from its end.
 use Rattle.std.proofs.Common.{◌≡◌, ◌<◌, ℕ, ◌+◌, ◌-◌, suc, Bool, true, false, cond, List, ◌∷◌, length, drop}
-use Rattle.std.proofs.Common.{get_or, eqb, Option, Some, None, refl, sym, subst, ap, ◌∙◌, arith, drop-cons}
+use Rattle.std.proofs.Common.{get_or, eqb, Option, Some, None, refl, sym, ap, ◌∙◌, arith, drop-cons}
 use Rattle.std.specs.List.{find}
 use Rattle.std.specs.Option.{option_and_then}
 use Rattle.model.specs.declared.records.Forwarding.{Forwarding}
 use Rattle.verify.specs.Images.{copy_in, copy_of}
-use Rattle.std.specs.List.{slice_get}
-use Rattle.std.proofs.Common.{◌/◌, ◌%◌, ◌≢◌}
-use Rattle.std.proofs.lemmas.Option.{slice_get_within, same_Some}
-use Rattle.std.proofs.lemmas.Bool.{ne_eqb}
-use Rattle.model.proofs.Lists.{get_within}
-use Rattle.verify.specs.Images.{ImageData, PageData, page_at, copy_on}
-use Rattle.verify.specs.Copies.{ArePlaces, AreTables, Tells}
+use Rattle.verify.specs.Copies.{ArePlaces}
 
 -- the first entry counts, where it is of the offset
 copy_first : (f : Forwarding) (fs : List Forwarding) (o : ℕ)
