@@ -11,9 +11,12 @@ use Rattle.managed.proofs.managed.ManagedHeap.end_read.Goals as goal
 pub returns-in-Ok : goal.returns-in-Ok
 returns-in-Ok c =
     let t = c.args.thread in
-    let h = c.args.self.now in
-    (h, goes_none (IsInBarrier t) h, runs_one h c.finish.new.self (Thread t) steps.Finish (done c.in-Ok.field-0)
-    c.in-Ok.ensures.does c.in-Ok.ensures.stands)
+    let h = c.args.self.now in (
+      h,
+      goes_none (IsInBarrier t) h,
+      runs_one h c.finish.new.self (Thread t) steps.Finish (done c.in-Ok.field-0)
+          c.in-Ok.ensures.does c.in-Ok.ensures.stands,
+    )
 
 pub returns-in-Err : goal.returns-in-Err
 returns-in-Err c =
