@@ -3,6 +3,8 @@
 
     tests/edits.py check [CRATE..]            says which crates have edits to try; ends with 1 where there is one
     tests/edits.py try [--jobs N] [CRATE..]   tries the edits of these crates, or of all, and writes them down
+    tests/edits.py passed COMMIT              writes down the crates that are as they are in a commit of which the
+                                              whole test command has passed, as that tries what isn't written down
     tests/edits.py copy FOLDER                copies the repository without the edits that needn't be tried, and
                                               says how many these are
 
@@ -141,7 +143,7 @@ def copy(crates, folder, paths):
 
 
 def copy_built(crates, name, folder):
-    """Copies what 'rt' has built of a library, once it no longer works there. It sees itself whether that still serves."""
+    """Copies what 'rt' has built of a library, once it no longer works there. It sees whether that still serves."""
     held = os.open(f"{crates.root}/crates/{name}", os.O_RDONLY)
     fcntl.flock(held, fcntl.LOCK_SH)
     built = f"crates/{name}/out/rlib"
@@ -222,6 +224,19 @@ def check(names):
     return 1 if names else 0
 
 
+def write_passed(commit):
+    crates = Crates(os.getcwd())
+    for name in to_try(crates):
+        own = [f"crates/{name}/{part}" for part in PARTS]
+        differs = subprocess.run(["git", "diff", "--quiet", commit, "--", *own]).returncode
+        if differs > 1:
+            stop(f"there is no commit {commit}")
+        if not differs:
+            write(crates.root, crates, crates.line(name))
+            print(f"{name} is written down")
+    return 0
+
+
 def copy_without_refused(folder):
     crates = Crates(os.getcwd())
     left = to_try(crates)
@@ -239,10 +254,13 @@ def main():
     trying = commands.add_parser("try")
     trying.add_argument("--jobs", type=int, default=0)
     trying.add_argument("names", nargs="*")
+    commands.add_parser("passed").add_argument("commit")
     commands.add_parser("copy").add_argument("folder")
     asked = parser.parse_args()
     if asked.command == "check":
         return check(asked.names)
+    if asked.command == "passed":
+        return write_passed(asked.commit)
     return try_all(asked.names, asked.jobs) if asked.command == "try" else copy_without_refused(asked.folder)
 
 

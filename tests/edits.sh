@@ -111,6 +111,16 @@ check
 is 'a line of another form' 2 "edits: $book has a line that 'make edits' didn't write: low 1 none"
 cp "$kept/whole/$book" "$book"
 
+# A commit that has passed, of which one crate is changed.
+git init -q . && git add -A && git -c user.name=tests -c user.email=tests@localhost commit -qm passed
+echo '// A letter more.' >> crates/high/src/lib.rt
+rm "$book"
+told "$PYTHON" "$tools/edits.py" passed HEAD
+is 'crates as they are in a commit that has passed' 0 'low is written down'
+told "$PYTHON" "$tools/edits.py" passed none
+is 'no commit' 2 'edits: there is no commit none'
+cd "$kept" && rm -rf small && cp -R whole small && cd small || exit 1
+
 # An edit that is no mistake, so that the crate is proved with it.
 sed 's/= 2;/= 1 + 0;/' crates/high/must-fail/two_more.edit > crates/high/must-fail/as_it_was.edit
 told "$PYTHON" "$tools/edits.py" try --jobs 1 high
