@@ -1,5 +1,6 @@
 -- What a handle holds.
 use Rattle.std.specs.Prelude.{Bool, true, false, Option, Some, None}
+use mir.Syntax.{Ty}
 use base.Fml.{Fml, ftrue}
 use denote.RawPtr.{Ptr}
 use Rattle.std_alloc.specs.Box.Ownership.{box_owns}
@@ -8,10 +9,14 @@ use Rattle.std_heap.specs.contracts.GlobalAllocator.TheImpl.{ghosts}
 use Rattle.foreign.specs.declared.held.Held.{Held}
 use Rattle.foreign.specs.contracts.held.Held.{the_row}
 
+-- the right to free a block, which is the same of any handle of the allocator
+abbrev pub token : Ty → Ptr → Fml
+token = ghosts.dealloc_token (record { memory = record { seal = tt } })
+
 -- a pointer that leads to a heap owns it, and the right to free its block
 abbrev pub slot_owns : Ptr → Option Held → Fml
 slot_owns p None = ftrue
-slot_owns p (Some h) = box_owns (ghosts.dealloc_token tt) the_row p h
+slot_owns p (Some h) = box_owns token the_row p h
 
 -- whether there is a heap
 abbrev pub is_held : Option Held → Bool

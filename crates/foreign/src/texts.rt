@@ -1,6 +1,6 @@
 //! A heap as text.
 
-ghost use Rattle.std.specs.Prelude.{◌≡◌, OnOk};
+ghost use Rattle.std.specs.Prelude.{◌≡◌, IfOk};
 ghost use Rattle.reporting.specs.Reports.{heap_text};
 ghost use Rattle.foreign.specs.Telling.{Reports, written};
 
@@ -12,7 +12,7 @@ use std::alloc::Global;
 
 /// The report of a heap.
 fn text_of(alloc: Global, heap: &Heap) -> Result<Vec<u8>, ReportFault>
-    ensures { OnOk result (λ text. text.items ≡ heap_text heap.now) }
+    ensures { IfOk result (λ text. text.items ≡ heap_text heap.now) }
 {
     let mut text = Vec::new(alloc);
     report_heap(alloc, heap, &mut text)?;
