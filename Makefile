@@ -7,7 +7,8 @@
 #                 and says which crates aren't written down
 # make lib        builds the static library for C and leaves it as ./libpauseless.a
 # make install    puts the program into PREFIX/bin, and the library, its header and its pkg-config file beside it
-# make bench      times the program on generated scripts, loops over the library's calls, and the Lisp in C
+# make bench      times the program on generated scripts, loops over the library's calls, collections beside bdwgc,
+#                 and the Lisp in C
 # make film       makes film.html of examples/moving.script, or with SCRIPT=.. of another script; FILM=.. names
 #                 another file; with TRY=1 by a build that proves nothing
 # make plot       makes plot.html of a long run, or with SCRIPT=.. of another script; PLOT=.. names another file;
@@ -104,10 +105,12 @@ install: pauseless libpauseless.a
 
 bench: pauseless libpauseless.a
 	@cd crates/bench && $(RT) run -- copies 64 3 2 > '$(CURDIR)/$(LOG)' 2>&1 || { cd '$(CURDIR)'; $(show_log); }
+	@cd crates/shapes && $(RT) run -- mark-list 10 2 1 1 > '$(CURDIR)/$(LOG)' 2>&1 || { cd '$(CURDIR)'; $(show_log); }
 	@cd crates/crowds && $(RT) run -- act 100 > '$(CURDIR)/$(LOG)' 2>&1 || { cd '$(CURDIR)'; $(show_log); }
 	@cd crates/cycling && $(RT) run -- cycle 1 1 10 10 > '$(CURDIR)/$(LOG)' 2>&1 || { cd '$(CURDIR)'; $(show_log); }
 	$(PYTHON) bench/run.py ./pauseless
 	$(PYTHON) bench/calls.py crates/bench/out/bench
+	CC='$(CC)' $(PYTHON) bench/boehm.py crates/shapes/out/shapes
 	$(PYTHON) bench/crowds.py
 	$(PYTHON) bench/commands.py ./pauseless
 	CC='$(CC)' $(PYTHON) bench/lisp.py ./libpauseless.a

@@ -8,7 +8,8 @@ turns, so that a slow moment doesn't fall on one alone.
 Copies: pages of 4,096 words are filled with objects that live, and protected;
 then each object is copied by a step of its own, or those of a page by one step.
 Beside it as many words are copied from one list to another, a slice of a page
-at a time.
+at a time; with --instructions a slice of an object's words at a time, which is
+a call of `memcpy` each.
 
 Drains: a list, or trees, are marked some times, and one worker drains each
 mark: by steps, each of one reference, or by a call that scans objects whole.
@@ -20,8 +21,9 @@ that live, and the heap is verified some times.
 Steps: loops of steps, each of one mix (crates/bench/src/mixes.rt), by each
 form of calls, and by `bench/plain.rs`, a heap written by hand in plain Rust,
 which `rustc` compiles. Where there is no `rustc`, the ratios are left out.
-With --instructions this is all that is done, and instructions are counted, by
-`valgrind`, instead of time.
+
+With --instructions copies, drains and steps are done, and instructions are
+counted, by `valgrind`, instead of time.
 """
 
 import argparse
@@ -38,10 +40,15 @@ PAGES = 2_048
 WORDS = 4_096
 SIZES = [2, 8, 64, 511]
 
+# Pages whose copies are counted, and the words of their objects.
+COUNTED_PAGES = 16
+COUNTED_SIZES = [2, 8, 64]
+
 # Drains: what is marked, with its objects, and about how many objects all timed marks of it find.
 SHAPES = {("list", 1_000): 1_000, ("list", 10_000): 10_000, ("list", 90_000): 90_000,
           ("trees", 1): 16_383, ("trees", 8): 131_064}
 MARKED = 2_000_000
+COUNTED_MARKS = 2
 DRAIN_RUNS = 9
 
 # Verifications: words of a page, frames, and how often such a heap is verified.
@@ -94,7 +101,7 @@ def print_copies(program):
     """Times copies of objects, beside copies of slices."""
     forms = {(name, size): [[program, name, size, PAGES, copied] for copied in (0, PAGES)]
              for name in ("copies", "pages") for size in SIZES}
-    forms["slices"] = [[program, "slices", PAGES, copied] for copied in (0, PAGES)]
+    forms["slices"] = [[program, "slices", WORDS, PAGES, copied] for copied in (0, PAGES)]
     took = differences(timed, RUNS, forms)
     slices = took["slices"] / (PAGES * WORDS) * 1e9
     print(f"A word of a slice: {slices:.2f} ns")
@@ -108,16 +115,31 @@ def print_copies(program):
               f" | {paged:.1f} | {paged / size / slices:.2f} |")
 
 
-def print_drains(program):
-    """Times marks of lists and of trees, by steps and by a call."""
-    forms = {(form, *shape): [[program, f"{form}-{shape[0]}", shape[1], marks] for marks in (1, 1 + MARKED // objects)]
+def print_counted_copies(program):
+    """Counts instructions of copies by the page and of steps, beside `memcpy` of each object's words."""
+    forms = {(name, size): [[program, name, size, COUNTED_PAGES, copied] for copied in (0, COUNTED_PAGES)]
+             for name in ("pages", "copies", "slices") for size in COUNTED_SIZES}
+    took = differences(counted, 1, forms)
+    print("| Words an object | by the page: instructions an object | by steps | `memcpy` | by the page over `memcpy` |")
+    print("|---|---|---|---|---|")
+    for size in COUNTED_SIZES:
+        objects = WORDS // size * COUNTED_PAGES
+        paged, each, plain = (took[name, size] / objects for name in ("pages", "copies", "slices"))
+        print(f"| {size} | {paged:.0f} | {each:.0f} | {plain:.0f} | {paged / plain:.1f} |")
+
+
+def print_drains(program, instructions):
+    """Times marks of lists and of trees, by steps and by a call, or counts their instructions."""
+    times = {objects: COUNTED_MARKS if instructions else MARKED // objects for objects in SHAPES.values()}
+    forms = {(form, *shape): [[program, f"{form}-{shape[0]}", shape[1], marks] for marks in (1, 1 + times[objects])]
              for form in ("scan", "drain") for shape, objects in SHAPES.items()}
-    took = differences(timed, DRAIN_RUNS, forms)
-    print("| Marked | Objects | by steps: ns an object | by a call: ns an object | steps over call |")
+    took = differences(counted, 1, forms) if instructions else differences(timed, DRAIN_RUNS, forms)
+    unit, scale = ("instructions", 1) if instructions else ("ns", 1e9)
+    print(f"| Marked | Objects | by steps: {unit} an object | by a call: {unit} an object | steps over call |")
     print("|---|---|---|---|---|")
     for (shape, count), objects in SHAPES.items():
-        found = MARKED // objects * objects
-        steps, call = (took[form, shape, count] / found * 1e9 for form in ("scan", "drain"))
+        found = times[objects] * objects
+        steps, call = (took[form, shape, count] / found * scale for form in ("scan", "drain"))
         print(f"| {shape} | {objects:,} | {steps:.1f} | {call:.1f} | {steps / call:.1f} |")
 
 
@@ -176,8 +198,6 @@ def times_a_step(commands):
 
 def instructions_a_step(commands):
     """Instructions a step, of each mix by each form."""
-    if shutil.which("valgrind") is None:
-        sys.exit("there is no valgrind, which counts instructions")
     forms = {key: [command + [turns] for turns in (UNCOUNTED, UNCOUNTED + COUNTED)]
              for key, command in commands.items()}
     took = differences(counted, 1, forms)
@@ -207,16 +227,21 @@ def print_steps(program, instructions):
 def main():
     parser = argparse.ArgumentParser(description="Times loops over the library's calls.")
     parser.add_argument("program", nargs="?", default="crates/bench/out/bench")
-    parser.add_argument("--instructions", action="store_true", help="count instructions of steps, and nothing else")
+    parser.add_argument("--instructions", action="store_true", help="count instructions instead of time")
     words = parser.parse_args()
     program = os.path.abspath(words.program)
     if not os.access(program, os.X_OK):
         sys.exit(f"{program} isn't there: run 'make bench'")
-    if not words.instructions:
+    if words.instructions and shutil.which("valgrind") is None:
+        sys.exit("there is no valgrind, which counts instructions")
+    if words.instructions:
+        print_counted_copies(program)
+    else:
         print_copies(program)
-        print()
-        print_drains(program)
-        print()
+    print()
+    print_drains(program, words.instructions)
+    print()
+    if not words.instructions:
         print_verifications(program)
         print()
     print_steps(program, words.instructions)

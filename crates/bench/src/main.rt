@@ -9,7 +9,7 @@
 //! | `act-MIX TURNS` | the same by `Book::act` |
 //! | `copies WORDS PAGES COPIED` | of full pages of objects of so many words that are protected, some are copied, an object a step |
 //! | `pages WORDS PAGES COPIED` | the same, a page a step |
-//! | `slices PAGES COPIED` | of as many words some are copied, without a heap |
+//! | `slices WORDS PAGES COPIED` | of as many words some are copied, so many words at a time, without a heap |
 //! | `verified WORDS FRAMES TIMES` | a heap of so many frames of so many words is verified some times |
 //! | `scan-list OBJECTS MARKS`, `scan-trees TREES MARKS` | marks of a list or of trees that are drained by steps |
 //! | `drain-list OBJECTS MARKS`, `drain-trees TREES MARKS` | the same by a call |
@@ -79,7 +79,7 @@ fn work(alloc: Global, name: &str, numbers: [u32; 3]) -> Result<u64> {
     match name {
         "copies" => moving::copies(alloc, CopyBy::Object, first, second, third),
         "pages" => moving::copies(alloc, CopyBy::Page, first, second, third),
-        "slices" => moving::slices(alloc, first, second),
+        "slices" => moving::slices(alloc, first, second, third),
         "verified" => verified::verifications(alloc, first, second, third),
         _ => parted(alloc, name, numbers),
     }

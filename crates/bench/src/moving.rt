@@ -141,16 +141,18 @@ pub fn copies(alloc: Global, by: CopyBy, size: u32, pages: u32, count: u32) -> R
     copied(alloc, heap, by, size, pages, count)
 }
 
-/// As many words as pages have are made twice; then those of so many pages are copied, a page at a
-/// time. Gives one of the words.
-pub fn slices(alloc: Global, pages: u32, copied: u32) -> Result<u64> {
-    let words = WORDS as usize;
-    let from: Vec<u64> = vec![in alloc; 7; pages as usize * words]?;
-    let mut to: Vec<u64> = vec![in alloc; 3; pages as usize * words]?;
+/// As many words as pages have are made twice; then those of so many pages are copied, so many words
+/// at a time. Gives one of the words.
+pub fn slices(alloc: Global, size: u32, pages: u32, copied: u32) -> Result<u64> {
+    let words = pages as usize * WORDS as usize;
+    let from: Vec<u64> = vec![in alloc; 7; words]?;
+    let mut to: Vec<u64> = vec![in alloc; 3; words]?;
+    let each = size.max(1) as usize;
+    let count = copied as usize * (WORDS as usize / each);
     for (to, from) in to
-        .chunks_exact_mut(words)
-        .zip(from.chunks_exact(words))
-        .take(copied as usize)
+        .chunks_exact_mut(each)
+        .zip(from.chunks_exact(each))
+        .take(count)
     {
         to.copy_from_slice(from);
     }
