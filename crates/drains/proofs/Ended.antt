@@ -12,7 +12,6 @@ use Rattle.model.proofs.Lists.{get_set_same, get_set_other, position_finds, posi
 use Rattle.model.proofs.Tables.{length_changed}
 use Rattle.std.proofs.lemmas.Option.{slice_get_past, slice_get_within}
 use Rattle.model.specs.declared.steps.Actor.TheVariants.{Worker}
-use Rattle.model.specs.declared.steps.Answer.TheVariants as answers
 use Rattle.model.specs.declared.steps.Refusal.{Refusal}
 use Rattle.model.specs.declared.steps.Refusal.TheVariants as refusals
 use Rattle.model.specs.declared.steps.Step.TheVariants as steps
@@ -21,7 +20,7 @@ use Rattle.model.specs.Emptying.{heap_after}
 use Rattle.model.specs.Holding.{IsHeap}
 use Rattle.model.specs.Outcome.{outcome, worker_gate, no_global}
 use Rattle.model.specs.Owning.{IsStore}
-use Rattle.model.specs.Refusing.{◌>>=◌, Outcome}
+use Rattle.model.specs.Refusing.{◌>>=◌}
 use Rattle.model.specs.Scans.{may_scan, is_free_todo, next_todo, next_drain, pick_step, global_step_or, is_todo_in}
 use Rattle.model.specs.Scans.{set_marked_of, with_marked_global, mark_global, scan_global_outcome}
 use Rattle.model.specs.References.{global_of}

@@ -1,7 +1,7 @@
 -- How many steps were done.
-use Rattle.std.proofs.Common.{◌≡◌, ◌∙◌, ◌+◌, ◌-◌, ◌^◌, ◌<◌, ◌≤◌, ℕ, Bool, true, false, List, [], ◌∷◌, ◌++◌, length, subst}
+use Rattle.std.proofs.Common.{◌≡◌, ◌+◌, ◌≤◌, ℕ, Bool, true, false, [], ◌∷◌, ◌++◌, subst}
 use Rattle.std.proofs.Common.{refl, sym, arith, length-append, inl, inr}
-use Rattle.std.specs.Prelude.{Result, Ok, Err}
+use Rattle.std.specs.Prelude.{Result, Ok, Err, Some}
 use Rattle.model.specs.declared.steps.Actor.{Actor}
 use Rattle.model.specs.declared.steps.Actor.TheVariants.{Worker}
 use Rattle.model.specs.declared.steps.Step.{Step}
@@ -13,11 +13,10 @@ use Rattle.model.specs.Refusing.{DoesStep}
 use Rattle.model.specs.Scans.{next_drain}
 use Rattle.model.specs.States.{HeapState}
 use Rattle.refinement.specs.Standing.{KeepsStanding}
-use Rattle.cycle.proofs.Stepped.{step_accepted, step_refused}
-use Rattle.managed.specs.Goings.{Goes, GoesFar, Drains, IsDrain, IsScan, ScansFar, ScansObjects, EndsDrain, EndsScan}
-use Rattle.managed.specs.Goings.{MOST_STEPS, Prepares, entry}
-use Rattle.managed.proofs.Draining.{objects_far}
-use Rattle.managed.proofs.Gathering.{scans_drain, scans_drain_far}
+use Rattle.cycle.proofs.Stepped.{step_accepted}
+use Rattle.managed.specs.Goings.{Goes, GoesFar, IsDrain, IsScan, ScansObjects, EndsDrain, EndsScan, MOST_OBJECTS, entry}
+use Rattle.managed.specs.Preparing.{Prepares}
+use Rattle.managed.proofs.Gathering.{scans_drain}
 use Rattle.managed.proofs.Going.{each_append, goes_none, goes_then, next_scans}
 use Rattle.managed.proofs.Running.{runs_none, runs_one, runs_then}
 
@@ -64,7 +63,7 @@ any_far P h g k = record { goes = k; many = omega arith }
 far_after : (P : Actor → Step → Type 0) (n : ℕ) (h m g : HeapState) → Goes P h m → GoesFar P n m g → GoesFar P n h g
 far_after P n h m g a b = far_fewer P n (0 + n) h g (omega arith) (far_then P 0 n h m g (any_far P h m a) b)
 
-far_before : (P : Actor → Step → Type 0) (n : ℕ) (h m g : HeapState) → GoesFar P n h m → Goes P m g → GoesFar P n h g
+pub far_before : (P : Actor → Step → Type 0) (n : ℕ) (h m g : HeapState) → GoesFar P n h m → Goes P m g → GoesFar P n h g
 far_before P n h m g a b = far_fewer P n (n + 0) h g (omega arith) (far_then P n 0 h m g a (any_far P m g b))
 
 -- ---- scans, step by step
@@ -81,38 +80,9 @@ scan_all w n most h g l k = far_fewer (IsScan w) most n h g l k
 
 -- ---- what comes before objects
 
--- a step of a drain
-pub step_prepares : (w : ℕ) (h g : HeapState) (step : Step) (r : Result Answer Refusal) (a : Answer) → Drains step
-    → r ≡ Ok a → DoesStep h step r g (outcome h (Worker w) step) → KeepsStanding h (Worker w) step r g
-    → Prepares w h true g
-step_prepares w h g step r a is ok does keeps =
-    far_step (IsDrain w) 0 h h g (Worker w) step r a (refl, is) ok does keeps (far_none (IsDrain w) h)
-
-pub step_leaves : (w : ℕ) (h g : HeapState) (step : Step) (r : Result Answer Refusal) (e : Refusal) → r ≡ Err e
-    → DoesStep h step r g (outcome h (Worker w) step) → Prepares w h false g
-step_leaves w h g step r e is does = (step_refused h g step e (outcome h (Worker w) step)
-    (subst (λ (q : Result Answer Refusal). DoesStep h step q g (outcome h (Worker w) step)) is does)).1
-
 pub prepares_goes : (w : ℕ) (h g : HeapState) (b : Bool) → Prepares w h b g → Goes (IsDrain w) h g
 prepares_goes w h g true k = k.goes
-prepares_goes w h g false k = subst (Goes (IsDrain w) h) (sym k) (goes_none (IsDrain w) h)
-
-pub prepares_more : (w : ℕ) (h m g : HeapState) (b : Bool) → Goes (IsDrain w) h m → Prepares w m b g
-    → Goes (IsDrain w) h g
-prepares_more w h m g b a k = goes_then (IsDrain w) h m g a (prepares_goes w m g b k)
-
--- something was done, and then more
-pub prepares_then : (w : ℕ) (h m g : HeapState) (b : Bool) → b ≡ true → Prepares w h b m → Goes (IsDrain w) m g
-    → Prepares w h true g
-prepares_then w h m g b is k a =
-    far_before (IsDrain w) 1 h m g (subst (λ (c : Bool). Prepares w h c m) is k) a
-
--- nothing was done so far
-pub prepares_after : (w : ℕ) (h m g : HeapState) (b : Bool) → m ≡ h → Prepares w m b g → Prepares w h b g
-prepares_after w h m g b same k = subst (λ (x : HeapState). Prepares w x b g) same k
-
-pub prepares_none : (w : ℕ) (h m g : HeapState) (b : Bool) → b ≡ false → m ≡ h → Prepares w m b g → g ≡ h
-prepares_none w h m g b is same k = subst (λ (c : Bool). Prepares w m c g) is k ∙ same
+prepares_goes w h g false k = subst (Goes (IsDrain w) h) (sym k.0) (goes_none (IsDrain w) h)
 
 -- ---- drains
 
@@ -120,25 +90,17 @@ pub drain_ends : (w : ℕ) (h g : HeapState) (r : Result Bool Refusal) (e : Refu
     → EndsDrain w h (Err e) g
 drain_ends w h g r e is k = inr (subst (λ (q : Result Bool Refusal). EndsScan w q g) is k)
 
-pub drain_left : (w n : ℕ) (h g : HeapState) → MOST_STEPS ≤ n → ScansObjects w n h g
+pub drain_left : (w n : ℕ) (h g : HeapState) → n ≤ MOST_OBJECTS → MOST_OBJECTS ≤ n → ScansObjects w n h g
     → EndsDrain w h (Err refusals.TodoLeft) g
-drain_left w n h g l k = inl (
-  refl,
-  far_fewer (IsDrain w) MOST_STEPS n h g l (scans_drain_far w n h g (objects_far w n h g k)),
-)
-
-pub drain_steps_left : (w : ℕ) (h g : HeapState) (r : Result Bool Refusal) → r ≡ Ok false
-    → ScansFar w MOST_STEPS h r g → EndsDrain w h (Err refusals.TodoLeft) g
-drain_steps_left w h g r is k = inl (
-  refl,
-  scans_drain_far w MOST_STEPS h g (subst (λ (q : Result Bool Refusal). ScansFar w MOST_STEPS h q g) is k),
-)
+drain_left w n h g few many k =
+    let all : n ≡ MOST_OBJECTS = omega (arith, few, many) in
+    inl (refl, (h, goes_none (IsDrain w) h, subst (λ (m : ℕ). ScansObjects w m h g) all k))
 
 -- what came before
 pub drain_after : (w : ℕ) (h m g : HeapState) (r : Result Unit Refusal) → Goes (IsDrain w) h m → EndsDrain w m r g
     → EndsDrain w h r g
 drain_after w h m g (Ok u) a k = k
-drain_after w h m g (Err e) a (inl k) = inl (k.0, far_after (IsDrain w) MOST_STEPS h m g a k.1)
+drain_after w h m g (Err e) a (inl (todo, k)) = inl (todo, (k.0, goes_then (IsDrain w) h m k.0 a k.1, k.2))
 drain_after w h m g (Err e) a (inr k) = inr k
 
 -- objects, whole

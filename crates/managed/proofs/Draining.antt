@@ -1,5 +1,5 @@
 -- Objects that are scanned whole: steps that scan.
-use Rattle.std.proofs.Common.{◌≡◌, ◌∙◌, ◌+◌, ◌≤◌, ℕ, suc, Bool, true, false, List, [], ◌∷◌, ◌++◌, length, refl, sym, subst}
+use Rattle.std.proofs.Common.{◌≡◌, ◌∙◌, ◌+◌, ℕ, suc, Bool, true, false, List, [], ◌∷◌, ◌++◌, refl, sym, subst}
 use Rattle.std.proofs.Common.{arith}
 use Rattle.std.specs.Prelude.{Ok, Err, if◌then◌else◌, is_ok}
 use Rattle.std.specs.List.{list_all}
@@ -18,7 +18,7 @@ use Rattle.model.specs.States.{HeapState}
 use Rattle.refinement.specs.Standing.{StepsHold}
 use Rattle.entries.specs.declared.entry.Entry.{Entry}
 use Rattle.drains.specs.Drains.{drains, is_pick, picks, after_steps, AreInOrder, IsDrained}
-use Rattle.managed.specs.Goings.{Goes, GoesFar, Scans, IsScan, ScansObjects, objects_in, entry}
+use Rattle.managed.specs.Goings.{Goes, Scans, IsScan, ScansObjects, objects_in, entry}
 use Rattle.managed.specs.Managing.{IsManaged}
 use Rattle.managed.specs.Runs.{Runs}
 use Rattle.managed.proofs.Going.{each_append}
@@ -105,22 +105,6 @@ drained_objects h g w n law d = subst (λ (k : ℕ). ScansObjects w k h g) d.cou
 
 pub drained_goes : (h g : HeapState) (w n : ℕ) → StepsHold → IsDrained h w n g → Goes (IsScan w) h g
 drained_goes h g w n law d = (drained_objects h g w n law d).goes
-
--- an object takes a step, and more
-objects_few : (es : List Entry) → objects_in es ≤ length es
-objects_few [] = omega arith
-objects_few (e ∷ es) = by_pick (is_pick e.step) (objects_few es)
-  where
-    by_pick : (b : Bool) → objects_in es ≤ length es → (if b then suc (objects_in es) else objects_in es)
-        ≤ length (e ∷ es)
-    by_pick true k = omega (arith, k)
-    by_pick false k = omega (arith, k)
-
-pub objects_far : (w n : ℕ) (h g : HeapState) → ScansObjects w n h g → GoesFar (IsScan w) n h g
-objects_far w n h g k = record {
-  goes = k.goes;
-  many = subst (λ (m : ℕ). m ≤ length k.goes.entries) k.count (objects_few k.goes.entries);
-}
 
 -- a managed heap after steps
 pub managed_goes : (P : Actor → Step → Type 0) (h g : HeapState) → IsManaged h → Goes P h g → IsManaged g

@@ -15,7 +15,7 @@ use Rattle.model.specs.States.{HeapState}
 use Rattle.refinement.specs.Standing.{Holds, KeepsStanding}
 use Rattle.entries.specs.declared.entry.Entry.{Entry}
 use Rattle.cycle.specs.Replays.{Replayed, after_entry, after_entries}
-use Rattle.managed.specs.Goings.{EachIs, Goes, GoesFar, IsScan, IsDrain, IsCrossing, IsScrub, EndsDrain, AllTried}
+use Rattle.managed.specs.Goings.{EachIs, Goes, IsScan, IsDrain, IsCrossing, IsScrub, EndsDrain, AllTried}
 use Rattle.managed.specs.Collecting.{IsCollecting, StandsUnseen, EndsWell, EndsHere, live_told}
 use Rattle.managed.specs.Collecting.{Marks, MarksRest, MarksScanned}
 use Rattle.model.specs.Checkpoints.{all_crossed}
@@ -58,17 +58,6 @@ scans_collect w h g k = goes_wider (IsScan w) (IsCollecting w) (scan_collects w)
 
 pub scans_drain : (w : ℕ) (h g : HeapState) → Goes (IsScan w) h g → Goes (IsDrain w) h g
 scans_drain w h g k = goes_wider (IsScan w) (IsDrain w) (scan_drains w) h g k
-
--- as many steps
-pub scans_drain_far : (w n : ℕ) (h g : HeapState) → GoesFar (IsScan w) n h g → GoesFar (IsDrain w) n h g
-scans_drain_far w n h g k = record {
-  goes = record {
-    entries = k.goes.entries;
-    each = each_wider (IsScan w) (IsDrain w) (scan_drains w) k.goes.entries k.goes.each;
-    runs = k.goes.runs;
-  };
-  many = k.many;
-}
 
 pub drains_collect : (w : ℕ) (h g : HeapState) → Goes (IsDrain w) h g → Goes (IsCollecting w) h g
 drains_collect w h g k = goes_wider (IsDrain w) (IsCollecting w) (drain_collects w) h g k

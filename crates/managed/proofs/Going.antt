@@ -14,7 +14,7 @@ use Rattle.model.specs.declared.steps.Refusal.{Refusal}
 use Rattle.model.specs.Refusing.{Outcome, DoesStep}
 use Rattle.model.specs.Outcome.{outcome}
 use Rattle.model.specs.Plain.{PlainHeap, plain_step}
-use Rattle.model.specs.Saying.{done, loaded}
+use Rattle.model.specs.Saying.{loaded}
 use Rattle.model.specs.Scans.{scan_of, next_drain, next_todo, global_step_or, pick_step}
 use Rattle.model.specs.States.{HeapState}
 use Rattle.refinement.specs.Standing.{Holds, KeepsStanding, kept_at_mark}

@@ -3,6 +3,9 @@ pub mod Going
 pub mod Gathering
 pub mod Draining
 pub mod Counting
+pub mod Left
+pub mod Copying
+pub mod Prepared
 pub mod Crossed
 pub mod Emptied
 pub mod Clearing

@@ -151,21 +151,19 @@ abbrev pub IsDrain : ℕ → Actor → Step → Type 0
 IsDrain w (Thread t) step = ⊥
 IsDrain w (Worker v) step = (v ≡ w) × Drains step
 
--- so many steps a drain does at most, one by one
-abbrev pub MOST_STEPS : ℕ
-MOST_STEPS = 2 ^ 64 - 1
+-- so many objects a drain scans at most
+abbrev pub MOST_OBJECTS : ℕ
+MOST_OBJECTS = 2 ^ 64 - 1
+
+-- so many objects were scanned, behind what came before them
+abbrev pub DrainsMost : ℕ → HeapState → HeapState → Type 0
+DrainsMost w h g = (m : HeapState) × Goes (IsDrain w) h m × ScansObjects w MOST_OBJECTS m g
 
 -- how a drain from heap h ended: nothing is left that no other worker has; or the next step is refused so; or so many
--- steps weren't enough
+-- objects weren't all
 abbrev pub EndsDrain : ℕ → HeapState → Result Unit Refusal → HeapState → Type 0
 EndsDrain w h (Ok u) g = next_drain g w ≡ None
-EndsDrain w h (Err e) g =
-    ((e ≡ refusals.TodoLeft) × GoesFar (IsDrain w) MOST_STEPS h g) ⊎ EndsScan w (Err e) g
-
--- what a worker did before it may scan objects whole: true where it has done something, else nothing was done
-abbrev pub Prepares : ℕ → HeapState → Bool → HeapState → Type 0
-Prepares w h true g = GoesFar (IsDrain w) 1 h g
-Prepares w h false g = g ≡ h
+EndsDrain w h (Err e) g = ((e ≡ refusals.TodoLeft) × DrainsMost w h g) ⊎ EndsScan w (Err e) g
 
 -- a crossing of any thread, or for one by worker w
 abbrev pub IsCrossing : ℕ → Actor → Step → Type 0

@@ -4,6 +4,7 @@ ghost use Rattle.std.specs.Prelude.{◌≡◌, ◌<◌, ◌≤◌, None};
 ghost use Rattle.drains.specs.Drains.{IsReady};
 ghost use Rattle.model.specs.Scans.{next_drain};
 ghost use Rattle.managed.specs.Goings.{EndsDrain, EndsScan, Goes, IsDrain, IsScan, ScansFar, ScansObjects, StandsForSame};
+ghost use Rattle.managed.specs.Preparing.{IsPrepared, ScansNothing};
 
 use crate::managed::ManagedHeap;
 use cycle::next_drain;
@@ -56,8 +57,8 @@ impl ManagedHeap {
     }
 
     /// A whole drain: what is left to be copied of protected pages is copied, and then it scans until nothing
-    /// is left that no other worker has, object by object. It answers `TodoLeft` where 2^64 - 1 steps
-    /// weren't enough.
+    /// is left that no other worker has, object by object. Where no scan of the worker is accepted, it is
+    /// refused as the next one would be. It answers `TodoLeft` where 2^64 - 1 objects weren't all.
     pub fn drain(&mut self, worker: u32) -> Result<(), Refusal>
         ensures goes { Goes (IsDrain worker) self.old self.new }
         ensures stands { StandsForSame self.old self.new }
@@ -68,13 +69,14 @@ impl ManagedHeap {
     }
 
     fn drain_prepared(&mut self, worker: u32) -> Result<(), Refusal>
+        requires { IsPrepared worker self.old }
         ensures goes { Goes (IsDrain worker) self.old self.new }
         ensures ends { EndsDrain worker self.old result self.new }
     {
         if is_ready(self.heap(), worker) {
             self.drain_objects(worker)
         } else {
-            self.drain_steps(worker)
+            self.drain_nothing(worker)
         }
     }
 
@@ -90,13 +92,14 @@ impl ManagedHeap {
         }
     }
 
-    fn drain_steps(&mut self, worker: u32) -> Result<(), Refusal>
+    fn drain_nothing(&mut self, worker: u32) -> Result<(), Refusal>
+        requires { ScansNothing worker self.old }
         ensures goes { Goes (IsDrain worker) self.old self.new }
         ensures ends { EndsDrain worker self.old result self.new }
     {
-        match self.scan(worker, u64::MAX) {
+        match self.scan(worker, 1) {
             Ok(true) => Ok(()),
-            Ok(false) => Err(Refusal::TodoLeft),
+            Ok(false) => unreachable!(),
             Err(refusal) => Err(refusal),
         }
     }
