@@ -13,7 +13,8 @@ use Rattle.model.specs.Refusing.{DoesStep}
 use Rattle.model.specs.Scans.{next_drain}
 use Rattle.model.specs.States.{HeapState}
 use Rattle.refinement.specs.Standing.{KeepsStanding}
-use Rattle.managed.specs.Goings.{Goes, IsCrossing, IsScan, IsScrub, AllTried, EndsScan, Prepares, ScansObjects}
+use Rattle.managed.specs.Goings.{Goes, IsCrossing, IsScan, IsScrub, AllTried, EndsScan, ScansObjects}
+use Rattle.managed.specs.Preparing.{Prepares}
 use Rattle.managed.proofs.Counting.{prepares_goes}
 use Rattle.managed.proofs.Gathering.{collect_step, crossings_collect, drains_collect, scans_collect, scrubs_collect}
 use Rattle.collecting.specs.Collections.{WORKER, Collects, EndsLeft}
@@ -93,7 +94,7 @@ scanned_before h g b is k = drains_collect WORKER h g (prepares_goes WORKER h g 
 pub scanned_behind : (h m g : HeapState) (b : Bool) (r : Result Bool Refusal) → b ≡ false → Prepares WORKER h b m
     → Goes (IsScan WORKER) m g → EndsScan WORKER r g → EndsScanning h r g
 scanned_behind h m g b r is k a ends =
-    subst (λ (x : HeapState). EndsScanning x r g) (subst (λ (c : Bool). Prepares WORKER h c m) is k)
+    subst (λ (x : HeapState). EndsScanning x r g) (subst (λ (c : Bool). Prepares WORKER h c m) is k).0
     (scanned m g r a ends)
 
 pub scanned_all : (h m g : HeapState) (s r : Result Bool Refusal) → s ≡ Ok true → EndsScanning h s m
