@@ -71,8 +71,8 @@ fn scan_ready(heap: &mut ManagedHeap, budget: u64) -> Result<bool, Refusal>
     }
 }
 
-/// What keeps the worker from scanning objects whole is done, a part of it; where nothing does, at most so
-/// many steps are done. True where nothing is left.
+/// What keeps the worker from scanning objects whole is done, a part of it. Where nothing of that is left, no
+/// scan would be accepted: it is refused as the next one is, or true where nothing is left.
 fn scan_unready(heap: &mut ManagedHeap, budget: u64) -> Result<bool, Refusal>
     ensures { EndsScanning heap.old result heap.new }
 {

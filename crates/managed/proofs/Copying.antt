@@ -1,6 +1,7 @@
 -- Rows of fields that are scanned and of pages that are copied whole, in a mark.
 use Rattle.std.proofs.Common.{◌≡◌, ◌∙◌, inl, inr, ℕ, zero, suc, ◌+◌, ◌*◌, ◌/◌, ◌%◌, ◌<◌, ◌≤◌, Bool, true, false}
-use Rattle.std.proofs.Common.{not, cond, nat_eq, nat_le, nat_lt, List, [], ◌∷◌, length, Option, Some, None, refl, sym, ap, subst}
+use Rattle.std.proofs.Common.{not, cond, nat_eq, nat_le, nat_lt, List, [], ◌∷◌, length, Option, Some, None, refl}
+use Rattle.std.proofs.Common.{sym, ap, subst}
 use Rattle.std.proofs.Common.{arith, eq-eqb, ne_eqb, count_by}
 use Rattle.std.specs.List.{slice_get, list_any, list_all}
 use Rattle.std.specs.Prelude.{◌||◌, Result, Ok, Err, is_ok}

@@ -63,7 +63,8 @@ any_far P h g k = record { goes = k; many = omega arith }
 far_after : (P : Actor → Step → Type 0) (n : ℕ) (h m g : HeapState) → Goes P h m → GoesFar P n m g → GoesFar P n h g
 far_after P n h m g a b = far_fewer P n (0 + n) h g (omega arith) (far_then P 0 n h m g (any_far P h m a) b)
 
-pub far_before : (P : Actor → Step → Type 0) (n : ℕ) (h m g : HeapState) → GoesFar P n h m → Goes P m g → GoesFar P n h g
+pub far_before : (P : Actor → Step → Type 0) (n : ℕ) (h m g : HeapState) → GoesFar P n h m → Goes P m g
+    → GoesFar P n h g
 far_before P n h m g a b = far_fewer P n (n + 0) h g (omega arith) (far_then P n 0 h m g a (any_far P m g b))
 
 -- ---- scans, step by step

@@ -1,5 +1,6 @@
 -- Before a worker scans objects whole: what its calls cite.
-use Rattle.std.proofs.Common.{◌≡◌, ◌≢◌, ◌⊎◌, ◌∙◌, inl, inr, ℕ, zero, suc, ◌+◌, ◌-◌, ◌^◌, ◌<◌, ◌≤◌, Bool, true, false, not}
+use Rattle.std.proofs.Common.{◌≡◌, ◌≢◌, ◌⊎◌, ◌∙◌, inl, inr, ℕ, zero, suc, ◌+◌, ◌-◌, ◌^◌, ◌<◌, ◌≤◌, Bool, true}
+use Rattle.std.proofs.Common.{false, not}
 use Rattle.std.proofs.Common.{List, [], ◌∷◌, length, Option, Some, None, refl, sym, ap, subst, arith}
 use Rattle.std.specs.List.{slice_get, list_any}
 use Rattle.std.specs.Prelude.{Result, Ok, Err, is_ok, is_some, nat_lt, MatchBool}
@@ -123,7 +124,8 @@ fields_next w n h m g k busy f =
     after : (s z : Scan) → next_field s ≡ z → (n ≡ 0) ⊎ ((n ≤ s.next) × (s.next ≤ MOST_FIELDS)) → s.next < MOST_FIELDS
         → (n + 1 ≤ z.next) × (z.next ≤ MOST_FIELDS)
     after s z same (inl none) low =
-        let is : s.next + 1 ≡ z.next = ap (λ (x : Scan). x.next) same in (omega (arith, none, is), omega (arith, low, is))
+        let is : s.next + 1 ≡ z.next = ap (λ (x : Scan). x.next) same in
+        (omega (arith, none, is), omega (arith, low, is))
     after s z same (inr few) low =
         let is : s.next + 1 ≡ z.next = ap (λ (x : Scan). x.next) same in
         let before = few.0 in (omega (arith, before, is), omega (arith, low, is))
@@ -287,7 +289,8 @@ ready_free w g free none = record { scan = free.scan; none = none; worker = free
 pub count_past : (n m : ℕ) (s : StoreState) (x h : HeapState) → m ≡ s.count → s ≡ x.store → x ≡ h → m ≤ n
     → h.store.count ≤ n
 count_past n m s x h a b e l =
-    let there : s.count ≡ h.store.count = ap (λ (y : StoreState). y.count) b ∙ ap (λ (y : HeapState). y.store.count) e in
+    let there : s.count ≡ h.store.count =
+    ap (λ (y : StoreState). y.count) b ∙ ap (λ (y : HeapState). y.store.count) e in
     omega (arith, a, there, l)
 
 pub pages_last : (w n : ℕ) (h g : HeapState) → HasCopied w n h g → IsHeap g → h.store.count ≤ n → IsReady g w

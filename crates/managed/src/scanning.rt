@@ -3,7 +3,8 @@
 ghost use Rattle.std.specs.Prelude.{◌≡◌, ◌<◌, ◌≤◌, None};
 ghost use Rattle.drains.specs.Drains.{IsReady};
 ghost use Rattle.model.specs.Scans.{next_drain};
-ghost use Rattle.managed.specs.Goings.{EndsDrain, EndsScan, Goes, IsDrain, IsScan, ScansFar, ScansObjects, StandsForSame};
+ghost use Rattle.managed.specs.Goings.{EndsDrain, EndsScan, Goes, IsDrain, IsScan, ScansFar, ScansObjects};
+ghost use Rattle.managed.specs.Goings.{StandsForSame};
 ghost use Rattle.managed.specs.Preparing.{IsPrepared, ScansNothing};
 
 use crate::managed::ManagedHeap;
