@@ -125,7 +125,11 @@ fn part(alloc: Global, heap: &mut impl Marking, parts: &mut Parts) -> Result<boo
 }
 
 /// Parts do the same, one after another: the object that the worker has, and each page.
-fn goes_by_parts(rt: &impl Abort, alloc: Global, mut heap: impl Marking + Drop) -> Result<(), Fail> {
+fn goes_by_parts(
+    rt: &impl Abort,
+    alloc: Global,
+    mut heap: impl Marking + Drop,
+) -> Result<(), Fail> {
     mark_halfway(rt, alloc, &mut heap)?;
     let mut parts = Parts::new(alloc);
     same(rt, part(alloc, &mut heap, &mut parts), Ok(false));
