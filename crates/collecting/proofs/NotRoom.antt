@@ -222,13 +222,13 @@ step_not g steps.ScanField k = field_not g WORKER
 step_not g (steps.ScanGlobal n) k = global_not g WORKER n
 step_not g _ k = absurd k
 
-drain_stops_not : (e : Refusal) (g : HeapState) → EndsDrain WORKER (Err e) g → lacks_room e ≡ false
-drain_stops_not e g (inl todo) = ap lacks_room todo
-drain_stops_not e g (inr k) = of_refused (outcome g (Worker WORKER) k.0) e
+drain_stops_not : (h : HeapState) (e : Refusal) (g : HeapState) → EndsDrain WORKER h (Err e) g → lacks_room e ≡ false
+drain_stops_not h e g (inl todo) = ap lacks_room todo.0
+drain_stops_not h e g (inr k) = of_refused (outcome g (Worker WORKER) k.0) e
     (step_not g k.0 (next_scans g WORKER k.0 k.1)) k.2
 
 scanning_stops_not : (h : HeapState) (e : Refusal) (g : HeapState) → StopsScanning WORKER h e g → lacks_room e ≡ false
-scanning_stops_not h e g (a, inl k) = drain_stops_not e g k
+scanning_stops_not h e g (a, inl k) = drain_stops_not h e g k
 scanning_stops_not h e g (a, inr k) = of_refused (outcome g (Worker WORKER) steps.EndMark) e (end_not g WORKER) k.1
 
 marking_stops_not : (h : HeapState) (e : Refusal) (g : HeapState) → StopsMarking WORKER h e g → lacks_room e ≡ false
@@ -285,7 +285,7 @@ at_not h e g (Listing memory same) = ap lacks_room memory
 at_not h e g (Beginning may refused same) =
     of_refused (outcome h (Worker WORKER) steps.StartMark) e (start_not h WORKER) refused
 at_not h e g (Crossing k) = crossing_stops_not h e g k
-at_not h e g (Scanning a k) = drain_stops_not e g (inr k)
+at_not h e g (Scanning a k) = drain_stops_not h e g (inr k)
 at_not h e g (Ending nothing refused same) =
     of_refused (outcome h (Worker WORKER) steps.EndMark) e (end_not h WORKER) refused
 at_not h e g (Protecting ns k room) = room

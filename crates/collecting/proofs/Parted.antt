@@ -1,5 +1,5 @@
 -- Parts of a collection, from one portion to the next.
-use Rattle.std.proofs.Common.{◌≡◌, ◌∙◌, ℕ, Bool, true, false, List, None, refl, sym, subst}
+use Rattle.std.proofs.Common.{◌≡◌, ℕ, Bool, true, false, List, None, refl, sym, subst}
 use Rattle.std.specs.Prelude.{Result, Ok, Err}
 use Rattle.model.specs.declared.steps.Actor.TheVariants.{Worker}
 use Rattle.model.specs.declared.steps.Step.TheVariants as steps
@@ -13,8 +13,10 @@ use Rattle.model.specs.Refusing.{DoesStep}
 use Rattle.model.specs.Scans.{next_drain}
 use Rattle.model.specs.States.{HeapState}
 use Rattle.refinement.specs.Standing.{KeepsStanding}
-use Rattle.managed.specs.Goings.{Goes, IsCrossing, IsScan, IsScrub, AllTried, EndsScan}
-use Rattle.managed.proofs.Gathering.{collect_step, crossings_collect, scans_collect, scrubs_collect}
+use Rattle.managed.specs.Goings.{Goes, IsCrossing, IsScan, IsScrub, AllTried, EndsScan, ScansObjects}
+use Rattle.managed.specs.Preparing.{Prepares}
+use Rattle.managed.proofs.Counting.{prepares_goes}
+use Rattle.managed.proofs.Gathering.{collect_step, crossings_collect, drains_collect, scans_collect, scrubs_collect}
 use Rattle.collecting.specs.Collections.{WORKER, Collects, EndsLeft}
 use Rattle.collecting.specs.Parts.{HasEnded, StopsAt, Stops, EndsPortion, EndsPart, EndsScanning, EndsProtecting}
 use Rattle.collecting.specs.Parts.{TellsAnew}
@@ -75,14 +77,25 @@ ended_stops h g s e nothing is does =
     subst (λ (x : HeapState). Stops h e x) (sym d.1)
     (stops_here h h e (none h) (Ending nothing d.0 refl))
 
-pub scanned_ready : (h g : HeapState) → Goes (IsScan WORKER) h g → Collects h g
-scanned_ready h g a = scans_collect WORKER h g a
+pub scanned_ready : (h g : HeapState) (n : ℕ) → ScansObjects WORKER n h g → Collects h g
+scanned_ready h g n a = scans_collect WORKER h g a.goes
 
 pub scanned : (h g : HeapState) (r : Result Bool Refusal) → Goes (IsScan WORKER) h g → EndsScan WORKER r g
     → EndsScanning h r g
 scanned h g (Ok true) a k = (scans_collect WORKER h g a, k)
 scanned h g (Ok false) a k = scans_collect WORKER h g a
 scanned h g (Err e) a k = (a, k)
+
+-- a part of what comes before objects that are scanned whole
+pub scanned_before : (h g : HeapState) (b : Bool) → b ≡ true → Prepares WORKER h b g → Collects h g
+scanned_before h g b is k = drains_collect WORKER h g (prepares_goes WORKER h g b k)
+
+-- nothing of it was left
+pub scanned_behind : (h m g : HeapState) (b : Bool) (r : Result Bool Refusal) → b ≡ false → Prepares WORKER h b m
+    → Goes (IsScan WORKER) m g → EndsScan WORKER r g → EndsScanning h r g
+scanned_behind h m g b r is k a ends =
+    subst (λ (x : HeapState). EndsScanning x r g) (subst (λ (c : Bool). Prepares WORKER h c m) is k).0
+    (scanned m g r a ends)
 
 pub scanned_all : (h m g : HeapState) (s r : Result Bool Refusal) → s ≡ Ok true → EndsScanning h s m
     → EndsPortion m r g → EndsPortion h r g

@@ -78,7 +78,7 @@ EndsProtecting h ns (Ok u) g = Collects h g
 EndsProtecting h ns (Err e) g =
     Collects h g × DoesStep h (steps.Protect ns) (Err e) g (outcome h (Worker WORKER) (steps.Protect ns))
 
--- how a scan of so many objects or steps ended: true where nothing is left that no other worker has
+-- how a portion of the scans ended: true where nothing is left that no other worker has
 abbrev pub EndsScanning : HeapState → Result Bool Refusal → HeapState → Type 0
 EndsScanning h (Ok true) g = Collects h g × (next_drain g WORKER ≡ None)
 EndsScanning h (Ok false) g = Collects h g

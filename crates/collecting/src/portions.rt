@@ -71,15 +71,27 @@ fn scan_ready(heap: &mut ManagedHeap, budget: u64) -> Result<bool, Refusal>
     }
 }
 
-/// At most so many objects are scanned, or so many steps done where objects have still to be copied. True
-/// where nothing is left.
+/// What keeps the worker from scanning objects whole is done, a part of it. Where nothing of that is left, no
+/// scan would be accepted: it is refused as the next one is, or true where nothing is left.
+fn scan_unready(heap: &mut ManagedHeap, budget: u64) -> Result<bool, Refusal>
+    ensures { EndsScanning heap.old result heap.new }
+{
+    if heap.prepare_some(0) {
+        Ok(false)
+    } else {
+        heap.scan(0, budget)
+    }
+}
+
+/// At most so many objects are scanned; or, before that, the object that the worker has, or one page is
+/// copied of which objects are still to be copied. True where nothing is left.
 fn scan_some(heap: &mut ManagedHeap, budget: u64) -> Result<bool, Refusal>
     ensures { EndsScanning heap.old result heap.new }
 {
     if is_ready(heap.heap(), 0) {
         scan_ready(heap, budget)
     } else {
-        heap.scan(0, budget)
+        scan_unready(heap, budget)
     }
 }
 

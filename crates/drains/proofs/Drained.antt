@@ -4,7 +4,8 @@ use Rattle.std.proofs.Common.{Bool, true, false}
 use Rattle.std.proofs.Common.{cond, nat_lt, nat_le, nat_eq, is_some, List, [], ◌∷◌, ◌++◌, get_or, length, Option, Some}
 use Rattle.std.proofs.Common.{None, refl, sym, ◌∙◌, ap, arith, subst}
 use Rattle.std.specs.List.{slice_get, list_all, find, range_with_len}
-use Rattle.std.specs.Prelude.{Result, Ok, Err, if◌then◌else◌}
+use Rattle.std.specs.Prelude.{Result, Ok, Err, if◌then◌else◌, is_ok}
+use Rattle.std.proofs.Math.ListN.{length-set}
 use Rattle.std.proofs.Math.Nat.{mod-lt}
 use Rattle.std.proofs.lemmas.Bool.{and_parts, cases_lt, true≢false}
 use Rattle.std.proofs.lemmas.Bool.Decides.{nat_tests}
@@ -12,6 +13,7 @@ use Rattle.std.proofs.lemmas.List.{get_or_past}
 use Rattle.std.proofs.lemmas.List.Folds.{list_all-append}
 use Rattle.std.proofs.lemmas.Nat.{div-add-mod'}
 use Rattle.std.proofs.lemmas.Option.{slice_get_past, slice_get_within, same_Some}
+use Rattle.model.specs.declared.records.Scan.{Scan}
 use Rattle.model.specs.declared.steps.Actor.TheVariants.{Worker}
 use Rattle.model.specs.declared.steps.Answer.TheVariants as answers
 use Rattle.model.specs.declared.steps.Refusal.{Refusal}
@@ -39,7 +41,7 @@ use Rattle.drains.specs.Drains.{drains, is_pick, picks, after_steps, AreInOrder,
 use Rattle.drains.specs.Drains.{marked_field, field_steps, object_steps, IsReady, HasDrained, refs_at, marked_fields}
 use Rattle.drains.specs.Drains.{without_todo, scanned}
 use Rattle.drains.proofs.Scanned.{MayScan, scan_heap, field_keeps, one_field, layout_stays, fields_keep, at_field}
-use Rattle.drains.proofs.Scanned.{scans, fields_scanned}
+use Rattle.drains.proofs.Scanned.{scans, fields_scanned, field_row}
 
 -- ---- drains one behind the other
 
@@ -54,7 +56,8 @@ drained_none h w = record { steps = []; only = refl; count = refl; order = tt; d
 order_both : (h : HeapState) (w : ℕ) (ss ts : List Step) → AreInOrder h w ss → AreInOrder (after_steps h w ss) w ts
     → AreInOrder h w (ss ++ ts)
 order_both h w [] ts a b = b
-order_both h w (s ∷ ss) ts a b = (a.0, a.1, order_both (heap_after h (outcome h (Worker w) s)) w ss ts a.2 b)
+order_both h w (s ∷ ss) ts a b =
+    (a.0, a.1, a.2, order_both (heap_after h (outcome h (Worker w) s)) w ss ts a.3 b)
 
 picks_both : (ss ts : List Step) → picks (ss ++ ts) ≡ picks ss + picks ts
 picks_both [] ts = omega arith
@@ -138,14 +141,18 @@ page_there h n o i e =
     by_bounds : (n m : ℕ) → 0 < n → n ≤ m → (nat_eq n 0 || nat_lt m n) ≡ false
     by_bounds n m a b = grind (arith, nat_tests)
 
-row_is : (h n : HeapState) (g r : Result Unit Refusal) (b c : Bool) → g ≡ Ok tt → r ≡ Ok tt → b ≡ true → c ≡ false
-    → heap_after h (g >>= (λ u. r >>= (λ v. if not b then Err refusals.NotTodo
-    else (if c then Err refusals.Taken else Ok (n, answers.Done))))) ≡ n
-row_is h n (Ok u) (Ok v) true false e f k l = refl
-row_is h n (Ok u) (Ok v) true true e f k l = absurd (cc)
-row_is h n (Ok u) (Ok v) false c e f k l = absurd (cc)
-row_is h n (Ok u) (Err x) b c e f k l = absurd (cc)
-row_is h n (Err x) r b c e f k l = absurd (cc)
+-- a step is accepted with nothing to tell
+abbrev pub done : HeapState → Outcome
+done g = Ok (g, answers.Done)
+
+row_is : (n : HeapState) (g r : Result Unit Refusal) (b c : Bool) → g ≡ Ok tt → r ≡ Ok tt → b ≡ true → c ≡ false
+    → (g >>= (λ u. r >>= (λ v. if not b then Err refusals.NotTodo
+    else (if c then Err refusals.Taken else done n)))) ≡ done n
+row_is n (Ok u) (Ok v) true false e f k l = refl
+row_is n (Ok u) (Ok v) true true e f k l = absurd (cc)
+row_is n (Ok u) (Ok v) false c e f k l = absurd (cc)
+row_is n (Ok u) (Err x) b c e f k l = absurd (cc)
+row_is n (Err x) r b c e f k l = absurd (cc)
 
 abbrev gate : Bool → Bool → Result Unit Refusal
 gate a b = if (a || false) then Err refusals.NoActor else (if b then Err refusals.BadIndex else Ok tt)
@@ -175,14 +182,14 @@ not_is : (b : Bool) → not b ≡ true → b ≡ false
 not_is false e = refl
 not_is true e = absurd (cc)
 
-picked : (h : HeapState) (w a : ℕ) → IsHeap h → MayScan h w → is_free_todo h a ≡ true
-    → heap_after h (outcome h (Worker w) (steps.Pick (a / h.store.words) (a % h.store.words)))
-    ≡ with_scan h w (Some (at_field a 0))
+pick_is : (h : HeapState) (w a : ℕ) → IsHeap h → MayScan h w → is_free_todo h a ≡ true
+    → outcome h (Worker w) (steps.Pick (a / h.store.words) (a % h.store.words))
+    ≡ done (with_scan h w (Some (at_field a 0)))
 unfolding outcome worker_gate no_page pick_outcome is_free_todo
-picked h w a i m free =
+pick_is h w a i m free =
     let (bit, apart) = and_parts (bit_at h.todo h.store.words a) (not (is_taken h a)) free in
     let back : a / h.store.words * h.store.words + a % h.store.words ≡ a = div-add-mod' a h.store.words in
-    row_is h (with_scan h w (Some (first_field (a / h.store.words * h.store.words + a % h.store.words)))) _ (may_scan h)
+    row_is (with_scan h w (Some (first_field (a / h.store.words * h.store.words + a % h.store.words)))) _ (may_scan h)
     (nat_lt (a % h.store.words) h.store.words && bit_on h.todo (a / h.store.words) (a % h.store.words))
     (is_some (scan_of h w) || is_taken h (a / h.store.words * h.store.words + a % h.store.words))
     (gate_is (nat_le (length h.workers) w)
@@ -192,18 +199,40 @@ picked h w a i m free =
     m.scan
     (both_true _ _ (lt-is (a % h.store.words) h.store.words (mod-lt a m.store.sized.words_low)) bit)
     (neither _ _ (ap (λ o. is_some (flat o)) m.worker) (ap (is_taken h) back ∙ not_is (is_taken h a) apart))
-    ∙ ap (λ x. with_scan h w (Some (at_field x 0))) back
+    ∙ ap (λ (x : ℕ). done (with_scan h w (Some (at_field x 0)))) back
+
+picked : (h : HeapState) (w a : ℕ) → IsHeap h → MayScan h w → is_free_todo h a ≡ true
+    → heap_after h (outcome h (Worker w) (steps.Pick (a / h.store.words) (a % h.store.words)))
+    ≡ with_scan h w (Some (at_field a 0))
+picked h w a i m free = ap (heap_after h) (pick_is h w a i m free)
 
 -- ---- an object
+
+next_accepted : (h : HeapState) (w : ℕ) (s : Scan) (o : Option ℕ) → is_ok (scan_next h w s o) ≡ true
+next_accepted h w s None = refl
+next_accepted h w s (Some place) = refl
+
+field_accepted : (h : HeapState) (w : ℕ) (s : Scan) → MayScan h w
+    → is_ok (outcome (with_scan h w (Some s)) (Worker w) steps.ScanField) ≡ true
+unfolding outcome worker_gate with_scan
+field_accepted h w s m =
+    ap (λ (r : Result Unit Refusal). is_ok (r >>= (λ u. scan_field_outcome (with_scan h w (Some s)) w)))
+    (gate_is (nat_le (length (with_scan h w (Some s)).workers) w) false
+    (ap (λ (n : ℕ). nat_le n w) (length-set h.workers w (Some s))
+    ∙ lt-not-le w (length h.workers) (slice_get_within h.workers w None m.worker)) refl)
+    ∙ ap is_ok (field_row h w s m)
+    ∙ next_accepted (with_scan h w (Some s)) w s (field_at (with_scan h w (Some s)) s.object s.next)
 
 -- the heaps between its fields are in order
 fields_order : (h : HeapState) (w a i k : ℕ) → MayScan h w → refs_in (layout_at h a) ≡ i + k
     → AreInOrder (with_scan h w (Some (at_field a i))) w (field_steps (suc k))
 unfolding with_scan
-fields_order h w a i zero m e = (m.store, scan_heap h w (Some (at_field a i)) m.heap, tt)
+fields_order h w a i zero m e =
+    (m.store, scan_heap h w (Some (at_field a i)) m.heap, field_accepted h w (at_field a i) m, tt)
 fields_order h w a i (suc k) m e = (
   m.store,
   scan_heap h w (Some (at_field a i)) m.heap,
+  field_accepted h w (at_field a i) m,
   by_layout (layout_at h a) refl e (fields_order (marked_field h (field_address a i)) w a (i + 1) k
       (field_keeps h w (field_address a i) m)),
 )
@@ -238,6 +267,7 @@ object_drained h g w a s i r free e = record {
   order = (
     s,
     i,
+    ap is_ok (pick_is h w a i m free),
     subst (λ k. AreInOrder k w (field_steps (suc (refs_at h a)))) (sym (picked h w a i m free))
         (fields_order h w a 0 (refs_at h a) m (omega arith)),
   );
@@ -307,7 +337,7 @@ steps_stand : StepsHold → (h : HeapState) (w : ℕ) (ss : List Step) (p p0 : P
 steps_stand law h w [] p p0 d o k = k
 steps_stand law h w (s ∷ ss) p p0 d o k =
     let (one, rest) = and_parts (drains s) (list_all drains ss) d in
-    steps_stand law (heap_after h (outcome h (Worker w) s)) w ss p p0 rest o.2
+    steps_stand law (heap_after h (outcome h (Worker w) s)) w ss p p0 rest o.3
     (step_stands law h w s p p0 one o.0 o.1 k)
 
 pub drained_stands : (h g : HeapState) (w n : ℕ) → StepsHold → IsDrained h w n g → KeepsPlain h g

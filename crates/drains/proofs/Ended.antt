@@ -3,7 +3,7 @@ use Rattle.std.proofs.Common.{◌≡◌, ◌≢◌, ◌⊎◌, inl, inr, ℕ, �
 use Rattle.std.proofs.Common.{nat_le, is_some, List, [], ◌∷◌, length, Option, Some, None, refl, sym, ◌∙◌, ap, arith}
 use Rattle.std.proofs.Common.{subst}
 use Rattle.std.specs.List.{slice_get, position}
-use Rattle.std.specs.Prelude.{Result, Ok, Err, if◌then◌else◌}
+use Rattle.std.specs.Prelude.{Result, Ok, Err, if◌then◌else◌, is_ok}
 use Rattle.std.proofs.lemmas.Bool.{cases_lt, true≢false}
 use Rattle.model.specs.declared.records.Global.{Global}
 use Rattle.model.specs.Marks.{with_mark, marked_word}
@@ -12,7 +12,6 @@ use Rattle.model.proofs.Lists.{get_set_same, get_set_other, position_finds, posi
 use Rattle.model.proofs.Tables.{length_changed}
 use Rattle.std.proofs.lemmas.Option.{slice_get_past, slice_get_within}
 use Rattle.model.specs.declared.steps.Actor.TheVariants.{Worker}
-use Rattle.model.specs.declared.steps.Answer.TheVariants as answers
 use Rattle.model.specs.declared.steps.Refusal.{Refusal}
 use Rattle.model.specs.declared.steps.Refusal.TheVariants as refusals
 use Rattle.model.specs.declared.steps.Step.TheVariants as steps
@@ -30,7 +29,7 @@ use Rattle.refinement.specs.Standing.{StepsHold}
 use Rattle.drains.specs.Drains.{IsDrained, KeepsPlain, IsReady, HasDrained, ObjectsDone, NoneTodo, with_global_done}
 use Rattle.drains.specs.Drains.{scanned}
 use Rattle.drains.proofs.Scanned.{mark_heap, none_copied, scanned_globals}
-use Rattle.drains.proofs.Drained.{lt-not-le, drained_then, gate_is, first_drained, more_drained, drained_stands}
+use Rattle.drains.proofs.Drained.{lt-not-le, done, drained_then, gate_is, first_drained, more_drained, drained_stands}
 
 -- ---- globals
 
@@ -110,12 +109,12 @@ global_ready : (h : HeapState) (w n : ℕ) (v : Reference) → IsReady h w → I
 unfolding with_marked_global with_mark may_scan all_crossed
 global_ready h w n v r = record { scan = r.scan; none = r.none; worker = r.worker }
 
-global_row : (h n : HeapState) (g r : Result Unit Refusal) (b : Bool) → g ≡ Ok tt → r ≡ Ok tt → b ≡ true
-    → heap_after h (g >>= (λ u. r >>= (λ v. if b then Ok (n, answers.Done) else Err refusals.NotTodo))) ≡ n
-global_row h n (Ok u) (Ok v) true e f k = refl
-global_row h n (Ok u) (Ok v) false e f k = absurd (cc)
-global_row h n (Ok u) (Err x) b e f k = absurd (cc)
-global_row h n (Err x) r b e f k = absurd (cc)
+global_row : (n : HeapState) (g r : Result Unit Refusal) (b : Bool) → g ≡ Ok tt → r ≡ Ok tt → b ≡ true
+    → (g >>= (λ u. r >>= (λ v. if b then done n else Err refusals.NotTodo))) ≡ done n
+global_row n (Ok u) (Ok v) true e f k = refl
+global_row n (Ok u) (Ok v) false e f k = absurd (cc)
+global_row n (Ok u) (Err x) b e f k = absurd (cc)
+global_row n (Err x) r b e f k = absurd (cc)
 
 global_there : (gs : List Global) (n : ℕ) → is_todo_in (slice_get gs n) ≡ true → n < length gs
 global_there gs n e = by_place (cases_lt n (length gs))
@@ -125,16 +124,17 @@ global_there gs n e = by_place (cases_lt n (length gs))
     by_place (inr l) = absurd (true≢false (sym e ∙ ap is_todo_in (slice_get_past gs n l)))
 
 global_step : (h : HeapState) (w n : ℕ) → IsReady h w → is_todo_in (slice_get h.globals n) ≡ true
-    → heap_after h (outcome h (Worker w) (steps.ScanGlobal n)) ≡ with_marked_global h n (global_of h n)
+    → outcome h (Worker w) (steps.ScanGlobal n) ≡ done (with_marked_global h n (global_of h n))
 unfolding outcome worker_gate no_global scan_global_outcome mark_global
 global_step h w n r todo =
-    global_row h (with_marked_global (copied_for h (global_of h n)) n (global_of h n)) _ (may_scan h)
+    global_row (with_marked_global (copied_for h (global_of h n)) n (global_of h n)) _ (may_scan h)
     (is_todo_in (slice_get h.globals n))
     (gate_is (nat_le (length h.workers) w) (nat_le (length h.globals) n)
     (lt-not-le w (length h.workers) (slice_get_within h.workers w None r.worker))
     (lt-not-le n (length h.globals) (global_there h.globals n todo)))
     r.scan todo
-    ∙ ap (λ k. with_marked_global k n (global_of h n)) (none_copied h (global_of h n) r.none)
+    ∙ ap (λ (k : HeapState). done (with_marked_global k n (global_of h n)))
+    (none_copied h (global_of h n) r.none)
 
 pub global_drained : (h g k : HeapState) (w m n : ℕ) → HasDrained h w m g → IsStore g.store → IsHeap g
     → is_todo_in (slice_get g.globals n) ≡ true → k ≡ with_marked_global g n (global_of g n) → HasDrained h w m k
@@ -145,8 +145,8 @@ global_drained h g k w m n d s i todo e =
             steps = steps.ScanGlobal n ∷ [];
             only = refl;
             count = refl;
-            order = (s, i, tt);
-            done = sym (global_step g w n d.ready todo);
+            order = (s, i, ap is_ok (global_step g w n d.ready todo), tt);
+            done = sym (ap (heap_after g) (global_step g w n d.ready todo));
           }));
       ready = global_ready g w n (global_of g n) d.ready;
     })

@@ -195,7 +195,7 @@ scan_again h w s t = ap (λ (ws : List (Option Scan)). record h { workers = ws }
 abbrev row : HeapState → ℕ → Result Unit Refusal → Option Scan → Outcome
 row g w r o = r >>= (λ u. or_refuse o refusals.NotTodo >>= (λ s. scan_next g w s (field_at g s.object s.next)))
 
-field_row : (h : HeapState) (w : ℕ) (s : Scan) → MayScan h w
+pub field_row : (h : HeapState) (w : ℕ) (s : Scan) → MayScan h w
     → scan_field_outcome (with_scan h w (Some s)) w
     ≡ scan_next (with_scan h w (Some s)) w s (field_at (with_scan h w (Some s)) s.object s.next)
 unfolding scan_field_outcome with_scan may_scan all_crossed

@@ -1,6 +1,6 @@
 -- Drains: steps of a worker that scan, many at once (the paper's Mark phase).
 use Rattle.std.specs.Prelude.{◌≡◌, ℕ, zero, suc, ◌+◌, ◌<◌, true, false, Bool, List, [], ◌∷◌, Option, Some, None, Ok}
-use Rattle.std.specs.Prelude.{slice_get, if◌then◌else◌}
+use Rattle.std.specs.Prelude.{slice_get, if◌then◌else◌, is_ok}
 use Rattle.std.specs.List.{list_all}
 use Rattle.forward.specs.Counts.{uncopied_count}
 use Rattle.layout.specs.declared.shape.Layout.{Layout}
@@ -39,17 +39,19 @@ abbrev pub picks : List Step → ℕ
 picks [] = 0
 picks (s ∷ ss) = if is_pick s then suc (picks ss) else picks ss
 
--- the heap after steps of a worker, one after the other; a refused one leaves it as it was
+-- the heap after steps of a worker, one after the other; a refused one would leave it as it was
 abbrev pub after_steps : HeapState → ℕ → List Step → HeapState
 after_steps h w [] = h
 after_steps h w (s ∷ ss) = after_steps (heap_after h (outcome h (Worker w) s)) w ss
 
--- each heap to which one of some steps of a worker is done is in order
+-- each of some steps of a worker is accepted, and the heap to which it is done is in order
 abbrev pub AreInOrder : HeapState → ℕ → List Step → Type 0
 AreInOrder h w [] = Unit {0}
-AreInOrder h w (s ∷ ss) = IsStore h.store × IsHeap h × AreInOrder (heap_after h (outcome h (Worker w) s)) w ss
+AreInOrder h w (s ∷ ss) =
+    IsStore h.store × IsHeap h × (is_ok (outcome h (Worker w) s) ≡ true)
+    × AreInOrder (heap_after h (outcome h (Worker w) s)) w ss
 
--- a heap was drained by a worker, as far as it is: some steps of a drain lead to it, which take n objects
+-- a heap was drained by a worker, as far as it is: some accepted steps of a drain lead to it, which take n objects
 pub record IsDrained (h : HeapState) (w n : ℕ) (g : HeapState) : Type 0 where
   pub steps : List Step
   pub only : list_all drains steps ≡ true

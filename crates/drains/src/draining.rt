@@ -84,9 +84,9 @@ fn is_free(heap: &Heap, worker: u32) -> bool
     }
 }
 
-/// Whether a mark runs that all threads have crossed.
+/// Whether a mark runs that all threads have crossed: else no worker scans anything.
 #[tactic(auto, unfolding(model::specs::Scans::may_scan))]
-fn may_scan(heap: &Heap) -> bool
+pub fn may_scan(heap: &Heap) -> bool
     ensures { MatchBool result (may_scan heap.now ≡ Ok tt) (may_scan heap.now ≢ Ok tt) }
 {
     heap.phase().is_marking() && heap.all_crossed().is_ok()

@@ -6,4 +6,4 @@ mod draining;
 mod globals;
 mod whole;
 
-pub use draining::{drain, is_ready};
+pub use draining::{drain, is_ready, may_scan};

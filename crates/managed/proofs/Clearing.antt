@@ -17,13 +17,12 @@ use Rattle.model.specs.declared.steps.Answer.TheVariants as answers
 use Rattle.model.specs.declared.steps.Refusal.{Refusal}
 use Rattle.model.specs.declared.steps.Refusal.TheVariants as refusals
 use Rattle.model.specs.declared.steps.Trap.{Trap}
-use Rattle.model.specs.declared.steps.Trap.TheVariants as traps
 use Rattle.model.specs.Holding.{IsHeap}
 use Rattle.model.specs.Loads.{barrier_of_thread, with_barrier, with_loaded, gc_trap_due, nmt_trap_due, nmt_trap, trap_due}
 use Rattle.model.specs.Loads.{is_refused, bits_at, are_bits_of, set_healed, set_now_of, heal_place, heal_outcome, may_finish}
 use Rattle.model.specs.Loads.{end_load, finish_outcome}
 use Rattle.model.specs.Marks.{with_mark, marked_word}
-use Rattle.model.specs.Moves.{copied_first, copied_for, moved_word}
+use Rattle.model.specs.Moves.{copied_for}
 use Rattle.model.specs.Outcome.{outcome, thread_gate, is_loading_in}
 use Rattle.model.specs.Owning.{IsStore}
 use Rattle.model.specs.Phases.{may_nmt_trap, same_bit, is_protect_crossing}

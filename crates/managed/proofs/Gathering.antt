@@ -15,7 +15,7 @@ use Rattle.model.specs.States.{HeapState}
 use Rattle.refinement.specs.Standing.{Holds, KeepsStanding}
 use Rattle.entries.specs.declared.entry.Entry.{Entry}
 use Rattle.cycle.specs.Replays.{Replayed, after_entry, after_entries}
-use Rattle.managed.specs.Goings.{EachIs, Goes, IsScan, IsCrossing, IsScrub, EndsDrain, AllTried}
+use Rattle.managed.specs.Goings.{EachIs, Goes, IsScan, IsDrain, IsCrossing, IsScrub, EndsDrain, AllTried}
 use Rattle.managed.specs.Collecting.{IsCollecting, StandsUnseen, EndsWell, EndsHere, live_told}
 use Rattle.managed.specs.Collecting.{Marks, MarksRest, MarksScanned}
 use Rattle.model.specs.Checkpoints.{all_crossed}
@@ -36,6 +36,17 @@ scan_collects : (w : ℕ) (actor : Actor) (step : Step) → IsScan w actor step 
 scan_collects w (Thread t) step is = absurd is
 scan_collects w (Worker v) step is = is.0
 
+scan_drains : (w : ℕ) (actor : Actor) (step : Step) → IsScan w actor step → IsDrain w actor step
+scan_drains w (Thread t) step is = absurd is
+scan_drains w (Worker v) (steps.Pick page offset) is = is
+scan_drains w (Worker v) steps.ScanField is = is
+scan_drains w (Worker v) (steps.ScanGlobal n) is = is
+scan_drains w (Worker v) _ is = absurd is.1
+
+drain_collects : (w : ℕ) (actor : Actor) (step : Step) → IsDrain w actor step → IsCollecting w actor step
+drain_collects w (Thread t) step is = absurd is
+drain_collects w (Worker v) step is = is.0
+
 crossing_collects : (w : ℕ) (actor : Actor) (step : Step) → IsCrossing w actor step → IsCollecting w actor step
 crossing_collects w (Thread t) steps.Cross is = tt
 crossing_collects w (Thread t) _ is = absurd is
@@ -44,6 +55,12 @@ crossing_collects w (Worker v) _ is = absurd is
 
 pub scans_collect : (w : ℕ) (h g : HeapState) → Goes (IsScan w) h g → Goes (IsCollecting w) h g
 scans_collect w h g k = goes_wider (IsScan w) (IsCollecting w) (scan_collects w) h g k
+
+pub scans_drain : (w : ℕ) (h g : HeapState) → Goes (IsScan w) h g → Goes (IsDrain w) h g
+scans_drain w h g k = goes_wider (IsScan w) (IsDrain w) (scan_drains w) h g k
+
+pub drains_collect : (w : ℕ) (h g : HeapState) → Goes (IsDrain w) h g → Goes (IsCollecting w) h g
+drains_collect w h g k = goes_wider (IsDrain w) (IsCollecting w) (drain_collects w) h g k
 
 pub crossings_collect : (w : ℕ) (h g : HeapState) → Goes (IsCrossing w) h g → Goes (IsCollecting w) h g
 crossings_collect w h g k = goes_wider (IsCrossing w) (IsCollecting w) (crossing_collects w) h g k
@@ -121,20 +138,20 @@ well_after w h m g live a b = record {
 
 -- a drain, and then the end
 pub scanned_then : (w : ℕ) (h m g : HeapState) (d : Result Unit Refusal) (u : Unit {0}) (result : Result ℕ Refusal)
-    → d ≡ Ok u → Goes (IsScan w) h m → EndsDrain w d m → EndsHere w m result g → MarksScanned w h result g
+    → d ≡ Ok u → Goes (IsDrain w) h m → EndsDrain w h d m → EndsHere w m result g → MarksScanned w h result g
 scanned_then w h m g d u (Ok live) is a ends b =
-    let k = scans_collect w h m a in
+    let k = drains_collect w h m a in
     (goes_then (IsCollecting w) h m g k b.0, well_after w h m g live k b.1)
 scanned_then w h m g d u (Err e) is a ends b = subst (λ (x : HeapState). MarksScanned w h (Err e) x) (sym b.1) (
-  scans_collect w h m a,
-  (a, inr (subst (λ (r : Result Unit Refusal). EndsDrain w r m) is ends, b.0)),
+  drains_collect w h m a,
+  (a, inr (subst (λ (r : Result Unit Refusal). EndsDrain w h r m) is ends, b.0)),
 )
 
 -- a drain that stopped
-pub scanned_stops : (w : ℕ) (h g : HeapState) (e : Refusal) (d : Result Unit Refusal) → d ≡ Err e → Goes (IsScan w) h g
-    → EndsDrain w d g → MarksScanned w h (Err e) g
+pub scanned_stops : (w : ℕ) (h g : HeapState) (e : Refusal) (d : Result Unit Refusal) → d ≡ Err e
+    → Goes (IsDrain w) h g → EndsDrain w h d g → MarksScanned w h (Err e) g
 scanned_stops w h g e d is a ends =
-    (scans_collect w h g a, (a, inl (subst (λ (r : Result Unit Refusal). EndsDrain w r g) is ends)))
+    (drains_collect w h g a, (a, inl (subst (λ (r : Result Unit Refusal). EndsDrain w h r g) is ends)))
 
 -- all threads cross, and then the rest of a mark
 pub crossed_then : (w : ℕ) (h m g : HeapState) (c : Result Unit Refusal) (u : Unit {0}) (result : Result ℕ Refusal)

@@ -14,7 +14,7 @@ use Rattle.model.specs.declared.steps.Refusal.{Refusal}
 use Rattle.model.specs.Refusing.{Outcome, DoesStep}
 use Rattle.model.specs.Outcome.{outcome}
 use Rattle.model.specs.Plain.{PlainHeap, plain_step}
-use Rattle.model.specs.Saying.{done, loaded}
+use Rattle.model.specs.Saying.{loaded}
 use Rattle.model.specs.Scans.{scan_of, next_drain, next_todo, global_step_or, pick_step}
 use Rattle.model.specs.States.{HeapState}
 use Rattle.refinement.specs.Standing.{Holds, KeepsStanding, kept_at_mark}
@@ -22,11 +22,11 @@ use Rattle.entries.specs.declared.entry.Entry.{Entry}
 use Rattle.cycle.specs.Mutating.{DoesThread, ThreadStands}
 use Rattle.cycle.specs.Replays.{Replayed, after_entry, after_entries}
 use Rattle.cycle.proofs.Stepped.{step_accepted, step_refused}
-use Rattle.managed.specs.Goings.{EachIs, Goes, StandsForSame, IsInBarrier, Scans, IsScan, EndsLoad}
+use Rattle.managed.specs.Goings.{EachIs, Goes, StandsForSame, IsInBarrier, Scans, IsScan, IsDrain, EndsLoad}
 use Rattle.managed.specs.Goings.{LoadsWhole, LoadStands, EndsScan, IsCrossing, entry}
 use Rattle.managed.proofs.Running.{runs_none, runs_then, runs_one}
 
-each_append : (P : Actor → Step → Type 0) (es fs : List Entry) → EachIs P es → EachIs P fs → EachIs P (es ++ fs)
+pub each_append : (P : Actor → Step → Type 0) (es fs : List Entry) → EachIs P es → EachIs P fs → EachIs P (es ++ fs)
 each_append P [] fs a b = b
 each_append P (e ∷ es) fs a b = (a.0, each_append P es fs a.1 b)
 
@@ -126,6 +126,23 @@ crossing_quiet w ls r e is = by_step e.actor e.step e.answer is
 
 pub crossings_same : (w : ℕ) (h g : HeapState) → Goes (IsCrossing w) h g → StandsForSame h g
 crossings_same w h g k = quiet_goes (IsCrossing w) (crossing_quiet w) h g k
+
+-- nor of a step of a drain
+drain_quiet : (w : ℕ) (ls : List Layout) (r : Replayed) (e : Entry) → IsDrain w e.actor e.step → after_entry ls r e ≡ r
+unfolding plain_step
+drain_quiet w ls r e is = by_step e.actor e.step e.answer is
+  where
+    by_step : (actor : Actor) (step : Step) (a : Answer) → IsDrain w actor step
+        → after_entry ls r (entry actor step a) ≡ r
+    by_step (Thread t) step a is = absurd is
+    by_step (Worker v) (steps.CopyPage page) a is = refl
+    by_step (Worker v) (steps.Pick page offset) a is = refl
+    by_step (Worker v) steps.ScanField a is = refl
+    by_step (Worker v) (steps.ScanGlobal g) a is = refl
+    by_step (Worker v) _ a is = absurd is.1
+
+pub drains_same : (w : ℕ) (h g : HeapState) → Goes (IsDrain w) h g → StandsForSame h g
+drains_same w h g k = quiet_goes (IsDrain w) (drain_quiet w) h g k
 
 pub scans_same : (w : ℕ) (h g : HeapState) → Goes (IsScan w) h g → StandsForSame h g
 scans_same w h g k = quiet_goes (IsScan w) (scan_quiet w) h g k

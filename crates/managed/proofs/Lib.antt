@@ -2,6 +2,10 @@ pub mod Running
 pub mod Going
 pub mod Gathering
 pub mod Draining
+pub mod Counting
+pub mod Left
+pub mod Copying
+pub mod Prepared
 pub mod Crossed
 pub mod Emptied
 pub mod Clearing

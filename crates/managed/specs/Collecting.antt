@@ -13,7 +13,7 @@ use Rattle.model.specs.Plain.{PlainHeap}
 use Rattle.model.specs.States.{HeapState}
 use Rattle.refinement.specs.Standing.{Holds, FindsLive}
 use Rattle.model.specs.Scans.{next_drain}
-use Rattle.managed.specs.Goings.{Goes, Steps, IsScan, IsCrossing, IsBehind, EndsDrain}
+use Rattle.managed.specs.Goings.{Goes, Steps, IsDrain, IsCrossing, IsBehind, EndsDrain}
 
 -- a step of a collection: any of worker w, and of any thread to cross or to scrub
 abbrev pub IsCollecting : ℕ → Actor → Step → Type 0
@@ -55,12 +55,12 @@ Crosses w h g = Goes (IsCrossing w) h g × (all_crossed g ≡ Ok tt)
 abbrev pub StopsCrossing : ℕ → HeapState → Refusal → HeapState → Type 0
 StopsCrossing w h e g = Goes (IsCrossing w) h g × (all_crossed g ≡ Err e) × IsBehind w g e
 
--- what is left of a mark that all threads have crossed stopped so: its next scan is refused, or too much was left; or
--- nothing was left, and EndMark is refused
+-- what is left of a mark that all threads have crossed stopped so: the next step of its drain is refused, or too much
+-- was left; or nothing was left, and EndMark is refused
 abbrev pub StopsScanning : ℕ → HeapState → Refusal → HeapState → Type 0
 StopsScanning w h e g =
-    Goes (IsScan w) h g
-    × (EndsDrain w (Err e) g ⊎ ((next_drain g w ≡ None) × (outcome g (Worker w) steps.EndMark ≡ Err e)))
+    Goes (IsDrain w) h g
+    × (EndsDrain w h (Err e) g ⊎ ((next_drain g w ≡ None) × (outcome g (Worker w) steps.EndMark ≡ Err e)))
 
 -- how the rest of a mark that all threads have crossed ended
 abbrev pub EndsScanned : ℕ → HeapState → Result ℕ Refusal → HeapState → Type 0

@@ -1,6 +1,7 @@
 -- Calls of several steps.
-use Rattle.std.specs.Prelude.{◌≡◌, ◌⊎◌, ◌≤◌, ℕ, zero, suc, Bool, true, false, List, [], ◌∷◌, length}
-use Rattle.std.specs.Prelude.{Some, None, Result, Ok, Err, slice_get}
+use Rattle.std.specs.Prelude.{◌≡◌, ◌⊎◌, ◌≤◌, ◌-◌, ◌^◌, ℕ, zero, suc, Bool, true, false, List, [], ◌∷◌, length}
+use Rattle.std.specs.Prelude.{Some, None, Result, Ok, Err, slice_get, if◌then◌else◌}
+use Rattle.drains.specs.Drains.{is_pick}
 use Rattle.layout.specs.declared.shape.Layout.{Layout}
 use Rattle.model.specs.declared.steps.Actor.{Actor}
 use Rattle.model.specs.declared.steps.Actor.TheVariants.{Thread, Worker}
@@ -34,6 +35,11 @@ pub record Goes (P : Actor → Step → Type 0) (h g : HeapState) : Type 0 where
   pub entries : List Entry
   pub each : EachIs P entries
   pub runs : Runs h entries g
+
+-- the same, by n steps or more
+pub record GoesFar (P : Actor → Step → Type 0) (n : ℕ) (h g : HeapState) : Type 0 where
+  pub goes : Goes P h g
+  pub many : n ≤ length goes.entries
 
 -- one accepted step leads from heap h to g, and keeps what h stands for
 abbrev pub Steps : Actor → Step → Answer → HeapState → HeapState → Type 0
@@ -119,10 +125,45 @@ EndsScan w (Ok true) g = next_drain g w ≡ None
 EndsScan w (Ok false) g = Unit {0}
 EndsScan w (Err e) g = (step : Step) × (next_drain g w ≡ Some step) × (outcome g (Worker w) step ≡ Err e)
 
--- how a drain ended: nothing is left that no other worker has; or the next step is refused so, or too many were left
-abbrev pub EndsDrain : ℕ → Result Unit Refusal → HeapState → Type 0
-EndsDrain w (Ok u) g = next_drain g w ≡ None
-EndsDrain w (Err e) g = (e ≡ refusals.TodoLeft) ⊎ EndsScan w (Err e) g
+-- where a scan says that something is left, it has done so many steps
+abbrev pub ScansFar : ℕ → ℕ → HeapState → Result Bool Refusal → HeapState → Type 0
+ScansFar w n h (Ok false) g = GoesFar (IsScan w) n h g
+ScansFar w n h (Ok true) g = Unit {0}
+ScansFar w n h (Err e) g = Unit {0}
+
+-- how many objects were taken
+abbrev pub objects_in : List Entry → ℕ
+objects_in [] = 0
+objects_in (e ∷ es) = if is_pick e.step then suc (objects_in es) else objects_in es
+
+-- scans of worker w, which take n objects, lead from heap h to g, and keep what h stands for
+pub record ScansObjects (w n : ℕ) (h g : HeapState) : Type 0 where
+  pub goes : Goes (IsScan w) h g
+  pub count : objects_in goes.entries ≡ n
+
+-- a step of a drain: it scans, or it copies what is left to be copied of a page
+abbrev pub Drains : Step → Type 0
+Drains (steps.CopyPage page) = Unit {0}
+Drains step = Scans step
+
+-- such a step of worker w
+abbrev pub IsDrain : ℕ → Actor → Step → Type 0
+IsDrain w (Thread t) step = ⊥
+IsDrain w (Worker v) step = (v ≡ w) × Drains step
+
+-- so many objects a drain scans at most
+abbrev pub MOST_OBJECTS : ℕ
+MOST_OBJECTS = 2 ^ 64 - 1
+
+-- so many objects were scanned, behind what came before them
+abbrev pub DrainsMost : ℕ → HeapState → HeapState → Type 0
+DrainsMost w h g = (m : HeapState) × Goes (IsDrain w) h m × ScansObjects w MOST_OBJECTS m g
+
+-- how a drain from heap h ended: nothing is left that no other worker has; or the next step is refused so; or so many
+-- objects weren't all
+abbrev pub EndsDrain : ℕ → HeapState → Result Unit Refusal → HeapState → Type 0
+EndsDrain w h (Ok u) g = next_drain g w ≡ None
+EndsDrain w h (Err e) g = ((e ≡ refusals.TodoLeft) × DrainsMost w h g) ⊎ EndsScan w (Err e) g
 
 -- a crossing of any thread, or for one by worker w
 abbrev pub IsCrossing : ℕ → Actor → Step → Type 0

@@ -1,5 +1,6 @@
 pub mod Runs
 pub mod Goings
+pub mod Preparing
 pub mod Collecting
 pub mod Emptying
 pub mod Managing

@@ -13,6 +13,7 @@ mod emptying;
 mod loading;
 mod managed;
 mod mutating;
+mod preparing;
 mod scanning;
 
 pub use cycle::{Mutating, Stepping};

@@ -3,7 +3,9 @@
 ghost use Rattle.std.specs.Prelude.{◌≡◌, ◌<◌, ◌≤◌, None};
 ghost use Rattle.drains.specs.Drains.{IsReady};
 ghost use Rattle.model.specs.Scans.{next_drain};
-ghost use Rattle.managed.specs.Goings.{EndsDrain, EndsScan, Goes, IsScan, StandsForSame};
+ghost use Rattle.managed.specs.Goings.{EndsDrain, EndsScan, Goes, IsDrain, IsScan, ScansFar, ScansObjects};
+ghost use Rattle.managed.specs.Goings.{StandsForSame};
+ghost use Rattle.managed.specs.Preparing.{IsPrepared, ScansNothing};
 
 use crate::managed::ManagedHeap;
 use cycle::next_drain;
@@ -13,11 +15,13 @@ use model::{Actor, Refusal};
 impl ManagedHeap {
     /// At most so many steps of a worker that scan: the object that it has, then the globals, then the
     /// object with the least address that no worker has. True where nothing is left that no other
-    /// worker has. It stops at the first refusal; the steps before it are done.
+    /// worker has; false where so many steps were done. It stops at the first refusal; the steps before it
+    /// are done.
     pub fn scan(&mut self, worker: u32, most: u64) -> Result<bool, Refusal>
         ensures goes { Goes (IsScan worker) self.old self.new }
         ensures stands { StandsForSame self.old self.new }
         ensures ends { EndsScan worker result self.new }
+        ensures far { ScansFar worker most self.old result self.new }
     {
         self.scan_steps(worker, most)
     }
@@ -25,13 +29,15 @@ impl ManagedHeap {
     fn scan_steps(&mut self, worker: u32, most: u64) -> Result<bool, Refusal>
         ensures goes { Goes (IsScan worker) self.old self.new }
         ensures ends { EndsScan worker result self.new }
+        ensures far { ScansFar worker most self.old result self.new }
     {
-        for _ in 0..most {
+        for _done in 0..most {
             let Some(step) = next_drain(self.heap(), worker) else {
                 return Ok(true);
             };
-            if let Err(refusal) = self.step(Actor::Worker(worker), &step) {
-                return Err(refusal);
+            match self.step(Actor::Worker(worker), &step) {
+                Ok(_) => {}
+                Err(refusal) => return Err(refusal),
             }
         }
         Ok(false)
@@ -42,7 +48,7 @@ impl ManagedHeap {
     /// it answers fewer than the most, nothing is left. Each object takes time by its references.
     pub fn scan_objects(&mut self, worker: u32, most: u64) -> u64
         requires { IsReady self.old worker }
-        ensures goes { Goes (IsScan worker) self.old self.new }
+        ensures objects { ScansObjects worker result self.old self.new }
         ensures stands { StandsForSame self.old self.new }
         ensures few { result ≤ most }
         ensures end { result < most → next_drain self.new worker ≡ None }
@@ -51,26 +57,34 @@ impl ManagedHeap {
         drain(&mut self.heap, worker, most)
     }
 
-    /// A whole drain: scans until nothing is left that no other worker has; object by object, where the
-    /// worker is ready for that, else step by step. It answers `TodoLeft` where 2^64 - 1 objects or
-    /// steps weren't enough.
+    /// A whole drain: what is left to be copied of protected pages is copied, and then it scans until nothing
+    /// is left that no other worker has, object by object. Where no scan of the worker is accepted, it is
+    /// refused as the next one would be. It answers `TodoLeft` where 2^64 - 1 objects weren't all.
     pub fn drain(&mut self, worker: u32) -> Result<(), Refusal>
-        ensures goes { Goes (IsScan worker) self.old self.new }
+        ensures goes { Goes (IsDrain worker) self.old self.new }
         ensures stands { StandsForSame self.old self.new }
-        ensures ends { EndsDrain worker result self.new }
+        ensures ends { EndsDrain worker self.old result self.new }
+    {
+        self.prepare(worker);
+        self.drain_prepared(worker)
+    }
+
+    fn drain_prepared(&mut self, worker: u32) -> Result<(), Refusal>
+        requires { IsPrepared worker self.old }
+        ensures goes { Goes (IsDrain worker) self.old self.new }
+        ensures ends { EndsDrain worker self.old result self.new }
     {
         if is_ready(self.heap(), worker) {
             self.drain_objects(worker)
         } else {
-            self.drain_steps(worker)
+            self.drain_nothing(worker)
         }
     }
 
     fn drain_objects(&mut self, worker: u32) -> Result<(), Refusal>
         requires { IsReady self.old worker }
-        ensures goes { Goes (IsScan worker) self.old self.new }
-        ensures stands { StandsForSame self.old self.new }
-        ensures ends { EndsDrain worker result self.new }
+        ensures goes { Goes (IsDrain worker) self.old self.new }
+        ensures ends { EndsDrain worker self.old result self.new }
     {
         if self.scan_objects(worker, u64::MAX) < u64::MAX {
             Ok(())
@@ -79,14 +93,14 @@ impl ManagedHeap {
         }
     }
 
-    fn drain_steps(&mut self, worker: u32) -> Result<(), Refusal>
-        ensures goes { Goes (IsScan worker) self.old self.new }
-        ensures stands { StandsForSame self.old self.new }
-        ensures ends { EndsDrain worker result self.new }
+    fn drain_nothing(&mut self, worker: u32) -> Result<(), Refusal>
+        requires { ScansNothing worker self.old }
+        ensures goes { Goes (IsDrain worker) self.old self.new }
+        ensures ends { EndsDrain worker self.old result self.new }
     {
-        match self.scan(worker, u64::MAX) {
+        match self.scan(worker, 1) {
             Ok(true) => Ok(()),
-            Ok(false) => Err(Refusal::TodoLeft),
+            Ok(false) => unreachable!(),
             Err(refusal) => Err(refusal),
         }
     }

@@ -1,8 +1,10 @@
-//! Tests of heaps that a program holds: collections in parts, buffers by the policy, and the smallest heaps.
+//! Tests of heaps that a program holds: marks, collections in parts, buffers by the policy, and the smallest heaps.
 #![tactic(auto)]
 
 #[cfg(test)]
 mod faults;
+#[cfg(test)]
+mod marks;
 #[cfg(test)]
 mod parts;
 #[cfg(test)]

@@ -1,4 +1,4 @@
-use Rattle.collecting.proofs.Parted.{part_ends, part_stops, portion_goes}
+use Rattle.collecting.proofs.Parted.{part_ends}
 use Rattle.collecting.proofs.parts.empty_part.Goals as goal
 
 pub returns-in-None : goal.returns-in-None

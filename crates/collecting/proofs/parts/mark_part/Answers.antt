@@ -1,4 +1,4 @@
-use Rattle.collecting.proofs.Parted.{part_stops, portion_goes}
+use Rattle.collecting.proofs.Parted.{part_stops}
 use Rattle.collecting.proofs.parts.mark_part.Goals as goal
 
 pub returns-in-Err : goal.returns-in-Err

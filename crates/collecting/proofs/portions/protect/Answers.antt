@@ -1,4 +1,4 @@
-use Rattle.collecting.proofs.Parted.{protected, protected_stops}
+use Rattle.collecting.proofs.Parted.{protected}
 use Rattle.collecting.proofs.portions.protect.Goals as goal
 
 pub returns-in-Ok : goal.returns-in-Ok

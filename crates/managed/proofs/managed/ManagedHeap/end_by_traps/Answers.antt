@@ -1,6 +1,5 @@
 use Rattle.std.proofs.Common.{◌≡◌, ◌∙◌, ◌+◌, ◌-◌, ap, arith, subst, suc}
-use Rattle.std.specs.Prelude.{Result, Ok}
-use Rattle.model.specs.declared.steps.Refusal.{Refusal}
+use Rattle.std.specs.Prelude.{Ok}
 use Rattle.managed.specs.Goings.{IsInBarrier, EndsTrap}
 use Rattle.managed.proofs.Clearing.{trap_less, none_left}
 use Rattle.managed.proofs.Going.{ends_after, goes_none, goes_then}

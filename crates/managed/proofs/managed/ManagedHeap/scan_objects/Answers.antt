@@ -1,7 +1,7 @@
 use Rattle.std.proofs.Common.{subst}
 use Rattle.model.specs.States.{HeapState}
-use Rattle.managed.specs.Goings.{Goes, IsScan}
-use Rattle.managed.proofs.Draining.{drained_goes, managed_goes}
+use Rattle.managed.specs.Goings.{IsScan, ScansObjects}
+use Rattle.managed.proofs.Draining.{drained_goes, drained_objects, managed_goes}
 use Rattle.managed.proofs.Going.{scans_same}
 use Rattle.managed.proofs.managed.ManagedHeap.scan_objects.Goals as goal
 
@@ -10,13 +10,14 @@ invariant_of-self c = managed_goes (IsScan c.args.worker) c.self.inside.heap c.d
     (drained_goes c.self.inside.heap c.drain.new.heap c.args.worker c.drain.result c.law.ensures.steps
     c.drain.ensures.drained)
 
-pub returns-clause-goes : goal.returns-clause-goes
-returns-clause-goes c = subst (λ (h : HeapState). Goes (IsScan c.args.worker) h c.drain.new.heap) c.self.view_is
-    (drained_goes c.self.inside.heap c.drain.new.heap c.args.worker c.drain.result c.law.ensures.steps
+pub returns-clause-objects : goal.returns-clause-objects
+returns-clause-objects c =
+    subst (λ (h : HeapState). ScansObjects c.args.worker c.drain.result h c.drain.new.heap) c.self.view_is
+    (drained_objects c.self.inside.heap c.drain.new.heap c.args.worker c.drain.result c.law.ensures.steps
     c.drain.ensures.drained)
 
 pub returns-clause-stands : goal.returns-clause-stands
 returns-clause-stands c = scans_same c.args.worker c.args.self.now c.drain.new.heap
-    (subst (λ (h : HeapState). Goes (IsScan c.args.worker) h c.drain.new.heap) c.self.view_is
-    (drained_goes c.self.inside.heap c.drain.new.heap c.args.worker c.drain.result c.law.ensures.steps
-    c.drain.ensures.drained))
+    (subst (λ (h : HeapState). ScansObjects c.args.worker c.drain.result h c.drain.new.heap) c.self.view_is
+    (drained_objects c.self.inside.heap c.drain.new.heap c.args.worker c.drain.result c.law.ensures.steps
+    c.drain.ensures.drained)).goes

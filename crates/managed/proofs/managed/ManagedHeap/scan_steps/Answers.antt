@@ -1,22 +1,41 @@
-use Rattle.std.proofs.Common.{◌∙◌, ap, sym}
+use Rattle.std.proofs.Common.{◌∙◌, ap, arith, sym}
 use Rattle.model.specs.Scans.{next_drain}
 use Rattle.model.specs.States.{HeapState}
+use Rattle.managed.specs.Goings.{IsScan}
+use Rattle.managed.proofs.Counting.{far_none, scan_all, scan_far}
 use Rattle.managed.proofs.Going.{scan_goes, scan_ends}
 use Rattle.managed.proofs.managed.ManagedHeap.scan_steps.Goals as goal
 
-pub loop-preserved : goal.loop-preserved
-loop-preserved c = scan_goes c.args.worker c.args.self.now c.loop.self c.step.new.self c.in-Some.step c.step.result
+pub loop-done-init : goal.loop-done-init
+loop-done-init c = far_none (IsScan c.args.worker) c.args.self.now
+
+pub loop-done-preserved : goal.loop-done-preserved
+loop-done-preserved c = scan_far c.args.worker c.loop-done._done c.args.self.now c.loop-done.self c.step.new.self
+    c.in-Some.step c.step.result c.in-Ok.field-0
     (ap (λ (h : HeapState). next_drain h c.args.worker) (sym c.heap.ensures) ∙ sym c.next_drain.ensures
-    ∙ c.in-Some.is) c.step.ensures.does c.step.ensures.stands c.loop.invariant
+    ∙ c.in-Some.is)
+    c.in-Ok.is c.step.ensures.does c.step.ensures.stands c.loop-done.invariant
+
+pub returns-in_default-clause-goes : goal.returns-in_default-clause-goes
+returns-in_default-clause-goes c = c.loop-done.invariant.goes
 
 pub returns-in-Err-clause-goes : goal.returns-in-Err-clause-goes
-returns-in-Err-clause-goes c = scan_goes c.args.worker c.args.self.now c.loop.self c.step.new.self c.in-Some.step
+returns-in-Err-clause-goes c = scan_goes c.args.worker c.args.self.now c.loop-done.self c.step.new.self c.in-Some.step
     c.step.result
     (ap (λ (h : HeapState). next_drain h c.args.worker) (sym c.heap.ensures) ∙ sym c.next_drain.ensures
-    ∙ c.in-Some.is) c.step.ensures.does c.step.ensures.stands c.loop.invariant
+    ∙ c.in-Some.is)
+    c.step.ensures.does c.step.ensures.stands c.loop-done.invariant.goes
 
 pub returns-in-Err-clause-ends : goal.returns-in-Err-clause-ends
-returns-in-Err-clause-ends c = scan_ends c.args.worker c.loop.self c.step.new.self c.in-Some.step
+returns-in-Err-clause-ends c = scan_ends c.args.worker c.loop-done.self c.step.new.self c.in-Some.step
     c.step.result c.in-Err.refusal
     (ap (λ (h : HeapState). next_drain h c.args.worker) (sym c.heap.ensures) ∙ sym c.next_drain.ensures
-    ∙ c.in-Some.is) c.in-Err.is c.step.ensures.does
+    ∙ c.in-Some.is)
+    c.in-Err.is c.step.ensures.does
+
+pub returns-clause-goes : goal.returns-clause-goes
+returns-clause-goes c = c.loop-done.invariant.goes
+
+pub returns-clause-far : goal.returns-clause-far
+returns-clause-far c = scan_all c.args.worker c.loop-done._done c.args.most c.args.self.now c.loop-done.self
+    (omega (arith, c.loop-done-test.false)) c.loop-done.invariant

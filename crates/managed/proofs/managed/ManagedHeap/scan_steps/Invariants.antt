@@ -1,6 +1,6 @@
-use Rattle.managed.specs.Goings.{Goes, IsScan}
+use Rattle.managed.specs.Goings.{GoesFar, IsScan}
 use Rattle.managed.proofs.managed.ManagedHeap.scan_steps.Given as goal
 
--- scans have led here
-abbrev pub invariant-loop : goal.invariant-loop
-invariant-loop l = Goes (IsScan l.worker) l.fn.self l.self
+-- so many scans have led here
+abbrev pub invariant-loop-done : goal.invariant-loop-done
+invariant-loop-done l = GoesFar (IsScan l.worker) l._done l.fn.self l.self

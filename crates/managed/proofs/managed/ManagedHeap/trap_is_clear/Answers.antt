@@ -1,9 +1,7 @@
-use Rattle.std.proofs.Common.{refl, inl, inr}
+use Rattle.std.proofs.Common.{refl}
 use Rattle.model.specs.Saying.{trapped}
 use Rattle.model.specs.declared.steps.Step.TheVariants as steps
-use Rattle.model.specs.declared.steps.Trap.TheVariants as traps
 use Rattle.managed.specs.Goings.{IsInBarrier}
-use Rattle.managed.proofs.Clearing.{trap_told, trap_refused}
 use Rattle.managed.proofs.Going.{goes_none, goes_thread}
 use Rattle.managed.proofs.managed.ManagedHeap.trap_is_clear.Goals as goal
 
