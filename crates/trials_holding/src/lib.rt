@@ -12,6 +12,10 @@ mod listing;
 #[cfg(test)]
 mod parts;
 #[cfg(test)]
+mod policies;
+#[cfg(test)]
 mod reports;
 #[cfg(test)]
 mod rooms;
+#[cfg(test)]
+mod scans;
