@@ -108,10 +108,12 @@ bench: pauseless libpauseless.a
 	@cd crates/shapes && $(RT) run -- mark-list 10 2 1 1 > '$(CURDIR)/$(LOG)' 2>&1 || { cd '$(CURDIR)'; $(show_log); }
 	@cd crates/crowds && $(RT) run -- act 100 > '$(CURDIR)/$(LOG)' 2>&1 || { cd '$(CURDIR)'; $(show_log); }
 	@cd crates/cycling && $(RT) run -- cycle 1 1 10 10 > '$(CURDIR)/$(LOG)' 2>&1 || { cd '$(CURDIR)'; $(show_log); }
+	@cd crates/pauses && $(RT) run -- parts 16 8 4 5 3 > '$(CURDIR)/$(LOG)' 2>&1 || { cd '$(CURDIR)'; $(show_log); }
 	$(PYTHON) bench/run.py ./pauseless
 	$(PYTHON) bench/calls.py crates/bench/out/bench
 	CC='$(CC)' $(PYTHON) bench/boehm.py crates/shapes/out/shapes
 	$(PYTHON) bench/crowds.py
+	$(PYTHON) bench/pauses.py
 	$(PYTHON) bench/commands.py ./pauseless
 	CC='$(CC)' $(PYTHON) bench/lisp.py ./libpauseless.a
 

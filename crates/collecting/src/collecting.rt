@@ -65,9 +65,10 @@ pub trait Holding: Mutating {
     /// with all crossings; the scan of at most `budget` objects; the mark's end; the measuring of
     /// `budget / 64 + 1` pages; the protection of at most as many, with all crossings; or the emptying of one
     /// page. Where a mark has begun while objects were still to be copied, it is the copying of one page; and
-    /// where the worker has an object that steps have left it, the rest of its scan. True where the collection has ended: no mark runs, and nothing is left to be copied or emptied; the
-    /// next part begins another. Where the program itself has begun a mark or protected pages meanwhile, it
-    /// isn't true at the end, and the next part goes on with these.
+    /// where the worker has an object that steps have left it, the rest of its scan. True where the collection
+    /// has ended: no mark runs, and nothing is left to be copied or emptied; the next part begins another.
+    /// Where the program itself has begun a mark or protected pages meanwhile, it isn't true at the end, and
+    /// the next part goes on with these.
     ///
     /// Refused as `collect` is; another call goes on from there.
     fn collect_some(

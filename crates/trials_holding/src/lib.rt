@@ -2,10 +2,22 @@
 #![tactic(auto)]
 
 #[cfg(test)]
+mod between;
+#[cfg(test)]
+mod counting;
+#[cfg(test)]
 mod faults;
+#[cfg(test)]
+mod listing;
 #[cfg(test)]
 mod marks;
 #[cfg(test)]
 mod parts;
 #[cfg(test)]
+mod policies;
+#[cfg(test)]
+mod reports;
+#[cfg(test)]
 mod rooms;
+#[cfg(test)]
+mod scans;

@@ -1,0 +1,70 @@
+#!/usr/bin/env python3
+"""Times the parts of collections in parts: python3 bench/pauses.py [PROGRAM].
+
+The program is that of the crate `pauses`, which reads a clock itself. Pages of a
+heap are filled with objects, of which each second one lives, in a list. Then the
+heap is collected three times in parts, each of which is timed alone, and once by
+one call. The longest part of each kind is the least of some runs, since a run in
+which the program was put aside shows a longer one.
+"""
+
+import os
+import subprocess
+import sys
+
+RUNS = 5
+BUDGETS = [100, 1_000]
+
+# Heaps: words of a page, frames, words of an object, pages that are filled.
+HEAPS = [(512, 256, 16, 200), (512, 4_096, 16, 3_200), (4_096, 256, 16, 200), (4_096, 4_096, 16, 3_200),
+         (32_768, 256, 16, 200), (32_768, 4_096, 16, 3_200), (32_768, 4_096, 2, 800), (32_768, 4_096, 1_024, 3_200)]
+
+# The kinds of parts, in the order of a collection, and a collection by one call.
+KINDS = ["begin", "scan", "end", "measure", "protect", "empty", "last", "whole"]
+
+
+def lines(program, words):
+    """What a run prints: for each kind of part how often it was done, its median and its longest time."""
+    command = [program, "timed", "parts"] + [str(word) for word in words]
+    run = subprocess.run(command, stdout=subprocess.PIPE, text=True, check=True)
+    rows = {}
+    for line in run.stdout.splitlines():
+        name, count, median, longest = line.rsplit(" ", 3)
+        rows[name] = (int(count), int(median), int(longest))
+    return rows
+
+
+def least(program, words):
+    """Of each kind of part how often it was done, its least median, and the least of its longest times."""
+    found = {}
+    for _ in range(RUNS):
+        for name, (count, median, longest) in lines(program, words).items():
+            _, lower, shorter = found.get(name, (count, median, longest))
+            found[name] = (count, min(median, lower), min(longest, shorter))
+    return found
+
+
+def micros(nanos):
+    """Nanoseconds as microseconds, to three digits or to the whole."""
+    return f"{nanos / 1e3:,.0f}" if nanos >= 100_000 else f"{nanos / 1e3:.3g}"
+
+
+def main():
+    program = os.path.abspath(sys.argv[1] if len(sys.argv) > 1 else "crates/pauses/out/pauses")
+    if not os.access(program, os.X_OK):
+        sys.exit(f"{program} isn't there: run 'make bench'")
+    print("Microseconds, the longest of each kind of part:")
+    print()
+    print("| Frames | Words a page | Words an object | Pages filled | Budget | " + " | ".join(KINDS) + " | the longest part |")
+    print("|---" * (6 + len(KINDS)) + "|")
+    for words, frames, size, pages in HEAPS:
+        for budget in BUDGETS:
+            found = least(program, (words, frames, size, pages, budget))
+            cells = [micros(found[kind][2]) if kind in found else "" for kind in KINDS]
+            parts = {kind: row[2] for kind, row in found.items() if kind != "whole"}
+            heap = [f"{number:,}" for number in (frames, words, size, pages, budget)]
+            print("| " + " | ".join(heap + cells + [max(parts, key=parts.get)]) + " |", flush=True)
+
+
+if __name__ == "__main__":
+    main()

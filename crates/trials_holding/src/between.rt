@@ -1,0 +1,72 @@
+//! Loads and stores between the parts of a collection.
+
+use crate::listing::{LIVE, check, heap_of, insert, insert_all};
+use collecting::{Holding, Parts};
+use managed::ManagedHeap;
+use model::Refusal;
+use std::alloc::Global;
+use std::process::Abort;
+use std::test::Fail;
+
+/// More parts than a collection of this heap takes.
+const PARTS: u32 = 90;
+
+fn new_heap(alloc: Global) -> Result<ManagedHeap, Fail> {
+    heap_of(alloc, 48)
+}
+
+/// So many parts, each of one object or one page.
+fn collect(
+    alloc: Global,
+    heap: &mut impl Holding,
+    parts: &mut Parts,
+    count: u32,
+) -> Result<(), Refusal> {
+    for _ in 0..count {
+        heap.collect_some(alloc, parts, 75, 1)?;
+    }
+    Ok(())
+}
+
+/// Behind so many parts an object goes into the list; behind some more collections the list is whole.
+fn stays(
+    rt: &impl Abort,
+    alloc: Global,
+    mut heap: impl Holding + Drop,
+    before: u32,
+) -> Result<(), Fail> {
+    let mut parts = Parts::new(alloc);
+    insert_all(alloc, &mut heap)?;
+    collect(alloc, &mut heap, &mut parts, before)?;
+    insert(alloc, &mut heap, u64::from(LIVE.wrapping_sub(1)))?;
+    collect(alloc, &mut heap, &mut parts, PARTS)?;
+    check(rt, &mut heap, LIVE.wrapping_add(1))?;
+    collect(alloc, &mut heap, &mut parts, PARTS)?;
+    check(rt, &mut heap, LIVE.wrapping_add(1))?;
+    Ok(())
+}
+
+#[test]
+fn one_load_between(rt: HostRuntime) -> Result<(), Fail> {
+    for before in 0..PARTS {
+        stays(&rt, rt.alloc(), new_heap(rt.alloc())?, before)?;
+    }
+    Ok(())
+}
+
+/// Behind each part an object goes into the list, and the list is whole.
+fn goes_on(rt: &impl Abort, alloc: Global, mut heap: impl Holding + Drop) -> Result<(), Fail> {
+    let mut parts = Parts::new(alloc);
+    insert_all(alloc, &mut heap)?;
+    for turn in LIVE..PARTS {
+        collect(alloc, &mut heap, &mut parts, 1)?;
+        insert(alloc, &mut heap, u64::from(turn.wrapping_sub(1)))?;
+        check(rt, &mut heap, turn.wrapping_add(1))?;
+    }
+    Ok(())
+}
+
+#[test]
+fn loads_between_all(rt: HostRuntime) -> Result<(), Fail> {
+    goes_on(&rt, rt.alloc(), heap_of(rt.alloc(), 120)?)
+}

@@ -1,0 +1,113 @@
+//! How many parts a collection has.
+
+use crate::listing::{LIVE, check, heap_of, insert_all};
+use crate::rooms::same;
+use collecting::{Holding, Parts};
+use model::Refusal;
+use std::alloc::Global;
+use std::process::Abort;
+use std::test::Fail;
+
+/// The page numbers of the heap.
+const PAGES: u32 = 48;
+
+/// The pages that the list is on, with what is dead: 39 objects, of which a page has room for 5.
+const USED: u32 = 8;
+
+/// How many whole times a part is in a number.
+fn quotient(number: u32, part: u32) -> u32 {
+    number.checked_div(part).unwrap_or(0)
+}
+
+/// The most parts that a collection may take with this budget. One begins the mark, and has all threads cross.
+/// Each scan is of `budget` objects, and the last one, which finds fewer, ends the mark. Each look is at `each`
+/// pages, and the last one, which finds fewer, protects at most `each` of them. Each of these is emptied by a part
+/// of its own, and one part finds none left.
+fn most_parts(budget: u32) -> u32 {
+    let each = quotient(budget, 64).wrapping_add(1);
+    let scans = quotient(LIVE, budget).wrapping_add(1);
+    let looks = quotient(PAGES, each).wrapping_add(1);
+    scans
+        .wrapping_add(looks)
+        .wrapping_add(each.min(USED))
+        .wrapping_add(2)
+}
+
+/// The parts of one collection, of which at most so many are done. Gives how many there were, the last one with it.
+fn count_parts(
+    alloc: Global,
+    heap: &mut impl Holding,
+    parts: &mut Parts,
+    budget: u32,
+    most: u32,
+) -> Result<u32, Refusal> {
+    for done in 0..most {
+        if heap.collect_some(alloc, parts, 75, budget)? {
+            return Ok(done.wrapping_add(1));
+        }
+    }
+    Ok(most.wrapping_add(1))
+}
+
+/// So many collections, each of which has an end within its parts. Gives how many parts they had.
+fn collections(
+    rt: &impl Abort,
+    alloc: Global,
+    heap: &mut impl Holding,
+    budget: u32,
+    count: u32,
+) -> Result<u32, Fail> {
+    let most = most_parts(budget);
+    let mut parts = Parts::new(alloc);
+    let mut sum = 0u32;
+    for _ in 0..count {
+        let taken = count_parts(alloc, heap, &mut parts, budget, most)?;
+        same(rt, taken <= most, true);
+        sum = sum.wrapping_add(taken);
+    }
+    Ok(sum)
+}
+
+/// Four collections of a list beside which as many objects are dead, with this budget. Gives how many parts the first
+/// one had.
+fn counts(
+    rt: &impl Abort,
+    alloc: Global,
+    mut heap: impl Holding + Drop,
+    budget: u32,
+) -> Result<u32, Fail> {
+    insert_all(alloc, &mut heap)?;
+    let first = collections(rt, alloc, &mut heap, budget, 1)?;
+    collections(rt, alloc, &mut heap, budget, 3)?;
+    check(rt, &mut heap, LIVE)?;
+    Ok(first)
+}
+
+/// The first collection with this budget has just so many parts, which are as many as it may have: there is
+/// enough to be emptied.
+fn takes(rt: &impl Abort, alloc: Global, budget: u32, wanted: u32) -> Result<(), Fail> {
+    let found = counts(rt, alloc, heap_of(alloc, PAGES)?, budget)?;
+    same(rt, found, wanted);
+    same(rt, most_parts(budget), wanted);
+    Ok(())
+}
+
+#[test]
+fn parts_of_one_object(rt: HostRuntime) -> Result<(), Fail> {
+    takes(&rt, rt.alloc(), 1, 73)
+}
+
+#[test]
+fn parts_of_two_objects(rt: HostRuntime) -> Result<(), Fail> {
+    takes(&rt, rt.alloc(), 2, 63)
+}
+
+#[test]
+fn parts_of_sixteen_objects(rt: HostRuntime) -> Result<(), Fail> {
+    takes(&rt, rt.alloc(), 16, 54)
+}
+
+#[test]
+fn parts_of_all_objects(rt: HostRuntime) -> Result<(), Fail> {
+    takes(&rt, rt.alloc(), 1000, 15)
+}

@@ -1,0 +1,68 @@
+//! When a heap is collected for a buffer.
+
+use crate::rooms::{new_heap, same};
+use collecting::{Holding, Policy};
+use managed::ManagedHeap;
+use model::Refusal;
+use std::alloc::Global;
+use std::process::Abort;
+use std::test::Fail;
+
+const ME: u32 = 0;
+
+/// The register of what is made, and kept by nobody else.
+const LOST: u32 = 0;
+
+/// A heap that is held, whose free frames are counted.
+trait Framed: Holding {
+    fn free_frames(&self) -> u32;
+}
+
+impl Framed for ManagedHeap {
+    fn free_frames(&self) -> u32 {
+        self.heap().memory().free_frames()
+    }
+}
+
+/// Buffers of a page of 16 words, for which a heap is collected where at most so many frames are free.
+fn policy(free: u32) -> Policy {
+    Policy {
+        words: 16,
+        free,
+        percent: 75,
+    }
+}
+
+/// Makes so many objects that nobody keeps, not even in a register. Gives how few frames were free at least.
+fn waste(alloc: Global, heap: &mut impl Framed, free: u32, count: u32) -> Result<u32, Refusal> {
+    let mut least = u32::MAX;
+    for _ in 0..count {
+        heap.make(alloc, policy(free), ME, LOST, 0)?;
+        heap.clear_register(ME, LOST)?;
+        least = least.min(heap.free_frames());
+    }
+    Ok(least)
+}
+
+/// Where a heap of eight frames is collected at four free ones, so many are never taken.
+fn collects(rt: &impl Abort, alloc: Global, mut heap: impl Framed + Drop) -> Result<(), Fail> {
+    same(rt, waste(alloc, &mut heap, 4, 200), Ok(4));
+    Ok(())
+}
+
+#[test]
+fn where_the_policy_says(rt: HostRuntime) -> Result<(), Fail> {
+    collects(&rt, rt.alloc(), new_heap(rt.alloc(), 8, 16)?)
+}
+
+/// Where it is collected at one free frame, six pages of five objects are all there behind them.
+fn waits(rt: &impl Abort, alloc: Global, mut heap: impl Framed + Drop) -> Result<(), Fail> {
+    same(rt, waste(alloc, &mut heap, 1, 30), Ok(2));
+    same(rt, heap.free_frames(), 2);
+    Ok(())
+}
+
+#[test]
+fn only_there(rt: HostRuntime) -> Result<(), Fail> {
+    waits(&rt, rt.alloc(), new_heap(rt.alloc(), 8, 16)?)
+}
