@@ -12,14 +12,13 @@ whole collections alone, and leaves what is dead to be swept by whoever makes ob
 dead the first collection moves what lives, and the second corrects the references to it.
 """
 
-import argparse
 import os
 import shutil
 import subprocess
-import sys
 import tempfile
 
 from calls import counted, differences, timed
+from measuring import asked
 
 # What is marked and collected: its shape, its objects, and the words of one.
 SHAPES = [("list", 100_000, 2), ("list", 50_000, 8), ("list", 10_000, 64),
@@ -148,18 +147,11 @@ def print_making(bench):
 
 
 def main():
-    parser = argparse.ArgumentParser(description="Times collections beside the collector of Boehm, Demers and Weiser.")
-    parser.add_argument("program", nargs="?", default="crates/shapes/out/shapes")
-    parser.add_argument("--instructions", action="store_true", help="count instructions instead of time")
-    words = parser.parse_args()
-    program = os.path.abspath(words.program)
-    if not os.access(program, os.X_OK):
-        sys.exit(f"{program} isn't there: run 'make bench'")
-    if words.instructions and shutil.which("valgrind") is None:
-        sys.exit("there is no valgrind, which counts instructions")
+    what = "Times collections beside the collector of Boehm, Demers and Weiser."
+    program, instructions = asked(what, "crates/shapes/out/shapes")
     with tempfile.TemporaryDirectory() as folder:
-        bench = Bench(program, built(folder), words.instructions)
-        print("Instructions an object:" if words.instructions else "Nanoseconds an object:")
+        bench = Bench(program, built(folder), instructions)
+        print("Instructions an object:" if instructions else "Nanoseconds an object:")
         print()
         print_collections(bench)
         print_halves(bench)

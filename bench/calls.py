@@ -26,7 +26,6 @@ With --instructions copies, drains and steps are done, and instructions are
 counted, by `valgrind`, instead of time.
 """
 
-import argparse
 import os
 import re
 import resource
@@ -34,6 +33,8 @@ import shutil
 import subprocess
 import sys
 import tempfile
+
+from measuring import asked
 
 RUNS = 25
 PAGES = 2_048
@@ -225,26 +226,18 @@ def print_steps(program, instructions):
 
 
 def main():
-    parser = argparse.ArgumentParser(description="Times loops over the library's calls.")
-    parser.add_argument("program", nargs="?", default="crates/bench/out/bench")
-    parser.add_argument("--instructions", action="store_true", help="count instructions instead of time")
-    words = parser.parse_args()
-    program = os.path.abspath(words.program)
-    if not os.access(program, os.X_OK):
-        sys.exit(f"{program} isn't there: run 'make bench'")
-    if words.instructions and shutil.which("valgrind") is None:
-        sys.exit("there is no valgrind, which counts instructions")
-    if words.instructions:
+    program, instructions = asked("Times loops over the library's calls.", "crates/bench/out/bench")
+    if instructions:
         print_counted_copies(program)
     else:
         print_copies(program)
     print()
-    print_drains(program, words.instructions)
+    print_drains(program, instructions)
     print()
-    if not words.instructions:
+    if not instructions:
         print_verifications(program)
         print()
-    print_steps(program, words.instructions)
+    print_steps(program, instructions)
 
 
 if __name__ == "__main__":

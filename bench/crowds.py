@@ -28,9 +28,10 @@ import argparse
 import os
 import resource
 import statistics
-import subprocess
 import sys
 import time
+
+from measuring import lines
 
 RUNS = 7
 STEPS = 896_000
@@ -48,17 +49,6 @@ CYCLES = {"one list": (1, 30_720), "eight lists": (8, 3_840)}
 LOADS = {"two threads": 30_000, "nobody": 1}
 WORKERS = [1, 4]
 CYCLE_RUNS = 5
-
-
-def lines(program, words):
-    """What a run prints: for each name its count, its median and its longest time."""
-    command = [program, "timed"] + [str(word) for word in words]
-    run = subprocess.run(command, stdout=subprocess.PIPE, text=True, check=True)
-    rows = {}
-    for line in run.stdout.splitlines():
-        name, count, median, longest = line.rsplit(" ", 3)
-        rows[name] = (int(count), int(median), int(longest))
-    return rows
 
 
 def print_steps(program):

@@ -9,8 +9,9 @@ which the program was put aside shows a longer one.
 """
 
 import os
-import subprocess
 import sys
+
+from measuring import lines
 
 RUNS = 5
 BUDGETS = [100, 1_000]
@@ -23,22 +24,11 @@ HEAPS = [(512, 256, 16, 200), (512, 4_096, 16, 3_200), (4_096, 256, 16, 200), (4
 KINDS = ["begin", "scan", "end", "measure", "protect", "empty", "last", "whole"]
 
 
-def lines(program, words):
-    """What a run prints: for each kind of part how often it was done, its median and its longest time."""
-    command = [program, "timed", "parts"] + [str(word) for word in words]
-    run = subprocess.run(command, stdout=subprocess.PIPE, text=True, check=True)
-    rows = {}
-    for line in run.stdout.splitlines():
-        name, count, median, longest = line.rsplit(" ", 3)
-        rows[name] = (int(count), int(median), int(longest))
-    return rows
-
-
 def least(program, words):
     """Of each kind of part how often it was done, its least median, and the least of its longest times."""
     found = {}
     for _ in range(RUNS):
-        for name, (count, median, longest) in lines(program, words).items():
+        for name, (count, median, longest) in lines(program, ["parts", *words]).items():
             _, lower, shorter = found.get(name, (count, median, longest))
             found[name] = (count, min(median, lower), min(longest, shorter))
     return found
