@@ -27,7 +27,9 @@ fn give_text(text: &[u8], room: &mut [u8])
     room[..n].copy_from_slice(&text[..n]);
 }
 
-/// Writes how a heap stands, in lines of text, as far as there is room, and tells how long the whole text is.
+/// Writes how a heap stands, in lines of ASCII text, the first bytes of it as far as there is room, and tells
+/// how many bytes the whole text has (ours). The code is that the handle has no heap, or that memory was
+/// refused.
 #[unsafe(no_mangle)]
 pub extern "C" fn pauseless_report(
     alloc: Global,
