@@ -1,16 +1,16 @@
 -- Objects that wait for their scan, and the heap in which it is noted that they are to be scanned.
 use Rattle.std.proofs.Common.{◌≡◌, ◌≢◌, inl, inr, ℕ, zero, suc, ◌+◌, ◌-◌, ◌/◌, ◌%◌, ◌<◌, ◌&&◌, not, Bool}
-use Rattle.std.proofs.Common.{true, false, List, [], ◌∷◌, ◌++◌, reverse, get_or, length, Option, Some, None, refl, sym}
+use Rattle.std.proofs.Common.{true, false, List, [], ◌∷◌, ◌++◌, reverse, get_or, is_some, length, Option, Some, None, refl, sym}
 use Rattle.std.proofs.Common.{◌∙◌, ap}
 use Rattle.std.proofs.Common.{arith}
 use Rattle.std.proofs.lemmas.List.{reverse-append}
 use Rattle.std.proofs.Common.{subst}
-use Rattle.std.specs.List.{slice_get}
+use Rattle.std.specs.List.{slice_get, list_any}
 use Rattle.std.specs.Prelude.{if◌then◌else◌}
 use Rattle.std.proofs.lemmas.Bool.{and_parts}
-use Rattle.std.proofs.lemmas.Option.{slice_get-get_or, slice_get_within}
-use Rattle.refword.specs.Words.{bits_of, IsAddress}
-use Rattle.heap.specs.Marking.{bit_in, noted, MarksFirst, MarksApart}
+use Rattle.std.proofs.lemmas.Option.{slice_get-get_or, slice_get_within, same_Some}
+use Rattle.refword.specs.Words.{bits_of, address_in, IsAddress}
+use Rattle.heap.specs.Marking.{bit_in, noted, marked_at, MarksFirst, MarksApart}
 use Rattle.heap.proofs.Marking.{marks_keep, bit_keeps}
 use Rattle.model.specs.declared.config.Config.{Config}
 use Rattle.model.specs.declared.records.Scan.{Scan}
@@ -20,48 +20,47 @@ use Rattle.model.specs.Holding.{IsHeap, AreRows, AreRowsFor}
 use Rattle.model.specs.Marks.{with_mark, marked_word, resolve, entry_at}
 use Rattle.model.specs.Owning.{IsStore}
 use Rattle.model.specs.References.{field_address}
-use Rattle.model.specs.Scans.{is_taken, is_free_todo, next_todo, with_marked_place, reference_in, with_scan}
-use Rattle.model.specs.Scans.{with_scan_end}
+use Rattle.model.specs.Scans.{is_scan_of, is_taken, is_free_todo, next_todo, with_marked_place, reference_in}
 use Rattle.model.specs.States.{Reference, HeapState}
 use Rattle.model.specs.Stores.{word_at, with_word, with_words}
 use Rattle.drains.specs.Drains.{marked_field, marked_fields, without_todo, refs_at, scanned, IsReady, ObjectsDone}
-use Rattle.drains.specs.Waiting.{noting, all_noted, AreWaiting, WaitBeside, WaitsIf, IsNextObject, IsNext}
+use Rattle.drains.specs.Waiting.{noting, all_noted, AreWaiting, WaitBeside, Waits, IsAlone, IsNextObject, IsNext}
 use Rattle.drains.proofs.Bits.{bit_again, noting_two, page_there, noting_apart, bit_here, bit_read}
 use Rattle.drains.proofs.Bits.{waiting_stay, one_waits}
-use Rattle.drains.proofs.Scanned.{ended, workers_stay, field_behind}
+use Rattle.drains.proofs.Scanned.{workers_stay, field_behind}
 use Rattle.drains.proofs.Drained.{next_passes}
 use Rattle.drains.proofs.Ended.{objects_first, objects_next}
 
 -- ---- a word is marked
 
--- marking a word is the same beside objects that wait
-mark_all : (h : HeapState) (v : Reference) (xs : List ℕ) → with_mark (all_noted h xs) v ≡ all_noted (with_mark h v) xs
-unfolding with_mark all_noted resolve entry_at
-mark_all h None xs = refl
-mark_all h (Some x) xs =
-    ap (λ (t : List (List Bool)). record h { mark = with_bit h.mark h.store.words (resolve h x.0) true; todo = t })
-    (by_bit (bit_at h.mark h.store.words (resolve h x.0)))
+-- marking an object is the same beside objects that wait
+at_all : (h : HeapState) (a : ℕ) (xs : List ℕ) → marked_at (all_noted h xs) a ≡ all_noted (marked_at h a) xs
+unfolding marked_at all_noted
+at_all h a xs =
+    ap (λ (t : List (List Bool)). record h { mark = with_bit h.mark h.store.words a true; todo = t })
+    (by_bit (bit_at h.mark h.store.words a))
   where
     by_bit : (b : Bool)
         → (if b then noting h.todo h.store.words xs
-        else with_bit (noting h.todo h.store.words xs) h.store.words (resolve h x.0) true)
-        ≡ noting (if b then h.todo else with_bit h.todo h.store.words (resolve h x.0) true) h.store.words xs
+        else with_bit (noting h.todo h.store.words xs) h.store.words a true)
+        ≡ noting (if b then h.todo else with_bit h.todo h.store.words a true) h.store.words xs
     by_bit true = refl
-    by_bit false = sym (noting_two h.todo h.store.words (resolve h x.0) xs)
+    by_bit false = sym (noting_two h.todo h.store.words a xs)
+
+-- so is marking a word
+mark_all : (h : HeapState) (v : Reference) (xs : List ℕ) → with_mark (all_noted h xs) v ≡ all_noted (with_mark h v) xs
+unfolding with_mark all_noted marked_at resolve entry_at
+mark_all h None xs = refl
+mark_all h (Some x) xs = at_all h (resolve h x.0) xs
 
 -- an object that is marked first, and then waits
-pub first_waits : (h g : HeapState) (v : Reference) (t : ℕ) (xs : List ℕ) → MarksFirst h v t g
-    → all_noted g (t ∷ xs) ≡ with_mark (all_noted h xs) v
+pub first_waits : (h g : HeapState) (t : ℕ) (xs : List ℕ) → MarksFirst h t g
+    → all_noted g (t ∷ xs) ≡ marked_at (all_noted h xs) t
 unfolding all_noted noted
-first_waits h g v t xs m =
+first_waits h g t xs m =
     ap (λ (r : List (List Bool)). record g { todo = r }) (sym (noting_two g.todo g.store.words t xs))
     ∙ ap (λ k. all_noted k xs) m.rest
-    ∙ sym (mark_all h v xs)
-
--- a word that is marked, where none is to wait
-pub none_more : (h g : HeapState) (v : Reference) (xs : List ℕ) → g ≡ with_mark h v
-    → all_noted g xs ≡ with_mark (all_noted h xs) v
-none_more h g v xs e = ap (λ k. all_noted k xs) e ∙ sym (mark_all h v xs)
+    ∙ sym (at_all h t xs)
 
 word_same : (h : HeapState) (v : Reference) (xs : List ℕ) → marked_word (all_noted h xs) v ≡ marked_word h v
 unfolding marked_word all_noted resolve entry_at
@@ -83,6 +82,34 @@ field_noted h g k xs ys place bits e f d =
   where
     v : Reference
     v = reference_in (word_at h.store place)
+
+-- a word is written back, and then its object is marked
+place_then : (h : HeapState) (v : Reference) (xs : List ℕ) (place bits t : ℕ) → Some t ≡ address_in (marked_word h v)
+    → bits ≡ bits_of (marked_word h v)
+    → marked_at (all_noted (record h { store = with_word h.store place bits }) xs) t
+    ≡ with_marked_place (all_noted h xs) place v
+unfolding with_marked_place marked_at all_noted with_mark marked_word resolve entry_at with_word with_words
+place_then h None xs place bits t named f = absurd (cc)
+place_then h (Some x) xs place bits t named f = λ i. record h {
+  mark = with_bit h.mark h.store.words (to i) true;
+  todo = if bit_at h.mark h.store.words (to i) then noting h.todo h.store.words xs
+  else with_bit (noting h.todo h.store.words xs) h.store.words (to i) true;
+  store = with_word h.store place (f i);
+}
+  where
+    to : t ≡ resolve h x.0
+    to = same_Some _ _ named
+
+-- where it names none, nothing is marked
+place_null : (h : HeapState) (v : Reference) (xs : List ℕ) (place bits : ℕ) → None ≡ address_in (marked_word h v)
+    → bits ≡ bits_of (marked_word h v)
+    → all_noted (record h { store = with_word h.store place bits }) xs ≡ with_marked_place (all_noted h xs) place v
+unfolding with_marked_place all_noted with_mark marked_word with_word with_words
+place_null h None xs place bits named f = ap (λ n. record h {
+  todo = noting h.todo h.store.words xs;
+  store = with_word h.store place n;
+}) f
+place_null h (Some x) xs place bits named f = absurd (cc)
 
 -- ---- an object
 
@@ -119,19 +146,23 @@ own_scan h a xs =
     done = marked_fields (all_noted h xs) a 0 refs
 
 -- the object is scanned, while others wait
-pub scan_ends : (h g k : HeapState) (w a refs : ℕ) (xs ys : List ℕ) (s : Scan) → slice_get h.workers w ≡ Some None
-    → refs ≡ refs_at h a → all_noted g ys ≡ marked_fields (all_noted h xs) a 0 refs → k ≡ with_scan_end g w s
-    → s.object ≡ a → WaitBeside g a ys → all_noted k ys ≡ scanned (all_noted h xs) a
+pub scan_ends : (h g k : HeapState) (a refs : ℕ) (xs ys : List ℕ) → refs ≡ refs_at h a
+    → all_noted g ys ≡ marked_fields (all_noted h xs) a 0 refs
+    → k ≡ record g { todo = with_bit g.todo g.store.words a false } → WaitBeside g a ys
+    → all_noted k ys ≡ scanned (all_noted h xs) a
 unfolding scanned without_todo all_noted refs_at layout_at
-scan_ends h g k w a refs xs ys s worker r f e o wait =
-    ap (λ x. all_noted x ys) (e ∙ ended g w a s free o)
+scan_ends h g k a refs xs ys r f e wait =
+    ap (λ x. all_noted x ys) e
     ∙ ap (λ (t : List (List Bool)). record g { todo = t })
     (noting_apart g.mark g.todo g.store.words a ys wait.page wait.other wait.waiting)
     ∙ ap (λ x. without_todo x a) (f ∙ ap (marked_fields (all_noted h xs) a 0) r)
-  where
-    free : slice_get g.workers w ≡ Some None
-    free = ap (λ (x : HeapState). slice_get x.workers w) f
-        ∙ ap (λ (ws : List (Option Scan)). slice_get ws w) (workers_stay (all_noted h xs) a 0 refs) ∙ worker
+
+-- the workers are as they were
+pub scan_leaves : (g k : HeapState) (a : ℕ) (ys zs : List ℕ) → all_noted k zs ≡ scanned (all_noted g ys) a
+    → k.workers ≡ g.workers
+unfolding all_noted scanned without_todo
+scan_leaves g k a ys zs e =
+    ap (λ (x : HeapState). x.workers) e ∙ workers_stay (all_noted g ys) a 0 (refs_at (all_noted g ys) a)
 
 -- ---- what is picked
 
@@ -221,47 +252,50 @@ rest_waits h a xs k = record {
 }
 
 -- one more waits beside the object that is scanned
-pub more_wait : (h g : HeapState) (v : Reference) (a t : ℕ) (xs : List ℕ) → WaitBeside h a xs → MarksFirst h v t g
-    → t ≢ a → IsAddress t → WaitBeside g a (t ∷ xs)
-more_wait h g v a t xs k m apart i = subst (λ x. WaitBeside x a (t ∷ xs)) (sym m.marked) (record {
+pub more_wait : (h g : HeapState) (a t : ℕ) (xs : List ℕ) → WaitBeside h a xs → MarksFirst h t g → t ≢ a → IsAddress t
+    → WaitBeside g a (t ∷ xs)
+more_wait h g a t xs k m apart i = subst (λ x. WaitBeside x a (t ∷ xs)) (sym m.marked) (record {
   page = k.page;
   other = (apart, k.other);
   waiting = one_waits h.mark h.store.words t xs i m.fresh k.waiting;
 })
 
-marks_after : (h : HeapState) (v : Reference) (xs : List ℕ) → AreWaiting h.mark h.store.words xs
-    → AreWaiting (with_mark h v).mark h.store.words xs
-unfolding with_mark
-marks_after h None xs k = k
-marks_after h (Some x) xs k = waiting_stay h.mark h.store.words (resolve h x.0) xs k
-
-pub still_wait : (h g : HeapState) (v : Reference) (a : ℕ) (xs : List ℕ) → WaitBeside h a xs → g ≡ with_mark h v
-    → WaitBeside g a xs
-unfolding with_mark
-still_wait h g v a xs k e = subst (λ x. WaitBeside x a xs) (sym e) (record {
+still_wait : (h g : HeapState) (a t : ℕ) (xs : List ℕ) → WaitBeside h a xs → g ≡ marked_at h t → WaitBeside g a xs
+unfolding marked_at
+still_wait h g a t xs k e = subst (λ x. WaitBeside x a xs) (sym e) (record {
   page = k.page;
   other = k.other;
-  waiting = marks_after h v xs k.waiting;
+  waiting = waiting_stay h.mark h.store.words t xs k.waiting;
 })
 
--- a word is marked, and then what was marked first waits, or is noted
-pub marks_wait : (h g k : HeapState) (v : Reference) (a : ℕ) (first : Option ℕ) (xs ys : List ℕ) → WaitBeside h a xs
-    → MarksApart h v first g → WaitsIf a first g xs k ys
-    → (all_noted k ys ≡ with_mark (all_noted h xs) v) × WaitBeside k a ys
-marks_wait h g k v a None xs ys wait m w =
-    let e : k ≡ with_mark h v = w.1 ∙ m in (
-      (λ i. all_noted (e i) (w.0 i)) ∙ sym (mark_all h v xs),
-      subst (WaitBeside k a) (sym w.0) (still_wait h k v a xs wait e),
-    )
-marks_wait h g k v a (Some t) xs ys wait m (inl w) = (
-  (λ i. all_noted (w.1 i) (w.0 i)) ∙ first_waits h g v t xs m,
+-- what marking an object told
+pub apart_again : (h g : HeapState) (t : ℕ) (first : Bool) → MarksApart h t first g → first ≡ false
+    → g ≡ marked_at h t
+apart_again h g t false m e = m
+apart_again h g t true m e = absurd (cc)
+
+pub apart_first : (h g : HeapState) (t : ℕ) (first : Bool) → MarksApart h t first g → first ≡ true
+    → MarksFirst h t g
+apart_first h g t true m e = m
+apart_first h g t false m e = absurd (cc)
+
+-- an object is marked that was marked before, or that the heap has noted
+pub marks_again : (h g : HeapState) (a t : ℕ) (xs : List ℕ) → WaitBeside h a xs → g ≡ marked_at h t
+    → (all_noted g xs ≡ marked_at (all_noted h xs) t) × WaitBeside g a xs
+marks_again h g a t xs wait e = (ap (λ k. all_noted k xs) e ∙ sym (at_all h t xs), still_wait h g a t xs wait e)
+
+-- an object is marked first, and then it waits, or is noted
+pub marks_wait : (h g k : HeapState) (a t : ℕ) (xs ys : List ℕ) → WaitBeside h a xs → MarksFirst h t g
+    → Waits a t g xs k ys → (all_noted k ys ≡ marked_at (all_noted h xs) t) × WaitBeside k a ys
+marks_wait h g k a t xs ys wait m (inl w) = (
+  (λ i. all_noted (w.1 i) (w.0 i)) ∙ first_waits h g t xs m,
   subst (WaitBeside k a) (sym w.0) (subst (λ x. WaitBeside x a (t ∷ xs)) (sym w.1)
-      (more_wait h g v a t xs wait m w.2 w.3)),
+      (more_wait h g a t xs wait m w.2 w.3)),
 )
-marks_wait h g k v a (Some t) xs ys wait m (inr w) =
-    let e : k ≡ with_mark h v = w.1 ∙ m.rest in (
-      (λ i. all_noted (e i) (w.0 i)) ∙ sym (mark_all h v xs),
-      subst (WaitBeside k a) (sym w.0) (still_wait h k v a xs wait e),
+marks_wait h g k a t xs ys wait m (inr w) =
+    let (same, waits) = marks_again h k a t xs wait (w.1 ∙ m.rest) in (
+      (λ i. all_noted k (w.0 i)) ∙ same,
+      subst (WaitBeside k a) (sym w.0) waits,
     )
 
 -- a word in memory is written
@@ -320,17 +354,30 @@ next_of_noted h g a (Some b) xs ys k = record {
 pub pushed_first : (xs : List ℕ) (t : ℕ) → reverse (xs ++ (t ∷ [])) ≡ t ∷ reverse xs
 pushed_first xs t = reverse-append xs (t ∷ [])
 
--- what is read, marked and written of a field, by its place behind the object
-pub field_of_word : (h g k : HeapState) (xs ys : List ℕ) (a i j bits : ℕ) (word marked : Reference)
-    → j ≡ i → word ≡ reference_in (word_at h.store (a + (1 + j)))
-    → all_noted g ys ≡ with_mark (all_noted h xs) word
-    → marked ≡ marked_word h word → bits ≡ bits_of marked
-    → k ≡ record g { store = with_word g.store (a + (1 + j)) bits }
-    → all_noted k ys ≡ marked_field (all_noted h xs) (field_address a i)
-field_of_word h g k xs ys a i j bits word marked at read marks e f d =
-    field_noted h g k xs ys (a + (1 + j)) bits (marks ∙ ap (with_mark (all_noted h xs)) read)
-    (f ∙ ap bits_of (e ∙ ap (marked_word h) read)) d
-    ∙ ap (λ n. marked_field (all_noted h xs) (a + (1 + n))) at
+-- a field is read and written back, by its place behind the object, and then the object that it names is marked
+pub field_of_word : (h j k : HeapState) (xs ys : List ℕ) (a i n bits t : ℕ) (word marked : Reference)
+    → n ≡ i → word ≡ reference_in (word_at h.store (a + (1 + n))) → marked ≡ marked_word h word → bits ≡ bits_of marked
+    → j ≡ record h { store = with_word h.store (a + (1 + n)) bits } → Some t ≡ address_in marked
+    → all_noted k ys ≡ marked_at (all_noted j xs) t → all_noted k ys ≡ marked_field (all_noted h xs) (field_address a i)
+unfolding marked_field all_noted
+field_of_word h j k xs ys a i n bits t word marked at read e f d named marks =
+    marks ∙ ap (λ x. marked_at (all_noted x xs) t) d
+    ∙ place_then h word xs (a + (1 + n)) bits t (named ∙ ap address_in e) (f ∙ ap bits_of e)
+    ∙ ap (with_marked_place (all_noted h xs) (a + (1 + n))) read
+    ∙ ap (λ m. marked_field (all_noted h xs) (a + (1 + m))) at
+    ∙ ap (marked_field (all_noted h xs)) (field_behind a i)
+
+-- or it names none
+pub field_of_null : (h j : HeapState) (xs : List ℕ) (a i n bits : ℕ) (word marked : Reference)
+    → n ≡ i → word ≡ reference_in (word_at h.store (a + (1 + n))) → marked ≡ marked_word h word → bits ≡ bits_of marked
+    → j ≡ record h { store = with_word h.store (a + (1 + n)) bits } → None ≡ address_in marked
+    → all_noted j xs ≡ marked_field (all_noted h xs) (field_address a i)
+unfolding marked_field all_noted
+field_of_null h j xs a i n bits word marked at read e f d named =
+    ap (λ x. all_noted x xs) d
+    ∙ place_null h word xs (a + (1 + n)) bits (named ∙ ap address_in e) (f ∙ ap bits_of e)
+    ∙ ap (with_marked_place (all_noted h xs) (a + (1 + n))) read
+    ∙ ap (λ m. marked_field (all_noted h xs) (a + (1 + m))) at
     ∙ ap (marked_field (all_noted h xs)) (field_behind a i)
 
 -- the newest of some that wait
@@ -354,10 +401,9 @@ pub first_address : (mark : List (List Bool)) (words : ℕ) (xs rest : List ℕ)
 first_address mark words xs rest n w f = (subst (AreWaiting mark words) f w).0
 
 -- those that wait go on waiting when the object is scanned
-pub scan_waits : (g k : HeapState) (w a : ℕ) (xs : List ℕ) (s : Scan) → WaitBeside g a xs → k ≡ with_scan_end g w s
-    → AreWaiting k.mark k.store.words xs
-unfolding with_scan_end with_scan
-scan_waits g k w a xs s b e = subst (λ (x : HeapState). AreWaiting x.mark x.store.words xs) (sym e) b.waiting
+pub scan_waits : (g k : HeapState) (a : ℕ) (xs : List ℕ) → WaitBeside g a xs
+    → k ≡ record g { todo = with_bit g.todo g.store.words a false } → AreWaiting k.mark k.store.words xs
+scan_waits g k a xs b e = subst (λ (x : HeapState). AreWaiting x.mark x.store.words xs) (sym e) b.waiting
 
 none_there : (xs : List ℕ) → length xs ≡ 0 → xs ≡ []
 none_there [] e = refl
@@ -402,12 +448,6 @@ objects_begin h w xs r e = (
   subst (λ ys. AreWaiting h.mark h.store.words (reverse ys)) (sym e) tt,
 )
 
-pub still_free : (h f g : HeapState) (w n a : ℕ) (xs ys : List ℕ) → ObjectsDone f w n (all_noted h xs)
-    → IsNextObject h xs a g ys → slice_get g.workers w ≡ Some None
-unfolding all_noted
-still_free h f g w n a xs ys d k =
-    ap (λ (ws : List (Option Scan)). slice_get ws w) k.workers ∙ d.drained.ready.worker
-
 pub object_more : (f h g k : HeapState) (w n a : ℕ) (xs ys zs : List ℕ) → ObjectsDone f w n (all_noted h xs)
     → IsStore h.store → IsHeap h → IsNextObject h xs a g ys → all_noted k zs ≡ scanned (all_noted g ys) a
     → ObjectsDone f w (n + 1) (all_noted k zs)
@@ -415,5 +455,33 @@ object_more f h g k w n a xs ys zs d s i next e =
     objects_next f (all_noted h xs) (all_noted k zs) w n a d (noted_store h xs s) (noted_heap h xs i) next.free
     (e ∙ next.same)
 
-pub not_taken : (h : HeapState) (a n : ℕ) (b : Bool) → n ≡ a → b ≡ is_taken h n → b ≡ false → is_taken h a ≡ false
-not_taken h a n b e f g = ap (is_taken h) (sym e) ∙ sym f ∙ g
+-- where no worker has an object, none has this one
+pub none_taken : (h : HeapState) (alone : Bool) (a : ℕ) → IsAlone alone h.workers → alone ≡ true
+    → true ≡ not (is_taken h a)
+unfolding is_taken
+none_taken h alone a k e = ap not (sym (by_workers h.workers (k e)))
+  where
+    by_workers : (ws : List (Option Scan)) → list_any is_some ws ≡ false → list_any (is_scan_of a) ws ≡ false
+    by_workers [] f = refl
+    by_workers (None ∷ ws) f = by_workers ws f
+    by_workers (Some s ∷ ws) f = absurd (cc)
+
+pub not_taken : (h : HeapState) (a n : ℕ) (b : Bool) → n ≡ a → b ≡ not (is_taken h n) → b ≡ true
+    → is_taken h a ≡ false
+not_taken h a n b e f g = ap (is_taken h) (sym e) ∙ is_false (is_taken h n) (sym f ∙ g)
+  where
+    is_false : (c : Bool) → not c ≡ true → c ≡ false
+    is_false false k = refl
+    is_false true k = absurd (cc)
+
+pub alone_first : (ws : List (Option Scan)) (alone : Bool) → alone ≡ not (list_any is_some ws) → IsAlone alone ws
+alone_first ws alone e f = is_false (list_any is_some ws) (sym e ∙ f)
+  where
+    is_false : (c : Bool) → not c ≡ true → c ≡ false
+    is_false false k = refl
+    is_false true k = absurd (cc)
+
+pub alone_still : (h g k : HeapState) (alone : Bool) (a : ℕ) (xs ys zs : List ℕ) → IsAlone alone h.workers
+    → IsNextObject h xs a g ys → all_noted k zs ≡ scanned (all_noted g ys) a → IsAlone alone k.workers
+alone_still h g k alone a xs ys zs i next e =
+    subst (IsAlone alone) (sym (scan_leaves g k a ys zs e ∙ next.workers)) i

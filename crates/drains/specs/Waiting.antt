@@ -1,7 +1,10 @@
 -- Objects that a drain has marked and will scan, of which the heap doesn't say that they are to be scanned (ours).
-use Rattle.std.specs.Prelude.{◌≡◌, ◌≢◌, ◌⊎◌, ℕ, ◌/◌, ◌<◌, true, Bool, List, [], ◌∷◌, Option, None, Some}
+use Rattle.std.specs.Prelude.{◌≡◌, ◌≢◌, ◌⊎◌, ℕ, ◌/◌, ◌<◌, true, false, Bool, List, [], ◌∷◌, Option, None, Some}
+use Rattle.std.specs.Prelude.{is_some}
+use Rattle.std.specs.List.{list_any}
 use Rattle.refword.specs.Words.{IsAddress}
 use Rattle.heap.specs.Marking.{bit_in, noted}
+use Rattle.model.specs.declared.records.Scan.{Scan}
 use Rattle.model.specs.Bits.{with_bit}
 use Rattle.model.specs.Scans.{is_free_todo, next_todo}
 use Rattle.model.specs.States.{HeapState}
@@ -38,10 +41,9 @@ pub record WaitBeside (h : HeapState) (a : ℕ) (xs : List ℕ) : Type 0 where
 abbrev pub Waits : ℕ → ℕ → HeapState → List ℕ → HeapState → List ℕ → Type 0
 Waits a t h xs g ys = ((ys ≡ t ∷ xs) × (g ≡ h) × (t ≢ a) × IsAddress t) ⊎ ((ys ≡ xs) × (g ≡ noted h t))
 
--- the same of one that there may be
-abbrev pub WaitsIf : ℕ → Option ℕ → HeapState → List ℕ → HeapState → List ℕ → Type 0
-WaitsIf a None h xs g ys = (ys ≡ xs) × (g ≡ h)
-WaitsIf a (Some t) h xs g ys = Waits a t h xs g ys
+-- where it is said that no worker has an object, none has
+abbrev pub IsAlone : Bool → List (Option Scan) → Type 0
+IsAlone alone workers = alone ≡ true → list_any is_some workers ≡ false
 
 -- the object at an address is the next one of a heap in which others wait: it may be picked, and it may be scanned in
 -- heap g, in which others wait, in place of heap h

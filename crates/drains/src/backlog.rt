@@ -2,7 +2,7 @@
 
 ghost use Rattle.std.specs.Prelude.{◌≡◌, [], Some};
 ghost use Rattle.std.specs.Prelude.{reverse};
-ghost use Rattle.drains.specs.Waiting.{all_noted, AreWaiting, WaitsIf};
+ghost use Rattle.drains.specs.Waiting.{all_noted, AreWaiting, Waits};
 
 use arrayvec::ArrayVec;
 use heap::Heap;
@@ -13,15 +13,12 @@ use refword::Addr;
 /// bit is set for an object and cleared again.
 pub type Waiting = ArrayVec<u64, 64>;
 
-/// Where an object was marked first, it waits, if there is room, and if it isn't the one at the
-/// address that is scanned; else the heap notes that it is to be scanned.
+/// An object that was marked first waits, if there is room, and if it isn't the one at the address that
+/// is scanned; else the heap notes that it is to be scanned.
 #[inline(always)]
-pub fn wait(heap: &mut Heap, address: Addr, first: Option<Addr>, waiting: &mut Waiting)
-    ensures { WaitsIf address first heap.old (reverse waiting.old.items) heap.new (reverse waiting.new.items) }
+pub fn wait(heap: &mut Heap, address: Addr, target: Addr, waiting: &mut Waiting)
+    ensures { Waits address target heap.old (reverse waiting.old.items) heap.new (reverse waiting.new.items) }
 {
-    let Some(target) = first else {
-        return;
-    };
     if waiting.is_full() || target.number() == address.number() {
         heap.set_todo(target);
     } else {

@@ -2,10 +2,11 @@
 //! order, is ours).
 
 ghost use Rattle.std.specs.Prelude.{◌≡◌, ◌≢◌, ◌<◌, ◌≤◌, ◌∷◌, Ok, Some, None, MatchBool, slice_get};
-ghost use Rattle.std.specs.Prelude.{reverse};
+ghost use Rattle.std.specs.Prelude.{reverse, not, is_some, true, false};
+ghost use Rattle.std.specs.List.{list_any};
 ghost use Rattle.model.specs.Scans.{is_scan_of, is_taken, may_scan, next_todo, next_drain};
 ghost use Rattle.drains.specs.Drains.{IsDrained, IsReady, ObjectsDone, KeepsPlain};
-ghost use Rattle.drains.specs.Waiting.{AreWaiting, IsNext};
+ghost use Rattle.drains.specs.Waiting.{AreWaiting, IsAlone, IsNext};
 
 use crate::backlog::{Waiting, note_all};
 use crate::globals::mark_globals;
@@ -35,6 +36,40 @@ fn is_taken(heap: &Heap, address: u64) -> bool
     heap.workers().iter().any(|scan| is_scan_of(address, *scan))
 }
 
+/// Whether a worker's scan is of some object.
+fn is_scan(scan: Option<Scan>) -> bool
+    ensures { result ≡ is_some scan }
+{
+    scan.is_some()
+}
+
+/// Whether some worker has an object.
+fn has_scans(heap: &Heap) -> bool
+    ensures { result ≡ list_any is_some heap.now.workers }
+{
+    heap.workers().iter().any(|scan| is_scan(*scan))
+}
+
+/// Whether no worker has an object.
+fn is_alone(heap: &Heap) -> bool
+    ensures { result ≡ not (list_any is_some heap.now.workers) }
+{
+    !has_scans(heap)
+}
+
+/// Whether no worker has the object at an address. Where no worker has any, that is not looked at.
+#[inline(always)]
+#[tactic(auto, using(crate::proofs::Waiting::none_taken))]
+fn is_untaken(heap: &Heap, alone: bool, address: u64) -> bool
+    requires { IsAlone alone heap.now.workers }
+    ensures { result ≡ not (is_taken heap.now address) }
+{
+    if alone {
+        return true;
+    }
+    !is_taken(heap, address)
+}
+
 /// The next object, where none waits: the one with the least address of those that are still to be
 /// scanned and that no worker has.
 fn noted_next(heap: &mut Heap, waiting: &mut Waiting) -> Option<Addr>
@@ -48,12 +83,18 @@ fn noted_next(heap: &mut Heap, waiting: &mut Waiting) -> Option<Addr>
 /// An object that waited is the next one. Where another worker has it, which no heap comes to, all are
 /// noted, and the next one is found there.
 #[inline(always)]
-fn waited_next(heap: &mut Heap, address: Addr, waiting: &mut Waiting) -> Option<Addr>
-    requires { AreWaiting heap.old.mark heap.old.store.words (address ∷ reverse waiting.old.items) }
+fn waited_next(
+    heap: &mut Heap,
+    alone: bool,
+    address: Addr,
+    waiting: &mut Waiting,
+) -> Option<Addr>
+    requires alone { IsAlone alone heap.old.workers }
+    requires waiting { AreWaiting heap.old.mark heap.old.store.words (address ∷ reverse waiting.old.items) }
     ensures { IsNext heap.old (address ∷ reverse waiting.old.items) result heap.new (reverse waiting.new.items) }
 {
     heap.law();
-    if !is_taken(heap, address.number()) {
+    if is_untaken(heap, alone, address.number()) {
         return Some(address);
     }
     heap.set_todo(address);
@@ -63,13 +104,14 @@ fn waited_next(heap: &mut Heap, address: Addr, waiting: &mut Waiting) -> Option<
 /// The next object that a drain scans: the one that waits and was marked last, else one that the heap
 /// has noted.
 #[inline(always)]
-fn next_object(heap: &mut Heap, waiting: &mut Waiting) -> Option<Addr>
-    requires { AreWaiting heap.old.mark heap.old.store.words (reverse waiting.old.items) }
+fn next_object(heap: &mut Heap, alone: bool, waiting: &mut Waiting) -> Option<Addr>
+    requires alone { IsAlone alone heap.old.workers }
+    requires waiting { AreWaiting heap.old.mark heap.old.store.words (reverse waiting.old.items) }
     ensures { IsNext heap.old (reverse waiting.old.items) result heap.new (reverse waiting.new.items) }
 {
     match waiting.pop() {
         None => noted_next(heap, waiting),
-        Some(number) => waited_next(heap, Addr::new(number).unwrap(), waiting),
+        Some(number) => waited_next(heap, alone, Addr::new(number).unwrap(), waiting),
     }
 }
 
@@ -117,25 +159,77 @@ pub fn drain(heap: &mut Heap, worker: u32, most: u64) -> u64
 {
     refinement::law();
     mark_globals(heap, worker);
-    scan_objects(heap, worker, most)
+    let portion = scan_objects(heap, worker, most, None);
+    portion.objects
 }
 
-/// A worker picks and scans objects, at most so many, until none is left that no worker has; it
-/// answers how many.
-fn scan_objects(heap: &mut Heap, worker: u32, most: u64) -> u64
+/// What a portion of a drain came to.
+#[derive(Clone, Copy, Debug, PartialEq, Eq)]
+pub struct Portion {
+    /// How many objects were scanned.
+    pub objects: u64,
+    /// Whether nothing is left that no other worker has.
+    pub has_ended: bool,
+}
+
+/// A portion of a drain, in which also the references are bounded: as `drain`, but it stops behind the
+/// object with which so many references were scanned, as well. An object has at most 1,023 references.
+pub fn drain_some(heap: &mut Heap, worker: u32, most: u64, references: u64) -> Portion
     requires { IsReady heap.old worker }
-    ensures done { ObjectsDone heap.old worker result heap.new }
-    ensures few { result ≤ most }
-    ensures end { result < most → next_todo heap.new ≡ None }
+    ensures drained { IsDrained heap.old worker result.objects heap.new }
+    ensures stands { KeepsPlain heap.old heap.new }
+    ensures few { result.objects ≤ most }
+    ensures end { result.has_ended ≡ true → next_drain heap.new worker ≡ None }
 {
+    refinement::law();
+    mark_globals(heap, worker);
+    scan_objects(heap, worker, most, Some(references))
+}
+
+/// Whether so many references are as many as are to be scanned, if that is bounded.
+#[inline(always)]
+fn is_enough(scanned: u64, limit: Option<u64>) -> bool
+    ensures { limit ≡ None → result ≡ false }
+{
+    match limit {
+        None => false,
+        Some(limit) => scanned >= limit,
+    }
+}
+
+/// A worker picks and scans objects, at most so many, and, where there is a limit, until so many
+/// references were scanned, or until none is left that no worker has.
+fn scan_objects(heap: &mut Heap, worker: u32, most: u64, limit: Option<u64>) -> Portion
+    requires { IsReady heap.old worker }
+    ensures done { ObjectsDone heap.old worker result.objects heap.new }
+    ensures few { result.objects ≤ most }
+    ensures end { result.has_ended ≡ true → next_todo heap.new ≡ None }
+    ensures all { limit ≡ None → result.objects < most → result.has_ended ≡ true }
+{
+    let alone = is_alone(heap);
     let mut waiting = Waiting::new();
+    let mut references = 0u64;
     for done in 0..most {
         heap.law();
-        let Some(address) = next_object(heap, &mut waiting) else {
-            return done;
+        if is_enough(references, limit) {
+            note_all(heap, &mut waiting);
+            return Portion {
+                objects: done,
+                has_ended: false,
+            };
+        }
+        let Some(address) = next_object(heap, alone, &mut waiting) else {
+            return Portion {
+                objects: done,
+                has_ended: true,
+            };
         };
-        scan_object(heap, worker, address, &mut waiting);
+        let scanned = scan_object(heap, address, &mut waiting);
+        references = references.saturating_add(u64::from(scanned));
     }
     note_all(heap, &mut waiting);
-    most
+    Portion {
+        objects: most,
+        has_ended: false,
+    }
 }

@@ -6,4 +6,4 @@ mod draining;
 mod globals;
 mod whole;
 
-pub use draining::{drain, is_ready, may_scan};
+pub use draining::{Portion, drain, drain_some, is_ready, may_scan};

@@ -1,18 +1,17 @@
 //! An object is scanned whole: what `Pick` and the steps `ScanField` of it do, one after the other
 //! (the paper's Mark phase; that it is done at once is ours).
 
-ghost use Rattle.std.specs.Prelude.{◌≡◌, ◌+◌, ◌<◌, ◌^◌, slice_get, Some, None};
+ghost use Rattle.std.specs.Prelude.{◌≡◌, ◌+◌, ◌<◌, ◌^◌, Some, None};
 ghost use Rattle.std.specs.Prelude.{reverse};
 ghost use Rattle.drains.specs.Drains.{refs_at, marked_field, marked_fields, scanned};
 ghost use Rattle.drains.specs.Waiting.{all_noted, AreWaiting, WaitBeside};
-ghost use Rattle.model.specs.Marks.{marked_word, with_mark};
+ghost use Rattle.heap.specs.Marking.{marked_at};
 ghost use Rattle.model.specs.References.{field_address};
 ghost use Rattle.model.specs.Scans.{reference_in};
 ghost use Rattle.model.specs.Stores.{word_at};
 
 use crate::backlog::{Waiting, wait};
-use heap::{CollectorEdits, Heap, read_reference};
-use model::Scan;
+use heap::{Heap, read_reference};
 use refword::{Addr, Word};
 
 /// The reference so many words behind an address; null where there is no memory.
@@ -40,22 +39,22 @@ fn refs_at(heap: &Heap, address: Addr) -> u32
     }
 }
 
-/// Marks a word while the object at an address is scanned, and gives the word that marking leaves. What
-/// is marked first waits.
+/// Marks the object at an address while another one is scanned. Where that is the first time, it waits.
 #[inline(always)]
-fn mark(heap: &mut Heap, address: Addr, word: Word, waiting: &mut Waiting) -> Word
+fn mark(heap: &mut Heap, address: Addr, target: Addr, waiting: &mut Waiting)
     requires { WaitBeside heap.old address (reverse waiting.old.items) }
-    ensures word { result ≡ marked_word heap.old word }
     ensures marks { all_noted heap.new (reverse waiting.new.items)
-        ≡ with_mark (all_noted heap.old (reverse waiting.old.items)) word }
+        ≡ marked_at (all_noted heap.old (reverse waiting.old.items)) target }
     ensures waits { WaitBeside heap.new address (reverse waiting.new.items) }
 {
-    let (marked, first) = heap.mark_apart(word);
-    wait(heap, address, first, waiting);
-    marked
+    if !heap.mark_apart(target) {
+        return;
+    }
+    wait(heap, address, target, waiting);
 }
 
-/// Marks the word of a reference, and writes it back.
+/// Marks the word of a reference, and writes it back. It is written before its object is marked, so
+/// that nothing else is written between the two looks at its page.
 #[inline(always)]
 fn mark_field(heap: &mut Heap, address: Addr, index: u32, waiting: &mut Waiting)
     requires few { index < 2 ^ 16 }
@@ -66,8 +65,12 @@ fn mark_field(heap: &mut Heap, address: Addr, index: u32, waiting: &mut Waiting)
 {
     let ahead = 1 + u64::from(index);
     let word = reference_behind(heap, address, ahead);
-    let marked = mark(heap, address, word, waiting);
+    let marked = heap.marked_word(word);
     heap.set_word_behind(address, ahead, marked.bits());
+    let Some(target) = marked.addr() else {
+        return;
+    };
+    mark(heap, address, target, waiting);
 }
 
 /// Marks the words of all references, so many, and writes them back.
@@ -84,22 +87,17 @@ fn mark_fields(heap: &mut Heap, address: Addr, refs: u32, waiting: &mut Waiting)
     }
 }
 
-/// An object that no worker has is scanned whole, by a worker that has none. Nothing is left to be
-/// copied.
-pub fn scan_object(heap: &mut Heap, worker: u32, address: Addr, waiting: &mut Waiting)
-    requires worker { slice_get heap.old.workers worker ≡ Some None }
-    requires waits { WaitBeside heap.old address (reverse waiting.old.items) }
+/// An object that no worker has is scanned whole, by a worker that has none: so the workers stay as
+/// they are. Nothing is left to be copied. Answers how many references it has.
+pub fn scan_object(heap: &mut Heap, address: Addr, waiting: &mut Waiting) -> u32
+    requires { WaitBeside heap.old address (reverse waiting.old.items) }
     ensures scanned { all_noted heap.new (reverse waiting.new.items)
         ≡ scanned (all_noted heap.old (reverse waiting.old.items)) address }
     ensures waits { AreWaiting heap.new.mark heap.new.store.words (reverse waiting.new.items) }
+    ensures references { result ≡ refs_at heap.old address }
 {
     let refs = refs_at(heap, address);
     mark_fields(heap, address, refs, waiting);
-    heap.end_scan(
-        worker,
-        Scan {
-            object: address,
-            next: 0,
-        },
-    );
+    heap.clear_todo(address);
+    refs
 }

@@ -1,7 +1,12 @@
 -- Marks keep what holds of a heap.
-use Rattle.std.proofs.Common.{◌≡◌, ℕ, ◌-◌, ◌/◌, ◌%◌, Bool, true, false, List, Option, None, Some}
-use Rattle.std.proofs.Common.{refl}
+use Rattle.std.proofs.Common.{◌≡◌, ℕ, zero, suc, ◌-◌, ◌/◌, ◌%◌, Bool, true, false, List, [], ◌∷◌, Option, None, Some}
+use Rattle.std.proofs.Common.{set, count_by, refl, arith}
 use Rattle.std.proofs.Common.{◌∙◌, sym, ap, subst}
+use Rattle.std.specs.List.{slice_get}
+use Rattle.std.specs.Prelude.{◌==◌}
+use Rattle.std.proofs.lemmas.Bool.Decides.{nat_tests}
+use Rattle.std.proofs.lemmas.List.{set-get_or}
+use Rattle.std.proofs.lemmas.List.Sums.{sum_by-cons}
 use Rattle.std.specs.Option.{unwrap_or}
 use Rattle.std.specs.Prelude.{if◌then◌else◌}
 use Rattle.std.proofs.lemmas.Option.{unwrap_or-slice_get, same_Some}
@@ -9,13 +14,13 @@ use Rattle.model.specs.declared.config.Config.{Config}
 use Rattle.model.specs.declared.records.Phase.{Phase}
 use Rattle.model.specs.declared.records.Phase.TheVariants.{Idle, MarkCrossing, Scanning, ProtectCrossing, Relocating}
 use Rattle.model.specs.Checkpoints.{phase_behind}
-use Rattle.refword.specs.Words.{address_in}
-use Rattle.model.specs.States.{Reference, HeapState}
+use Rattle.model.specs.States.{HeapState, change_at, change_found}
 use Rattle.model.specs.Holding.{IsHeap, AreRowsFor}
 use Rattle.model.proofs.Tables.{rows_put}
-use Rattle.model.specs.Bits.{of_page, bit_at, with_bit}
-use Rattle.model.specs.Marks.{with_mark, resolve}
-use Rattle.heap.specs.Marking.{bit_in, noted, MarksFirst}
+use Rattle.model.proofs.Lists.{none_counted}
+use Rattle.model.specs.Bits.{of_page, bit_at, bit_count, put_bit, with_bit}
+use Rattle.page.proofs.Copied.{same_set}
+use Rattle.heap.specs.Marking.{bit_in, noted, marked_at, MarksFirst}
 
 -- rows of marks are put in the place of others, as many and as long
 pub marks_keep : (h : HeapState) (live mark todo : List (List Bool)) → IsHeap h → AreRowsFor h.config live
@@ -93,63 +98,60 @@ bit_is rows words a o e =
     sym (unwrap_or-slice_get (of_page rows (a / words)) (a % words) false) ∙ ap (λ p. unwrap_or p false) e
 
 -- what marking leaves, where it is known whether the object was marked
-mark_by : (h : HeapState) (w : ℕ × Bool) (b : Bool) → bit_at h.mark h.store.words (resolve h w.0) ≡ b
+mark_by : (h : HeapState) (a : ℕ) (b : Bool) → bit_at h.mark h.store.words a ≡ b
     → (record h {
-      mark = with_bit h.mark h.store.words (resolve h w.0) true;
-      todo = if b then h.todo else with_bit h.todo h.store.words (resolve h w.0) true;
-    }) ≡ with_mark h (Some w)
-unfolding with_mark
-mark_by h w b e = λ i. record h {
-  mark = with_bit h.mark h.store.words (resolve h w.0) true;
-  todo = if sym e i then h.todo else with_bit h.todo h.store.words (resolve h w.0) true;
+      mark = with_bit h.mark h.store.words a true;
+      todo = if b then h.todo else with_bit h.todo h.store.words a true;
+    }) ≡ marked_at h a
+unfolding marked_at
+mark_by h a b e = λ i. record h {
+  mark = with_bit h.mark h.store.words a true;
+  todo = if sym e i then h.todo else with_bit h.todo h.store.words a true;
 }
 
-pub marked_first : (h : HeapState) (w : ℕ × Bool) → bit_in h.mark h.store.words (resolve h w.0) ≡ Some false
-    → MarksFirst h (Some w) (resolve h w.0)
-    (record h { mark = with_bit h.mark h.store.words (resolve h w.0) true })
+pub marked_first : (h : HeapState) (a : ℕ) (mark : List (List Bool)) → mark ≡ with_bit h.mark h.store.words a true
+    → bit_in h.mark h.store.words a ≡ Some false → MarksFirst h a (record h { mark = mark })
 unfolding noted
-marked_first h w e = record {
+marked_first h a mark f e = subst (λ (m : List (List Bool)). MarksFirst h a (record h { mark = m })) (sym f) (record {
   fresh = e;
   marked = refl;
-  rest = mark_by h w false (bit_is h.mark h.store.words (resolve h w.0) (Some false) e);
-}
+  rest = mark_by h a false (bit_is h.mark h.store.words a (Some false) e);
+})
 
-pub marked_again : (h : HeapState) (w : ℕ × Bool) → bit_in h.mark h.store.words (resolve h w.0) ≡ Some true
-    → (record h { mark = with_bit h.mark h.store.words (resolve h w.0) true }) ≡ with_mark h (Some w)
-marked_again h w e = mark_by h w true (bit_is h.mark h.store.words (resolve h w.0) (Some true) e)
+pub marked_again : (h : HeapState) (a : ℕ) (mark : List (List Bool)) → mark ≡ with_bit h.mark h.store.words a true
+    → bit_in h.mark h.store.words a ≡ Some true → (record h { mark = mark }) ≡ marked_at h a
+marked_again h a mark f e = ap (λ (m : List (List Bool)). record h { mark = m }) f
+    ∙ mark_by h a true (bit_is h.mark h.store.words a (Some true) e)
 
-pub marked_nowhere : (h : HeapState) (w : ℕ × Bool) → bit_in h.mark h.store.words (resolve h w.0) ≡ None
-    → (record h {
-      mark = with_bit h.mark h.store.words (resolve h w.0) true;
-      todo = with_bit h.todo h.store.words (resolve h w.0) true;
-    }) ≡ with_mark h (Some w)
-marked_nowhere h w e = mark_by h w false (bit_is h.mark h.store.words (resolve h w.0) None e)
+pub marked_nowhere : (h : HeapState) (a : ℕ) (mark todo : List (List Bool))
+    → mark ≡ with_bit h.mark h.store.words a true → todo ≡ with_bit h.todo h.store.words a true
+    → bit_in h.mark h.store.words a ≡ None → (record h { mark = mark; todo = todo }) ≡ marked_at h a
+marked_nowhere h a mark todo f g e = (λ i. record h { mark = f i; todo = g i })
+    ∙ mark_by h a false (bit_is h.mark h.store.words a None e)
 
--- of a word that names an address, what is resolved is marked
-pub first_of_word : (h : HeapState) (v : Reference) (a p : ℕ) (mark : List (List Bool)) → Some a ≡ address_in v
-    → p ≡ resolve h a → mark ≡ with_bit h.mark h.store.words p true → Some false ≡ bit_in h.mark h.store.words p
-    → MarksFirst h v p (record h { mark = mark })
-first_of_word h None a p mark named e f was = absurd (cc)
-first_of_word h (Some w) a p mark named e f was =
-    subst (λ n. MarksFirst h (Some w) n (record h { mark = mark })) (sym place)
-    (subst (λ (m : List (List Bool)). MarksFirst h (Some w) (resolve h w.0) (record h { mark = m }))
-    (sym (f ∙ ap (λ n. with_bit h.mark h.store.words n true) place))
-    (marked_first h w (ap (bit_in h.mark h.store.words) (sym place) ∙ sym was)))
+-- ---- a bit is cleared where none is set
+
+none_in : (rows : List (List Bool)) (i : ℕ) (row : List Bool) → bit_count rows ≡ 0 → slice_get rows i ≡ Some row
+    → count_by (λ b. b) row ≡ 0
+none_in [] i row e f = absurd (cc)
+none_in (r ∷ rows) zero row e f =
+    sym (ap (count_by (λ b. b)) (same_Some _ _ f)) ∙ omega (arith, e, sum_by-cons (count_by (λ b. b)) r rows)
+none_in (r ∷ rows) (suc i) row e f =
+    none_in rows i row (omega (arith, e, sum_by-cons (count_by (λ b. b)) r rows)) f
+
+none_cleared : (rows : List (List Bool)) (i o : ℕ) → bit_count rows ≡ 0 → change_at rows i (put_bit o false) ≡ rows
+none_cleared rows i o e = by_row (slice_get rows i) refl
   where
-    place : p ≡ resolve h w.0
-    place = e ∙ ap (resolve h) (same_Some _ _ named)
+    by_row : (x : Option (List Bool)) → slice_get rows i ≡ x → change_found rows i x (put_bit o false) ≡ rows
+    by_row None f = refl
+    by_row (Some row) f = ap (set rows i) (subst (λ b. set row o b ≡ row)
+        (none_counted row (none_in rows i row e f) o) (set-get_or row o false)) ∙ same_set rows i row f
 
-pub nowhere_of_word : (h : HeapState) (v : Reference) (a p : ℕ) (mark todo : List (List Bool)) → Some a ≡ address_in v
-    → p ≡ resolve h a → mark ≡ with_bit h.mark h.store.words p true → None ≡ bit_in h.mark h.store.words p
-    → todo ≡ with_bit h.todo h.store.words p true
-    → (record h { mark = mark; todo = todo }) ≡ with_mark h v
-nowhere_of_word h None a p mark todo named e f was g = absurd (cc)
-nowhere_of_word h (Some w) a p mark todo named e f was g =
-    (λ i. record h {
-      mark = (f ∙ ap (λ n. with_bit h.mark h.store.words n true) place) i;
-      todo = (g ∙ ap (λ n. with_bit h.todo h.store.words n true) place) i;
-    })
-    ∙ marked_nowhere h w (ap (bit_in h.mark h.store.words) (sym place) ∙ sym was)
-  where
-    place : p ≡ resolve h w.0
-    place = e ∙ ap (resolve h) (same_Some _ _ named)
+no_bits : (n : ℕ) → (n == 0) ≡ true → n ≡ 0
+no_bits n e = grind (arith, nat_tests)
+
+-- the bit of an address
+pub all_clear : (rows : List (List Bool)) (words a : ℕ) (empty : Bool) → empty ≡ (bit_count rows == 0) → empty ≡ true
+    → rows ≡ with_bit rows words a false
+all_clear rows words a empty is e =
+    sym (none_cleared rows (a / words - 1) (a % words) (no_bits (bit_count rows) (sym is ∙ e)))

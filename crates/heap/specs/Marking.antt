@@ -1,9 +1,8 @@
 -- Objects are marked, and what is to be scanned is left to whoever marks (the paper's Mark phase; that it is left is
 -- ours).
-use Rattle.std.specs.Prelude.{◌≡◌, ℕ, ◌/◌, ◌%◌, Bool, true, false, List, Option, None, Some, slice_get}
-use Rattle.model.specs.Bits.{of_page, with_bit}
-use Rattle.model.specs.Marks.{with_mark}
-use Rattle.model.specs.States.{Reference, HeapState}
+use Rattle.std.specs.Prelude.{◌≡◌, ℕ, ◌/◌, ◌%◌, Bool, true, false, List, Option, Some, slice_get, if◌then◌else◌}
+use Rattle.model.specs.Bits.{of_page, bit_at, with_bit}
+use Rattle.model.specs.States.{HeapState}
 
 -- the bit of an address in rows of pages of so many words, if it has one
 abbrev pub bit_in : List (List Bool) → ℕ → ℕ → Option Bool
@@ -13,15 +12,20 @@ bit_in rows words a = slice_get (of_page rows (a / words)) (a % words)
 unfoldable pub noted : HeapState → ℕ → HeapState
 noted h a = record h { todo = with_bit h.todo h.store.words a true }
 
--- the object at an address, which a word names, wasn't marked, and is; all that marking the word does besides is that
--- the object is to be scanned
-pub record MarksFirst (h : HeapState) (v : Reference) (a : ℕ) (g : HeapState) : Type 0 where
+-- the heap after the object at an address is marked: it is to be scanned, where it wasn't marked before
+unfoldable pub marked_at : HeapState → ℕ → HeapState
+marked_at h a = record h {
+  mark = with_bit h.mark h.store.words a true;
+  todo = if bit_at h.mark h.store.words a then h.todo else with_bit h.todo h.store.words a true;
+}
+
+-- the object at an address wasn't marked, and is; all that is left is that it is to be scanned
+pub record MarksFirst (h : HeapState) (a : ℕ) (g : HeapState) : Type 0 where
   pub fresh : bit_in h.mark h.store.words a ≡ Some false
   pub marked : g ≡ record h { mark = with_bit h.mark h.store.words a true }
-  pub rest : noted g a ≡ with_mark h v
+  pub rest : noted g a ≡ marked_at h a
 
--- the object that a word names is marked; where it is the first time, the address says so, and the object is still to
--- be noted
-abbrev pub MarksApart : HeapState → Reference → Option ℕ → HeapState → Type 0
-MarksApart h v None g = g ≡ with_mark h v
-MarksApart h v (Some a) g = MarksFirst h v a g
+-- the object at an address is marked; where it is the first time, that is told, and the object is still to be noted
+abbrev pub MarksApart : HeapState → ℕ → Bool → HeapState → Type 0
+MarksApart h a false g = g ≡ marked_at h a
+MarksApart h a true g = MarksFirst h a g

@@ -16,7 +16,7 @@ ghost use Rattle.heap.specs.Marking.{bit_in, noted, MarksApart};
 ghost use Rattle.page.specs.Ending.{with_mark_ended_at};
 
 use crate::heap::Heap;
-use crate::heap::marks::{bit_at, put_bit, put_indexed_bit};
+use crate::heap::marks::{bit_at, clear_indexed_bit, put_bit, put_indexed_bit};
 use markbits::{IndexedRows, Rows};
 use model::{PageState, Phase, Scan};
 use page::Store;
@@ -167,27 +167,19 @@ fn set_first(mark: &mut Rows, store: &Store, address: Addr) -> Option<bool>
 }
 
 impl Heap {
-    /// A raw edit: marks the object that a word names, as `set_mark` does, and gives the word that
-    /// marking leaves (the paper's Mark phase). Where the object wasn't marked before, it gives its
-    /// address besides, and doesn't note that the object is to be scanned: who calls this does, by
-    /// `set_todo`, or scans it.
+    /// A raw edit: marks the object that is at an address (the paper's Mark phase). Answers whether it
+    /// wasn't marked before; then it doesn't note that the object is to be scanned: who calls this
+    /// does, by `set_todo`, or scans it.
     #[inline(always)]
-    #[tactic(auto, unfolding(model::specs::Marks::with_mark, model::specs::Marks::marked_word))]
-    pub fn mark_apart(&mut self, word: Word) -> (Word, Option<Addr>)
-        ensures heap { MarksApart self.old word result.1 self.new }
-        ensures word { result.0 ≡ marked_word self.old word }
+    pub fn mark_apart(&mut self, place: Addr) -> bool
+        ensures { MarksApart self.old place result self.new }
     {
-        let Some(address) = word.addr() else {
-            return (word, None);
-        };
-        let place = self.resolve(address);
-        let marked = Word::of(place, self.nmt);
         match set_first(&mut self.mark, &self.store, place) {
-            Some(false) => (marked, Some(place)),
-            Some(true) => (marked, None),
+            Some(false) => true,
+            Some(true) => false,
             None => {
                 put_indexed_bit(&mut self.todo, &self.store, place, true);
-                (marked, None)
+                false
             }
         }
     }
@@ -198,6 +190,15 @@ impl Heap {
         ensures { self.new ≡ noted self.old address }
     {
         put_indexed_bit(&mut self.todo, &self.store, address, true);
+    }
+
+    /// A raw edit: the object at an address isn't to be scanned. Where none is, that is all that is
+    /// looked at.
+    #[inline(always)]
+    pub fn clear_todo(&mut self, address: Addr)
+        ensures { self.new ≡ record self.old { todo = with_bit self.old.todo self.old.store.words address false } }
+    {
+        clear_indexed_bit(&mut self.todo, &self.store, address);
     }
 }
 

@@ -1,6 +1,6 @@
 //! Words are resolved, and what the running mark has marked (the paper's Mark phase).
 
-ghost use Rattle.std.specs.Prelude.{◌≡◌};
+ghost use Rattle.std.specs.Prelude.{◌≡◌, false};
 ghost use Rattle.model.specs.Bits.{bit_at, with_bit};
 ghost use Rattle.model.specs.Marks.{entry_at, resolve, marked_word};
 
@@ -31,6 +31,19 @@ pub(crate) fn put_indexed_bit(rows: &mut IndexedRows, store: &Store, address: Ad
 {
     let index = store.page_of(address).saturating_sub(1) as usize;
     rows.put(index, store.offset_of(address) as usize, bit);
+}
+
+/// Clears the bit of an address, if its page has a row. Where no bit is set, that is all that is looked
+/// at.
+#[inline(always)]
+#[tactic(auto, using(crate::proofs::Marking::all_clear))]
+pub(crate) fn clear_indexed_bit(rows: &mut IndexedRows, store: &Store, address: Addr)
+    ensures { rows.new ≡ with_bit rows.old store.now.words address false }
+{
+    if rows.is_empty() {
+        return;
+    }
+    put_indexed_bit(rows, store, address, false);
 }
 
 impl Heap {

@@ -4,17 +4,17 @@ use Rattle.drains.specs.Waiting.{AreWaiting, IsNext}
 use Rattle.drains.proofs.Waiting.{waited_is_next, rest_wait, next_of_noted, not_taken}
 use Rattle.drains.proofs.draining.waited_next.Goals as goal
 
-pub returns-then-not-is_taken : goal.returns-then-not-is_taken
-returns-then-not-is_taken c = waited_is_next c.args.heap.now c.args.address (reverse c.args.waiting.now.items)
-    c.law.ensures.heap c.requires
-    (not_taken c.args.heap.now c.args.address c.number.result c.is_taken.result c.number.ensures.value
-    c.is_taken.ensures c.if-not-is_taken.true)
+pub returns-then-is_untaken : goal.returns-then-is_untaken
+returns-then-is_untaken c = waited_is_next c.args.heap.now c.args.address (reverse c.args.waiting.now.items)
+    c.law.ensures.heap c.requires.waiting
+    (not_taken c.args.heap.now c.args.address c.number.result c.is_untaken.result c.number.ensures.value
+    c.is_untaken.ensures c.if-is_untaken.true)
 
 pub noted_next-requires : goal.noted_next-requires
 noted_next-requires c =
     subst (λ (x : HeapState). AreWaiting x.mark x.store.words (reverse c.args.waiting.now.items))
     (sym c.set_todo.ensures)
-    (rest_wait c.args.heap.now c.args.address (reverse c.args.waiting.now.items) c.requires)
+    (rest_wait c.args.heap.now c.args.address (reverse c.args.waiting.now.items) c.requires.waiting)
 
 pub returns : goal.returns
 returns c = next_of_noted c.args.heap.now c.noted_next.new.heap c.args.address c.noted_next.result

@@ -1,25 +1,26 @@
-use Rattle.std.proofs.Common.{Bool, false, true, List, Some, ◌≡◌, ◌∙◌, sym, ap, subst}
-use Rattle.model.specs.Marks.{with_mark, resolve}
-use Rattle.heap.specs.Marking.{MarksFirst}
+use Rattle.std.proofs.Common.{Bool, Some, ◌∙◌, sym, ap, subst}
+use Rattle.heap.specs.Marking.{marked_at, MarksFirst}
 use Rattle.heap.specs.Views.{heap_of}
-use Rattle.heap.proofs.Marking.{first_of_word, nowhere_of_word}
+use Rattle.heap.proofs.Marking.{marked_first, marked_again, marked_nowhere}
 use Rattle.heap.proofs.heap.Heap.mark_apart.Goals as goal
 
-pub returns-in-Some-false-clause-heap : goal.returns-in-Some-false-clause-heap
-returns-in-Some-false-clause-heap c =
+pub returns-in-Some-false : goal.returns-in-Some-false
+returns-in-Some-false c =
     let h = heap_of c.self.inside in
-    subst (λ x. MarksFirst x c.args.word c.resolve-place.result (record h { mark = c.set_first.new.mark }))
-    c.self.view_is
-    (first_of_word h c.args.word c.in-Some.address c.resolve-place.result c.set_first.new.mark
-    (sym c.in-Some.is ∙ c.addr.ensures.value)
-    (c.resolve-place.ensures ∙ ap (λ x. resolve x c.in-Some.address) (sym c.self.view_is)) c.set_first.ensures.mark
-    (ap (λ (b : Bool). Some b) (sym c.in-Some-false.field-0-test) ∙ sym c.in-Some-false.is ∙ c.set_first.ensures.was))
+    subst (λ x. MarksFirst x c.args.place (record h { mark = c.set_first.new.mark })) c.self.view_is
+    (marked_first h c.args.place c.set_first.new.mark c.set_first.ensures.mark
+    (sym c.set_first.ensures.was ∙ c.in-Some-false.is ∙ ap (λ (b : Bool). Some b) c.in-Some-false.field-0-test))
 
-pub returns-in-None-clause-heap : goal.returns-in-None-clause-heap
-returns-in-None-clause-heap c =
+pub returns-in-Some-true : goal.returns-in-Some-true
+returns-in-Some-true c =
     let h = heap_of c.self.inside in
-    nowhere_of_word h c.args.word c.in-Some.address c.resolve-place.result c.set_first.new.mark
-    c.put_indexed_bit.new.rows (sym c.in-Some.is ∙ c.addr.ensures.value)
-    (c.resolve-place.ensures ∙ ap (λ x. resolve x c.in-Some.address) (sym c.self.view_is))
-    c.set_first.ensures.mark (sym c.in-None.is ∙ c.set_first.ensures.was) c.put_indexed_bit.ensures
-    ∙ ap (λ x. with_mark x c.args.word) c.self.view_is
+    marked_again h c.args.place c.set_first.new.mark c.set_first.ensures.mark
+    (sym c.set_first.ensures.was ∙ c.in-Some-true.is ∙ ap (λ (b : Bool). Some b) c.in-Some-true.field-0-test)
+    ∙ ap (λ x. marked_at x c.args.place) c.self.view_is
+
+pub returns-in-None : goal.returns-in-None
+returns-in-None c =
+    let h = heap_of c.self.inside in
+    marked_nowhere h c.args.place c.set_first.new.mark c.put_indexed_bit.new.rows c.set_first.ensures.mark
+    c.put_indexed_bit.ensures (sym c.set_first.ensures.was ∙ c.in-None.is)
+    ∙ ap (λ x. marked_at x c.args.place) c.self.view_is
