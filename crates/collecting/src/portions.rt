@@ -59,12 +59,18 @@ fn end_mark(heap: &mut ManagedHeap) -> Result<bool, Refusal>
     }
 }
 
-/// At most so many objects are scanned, by a worker that is ready for that. True where nothing is left.
+/// As many references are scanned for each object of a budget, before a portion ends: so an object of
+/// 1,023 references takes as much of a budget as 16 others.
+const REFERENCES: u64 = 64;
+
+/// At most so many objects are scanned, and references by the budget, by a worker that is ready for that.
+/// True where nothing is left.
 fn scan_ready(heap: &mut ManagedHeap, budget: u64) -> Result<bool, Refusal>
     requires { IsReady heap.old WORKER }
     ensures { EndsScanning heap.old result heap.new }
 {
-    if heap.scan_objects(0, budget) < budget {
+    let portion = heap.scan_portion(0, budget, budget.saturating_mul(REFERENCES));
+    if portion.has_ended {
         Ok(true)
     } else {
         Ok(false)

@@ -1,6 +1,6 @@
 //! Scans of one worker.
 
-ghost use Rattle.std.specs.Prelude.{◌≡◌, ◌<◌, ◌≤◌, None};
+ghost use Rattle.std.specs.Prelude.{◌≡◌, ◌<◌, ◌≤◌, None, true};
 ghost use Rattle.drains.specs.Drains.{IsReady};
 ghost use Rattle.model.specs.Scans.{next_drain};
 ghost use Rattle.managed.specs.Goings.{EndsDrain, EndsScan, Goes, IsDrain, IsScan, ScansFar, ScansObjects};
@@ -9,7 +9,7 @@ ghost use Rattle.managed.specs.Preparing.{IsPrepared, ScansNothing};
 
 use crate::managed::ManagedHeap;
 use cycle::next_drain;
-use drains::{drain, is_ready};
+use drains::{Portion, drain, drain_some, is_ready};
 use model::{Actor, Refusal};
 
 impl ManagedHeap {
@@ -55,6 +55,19 @@ impl ManagedHeap {
     {
         refinement::law();
         drain(&mut self.heap, worker, most)
+    }
+
+    /// A portion of that, in which also the references are bounded: it stops behind the object with which so
+    /// many were scanned, as well. An object has at most 1,023 references.
+    pub fn scan_portion(&mut self, worker: u32, most: u64, references: u64) -> Portion
+        requires { IsReady self.old worker }
+        ensures objects { ScansObjects worker result.objects self.old self.new }
+        ensures stands { StandsForSame self.old self.new }
+        ensures few { result.objects ≤ most }
+        ensures end { result.has_ended ≡ true → next_drain self.new worker ≡ None }
+    {
+        refinement::law();
+        drain_some(&mut self.heap, worker, most, references)
     }
 
     /// A whole drain: what is left to be copied of protected pages is copied, and then it scans until nothing

@@ -34,7 +34,7 @@ fn most_parts(budget: u32) -> u32 {
 }
 
 /// The parts of one collection, of which at most so many are done. Gives how many there were, the last one with it.
-fn count_parts(
+pub fn count_parts(
     alloc: Global,
     heap: &mut impl Holding,
     parts: &mut Parts,

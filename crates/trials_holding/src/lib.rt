@@ -10,6 +10,8 @@ mod faults;
 #[cfg(test)]
 mod listing;
 #[cfg(test)]
+mod long;
+#[cfg(test)]
 mod marks;
 #[cfg(test)]
 mod parts;
