@@ -28,13 +28,28 @@ fn lay(target: &mut [u64], place: usize, words: &[u64])
     here.copy_from_slice(words);
 }
 
+/// The offset of an address in its page, of so many words: mostly a power of two, by which nothing has
+/// to be divided.
+#[inline(always)]
+fn offset_in(size: u32, address: u64) -> u64
+    requires { 0 < size }
+    ensures { result ≡ address % size }
+{
+    let power = 1u64 << size.trailing_zeros();
+    if power == u64::from(size) {
+        address & (power - 1)
+    } else {
+        address % u64::from(size)
+    }
+}
+
 /// How far behind an offset of its page an address is; 0 where it is before that.
 #[inline(always)]
 pub(crate) fn place_behind(source: &Source<'_>, to: Addr, base: usize) -> usize
     requires { 0 < source.now.size }
     ensures { result ≡ to % source.now.size - base }
 {
-    let place = (to.number() % u64::from(source.size)) as usize;
+    let place = offset_in(source.size, to.number()) as usize;
     place.saturating_sub(base)
 }
 
@@ -123,7 +138,7 @@ fn copy_pieces(
 }
 
 /// How many objects are written one behind another, before the target's words are cut anew.
-const STRETCH: usize = 64;
+const STRETCH: usize = 256;
 
 /// Copies the objects of the next entries, of which there is one: as many as lie one behind another,
 /// as far as a stretch goes. Answers how many.
