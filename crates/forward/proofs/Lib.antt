@@ -1,6 +1,7 @@
 pub mod Entries
 pub mod Ranked
 pub mod Edited
+pub mod Noted
 pub mod Copies
 pub mod Places
 pub mod Planned

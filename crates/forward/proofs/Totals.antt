@@ -1,9 +1,9 @@
 -- How many entries of all side arrays have still to be copied.
 use Rattle.std.proofs.Common.{◌≡◌, ℕ, zero, suc, ◌+◌, ◌-◌, ◌*◌, ◌<◌, ◌≤◌, ◌^◌, List, [], ◌∷◌, length, take}
 use Rattle.std.proofs.Common.{get_or, set, replicate, Some, refl, sym, ◌∙◌, ap, subst, arith, length-set}
-use Rattle.std.proofs.Common.{Bool, true, false, not, ◌==◌}
+use Rattle.std.proofs.Common.{Bool, true, false, not, ◌==◌, ◌≢◌, cond, map, Option, None}
 use Rattle.std.specs.List.{slice_get, list_any}
-use Rattle.std.proofs.lemmas.List.{length-replicate, take_all}
+use Rattle.std.proofs.lemmas.List.{length-replicate, take_all, get_or_read, set-get_or}
 use Rattle.std.proofs.lemmas.List.Sums.{sum_by-set, sum_by-cons}
 use Rattle.model.specs.declared.limits.TheConstants.{MOST_WORDS}
 use Rattle.model.specs.declared.records.Forwarding.{Forwarding}
@@ -12,6 +12,8 @@ use Rattle.model.specs.States.{change_at, change_found}
 use Rattle.model.specs.Bits.{of_page}
 use Rattle.model.specs.Cycles.{is_uncopied}
 use Rattle.model.proofs.Lists.{get_read, each_set, each_replicate}
+use Rattle.model.specs.Moves.{set_copied_of}
+use Rattle.forward.specs.Noting.{noted_side, noted_sides}
 use Rattle.forward.specs.Counts.{uncopied_in, uncopied_count, AreCounted}
 use Rattle.forward.proofs.Copies.{none_left}
 
@@ -64,6 +66,45 @@ module _ (sides : List (List Forwarding)) (left i : ℕ) (old : List Forwarding)
       → sides ≡ now → side ≡ f old → set sides i side ≡ change_at now i f
   changed now side f view is =
       ap (set sides i) is ∙ ap (λ o. change_found sides i o f) (sym there) ∙ ap (λ xs. change_at xs i f) view
+
+  -- an entry of it is noted as copied
+  pub counted_note : (side : List Forwarding) → uncopied_in old ≡ uncopied_in side + 1
+      → AreCounted (set sides i side) (left - 1)
+  counted_note side more =
+      let few : uncopied_in side ≤ MOST_WORDS = omega (arith, more, k.few i old there) in
+      let one : left - uncopied_in old + uncopied_in side ≡ left - 1 = omega (arith, more, some_left) in
+      subst (AreCounted (set sides i side)) one (counted_set side (uncopied_in old) (uncopied_in side) refl refl few)
+
+  pub noted_page : (now : List (List Forwarding)) (side : List Forwarding) (n e : ℕ) → n ≢ 0 → i ≡ n - 1
+      → sides ≡ now → side ≡ noted_side (slice_get old e) old
+      → set sides i side ≡ noted_sides n (slice_get (of_page now n) e) now
+  noted_page now side n e some at view is =
+      by_entry (slice_get old e) is
+      ∙ (λ z. noted_sides n (slice_get (page_is z) e) sides)
+      ∙ ap (λ xs. noted_sides n (slice_get (of_page xs n) e) xs) view
+    where
+      read_at : old ≡ get_or sides i []
+      read_at = get_or_read sides i old within read []
+
+      at_number : (n : ℕ) → n ≢ 0 → i ≡ n - 1 → old ≡ of_page sides n
+      at_number zero some z = absurd (some refl)
+      at_number (suc m) some z = let same : i ≡ m = omega (arith, z) in read_at ∙ ap (λ j. get_or sides j []) same
+
+      page_is : old ≡ of_page sides n
+      page_is = at_number n some at
+
+      same_sides : set sides i old ≡ sides
+      same_sides = ap (set sides i) read_at ∙ set-get_or sides i []
+
+      by_copied : (f : Forwarding) (b : Bool) → side ≡ cond b old (map (set_copied_of f.offset) old)
+          → set sides i side ≡ cond b sides (change_at sides (n - 1) (map (set_copied_of f.offset)))
+      by_copied f true z = ap (set sides i) z ∙ same_sides
+      by_copied f false z = changed sides side (map (set_copied_of f.offset)) refl z
+          ∙ ap (λ j. change_at sides j (map (set_copied_of f.offset))) at
+
+      by_entry : (o : Option Forwarding) → side ≡ noted_side o old → set sides i side ≡ noted_sides n o sides
+      by_entry None z = ap (set sides i) z ∙ same_sides
+      by_entry (Some f) z = by_copied f f.copied z
 
 -- all of them are let go
 pub emptied : (items old : List (List Forwarding)) (left i : ℕ) → AreCounted old left

@@ -3,3 +3,4 @@ pub mod Places
 pub mod Ranked
 pub mod Searching
 pub mod Settling
+pub mod Noting

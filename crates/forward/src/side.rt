@@ -1,6 +1,6 @@
 //! The side array of a page.
 
-ghost use Rattle.std.specs.Prelude.{◌≡◌, ◌<◌, ◌≤◌, ◌==◌, length, map, slice_get, [], Some, IfOk, IfSome, not, count_by};
+ghost use Rattle.std.specs.Prelude.{◌≡◌, ◌+◌, ◌-◌, ◌<◌, ◌≤◌, ◌==◌, length, map, slice_get, [], Some, IfOk, IfSome, not, count_by};
 ghost use Rattle.std.specs.Prelude.{replicate, false};
 ghost use Rattle.std.specs.List.{list_any};
 ghost use Rattle.model.specs.declared.limits.TheConstants.{MOST_WORDS};
@@ -9,6 +9,7 @@ ghost use Rattle.model.specs.Cycles.{is_uncopied};
 ghost use Rattle.model.specs.Moves.{set_copied_of};
 ghost use Rattle.model.specs.States.{change_at};
 ghost use Rattle.forward.specs.Counts.{uncopied_in};
+ghost use Rattle.forward.specs.Noting.{offset_of, place_of, place_to_copy, noted_side};
 ghost use Rattle.forward.specs.Ranked.{entries_of, IsLiveOf};
 ghost use Rattle.forward.specs.Searching.{found_at};
 ghost use Rattle.forward.specs.Settling.{set_place_of};
@@ -137,6 +138,37 @@ impl Side {
         })
     }
 
+    /// The entry of a number, from 1, if there is one, by the offset of the entry before it: found by
+    /// the words up to its own.
+    #[inline(always)]
+    pub fn entry_behind(&self, index: usize, before: u32) -> Option<Forwarding>
+        requires low { 0 < index }
+        requires before { offset_of (slice_get self.now (index - 1)) ≡ Some before }
+        ensures { result ≡ slice_get self.now index }
+    {
+        if index >= self.places.len() {
+            return None;
+        }
+        let offset = self.live.row().next_from(before as usize + 1)?;
+        Some(Forwarding {
+            offset,
+            to: self.places[index],
+            copied: self.copied.test(index),
+        })
+    }
+
+    /// Where the object of the entry of a number, from 0, goes, if there is one. Its offset isn't
+    /// looked for.
+    #[inline(always)]
+    pub fn place(&self, index: usize) -> Option<Addr>
+        ensures { result ≡ place_of (slice_get self.now index) }
+    {
+        if index >= self.places.len() {
+            return None;
+        }
+        Some(self.places[index])
+    }
+
     /// The entry of an offset, if there is one: found by one bit, one number and one word.
     pub fn find(&self, offset: u32) -> Option<Forwarding>
         ensures { result ≡ entry_of self.now offset }
@@ -173,6 +205,25 @@ impl Side {
             self.copied.put(index, true);
             self.last = offset;
         }
+    }
+
+    /// Notes that the object of the entry of a number, from 0, is copied, where there is one that
+    /// wasn't, and answers where that goes. Its offset isn't looked for.
+    #[inline(always)]
+    pub fn note(&mut self, number: usize) -> Option<Addr>
+        ensures place { result ≡ place_to_copy (slice_get self.old number) }
+        ensures side { self.new ≡ noted_side (slice_get self.old number) self.old }
+        ensures left { IfSome result (λ _. uncopied_in self.old ≡ uncopied_in self.new + 1) }
+    {
+        if number >= self.places.len() {
+            return None;
+        }
+        if self.copied.test(number) {
+            return None;
+        }
+        let to = self.places[number];
+        self.copied.put(number, true);
+        Some(to)
     }
 
     /// Gives the object of the entry of a number, from 0, another place, if there is one.

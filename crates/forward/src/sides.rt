@@ -10,10 +10,12 @@ ghost use Rattle.model.specs.Cycles.{is_uncopied};
 ghost use Rattle.model.specs.Moves.{set_copied_of};
 ghost use Rattle.model.specs.declared.limits.TheConstants.{MOST_WORDS};
 ghost use Rattle.forward.specs.Counts.{uncopied_in, uncopied_count};
+ghost use Rattle.forward.specs.Noting.{place_of, place_to_copy, noted_sides};
 ghost use Rattle.forward.specs.Searching.{found_at};
 
 use crate::side::Side;
 use model::Forwarding;
+use refword::Addr;
 use std::alloc::{AllocError, Global};
 use std::marker::Model;
 
@@ -106,6 +108,21 @@ impl Sides {
         }
     }
 
+    /// Where the object of the entry of a number, from 0, of a page goes, by the page's number from 1;
+    /// `None` where there is no such entry (ours). Its offset isn't looked for.
+    #[inline(always)]
+    pub fn place_on(&self, page: u64, number: u32) -> Option<Addr>
+        ensures { result ≡ place_of (slice_get (of_page self.now page) number) }
+    {
+        if page == 0 {
+            return None;
+        }
+        match self.sides.get((page - 1) as usize) {
+            None => None,
+            Some(side) => side.place(number as usize),
+        }
+    }
+
     /// The number, from 0, of the entry of an offset of a page, by the page's number from 1; `None`
     /// where there is no such entry (ours).
     pub fn number_at(&self, page: u64, offset: u32) -> Option<u32>
@@ -193,6 +210,26 @@ impl Sides {
             side.set_copied(offset);
             self.left += side.uncopied() as usize;
         }
+    }
+
+    /// Notes that the object of the entry of a number, from 0, of a page is copied, by the page's
+    /// number from 1, where there is one that wasn't, and answers where that goes.
+    #[inline(always)]
+    pub fn note(&mut self, page: u64, number: u32) -> Option<Addr>
+        ensures place { result ≡ place_to_copy (slice_get (of_page self.old page) number) }
+        ensures sides { self.new ≡ noted_sides page (slice_get (of_page self.old page) number) self.old }
+    {
+        if page == 0 {
+            return None;
+        }
+        let at = (page - 1) as usize;
+        if at >= self.sides.len() {
+            return None;
+        }
+        let side = &mut self.sides[at];
+        let to = side.note(number as usize)?;
+        self.left -= 1;
+        Some(to)
     }
 
     /// Lets all entries go. A side array that is empty costs one test.

@@ -26,11 +26,32 @@ use Rattle.pieces.proofs.Cuts.{length_all}
 use Rattle.page.specs.Runs.{known, source_with, with_run}
 use Rattle.page.proofs.Copied.{nothing_over}
 use Rattle.page.proofs.Runs.{unchanged, words_keep, words_twice, words_alike}
-use Rattle.heap.specs.Runs.{with_entry, with_entries, GoTo, Notes, notes, noted_starts, noted_sides, noted_by}
+use Rattle.forward.specs.Noting.{place_to_copy, noted_sides}
+use Rattle.heap.specs.Runs.{with_entry, with_entries, GoTo, Notes, notes, noted_starts, noted_by}
 use Rattle.heap.specs.Runs.{noted_from}
 use Rattle.heap.proofs.Moving.{copy_keeps}
 
 -- what is noted
+
+pub started : (words : ℕ) (starts : List (List Bool)) (o : Option Forwarding) (to : ℕ) → Some to ≡ place_to_copy o
+    → with_bit starts words to true ≡ noted_starts words o starts
+started words starts None to e = absurd (cc)
+started words starts (Some f) to e = by_copied f.copied e
+  where
+    by_copied : (b : Bool) → Some to ≡ cond b None (Some f.to)
+        → with_bit starts words to true ≡ cond b starts (with_bit starts words f.to true)
+    by_copied true z = absurd (cc)
+    by_copied false z = ap (λ a. with_bit starts words a true) (same_Some _ _ z)
+
+pub none_started : (words : ℕ) (starts : List (List Bool)) (o : Option Forwarding) → None ≡ place_to_copy o
+    → starts ≡ noted_starts words o starts
+none_started words starts None e = refl
+none_started words starts (Some f) e = by_copied f.copied e
+  where
+    by_copied : (b : Bool) → None ≡ cond b None (Some f.to)
+        → starts ≡ cond b starts (with_bit starts words f.to true)
+    by_copied true z = refl
+    by_copied false z = absurd (cc)
 
 pub noted_more : (words n e d k m : ℕ) (z : Notes) → k ≡ suc m → d ≡ e + 1
     → noted_from words n e k z ≡ noted_from words n d m (noted_by words n (slice_get (of_page z.sides n) e) z)

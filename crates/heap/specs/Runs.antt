@@ -1,11 +1,12 @@
 -- Runs: entries of a page's side array, one behind the other, whose objects are copied.
-use Rattle.std.specs.Prelude.{◌≡◌, ℕ, zero, suc, ◌+◌, ◌-◌, ◌*◌, ◌/◌, ◌<◌, Bool, true, List, map, Option, Some, None}
+use Rattle.std.specs.Prelude.{◌≡◌, ℕ, zero, suc, ◌+◌, ◌*◌, ◌/◌, ◌<◌, Bool, true, List, Option, Some, None}
 use Rattle.std.specs.Prelude.{slice_get}
 use Rattle.std.specs.Prelude.{if◌then◌else◌}
 use Rattle.model.specs.declared.records.Forwarding.{Forwarding}
-use Rattle.model.specs.States.{HeapState, change_at}
+use Rattle.model.specs.States.{HeapState}
 use Rattle.model.specs.Bits.{of_page, with_bit}
-use Rattle.model.specs.Moves.{copied_by, set_copied_of}
+use Rattle.model.specs.Moves.{copied_by}
+use Rattle.forward.specs.Noting.{noted_sides}
 
 -- the heap after the object of an entry of page n is copied, where there is one that wasn't
 abbrev pub with_entry : HeapState → ℕ → Option Forwarding → HeapState
@@ -34,11 +35,6 @@ notes starts sides = record { starts = starts; sides = sides }
 abbrev pub noted_starts : ℕ → Option Forwarding → List (List Bool) → List (List Bool)
 noted_starts words None starts = starts
 noted_starts words (Some f) starts = if f.copied then starts else with_bit starts words f.to true
-
--- the side arrays after it, where the entry is one of page n
-abbrev pub noted_sides : ℕ → Option Forwarding → List (List Forwarding) → List (List Forwarding)
-noted_sides n None sides = sides
-noted_sides n (Some f) sides = if f.copied then sides else change_at sides (n - 1) (map (set_copied_of f.offset))
 
 -- what is noted then, of an entry of page n
 abbrev pub noted_by : ℕ → ℕ → Option Forwarding → Notes → Notes

@@ -75,6 +75,7 @@ impl RankedRow {
     }
 
     /// The row.
+    #[inline(always)]
     pub fn row(&self) -> &Row
         ensures { result.now ≡ self.now }
     {
@@ -82,6 +83,7 @@ impl RankedRow {
     }
 
     /// Whether a bit is set; past the end of the row none is.
+    #[inline(always)]
     pub fn test(&self, offset: usize) -> bool
         ensures { result ≡ slice_index_or self.now offset false }
     {
@@ -90,6 +92,7 @@ impl RankedRow {
 
     /// How many bits are set below an offset; all of them from the row's end on. It looks at one
     /// number and one word.
+    #[inline(always)]
     pub fn rank(&self, offset: usize) -> usize
         ensures { result ≡ rank_of self.now offset }
     {
@@ -133,6 +136,7 @@ impl RankedRow {
     }
 
     /// As `start`: a place near which the bit may be, where it is one of the first two from there on.
+    #[inline(always)]
     fn start_near(&self, number: usize, near: usize) -> (usize, usize)
         ensures { rank_of self.now result.0 + result.1 ≡ number }
     {
@@ -140,7 +144,19 @@ impl RankedRow {
         if number < below || number - below > 1 {
             return self.start(number);
         }
-        (near, number - below)
+        self.step_over(near, number - below)
+    }
+
+    /// A place, and how many set bits from there on are passed over, where its own may be the first
+    /// of these: then the place behind it, and one fewer.
+    #[inline(always)]
+    fn step_over(&self, place: usize, left: usize) -> (usize, usize)
+        ensures { rank_of self.now result.0 + result.1 ≡ rank_of self.now place + left }
+    {
+        if left > 0 && place < self.row.len() && self.test(place) {
+            return (place + 1, left - 1);
+        }
+        (place, left)
     }
 
     /// The place of the set bit of a number, if so many are set: from a place on, so many are passed

@@ -81,6 +81,7 @@ impl Row {
     }
 
     /// Whether a bit is set; past the end of the row none is.
+    #[inline(always)]
     pub fn test(&self, offset: usize) -> bool
         ensures { result ≡ slice_index_or self.now offset false }
     {
@@ -128,7 +129,19 @@ impl Row {
 
     /// The first place from an offset on where a bit is set, if there is one; none from the row's
     /// end on.
+    #[inline(always)]
+    #[tactic(auto, using(crate::proofs::Blocks::found_in_block))]
     pub fn next_from(&self, offset: usize) -> Option<u32>
+        ensures { IsNextPlace self.now offset result }
+    {
+        if let Some(place) = self.next_in_block(offset) {
+            return Some(place);
+        }
+        self.next_by_words(offset)
+    }
+
+    /// The same, found by a look at each word from that of the offset on.
+    fn next_by_words(&self, offset: usize) -> Option<u32>
         ensures { IsNextPlace self.now offset result }
     {
         if self.total == 0 {
@@ -148,6 +161,7 @@ impl Row {
 
     /// The first place from an offset on where a bit is set, if there is one in the word of the
     /// offset.
+    #[inline(always)]
     pub(crate) fn next_in_block(&self, offset: usize) -> Option<u32>
         ensures { IsNextInBlock self.now offset result }
     {
@@ -180,6 +194,7 @@ impl Row {
     }
 
     /// The number of bits, set or not.
+    #[inline(always)]
     #[tactic(auto, using(crate::proofs::RowWords::row_length))]
     pub fn len(&self) -> usize
         ensures value { result ≡ length self.now }
@@ -189,6 +204,7 @@ impl Row {
     }
 
     /// How many bits are set below an offset in the row, by how many are below the offset's word.
+    #[inline(always)]
     pub(crate) fn rank_within(&self, offset: usize, below: u32) -> u32
         requires within { offset < length self.now }
         requires below { below ≡ rank_of self.now (64 * (offset / 64)) }

@@ -1,3 +1,4 @@
+pub mod Offsets
 pub mod Overlays
 pub mod Orders
 pub mod Cuts

@@ -1,11 +1,12 @@
 -- Objects of a page that are copied to their places on another page.
-use Rattle.std.specs.Prelude.{ℕ, zero, suc, ◌+◌, ◌-◌, ◌%◌, ◌≤◌, List, take, drop, Option, Some, None, slice_get}
+use Rattle.std.specs.Prelude.{◌≡◌, ℕ, zero, suc, ◌+◌, ◌-◌, ◌%◌, ◌<◌, ◌≤◌, List, take, drop, Option, Some, None, slice_get}
 use Rattle.std.specs.Prelude.{if◌then◌else◌}
 use Rattle.layout.specs.declared.shape.Layout.{Layout}
 use Rattle.model.specs.declared.records.Forwarding.{Forwarding}
 use Rattle.model.specs.Stores.{overlay}
 use Rattle.model.specs.Data.{layout_in, header_layout}
 use Rattle.model.specs.Plans.{words_of}
+use Rattle.forward.specs.Noting.{offset_of}
 use Rattle.pieces.specs.declared.source.Source.{Source}
 
 -- A page that is being emptied: how many words pages have, its words, its side array, and the layouts of objects.
@@ -25,6 +26,10 @@ size_at s o = words_of (layout_in s.layouts (header_layout (slice_get s.words o)
 -- the words of the object at an offset, as far as the page goes
 abbrev pub words_at : SourceState → ℕ → List ℕ
 words_at s o = take (size_at s o) (drop o s.words)
+
+-- the entry before number e has this offset
+abbrev pub IsBehind : List Forwarding → ℕ → ℕ → Type 0
+IsBehind side e o = (0 < e) × (offset_of (slice_get side (e - 1)) ≡ Some o)
 
 -- the words of a target page from offset `base` on, after the object of an entry is copied, if there is one that wasn't
 abbrev pub laid_by : SourceState → ℕ → Option Forwarding → List ℕ → List ℕ

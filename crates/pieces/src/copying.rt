@@ -1,8 +1,9 @@
 //! Objects are copied one after the other.
 
 ghost use Rattle.std.specs.Prelude.{◌≡◌, ℕ, List, ◌++◌, ◌+◌, ◌-◌, ◌%◌, ◌<◌, ◌≤◌, length, slice_get, if◌then◌else◌};
+ghost use Rattle.std.specs.Prelude.{IfSome};
 ghost use Rattle.model.specs.Stores.{overlay};
-ghost use Rattle.pieces.specs.Pieces.{source_of, laid_by, laid_from};
+ghost use Rattle.pieces.specs.Pieces.{source_of, laid_by, laid_from, IsBehind};
 
 use crate::cutter::cut_off;
 use crate::source::{Source, words_from};
@@ -27,22 +28,40 @@ fn lay(target: &mut [u64], place: usize, words: &[u64])
     here.copy_from_slice(words);
 }
 
+/// The offset of an address in its page, of so many words: mostly a power of two, by which nothing has
+/// to be divided.
+#[inline(always)]
+fn offset_in(size: u32, address: u64) -> u64
+    requires { 0 < size }
+    ensures { result ≡ address % size }
+{
+    let power = 1u64 << size.trailing_zeros();
+    if power == u64::from(size) {
+        address & (power - 1)
+    } else {
+        address % u64::from(size)
+    }
+}
+
 /// How far behind an offset of its page an address is; 0 where it is before that.
+#[inline(always)]
 pub(crate) fn place_behind(source: &Source<'_>, to: Addr, base: usize) -> usize
     requires { 0 < source.now.size }
     ensures { result ≡ to % source.now.size - base }
 {
-    let place = (to.number() % u64::from(source.size)) as usize;
+    let place = offset_in(source.size, to.number()) as usize;
     place.saturating_sub(base)
 }
 
-/// The entry of a number, if there is one, sought near an offset, if one is known.
-fn entry_near(source: &Source<'_>, index: usize, near: Option<u32>) -> Option<Forwarding>
+/// The entry of a number, if there is one, by the offset of the entry before it, if that is known.
+#[inline(always)]
+fn entry_by(source: &Source<'_>, index: usize, before: Option<u32>) -> Option<Forwarding>
+    requires { IfSome before (λ o. IsBehind source.now.side.now index o) }
     ensures { result ≡ slice_get source.now.side.now index }
 {
-    match near {
+    match before {
         None => source.side.entry(index),
-        Some(offset) => source.side.entry_near(index, offset),
+        Some(offset) => source.side.entry_behind(index, offset),
     }
 }
 
@@ -65,6 +84,7 @@ fn copy_entry(source: &Source<'_>, entry: usize, base: usize, target: &mut [u64]
 }
 
 /// Copies words over others of the same number, unless they are copied already.
+#[inline(always)]
 fn fill(here: &mut [u64], words: &[u64], copied: bool)
     requires { length here.old ≡ length words.now }
     ensures { here.new ≡ (if copied then here.old else words.now) }
@@ -76,17 +96,19 @@ fn fill(here: &mut [u64], words: &[u64], copied: bool)
 
 /// Copies the objects of entries from a number on, each into the next piece that is cut off the
 /// target's words, as long as one begins where the one before it ended or behind that, and they go
-/// that far. The first is sought near an offset, if one is known. Answers how many.
+/// that far. The first is found by the offset of the entry before it, if that is known. Answers how
+/// many.
 fn copy_pieces(
     source: &Source<'_>,
     first: usize,
     count: usize,
     base: usize,
-    near: Option<u32>,
+    before: Option<u32>,
     target: &mut [u64],
 ) -> usize
     requires size { 0 < source.now.size }
     requires within { first + count ≤ length source.now.side.now }
+    requires before { IfSome before (λ o. IsBehind source.now.side.now first o) }
     ensures count { result ≤ count }
     ensures laid { (front : List ℕ) → (at : ℕ) → base ≡ at + length front
         → laid_from (source_of source.now) at first result (front ++ target.old) ≡ front ++ target.new }
@@ -95,7 +117,7 @@ fn copy_pieces(
     if count == 0 {
         return 0;
     }
-    let Some(entry) = entry_near(source, first, near) else {
+    let Some(entry) = entry_by(source, first, before) else {
         return 0;
     };
     let place = place_behind(source, entry.to, 0);
@@ -111,12 +133,12 @@ fn copy_pieces(
         return 0;
     };
     fill(here, words, entry.copied);
-    let (behind, near) = (place + words.len(), Some(entry.offset));
-    1 + copy_pieces(source, first + 1, count - 1, behind, near, rest)
+    let (behind, before) = (place + words.len(), Some(entry.offset));
+    1 + copy_pieces(source, first + 1, count - 1, behind, before, rest)
 }
 
 /// How many objects are written one behind another, before the target's words are cut anew.
-const STRETCH: usize = 64;
+const STRETCH: usize = 256;
 
 /// Copies the objects of the next entries, of which there is one: as many as lie one behind another,
 /// as far as a stretch goes. Answers how many.

@@ -47,6 +47,7 @@ impl<'a> Cutter<'a> {
 
 /// The first words, and the rest. `None` exactly where there are fewer, and then none is cut. Words
 /// that are cut so end as what was written into both, one behind the other.
+#[inline(always)]
 pub fn cut_off(words: &mut [u64], n: usize) -> Option<(&mut [u64], &mut [u64])>
     ensures none { is_some result ≡ nat_le n (length words.old) }
     ensures piece { IfSome result (λ p. p.0.now ≡ take n words.old) }

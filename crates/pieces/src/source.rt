@@ -20,6 +20,7 @@ pub struct Source<'a> {
 }
 
 /// So many words of a list from an offset on, as far as it goes.
+#[inline(always)]
 pub(crate) fn words_from(words: &[u64], offset: usize, count: usize) -> &[u64]
     ensures { result.now ≡ take count (drop offset words.now) }
 {
@@ -30,6 +31,7 @@ pub(crate) fn words_from(words: &[u64], offset: usize, count: usize) -> &[u64]
 
 impl Source<'_> {
     /// How many words the object at an offset has. One that can't be read counts as its header alone.
+    #[inline(always)]
     pub(crate) fn size_at(&self, offset: u32) -> usize
         ensures value { result ≡ size_at (source_of self.now) offset }
         ensures range { result < 2 ^ 17 }

@@ -16,6 +16,7 @@ use Rattle.model.specs.Emptying.{entry_on}
 use Rattle.model.specs.Moves.{with_copy, copied_by, copied_first, set_copied_of}
 use Rattle.model.specs.Stores.{is_from, state_at}
 use Rattle.model.proofs.Lists.{get_within}
+use Rattle.forward.specs.Noting.{place_of}
 use Rattle.forward.specs.Searching.{found_at}
 use Rattle.heap.specs.Runs.{with_entry, with_entries, GoTo}
 use Rattle.relocate.specs.Runs.{goes_to, IsRun}
@@ -30,6 +31,19 @@ entry_goes h n e end o a b is =
 goes_there : (words target : ℕ) (o : Option Forwarding) (f : Forwarding) → goes_to words o ≡ Some target → o ≡ Some f
     → f.to / words ≡ target
 goes_there words target o f a b = same_Some _ _ (sym (ap (goes_to words) b) ∙ a)
+
+-- the target, by the entry's place
+pub none_goes : (words : ℕ) (o : Option Forwarding) → None ≡ place_of o → None ≡ goes_to words o
+none_goes words None e = refl
+none_goes words (Some f) e = absurd (cc)
+
+pub placed_goes : (words to : ℕ) (o : Option Forwarding) → Some to ≡ place_of o → Some (to / words) ≡ goes_to words o
+placed_goes words to None e = absurd (cc)
+placed_goes words to (Some f) e = ap (λ a. Some (a / words)) (same_Some _ _ e)
+
+pub placed_there : (words to target : ℕ) (o : Option Forwarding) → Some to ≡ place_of o → to / words ≡ target
+    → goes_to words o ≡ Some target
+placed_there words to target o e is = sym (placed_goes words to o e) ∙ ap Some is
 
 -- a run begins with one entry
 pub run_begins : (h : HeapState) (n e end target : ℕ) → e < end

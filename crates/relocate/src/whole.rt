@@ -1,7 +1,7 @@
 //! All objects of a page are copied at once (the paper's Relocate phase; that they are copied by
 //! runs, one for each target, and by halves on threads, is ours).
 
-ghost use Rattle.std.specs.Prelude.{◌≡◌, ◌+◌, ◌<◌, ◌≤◌, length, Some, IfSome, slice_get};
+ghost use Rattle.std.specs.Prelude.{◌≡◌, ◌+◌, ◌<◌, ◌≤◌, length, Some, true, slice_get};
 ghost use Rattle.heap.specs.Runs.{with_entries};
 ghost use Rattle.model.specs.Bits.{of_page};
 ghost use Rattle.model.specs.Emptying.{copy_page_outcome};
@@ -26,29 +26,26 @@ struct Run {
 }
 
 /// The target that the object of an entry goes to, if there is such an entry.
+#[tactic(auto, using(crate::proofs::Runs::none_goes, crate::proofs::Runs::placed_goes))]
 fn target_of(heap: &Heap, page: u64, entry: u32) -> Option<u64>
     ensures { result ≡ goes_to heap.now.store.words (slice_get (of_page heap.now.sides page) entry) }
 {
-    match heap.sides().entry_numbered(page, entry) {
+    match heap.sides().place_on(page, entry) {
         None => None,
-        Some(found) => Some(heap.memory().page_of(found.to)),
+        Some(to) => Some(heap.memory().page_of(to)),
     }
 }
 
-/// The offset of an entry, if its object goes to a target. It is sought near another offset.
-fn next_to(heap: &Heap, page: u64, entry: u32, target: u64, near: u32) -> Option<u32>
-    ensures { IfSome result (λ o. goes_to heap.now.store.words (slice_get (of_page heap.now.sides page) entry)
-        ≡ Some target) }
+/// Whether the object of an entry goes to a target.
+#[inline(always)]
+#[tactic(auto, using(crate::proofs::Runs::placed_there))]
+fn goes_to(heap: &Heap, page: u64, entry: u32, target: u64) -> bool
+    ensures { result ≡ true
+        → goes_to heap.now.store.words (slice_get (of_page heap.now.sides page) entry) ≡ Some target }
 {
-    match heap.sides().entry_near(page, entry, near) {
-        None => None,
-        Some(found) => {
-            if heap.memory().page_of(found.to) == target {
-                Some(found.offset)
-            } else {
-                None
-            }
-        }
+    match heap.sides().place_on(page, entry) {
+        None => false,
+        Some(to) => heap.memory().page_of(to) == target,
     }
 }
 
@@ -60,12 +57,11 @@ fn run_length(heap: &Heap, page: u64, first: u32, end: u32, target: u64) -> u32
     requires here { goes_to heap.now.store.words (slice_get (of_page heap.now.sides page) first) ≡ Some target }
     ensures { IsRun heap.now page first end target result }
 {
-    let (mut count, mut near) = (1, 0);
+    let mut count = 1;
     while count < end - first {
-        let Some(offset) = next_to(heap, page, first + count, target, near) else {
+        if !goes_to(heap, page, first + count, target) {
             return count;
-        };
-        near = offset;
+        }
         count += 1;
     }
     count

@@ -4,7 +4,8 @@
 ghost use Rattle.std.specs.Prelude.{◌≡◌, ◌+◌, ◌<◌, ◌≤◌, ◌^◌, length, slice_get};
 ghost use Rattle.model.specs.Bits.{of_page};
 ghost use Rattle.model.specs.declared.limits.TheConstants.{MOST_WORDS};
-ghost use Rattle.heap.specs.Runs.{with_entries, GoTo, notes, noted_starts, noted_sides, noted_from};
+ghost use Rattle.forward.specs.Noting.{noted_sides};
+ghost use Rattle.heap.specs.Runs.{with_entries, GoTo, notes, noted_starts, noted_from};
 
 use crate::heap::Heap;
 use crate::heap::marks::put_bit;
@@ -14,18 +15,15 @@ use page::{PieceGate, Store};
 use std::thread::Threads;
 
 /// Notes that the object of an entry of a page is copied, where there is one that wasn't.
+#[inline(always)]
+#[tactic(auto, using(crate::proofs::Runs::started, crate::proofs::Runs::none_started))]
 fn note_copy(starts: &mut Rows, sides: &mut Sides, store: &Store, page: u64, entry: u32)
     ensures starts { starts.new ≡ noted_starts store.now.words (slice_get (of_page sides.old page) entry) starts.old }
     ensures sides { sides.new ≡ noted_sides page (slice_get (of_page sides.old page) entry) sides.old }
 {
-    let Some(found) = sides.entry_numbered(page, entry) else {
-        return;
-    };
-    if found.copied {
-        return;
+    if let Some(to) = sides.note(page, entry) {
+        put_bit(starts, store, to, true);
     }
-    put_bit(starts, store, found.to, true);
-    sides.set_copied(page.saturating_sub(1) as usize, found.offset);
 }
 
 /// The same of so many entries from a number on.

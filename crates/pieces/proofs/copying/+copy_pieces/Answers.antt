@@ -14,7 +14,7 @@ returns-clause-laid t c = λ front at z.
     c.place_behind-place.result n front
     c.args.target.now c.in-Some-cut_off._gap.now c.in-Some-cut_off.rest.now c.in-Some-cut_off-2.here.now
     c.in-Some-cut_off-2.rest.now c.words_from-words.result.now c.fill.new.here c.copy_pieces.new.target z (omega arith)
-    (sym c.entry_near.ensures ∙ c.in-Some.is) (omega (arith, c.place_behind-place.ensures))
+    (sym c.entry_by.ensures ∙ c.in-Some.is) (omega (arith, c.place_behind-place.ensures))
     (omega (arith, c.if-place-base.false)) refl fits
     c.in-Some-cut_off.ensures.piece c.in-Some-cut_off.ensures.rest long c.in-Some-cut_off-2.ensures.piece
     c.in-Some-cut_off-2.ensures.rest

@@ -1,4 +1,4 @@
-use Rattle.std.proofs.Common.{Bool, Option, Some, true, false, ◌∙◌, sym, ap, arith}
+use Rattle.std.proofs.Common.{Bool, Some, true, false, ◌∙◌, sym, ap, arith}
 use Rattle.std.proofs.lemmas.Option.{slice_get_past, slice_get-get_or}
 use Rattle.markbits.proofs.RowWords.{same_put, row_length}
 use Rattle.markbits.proofs.rows.Row.set.Goals as goal

@@ -1,6 +1,6 @@
 use Rattle.std.proofs.Common.{◌*◌}
 use Rattle.markbits.proofs.RowWords.{ClearFrom, Masks}
-use Rattle.markbits.proofs.rows.Row.next_from.Given as goal
+use Rattle.markbits.proofs.rows.Row.next_by_words.Given as goal
 
 abbrev pub invariant-loop-index : goal.invariant-loop-index
 invariant-loop-index l =

@@ -1,7 +1,7 @@
 use Rattle.std.proofs.Common.{◌+◌, arith}
 use Rattle.std.proofs.lemmas.List.{get_or_read}
 use Rattle.markbits.proofs.RowWords.{next_is, none_set, skipped, none_from, masks_first, masks_rest}
-use Rattle.markbits.proofs.rows.Row.next_from.Goals as goal
+use Rattle.markbits.proofs.rows.Row.next_by_words.Goals as goal
 
 pub loop-index-init : goal.loop-index-init
 loop-index-init c = (λ j from below. absurd (omega arith), masks_first c.args.offset)

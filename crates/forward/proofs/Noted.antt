@@ -1,0 +1,99 @@
+-- Entries that are noted as copied by their numbers, and the entry behind another.
+use Rattle.std.proofs.Common.{◌≡◌, ℕ, ◌+◌, ◌-◌, ◌<◌, ◌≤◌, Bool, true, false, cond, List, length, map, set}
+use Rattle.std.proofs.Common.{get_or, Option, Some, None, sym, ◌∙◌, ap, arith, length-set}
+use Rattle.std.specs.List.{slice_get}
+use Rattle.std.proofs.lemmas.List.Sums.{sum_by-set}
+use Rattle.std.proofs.lemmas.Option.{same_Some}
+use Rattle.model.specs.declared.records.Forwarding.{Forwarding}
+use Rattle.model.specs.Moves.{set_copied_of}
+use Rattle.model.specs.Plans.{offsets_from}
+use Rattle.markbits.specs.Ranks.{rank_of}
+use Rattle.markbits.specs.Words.{IsFirstFrom, IsNextPlace}
+use Rattle.markbits.proofs.Ranks.{rank_next, rank_first, rank_all}
+use Rattle.forward.specs.Counts.{uncopied_in}
+use Rattle.forward.specs.Noting.{offset_of, place_of, place_to_copy, noted_side}
+use Rattle.forward.specs.Ranked.{numbered_entry, entries_of, AreEntries}
+use Rattle.forward.proofs.Edited.{noted, left_of, past_all}
+use Rattle.forward.proofs.Ranked.{entry_read, entries_many, bit_numbered, ranked_offset}
+
+-- a bit as a number
+abbrev as_one : Bool → ℕ
+as_one b = cond b 1 0
+
+module _ (live : List Bool) (places : List ℕ) (copied : List Bool) where
+  abbrev all : List Forwarding
+  all = entries_of live places copied
+
+  -- the place of an entry is read
+  pub place_read : (i to : ℕ) → i < length places → to ≡ get_or places i 0 → Some to ≡ place_of (slice_get all i)
+  place_read i to l at = ap Some at ∙ sym (ap place_of (entry_read live places copied i l))
+
+  -- there is none behind the last
+  pub none_there : (i : ℕ) → length places ≤ i → None ≡ slice_get all i
+  none_there i l = past_all all i (omega (arith, l, entries_many live places copied))
+
+  -- one that is copied isn't noted again
+  module _ (i : ℕ) (l : i < length places) (flag : true ≡ get_or copied i false) where
+    pub told_none : None ≡ place_to_copy (slice_get all i)
+    told_none = ap (λ b. cond b None (Some (get_or places i 0))) flag
+        ∙ sym (ap place_to_copy (entry_read live places copied i l))
+
+    pub not_noted : all ≡ noted_side (slice_get all i) all
+    not_noted = ap (λ b. cond b all (map (set_copied_of (get_or (offsets_from 0 live) i 0)) all)) flag
+        ∙ sym (ap (λ o. noted_side o all) (entry_read live places copied i l))
+
+  -- one that isn't
+  module _ (is : AreEntries live places copied) (i : ℕ) (l : i < length places) (flag : false ≡ get_or copied i false)
+    where
+      pub told_place : (to : ℕ) → to ≡ get_or places i 0 → Some to ≡ place_to_copy (slice_get all i)
+      told_place to at = ap Some at ∙ ap (λ b. cond b None (Some (get_or places i 0))) flag
+          ∙ sym (ap place_to_copy (entry_read live places copied i l))
+
+      pub noted_number : entries_of live places (set copied i true) ≡ noted_side (slice_get all i) all
+      noted_number =
+          let (k, bit) = bit_numbered 0 live i (omega (arith, l, is.many)) in
+          let at : k ≡ get_or (offsets_from 0 live) i 0 = omega (arith, bit.offset) in
+          ap (λ r. entries_of live places (set copied r true)) (sym bit.rank) ∙ noted live places copied is k bit.set
+          ∙ ap (λ o. map (set_copied_of o) all) at
+          ∙ ap (λ b. cond b all (map (set_copied_of (get_or (offsets_from 0 live) i 0)) all)) flag
+          ∙ sym (ap (λ o. noted_side o all) (entry_read live places copied i l))
+
+      still : AreEntries live places (set copied i true)
+      still = record { short = is.short; many = is.many; flags = length-set copied i true ∙ is.flags }
+
+      pub one_fewer : uncopied_in all ≡ uncopied_in (entries_of live places (set copied i true)) + 1
+      one_fewer =
+          let before : as_one (get_or copied i false) ≡ 0 = ap as_one (sym flag) in
+          let more = sum_by-set as_one copied i true false (omega (arith, l, is.flags)) in
+          omega (arith, left_of live places copied is, left_of live places (set copied i true) still, more, before)
+
+  -- the entry behind another
+  module _ (is : AreEntries live places copied) (i before : ℕ) (low : 0 < i)
+      (at : offset_of (slice_get all (i - 1)) ≡ Some before) where
+    same_offset : (o : Option Forwarding) (f : Forwarding) → o ≡ Some f → offset_of o ≡ Some before → f.offset ≡ before
+    same_offset o f a b = same_Some _ _ (sym (ap offset_of a) ∙ b)
+
+    -- so many are set below the place behind its offset
+    ranks_behind : i - 1 < length places → rank_of live (before + 1) ≡ i
+    ranks_behind l =
+        let (k, bit) = bit_numbered 0 live (i - 1) (omega (arith, l, is.many)) in
+        let here : k ≡ before = omega (
+          arith,
+          bit.offset,
+          same_offset (slice_get all (i - 1)) (numbered_entry live places copied (i - 1))
+              (entry_read live places copied (i - 1) l) at,
+        ) in
+        let one : as_one (get_or live k false) ≡ 1 = ap as_one bit.set in
+        ap (λ o. rank_of live (o + 1)) (sym here) ∙ omega (arith, rank_next live k, one, bit.rank, low)
+
+    pub behind_offset : (k : ℕ) → i < length places → IsFirstFrom live (before + 1) k
+        → k ≡ get_or (offsets_from 0 live) i 0
+    behind_offset k l first =
+        let rank : rank_of live k ≡ i = rank_first live (before + 1) k first ∙ ranks_behind (omega (arith, l)) in
+        let ranked = ranked_offset 0 live k first.here in
+        let read = ap (λ n. get_or (offsets_from 0 live) n 0) rank in omega (arith, ranked, read)
+
+    pub none_behind : i < length places → IsNextPlace live (before + 1) None → None ≡ slice_get all i
+    none_behind l none =
+        let many = rank_all live (before + 1) none in
+        absurd (omega (arith, many, ranks_behind (omega (arith, l)), is.many, l))
