@@ -62,7 +62,8 @@ pub trait Holding: Mutating {
     fn collect(&mut self, alloc: Global, percent: u32) -> Result<Collected, Refusal>;
 
     /// The next part of a collection, for a program that can't stop for a whole one: the beginning of a mark
-    /// with all crossings; the scan of at most `budget` objects; the mark's end; the measuring of
+    /// with all crossings; the scan of at most `budget` objects, which ends behind the object with which 64
+    /// references for each of the budget were scanned; the mark's end; the measuring of
     /// `budget / 64 + 1` pages; the protection of at most as many, with all crossings; or the emptying of one
     /// page. Where a mark has begun while objects were still to be copied, it is the copying of one page; and
     /// where the worker has an object that steps have left it, the rest of its scan. True where the collection

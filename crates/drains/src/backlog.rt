@@ -20,7 +20,7 @@ pub fn wait(heap: &mut Heap, address: Addr, target: Addr, waiting: &mut Waiting)
     ensures { Waits address target heap.old (reverse waiting.old.items) heap.new (reverse waiting.new.items) }
 {
     if waiting.is_full() || target.number() == address.number() {
-        heap.set_todo(target);
+        heap.raw_set_todo(target);
     } else {
         waiting.push(target.number());
     }
@@ -37,6 +37,6 @@ pub fn note_all(heap: &mut Heap, waiting: &mut Waiting)
         let Some(number) = waiting.pop() else {
             return;
         };
-        heap.set_todo(Addr::new(number).unwrap());
+        heap.raw_set_todo(Addr::new(number).unwrap());
     }
 }

@@ -97,7 +97,7 @@ fn waited_next(
     if is_untaken(heap, alone, address.number()) {
         return Some(address);
     }
-    heap.set_todo(address);
+    heap.raw_set_todo(address);
     noted_next(heap, waiting)
 }
 

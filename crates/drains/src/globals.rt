@@ -5,7 +5,7 @@ ghost use Rattle.model.specs.References.{global_of};
 ghost use Rattle.model.specs.Scans.{with_marked_global, is_todo_in};
 ghost use Rattle.drains.specs.Drains.{IsReady, HasDrained, NoneTodo, with_global_done};
 
-use heap::{CollectorEdits, Heap};
+use heap::{RawCollectorEdits, Heap};
 
 /// Whether a global has still to be marked.
 fn is_todo(heap: &Heap, number: u32) -> bool
@@ -23,7 +23,8 @@ fn mark_global(heap: &mut Heap, number: u32)
     ensures { heap.new ≡ with_marked_global heap.old number (global_of heap.old number) }
 {
     let word = heap.global(number);
-    let (marked, _) = heap.mark_word(word);
+    let marked = heap.marked_word(word);
+    heap.set_mark(word);
     heap.set_marked_global(number, marked);
 }
 

@@ -47,7 +47,7 @@ fn mark(heap: &mut Heap, address: Addr, target: Addr, waiting: &mut Waiting)
         ≡ marked_at (all_noted heap.old (reverse waiting.old.items)) target }
     ensures waits { WaitBeside heap.new address (reverse waiting.new.items) }
 {
-    if !heap.mark_apart(target) {
+    if !heap.raw_mark(target) {
         return;
     }
     wait(heap, address, target, waiting);
@@ -66,7 +66,7 @@ fn mark_field(heap: &mut Heap, address: Addr, index: u32, waiting: &mut Waiting)
     let ahead = 1 + u64::from(index);
     let word = reference_behind(heap, address, ahead);
     let marked = heap.marked_word(word);
-    heap.set_word_behind(address, ahead, marked.bits());
+    heap.raw_set_word_behind(address, ahead, marked.bits());
     let Some(target) = marked.addr() else {
         return;
     };
@@ -98,6 +98,6 @@ pub fn scan_object(heap: &mut Heap, address: Addr, waiting: &mut Waiting) -> u32
 {
     let refs = refs_at(heap, address);
     mark_fields(heap, address, refs, waiting);
-    heap.clear_todo(address);
+    heap.raw_clear_todo(address);
     refs
 }

@@ -30,7 +30,7 @@ pub struct Side {
     places: Vec<Addr, Global>,
     /// Bit `i` is set where the entry of number `i` is copied.
     copied: Row,
-    /// The offset that was noted last: an entry is mostly asked for again, or the next one.
+    /// The offset from which on an entry is sought: it is mostly asked for again, or the next one.
     last: u32,
 }
 
@@ -115,7 +115,7 @@ impl Side {
     }
 
     /// The entry of a number, from 0, if there is one. It is found without a search where it is the one
-    /// that was noted as copied last, or the next.
+    /// from which on others are sought, or the next: mostly the one that was copied last.
     pub fn entry(&self, index: usize) -> Option<Forwarding>
         ensures { result ≡ slice_get self.now index }
     {
@@ -224,6 +224,16 @@ impl Side {
         let to = self.places[number];
         self.copied.put(number, true);
         Some(to)
+    }
+
+    /// The entry of a number, from 0, is the one from which on others are sought, if there is one. That
+    /// changes no entry.
+    pub fn look_from(&mut self, number: usize)
+        ensures { self.new ≡ self.old }
+    {
+        if let Some(offset) = self.live.place_near(number, self.last as usize) {
+            self.last = offset;
+        }
     }
 
     /// Gives the object of the entry of a number, from 0, another place, if there is one.

@@ -94,20 +94,6 @@ impl Sides {
         }
     }
 
-    /// The same, whatever the offset says: it is found without a search where it is the first one from
-    /// there on, or the second.
-    pub fn entry_near(&self, page: u64, number: u32, near: u32) -> Option<Forwarding>
-        ensures { result ≡ slice_get (of_page self.now page) number }
-    {
-        if page == 0 {
-            return None;
-        }
-        match self.sides.get((page - 1) as usize) {
-            None => None,
-            Some(side) => side.entry_near(number as usize, near),
-        }
-    }
-
     /// Where the object of the entry of a number, from 0, of a page goes, by the page's number from 1;
     /// `None` where there is no such entry (ours). Its offset isn't looked for.
     #[inline(always)]
@@ -230,6 +216,21 @@ impl Sides {
         let to = side.note(number as usize)?;
         self.left -= 1;
         Some(to)
+    }
+
+    /// The entry of a number, from 0, of a page is the one from which on others of that page are sought,
+    /// by the page's number from 1, if there is one. That changes no entry.
+    pub fn look_from(&mut self, page: u64, number: u32)
+        ensures { self.new ≡ self.old }
+    {
+        if page == 0 {
+            return;
+        }
+        let at = (page - 1) as usize;
+        if at < self.sides.len() {
+            let side = &mut self.sides[at];
+            side.look_from(number as usize);
+        }
     }
 
     /// Lets all entries go. A side array that is empty costs one test.

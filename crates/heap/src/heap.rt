@@ -43,8 +43,14 @@ use threads::{Thread, Threads};
 /// before it (the thread is there, numbers are in range, it isn't parked and has no open barrier),
 /// which are made by `cycle`, where the calls of an embedder stand (`Mutating`). The rows of loads
 /// stand in `barrier`, those of checkpoints in `checkpoint`, those of marks in `marker`, those of
-/// moving in `relocate`; they are made of the readers here, of `Edits` and `CollectorEdits`, and of
-/// what is called a raw edit. Threads, workers, globals and registers count from 0.
+/// moving in `relocate`; they are made of the readers here and of raw edits. Threads, workers,
+/// globals and registers count from 0.
+///
+/// **Raw edits** are what is called raw: the traits `RawEdits` and `RawCollectorEdits`, and the calls
+/// `raw_..`. Each does what it says and tests nothing, so one of them can make a heap stand for
+/// nothing. They are for the crates that do steps, which prove what they make of them. Who uses a
+/// heap asks for steps instead; and a heap that a program holds (`managed`) lends nobody what it
+/// would take to call them.
 #[derive(Drop)]
 pub struct Heap {
     config: Config,

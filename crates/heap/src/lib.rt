@@ -10,8 +10,8 @@ mod heap;
 
 pub use fault::NewFault;
 pub use heap::Heap;
-pub use heap::collecting::CollectorEdits;
-pub use heap::edits::Edits;
+pub use heap::collecting::RawCollectorEdits;
+pub use heap::edits::RawEdits;
 pub use heap::references::read_reference;
 pub use markbits::{IndexedRows, Row, Rows};
 pub use model::{Config, ConfigFault, Refusal, Tally};

@@ -4,6 +4,7 @@
 //! | Words | What is done |
 //! |---|---|
 //! | `parts WORDS FRAMES SIZE PAGES BUDGET` | so many pages of a heap are filled with objects of a size, of which each second one lives, and it is collected in parts with this budget, three times, and then once as a whole |
+//! | `wide WORDS FRAMES SIZE PAGES BUDGET` | the same, with objects that have references alone |
 //!
 //! The word `then` parts one such work from the next.
 //!
@@ -23,14 +24,17 @@ mod filling;
 mod parting;
 
 use anyhow::{Result, bail};
+use filling::{narrow, wide};
 use std::alloc::Global;
 use std::time::Clock;
 use works::{Lap, Work, tell, works};
 
 /// Does a work by its name.
 fn work<R: Clock>(rt: &R, alloc: Global, name: &str, numbers: [u32; 5]) -> Result<Vec<Lap>> {
+    let [_, _, size, _, _] = numbers;
     match name {
-        "parts" => parting::timed(rt, alloc, numbers),
+        "parts" => parting::timed(rt, alloc, narrow(size)?, numbers),
+        "wide" => parting::timed(rt, alloc, wide(size)?, numbers),
         _ => bail!("no such work"),
     }
 }

@@ -4,7 +4,7 @@ use crate::filling::{fill, new_heap};
 use anyhow::Result;
 use heap::Heap;
 use model::Phase;
-use pauseless::{Heap as HeldHeap, Holding, Parts};
+use pauseless::{Heap as HeldHeap, Holding, Layout, Parts};
 use std::alloc::Global;
 use std::time::{Clock, Instant};
 use works::{Lap, Laps, since};
@@ -117,11 +117,12 @@ fn collections<R: Clock>(
     rt: &R,
     alloc: Global,
     mut heap: impl Seen + Drop,
+    refs: u32,
     numbers: [u32; 5],
 ) -> Result<Vec<Lap>> {
     let [words, _, size, pages, budget] = numbers;
     let count = words.checked_div(size.saturating_mul(2)).unwrap_or(0);
-    fill(&mut heap, words, pages, count)?;
+    fill(&mut heap, words, pages, count, refs)?;
     let mut laps = Laps::new(alloc);
     for _ in 0..COLLECTIONS {
         collect(rt, alloc, &mut heap, budget, &mut laps)?;
@@ -131,8 +132,14 @@ fn collections<R: Clock>(
 }
 
 /// Collections of a heap of so many words a page and so many frames, with so many pages full of objects of a
-/// size, in parts with a budget.
-pub fn timed<R: Clock>(rt: &R, alloc: Global, numbers: [u32; 5]) -> Result<Vec<Lap>> {
-    let [words, frames, size, _, _] = numbers;
-    collections(rt, alloc, new_heap(alloc, words, frames, size)?, numbers)
+/// size and this layout, in parts with a budget.
+pub fn timed<R: Clock>(
+    rt: &R,
+    alloc: Global,
+    layout: Layout,
+    numbers: [u32; 5],
+) -> Result<Vec<Lap>> {
+    let [words, frames, _, _, _] = numbers;
+    let refs = u32::from(layout.refs);
+    collections(rt, alloc, new_heap(alloc, words, frames, layout)?, refs, numbers)
 }

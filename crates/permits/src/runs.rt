@@ -35,7 +35,7 @@ fn go_to(heap: &Heap, page: u32, target: u64, first: u32, count: u32) -> bool
 }
 
 /// Whether a page has so many entries from a number on, and all of them go to one target, which is what
-/// `Heap::copy_run` and `copy_run_by` ask. Pages count from 1, entries from 0.
+/// `Heap::raw_copy_run` and `raw_copy_run_by` ask. Pages count from 1, entries from 0.
 pub fn can_copy_run(heap: &Heap, page: u32, target: u64, first: u32, count: u32) -> bool
     ensures { MatchBool result (IsRunOn heap.now page target first count) (¬ IsRunOn heap.now page target first count) }
 {

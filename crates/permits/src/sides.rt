@@ -50,7 +50,7 @@ fn are_entries(heap: &Heap, side: &Side) -> bool
 }
 
 /// Whether the offsets of entries rise and lie in a page, and each entry goes to a page, which is what
-/// `Heap::set_side` asks.
+/// `Heap::raw_set_side` asks.
 #[tactic(auto, using(crate::proofs::Entries::side_told))]
 pub fn can_set_side(heap: &Heap, side: &Side) -> bool
     ensures { MatchBool result (IsSideFor heap.now side.now) (¬ IsSideFor heap.now side.now) }

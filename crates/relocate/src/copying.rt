@@ -28,7 +28,7 @@ fn copy_entry(heap: &mut Heap, page: u64, entry: u32)
     };
     if !found.copied {
         let target = heap.memory().page_of(found.to);
-        heap.copy_run(page, target, entry, 1);
+        heap.raw_copy_run(page, target, entry, 1);
     }
 }
 

@@ -70,7 +70,7 @@ fn protect_prepared(heap: &mut Heap, pages: &[u32], prepared: Preparation)
     let mut targets = prepared.targets;
     open_targets(heap, prepared.plan.targets(), &mut targets);
     settle_pages(heap, pages, &prepared.plan, &targets, &mut sides);
-    heap.start_protection(pages);
+    heap.raw_start_protection(pages);
 }
 
 /// Closed pages are protected, and targets opened for their live objects (the paper's Relocate

@@ -45,7 +45,7 @@ pub fn release(heap: &mut Heap, worker: u32, page: u32) -> Reply
     if !heap.sides().is_copied(page) {
         return Err(Refusal::Uncopied { page });
     }
-    heap.release_page(page);
+    heap.raw_release_page(page);
     Ok(Answer::Released {
         free: u64::from(heap.memory().free_frames()),
     })

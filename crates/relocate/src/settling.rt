@@ -78,7 +78,7 @@ fn settle_page(
     let count = side.len();
     let _ = plan.len();
     settle(heap, plan, first, targets, &mut side);
-    heap.set_side(page, side);
+    heap.raw_set_side(page, side);
     first + count
 }
 

@@ -21,7 +21,7 @@ fn open_next(heap: &mut Heap) -> u32
     ensures stays { KeepsClosed heap.old heap.new }
 {
     heap.law();
-    match heap.open_target() {
+    match heap.raw_open_target() {
         Ok(buffer) => buffer.page,
         Err(_) => unreachable!(),
     }

@@ -87,7 +87,7 @@ fn copy_runs(heap: &mut Heap, page: u64, count: u32)
     let mut first = 0;
     while first < count {
         let run = run_at(heap, page, first, count);
-        heap.copy_run(page, run.target, first, run.count);
+        heap.raw_copy_run(page, run.target, first, run.count);
         first += run.count;
     }
 }
@@ -109,7 +109,7 @@ fn copy_runs_by<R: Threads + Sync, G: PieceGate + Sync>(
     let mut number = 0;
     while first < count {
         let run = run_at(heap, page, first, count);
-        heap.copy_run_by(rt, gate, page, run.target, first, run.count, depth, number);
+        heap.raw_copy_run_by(rt, gate, page, run.target, first, run.count, depth, number);
         first += run.count;
         number += 1;
     }

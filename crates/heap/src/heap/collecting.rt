@@ -23,9 +23,9 @@ use page::Store;
 use refword::{Addr, Word};
 use threads::Threads;
 
-/// Edits for the crates that do rows of the collector's steps. As those of `Edits`, each does what
-/// it says and tests nothing. Threads, workers and globals count from 0.
-pub trait CollectorEdits {
+/// Raw edits for the crates that do rows of the collector's steps. Threads, workers and globals count
+/// from 0.
+pub trait RawCollectorEdits {
     /// Marks the object that a word names, if it names one: it is to be scanned where it wasn't
     /// marked before (the paper's Mark phase).
     fn set_mark(&mut self, word: Word);
@@ -55,20 +55,17 @@ pub trait CollectorEdits {
     fn end_mark(&mut self);
 }
 
-/// Marks the object at an address: it is to be scanned where it wasn't marked before. Gives whether
-/// it wasn't.
+/// Marks the object at an address: it is to be scanned where it wasn't marked before.
 #[inline(always)]
-fn mark_at(mark: &mut Rows, todo: &mut IndexedRows, store: &Store, address: Addr) -> bool
+fn mark_at(mark: &mut Rows, todo: &mut IndexedRows, store: &Store, address: Addr)
     ensures mark { mark.new ≡ with_bit mark.old store.now.words address true }
     ensures todo { todo.new ≡ (if bit_at mark.old store.now.words address then todo.old else with_bit todo.old
         store.now.words address true) }
 {
-    let is_new = !bit_at(mark, store, address);
-    if is_new {
+    if !bit_at(mark, store, address) {
         put_indexed_bit(todo, store, address, true);
     }
     put_bit(mark, store, address, true);
-    is_new
 }
 
 /// Whether the page of an index is open.
@@ -138,25 +135,6 @@ impl Heap {
     }
 }
 
-impl Heap {
-    /// A raw edit: marks the object that a word names, as `set_mark` does, and gives the word that
-    /// marking leaves (the paper's Mark phase). It tells besides whether the object wasn't marked
-    /// before, which is for hints alone: no contract says so.
-    #[inline(always)]
-    #[tactic(auto, unfolding(model::specs::Marks::with_mark, model::specs::Marks::marked_word))]
-    pub fn mark_word(&mut self, word: Word) -> (Word, bool)
-        ensures heap { self.new ≡ with_mark self.old word }
-        ensures word { result.0 ≡ marked_word self.old word }
-    {
-        let Some(address) = word.addr() else {
-            return (word, false);
-        };
-        let place = self.resolve(address);
-        let is_new = mark_at(&mut self.mark, &mut self.todo, &self.store, place);
-        (Word::of(place, self.nmt), is_new)
-    }
-}
-
 /// Marks the object at an address, and gives whether it was marked, if its page has rows.
 #[inline(always)]
 fn set_first(mark: &mut Rows, store: &Store, address: Addr) -> Option<bool>
@@ -167,11 +145,11 @@ fn set_first(mark: &mut Rows, store: &Store, address: Addr) -> Option<bool>
 }
 
 impl Heap {
-    /// A raw edit: marks the object that is at an address (the paper's Mark phase). Answers whether it
+    /// Marks the object that is at an address (the paper's Mark phase). Answers whether it
     /// wasn't marked before; then it doesn't note that the object is to be scanned: who calls this
-    /// does, by `set_todo`, or scans it.
+    /// does, by `raw_set_todo`, or scans it.
     #[inline(always)]
-    pub fn mark_apart(&mut self, place: Addr) -> bool
+    pub fn raw_mark(&mut self, place: Addr) -> bool
         ensures { MarksApart self.old place result self.new }
     {
         match set_first(&mut self.mark, &self.store, place) {
@@ -184,25 +162,24 @@ impl Heap {
         }
     }
 
-    /// A raw edit: the object at an address is to be scanned.
+    /// The object at an address is to be scanned.
     #[tactic(auto, unfolding(crate::specs::Marking::noted))]
-    pub fn set_todo(&mut self, address: Addr)
+    pub fn raw_set_todo(&mut self, address: Addr)
         ensures { self.new ≡ noted self.old address }
     {
         put_indexed_bit(&mut self.todo, &self.store, address, true);
     }
 
-    /// A raw edit: the object at an address isn't to be scanned. Where none is, that is all that is
-    /// looked at.
+    /// The object at an address isn't to be scanned. Where none is, that is all that is looked at.
     #[inline(always)]
-    pub fn clear_todo(&mut self, address: Addr)
+    pub fn raw_clear_todo(&mut self, address: Addr)
         ensures { self.new ≡ record self.old { todo = with_bit self.old.todo self.old.store.words address false } }
     {
         clear_indexed_bit(&mut self.todo, &self.store, address);
     }
 }
 
-impl CollectorEdits for Heap {
+impl RawCollectorEdits for Heap {
     #[tactic(auto, unfolding(model::specs::Marks::with_mark, model::specs::Marks::resolve, model::specs::Marks::entry_at))]
     fn set_mark(&mut self, word: Word)
         ensures { self.new ≡ with_mark self.old word }

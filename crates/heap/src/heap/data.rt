@@ -50,7 +50,7 @@ impl Heap {
 
     /// A raw edit: writes the word less than 2^17 words behind an address, if its page has memory.
     #[inline(always)]
-    pub fn set_word_behind(&mut self, address: Addr, ahead: u64, value: u64)
+    pub fn raw_set_word_behind(&mut self, address: Addr, ahead: u64, value: u64)
         requires { ahead < 2 ^ 17 }
         ensures { self.new ≡ record self.old { store = with_word self.old.store (address + ahead) value } }
     {
@@ -92,7 +92,7 @@ impl Heap {
         let Some(ahead) = self.datum_behind(address, index) else {
             return Err(Refusal::BadIndex);
         };
-        self.set_word_behind(address, ahead, value);
+        self.raw_set_word_behind(address, ahead, value);
         Ok(())
     }
 }

@@ -10,10 +10,8 @@ use crate::heap::Heap;
 use model::{Barrier, Counter, Place};
 use refword::Word;
 
-/// Edits for the crates that do rows of steps. Each does what it says and tests nothing, so it can
-/// make a heap stand for nothing: who uses the heap asks for steps instead, and has no need of this
-/// trait. Threads, registers and globals count from 0.
-pub trait Edits {
+/// Raw edits for the crates that do rows of steps. Threads, registers and globals count from 0.
+pub trait RawEdits {
     /// Writes a global, by its number from 0, if it is there.
     fn set_global(&mut self, number: u32, word: Word);
 
@@ -35,7 +33,7 @@ pub trait Edits {
     fn set_parked(&mut self, thread: u32, parked: bool);
 }
 
-impl Edits for Heap {
+impl RawEdits for Heap {
     #[tactic(auto, unfolding(model::specs::References::with_global))]
     fn set_global(&mut self, number: u32, word: Word)
         ensures { self.new ≡ with_global self.old number word }

@@ -10,7 +10,7 @@ ghost use Rattle.model.specs.declared.steps.Step.TheVariants as steps;
 ghost use Rattle.model.specs.Loads.{bits_at};
 
 use crate::heap::Heap;
-use crate::heap::edits::Edits;
+use crate::heap::edits::RawEdits;
 use model::{Place, Refusal};
 use refword::{Addr, Word};
 
@@ -97,7 +97,7 @@ impl Heap {
         };
         self.usable_or_null(thread, source)?;
         let word = self.register(thread, source);
-        self.set_word_behind(address, ahead, word.bits());
+        self.raw_set_word_behind(address, ahead, word.bits());
         Ok(())
     }
 

@@ -10,7 +10,7 @@ ghost use Rattle.model.specs.declared.steps.Step.TheVariants as steps;
 ghost use Rattle.model.specs.declared.steps.Answer.TheVariants as answers;
 
 use crate::heap::Heap;
-use crate::heap::edits::Edits;
+use crate::heap::edits::RawEdits;
 use model::{PageState, Phase, Refusal};
 use refword::{Addr, Word};
 

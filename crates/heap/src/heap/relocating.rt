@@ -1,8 +1,7 @@
 //! Raw edits of a heap that move objects (the paper's Relocate phase): targets, side arrays, pages
 //! that are protected, copies, and pages that give their memory up.
 //!
-//! They are for the crate that does rows of moving: each does what it says and tests nothing, so
-//! who uses the heap asks for steps instead. Pages count from 1.
+//! They are for the crate that does rows of moving. Pages count from 1.
 
 ghost use Rattle.std.specs.Prelude.{◌≡◌, ◌-◌, ◌<◌, ◌^◌, false, slice_set};
 ghost use Rattle.model.specs.Holding.{AreRising, GoesToPage};
@@ -34,10 +33,10 @@ impl Heap {
         }
     }
 
-    /// A raw edit: opens a page for objects that move, of which all words are given out, to nobody
+    /// Opens a page for objects that move, of which all words are given out, to nobody
     /// (ours). It says why there is no room for one, where there is none.
     #[tactic(auto, unfolding(model::specs::Protections::with_target))]
-    pub fn open_target(&mut self) -> Result<Buffer, Room>
+    pub fn raw_open_target(&mut self) -> Result<Buffer, Room>
         ensures { OpensTarget self.old result self.new }
     {
         let buffer = self.store.take_target()?;
@@ -45,8 +44,8 @@ impl Heap {
         Ok(buffer)
     }
 
-    /// A raw edit: gives a page another side array, if it has a record.
-    pub fn set_side(&mut self, page: u32, side: Side)
+    /// Gives a page another side array, if it has a record.
+    pub fn raw_set_side(&mut self, page: u32, side: Side)
         requires rising { AreRising self.old.config.words 0 side }
         requires places { Each side (GoesToPage self.old.config) }
         ensures { self.new ≡ record self.old { sides = slice_set self.old.sides (page - 1) side } }
@@ -54,10 +53,10 @@ impl Heap {
         self.sides.put(page.saturating_sub(1) as usize, side);
     }
 
-    /// A raw edit: protects closed pages, each named once; all threads have still to cross (the
+    /// Protects closed pages, each named once; all threads have still to cross (the
     /// paper's Relocate phase).
     #[tactic(auto, unfolding(crate::specs::Relocating::start_protection))]
-    pub fn start_protection(&mut self, pages: &[u32])
+    pub fn raw_start_protection(&mut self, pages: &[u32])
         requires idle { self.old.phase ≡ Idle }
         requires closed { Each pages.now (λ n. state_at self.old.store n ≡ Closed) }
         requires once { has_twice pages.now ≡ false }
@@ -68,8 +67,8 @@ impl Heap {
         self.phase = Phase::ProtectCrossing;
     }
 
-    /// A raw edit: a page that is being emptied gives its memory up.
-    pub fn release_page(&mut self, page: u32)
+    /// A page that is being emptied gives its memory up.
+    pub fn raw_release_page(&mut self, page: u32)
         requires { state_at self.old.store page ≡ From }
         ensures { self.new ≡ record self.old { store = with_released self.old.store page } }
     {

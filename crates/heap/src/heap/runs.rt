@@ -44,11 +44,28 @@ fn note_copies(
     }
 }
 
+/// The same, and others are sought from the last of these entries on: who copies one after the other
+/// asks for the next one then.
+fn note_run(
+    starts: &mut Rows,
+    sides: &mut Sides,
+    store: &Store,
+    page: u64,
+    first: u32,
+    count: u32,
+)
+    requires { first + count < 2 ^ 32 }
+    ensures { notes starts.new sides.new ≡ noted_from store.now.words page first count (notes starts.old sides.old) }
+{
+    note_copies(starts, sides, store, page, first, count);
+    sides.look_from(page, first + count.saturating_sub(1));
+}
+
 impl Heap {
-    /// A raw edit: copies the objects of a run, so many entries of a page from a number on, which go
+    /// Copies the objects of a run, so many entries of a page from a number on, which go
     /// to one target, and notes that they are copied (the paper's Relocate phase). Those that were
     /// copied before aren't written. It takes no memory.
-    pub fn copy_run(&mut self, page: u64, target: u64, first: u32, count: u32)
+    pub fn raw_copy_run(&mut self, page: u64, target: u64, first: u32, count: u32)
         requires within { first + count ≤ length (of_page self.old.sides page) }
         requires together { GoTo self.old.store.words target (of_page self.old.sides page) first count }
         ensures { self.new ≡ with_entries self.old page first count }
@@ -69,7 +86,7 @@ impl Heap {
             first as usize,
             count as usize,
         );
-        note_copies(
+        note_run(
             &mut self.starts,
             &mut self.sides,
             &self.store,
@@ -82,7 +99,7 @@ impl Heap {
     /// The same, by halves on threads: the run is cut to a depth, above 4 counts as 4, and the gate
     /// is told of each piece before it is copied. Runs of a page count from 0. It waits for the
     /// threads, and takes no memory: where one can't be started, its piece is copied afterwards.
-    pub fn copy_run_by<R: Threads + Sync, G: PieceGate + Sync>(
+    pub fn raw_copy_run_by<R: Threads + Sync, G: PieceGate + Sync>(
         &mut self,
         rt: &R,
         gate: &G,
@@ -118,7 +135,7 @@ impl Heap {
             depth,
             run,
         );
-        note_copies(
+        note_run(
             &mut self.starts,
             &mut self.sides,
             &self.store,

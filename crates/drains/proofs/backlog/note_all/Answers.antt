@@ -25,7 +25,7 @@ loop-preserved c =
     let turned = popped old rest n parts in
     let address = c.new.ensures.within (first_address _ _ _ _ n c.loop.invariant.1 turned) in
     let same = same_Some _ _ (sym c.unwrap.ensures ∙ address) in
-    let done = c.set_todo.ensures ∙ ap (noted c.loop.heap) same in
+    let done = c.raw_set_todo.ensures ∙ ap (noted c.loop.heap) same in
     let many = c.loop.invariant.2 in
     let fewer = ap length parts ∙ push_length rest n in (
       note_more _ c.loop.heap _ (reverse old) (reverse rest) n c.loop.invariant.0 turned done,

@@ -13,11 +13,11 @@ returns-then-is_untaken c = waited_is_next c.args.heap.now c.args.address (rever
 pub noted_next-requires : goal.noted_next-requires
 noted_next-requires c =
     subst (λ (x : HeapState). AreWaiting x.mark x.store.words (reverse c.args.waiting.now.items))
-    (sym c.set_todo.ensures)
+    (sym c.raw_set_todo.ensures)
     (rest_wait c.args.heap.now c.args.address (reverse c.args.waiting.now.items) c.requires.waiting)
 
 pub returns : goal.returns
 returns c = next_of_noted c.args.heap.now c.noted_next.new.heap c.args.address c.noted_next.result
     (reverse c.args.waiting.now.items) (reverse c.noted_next.new.waiting.items)
     (subst (λ x. IsNext x (reverse c.args.waiting.now.items) c.noted_next.result c.noted_next.new.heap
-    (reverse c.noted_next.new.waiting.items)) c.set_todo.ensures c.noted_next.ensures)
+    (reverse c.noted_next.new.waiting.items)) c.raw_set_todo.ensures c.noted_next.ensures)

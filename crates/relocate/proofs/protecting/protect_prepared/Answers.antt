@@ -38,9 +38,9 @@ settle_pages-requires-clause-within c =
     (places_within h c.args.pages.now c.law.ensures.store.sized.words_low))
 
 pub returns : goal.returns
-returns c = protected_is c.args.heap.now c.open_targets.new.heap c.settle_pages.new.heap c.start_protection.new.self
+returns c = protected_is c.args.heap.now c.open_targets.new.heap c.settle_pages.new.heap c.raw_start_protection.new.self
     c.deref.result.now c.args.pages.now c.args.prepared.sides.items c.args.prepared.plan c.targets.result
     c.law.ensures.heap c.requires.once c.requires.sides c.requires.plan
     (c.targets.ensures ∙ ap target_count c.requires.plan) c.open_targets.ensures.heap
     (c.deref.ensures.value ∙ c.open_targets.ensures.targets) c.open_targets.ensures.stays.words c.settle_pages.ensures
-    c.start_protection.ensures
+    c.raw_start_protection.ensures

@@ -1,6 +1,6 @@
 use Rattle.heap.specs.Views.{heap_of}
 use Rattle.heap.proofs.Moving.{release_keeps}
-use Rattle.heap.proofs.heap.Heap.release_page.Goals as goal
+use Rattle.heap.proofs.heap.Heap.raw_release_page.Goals as goal
 use Rattle.std.proofs.Common.{◌∙◌, ap}
 use Rattle.model.specs.States.{HeapState}
 use Rattle.model.specs.Stores.{state_at}

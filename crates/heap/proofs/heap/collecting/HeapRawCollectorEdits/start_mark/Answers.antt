@@ -1,6 +1,6 @@
 use Rattle.heap.specs.Views.{heap_of}
 use Rattle.heap.proofs.Cycling.{started_keeps}
-use Rattle.heap.proofs.heap.collecting.HeapCollectorEdits.start_mark.Goals as goal
+use Rattle.heap.proofs.heap.collecting.HeapRawCollectorEdits.start_mark.Goals as goal
 
 pub invariant_of-self : goal.invariant_of-self
 invariant_of-self c =

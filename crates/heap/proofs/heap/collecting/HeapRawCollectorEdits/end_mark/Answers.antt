@@ -2,7 +2,7 @@ use Rattle.std.proofs.Common.{◌∙◌, ap, map}
 use Rattle.model.specs.Bits.{blank_row}
 use Rattle.heap.specs.Views.{heap_of}
 use Rattle.heap.proofs.Cycling.{ended_keeps}
-use Rattle.heap.proofs.heap.collecting.HeapCollectorEdits.end_mark.Goals as goal
+use Rattle.heap.proofs.heap.collecting.HeapRawCollectorEdits.end_mark.Goals as goal
 
 pub invariant_of-self : goal.invariant_of-self
 invariant_of-self c = ended_keeps (heap_of c.self.inside) _ _ _ _ c.self.invariant

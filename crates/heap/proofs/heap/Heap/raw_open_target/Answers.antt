@@ -1,6 +1,6 @@
 use Rattle.heap.specs.Views.{heap_of}
 use Rattle.heap.proofs.Keeping.{store_keeps}
-use Rattle.heap.proofs.heap.Heap.open_target.Goals as goal
+use Rattle.heap.proofs.heap.Heap.raw_open_target.Goals as goal
 
 pub invariant_of-self-2 : goal.invariant_of-self-2
 invariant_of-self-2 c =

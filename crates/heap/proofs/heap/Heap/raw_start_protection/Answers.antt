@@ -2,7 +2,7 @@ use Rattle.std.proofs.Common.{◌∙◌, ap}
 use Rattle.model.specs.States.{HeapState}
 use Rattle.heap.specs.Views.{heap_of}
 use Rattle.heap.proofs.Moving.{none_gone, protection_keeps}
-use Rattle.heap.proofs.heap.Heap.start_protection.Goals as goal
+use Rattle.heap.proofs.heap.Heap.raw_start_protection.Goals as goal
 
 pub protect-requires-clause-kept : goal.protect-requires-clause-kept
 protect-requires-clause-kept c = none_gone c.self.inside.store

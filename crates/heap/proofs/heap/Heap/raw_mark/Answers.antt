@@ -2,7 +2,7 @@ use Rattle.std.proofs.Common.{Bool, Some, ◌∙◌, sym, ap, subst}
 use Rattle.heap.specs.Marking.{marked_at, MarksFirst}
 use Rattle.heap.specs.Views.{heap_of}
 use Rattle.heap.proofs.Marking.{marked_first, marked_again, marked_nowhere}
-use Rattle.heap.proofs.heap.Heap.mark_apart.Goals as goal
+use Rattle.heap.proofs.heap.Heap.raw_mark.Goals as goal
 
 pub returns-in-Some-false : goal.returns-in-Some-false
 returns-in-Some-false c =

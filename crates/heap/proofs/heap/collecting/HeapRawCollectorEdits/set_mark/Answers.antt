@@ -1,6 +1,6 @@
 use Rattle.heap.specs.Views.{heap_of}
 use Rattle.heap.proofs.Marking.{marks_keep, bit_keeps, bit_kept}
-use Rattle.heap.proofs.heap.collecting.HeapCollectorEdits.set_mark.Goals as goal
+use Rattle.heap.proofs.heap.collecting.HeapRawCollectorEdits.set_mark.Goals as goal
 
 pub invariant_of-self : goal.invariant_of-self
 invariant_of-self c =

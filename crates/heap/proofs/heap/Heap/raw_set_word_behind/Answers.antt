@@ -3,7 +3,7 @@ use Rattle.model.specs.Owning.{LiesIn, AreSized, NoneProtected}
 use Rattle.page.proofs.Lying.{word_lies, word_sized_alike, word_unprotected}
 use Rattle.heap.specs.Views.{heap_of}
 use Rattle.heap.proofs.Keeping.{store_keeps}
-use Rattle.heap.proofs.heap.Heap.set_word_behind.Goals as goal
+use Rattle.heap.proofs.heap.Heap.raw_set_word_behind.Goals as goal
 
 pub invariant_of-self : goal.invariant_of-self
 invariant_of-self c =
