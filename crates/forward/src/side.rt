@@ -30,7 +30,7 @@ pub struct Side {
     places: Vec<Addr, Global>,
     /// Bit `i` is set where the entry of number `i` is copied.
     copied: Row,
-    /// The offset that was noted last: an entry is mostly asked for again, or the next one.
+    /// The offset that was kept last: an entry is mostly asked for again, or the next one.
     last: u32,
 }
 
@@ -115,7 +115,7 @@ impl Side {
     }
 
     /// The entry of a number, from 0, if there is one. It is found without a search where it is the one
-    /// that was noted as copied last, or the next.
+    /// that was kept last, or noted as copied by its offset, or the next.
     pub fn entry(&self, index: usize) -> Option<Forwarding>
         ensures { result ≡ slice_get self.now index }
     {
@@ -224,6 +224,16 @@ impl Side {
         let to = self.places[number];
         self.copied.put(number, true);
         Some(to)
+    }
+
+    /// Keeps where the entry of a number, from 0, lies: then it is found without a search, and the next
+    /// one too.
+    pub fn keep(&mut self, index: usize)
+        ensures { self.new ≡ self.old }
+    {
+        if let Some(entry) = self.entry_near(index, self.last) {
+            self.last = entry.offset;
+        }
     }
 
     /// Gives the object of the entry of a number, from 0, another place, if there is one.

@@ -232,6 +232,17 @@ impl Sides {
         Some(to)
     }
 
+    /// Keeps where the entry of a number, from 0, of a page lies, by the page's number from 1: then it is
+    /// found without a search, and the next one too.
+    pub fn keep(&mut self, page: u64, number: u32)
+        ensures { self.new ≡ self.old }
+    {
+        let at = page.saturating_sub(1) as usize;
+        if at < self.sides.len() {
+            self.sides[at].keep(number as usize);
+        }
+    }
+
     /// Lets all entries go. A side array that is empty costs one test.
     pub fn clear_all(&mut self)
         ensures { self.new ≡ replicate (length self.old) [] }
