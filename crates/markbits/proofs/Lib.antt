@@ -4,3 +4,4 @@ pub mod ManyRows
 pub mod Busy
 pub mod Blocks
 pub mod Ranks
+pub mod Lows

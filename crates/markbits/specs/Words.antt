@@ -1,5 +1,5 @@
 -- Rows of bits as words.
-use Rattle.std.specs.Prelude.{◌≡◌, ℕ, ◌/◌, ◌%◌, ◌^◌, ◌<◌, ◌≤◌, Bool, true, false, List, length, map, ◌==◌}
+use Rattle.std.specs.Prelude.{◌≡◌, ℕ, ◌*◌, ◌/◌, ◌%◌, ◌^◌, ◌<◌, ◌≤◌, Bool, true, false, List, length, map, ◌==◌}
 use Rattle.std.specs.Prelude.{slice_index, slice_index_or, count_by, Option, None, Some}
 use Rattle.std.specs.List.{range_with_len}
 use Rattle.std.specs.Int.{bit_at, div_ceil}
@@ -22,6 +22,10 @@ pub record IsRow (words : List ℕ) (n total : ℕ) : Type 0 where
   pub room : length words ≡ div_ceil n 64
   pub rest : (i : ℕ) → n ≤ i → bit_of words i ≡ false
   pub counted : total ≡ set_count (bits_of n words)
+
+-- no bit is set before the word of an index
+abbrev pub IsLow : List Bool → ℕ → Type 0
+IsLow row low = (i : ℕ) → i < 64 * low → slice_index_or row i false ≡ false
 
 -- k is the first place from i on where a bit is set
 pub record IsFirstFrom (row : List Bool) (i k : ℕ) : Type 0 where

@@ -1,6 +1,6 @@
 //! Rows of bits, one bit for each word of a page.
 
-ghost use Rattle.std.specs.Prelude.{◌≡◌, ℕ, ◌-◌, ◌*◌, ◌/◌, ◌<◌, ◌≤◌, ◌^◌, length, replicate, take, slice_get};
+ghost use Rattle.std.specs.Prelude.{◌≡◌, ℕ, ◌+◌, ◌-◌, ◌*◌, ◌/◌, ◌<◌, ◌≤◌, ◌^◌, length, replicate, take, slice_get};
 ghost use Rattle.std.specs.Prelude.{slice_index_or, Some, map, true, false, [], IfOk, count_by};
 ghost use Rattle.std.specs.Int.{div_ceil};
 ghost use Rattle.std.specs.Option.{option_copied};
@@ -24,17 +24,47 @@ pub struct Row {
     len: u32,
     /// How many bits are set.
     total: u32,
+    /// No bit is set in the words before the one of this index.
+    low: u32,
 }
 
 impl Model for Row {
     ghost use Rattle.std.specs.Prelude.{List, Bool};
-    ghost use Rattle.markbits.specs.Words.{bits_of, IsRow};
+    ghost use Rattle.markbits.specs.Words.{bits_of, IsRow, IsLow};
 
     ghost Value = { List Bool };
 
     ghost view = { λ r. bits_of r.len r.words.items };
 
-    ghost invariant = { λ r. IsRow r.words.items r.len r.total };
+    ghost invariant = { λ r. IsRow r.words.items r.len r.total × IsLow (bits_of r.len r.words.items) r.low };
+}
+
+/// Before which word no bit is set, by before which none was and how many were, after a bit of the
+/// word of an index is set.
+#[inline(always)]
+fn low_with(low: u32, total: u32, index: u32) -> u32
+    ensures index { result ≤ index }
+    ensures low { 0 < total → result ≤ low }
+{
+    if total == 0 || index < low {
+        index
+    } else {
+        low
+    }
+}
+
+/// The same, after a bit of that word is cleared, which leaves the word.
+#[inline(always)]
+fn low_without(low: u32, word: u64, index: u32) -> u32
+    requires { index < 2 ^ 31 }
+    ensures low { low ≤ result }
+    ensures next { low < result → (word ≡ 0) × (index ≡ low) × (result ≡ low + 1) }
+{
+    if word == 0 && index == low {
+        low + 1
+    } else {
+        low
+    }
 }
 
 impl Row {
@@ -46,6 +76,7 @@ impl Row {
             words: vec![in alloc; 0u64; (words as usize).div_ceil(64)]?,
             len: words,
             total: 0,
+            low: 0,
         })
     }
 
@@ -58,6 +89,7 @@ impl Row {
             words: Vec::new(alloc),
             len: 0,
             total: 0,
+            low: 0,
         }
     }
 
@@ -69,6 +101,7 @@ impl Row {
             words: Vec::from_slice(alloc, &self.words)?,
             len: self.len,
             total: self.total,
+            low: self.low,
         })
     }
 
@@ -95,9 +128,12 @@ impl Row {
     {
         if offset < self.len as usize && self.test(offset) != bit {
             self.words[offset / 64] ^= 1u64 << (offset % 64);
+            let index = (offset / 64) as u32;
             if bit {
+                self.low = low_with(self.low, self.total, index);
                 self.total += 1;
             } else {
+                self.low = low_without(self.low, self.words[offset / 64], index);
                 self.total -= 1;
             }
         }
@@ -137,7 +173,7 @@ impl Row {
         if let Some(place) = self.next_in_block(offset) {
             return Some(place);
         }
-        self.next_by_words(offset)
+        self.next_by_words(offset.max(64 * self.low as usize))
     }
 
     /// The same, found by a look at each word from that of the offset on.

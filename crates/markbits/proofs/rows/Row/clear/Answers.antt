@@ -1,13 +1,18 @@
 use Rattle.std.proofs.Common.{◌≡◌, length, replicate, rules}
 use Rattle.markbits.proofs.RowBits.{blank_row_is}
 use Rattle.markbits.proofs.RowWords.{blank_is, blanked}
+use Rattle.markbits.proofs.Lows.{low_blank}
 use Rattle.markbits.proofs.rows.Row.clear.Goals as goal
 
 pub invariant_of-self : goal.invariant_of-self
 invariant_of-self c =
     let items : c.fill.new.self.items ≡ replicate (length c.self.inside.words.items) 0 = search rules in
-    rw items (blank_row_is c.self.inside.len
-    (length c.self.inside.words.items) c.self.invariant.short c.self.invariant.room)
+    rw items (
+      blank_row_is c.self.inside.len
+          (length c.self.inside.words.items) c.self.invariant.0.short c.self.invariant.0.room,
+      low_blank c.self.inside.len
+          (length c.self.inside.words.items) c.self.inside.low c.self.invariant.0.short c.self.invariant.0.room,
+    )
 
 pub returns-then-self-ne0 : goal.returns-then-self-ne0
 returns-then-self-ne0 c =
@@ -16,4 +21,4 @@ returns-then-self-ne0 c =
 
 pub returns-else-self-ne0 : goal.returns-else-self-ne0
 returns-else-self-ne0 c =
-    blank_is c.self.inside.len c.self.inside.words.items _ (rw c.if-self-ne0.false at c.self.invariant) c.self.view_is
+    blank_is c.self.inside.len c.self.inside.words.items _ (rw c.if-self-ne0.false at c.self.invariant.0) c.self.view_is

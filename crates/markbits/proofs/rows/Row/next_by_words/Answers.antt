@@ -8,28 +8,28 @@ loop-index-init c = (λ j from below. absurd (omega arith), masks_first c.args.o
 
 pub overflow_mul-place : goal.overflow_mul-place
 overflow_mul-place c =
-    let within = (next_is _ _ _ _ _ _ _ _ c.self.invariant c.self.view_is c.loop-index.invariant.1 c.index.ensures
+    let within = (next_is _ _ _ _ _ _ _ _ c.self.invariant.0 c.self.view_is c.loop-index.invariant.1 c.index.ensures
     (omega (arith, c.self.inside.words.ok.0))
     (omega (arith, c.loop-index.auto.mask-fits)) (omega arith) c.loop-index.invariant.0).0 in
     omega arith
 
 pub overflow_add-place : goal.overflow_add-place
 overflow_add-place c =
-    let within = (next_is _ _ _ _ _ _ _ _ c.self.invariant c.self.view_is c.loop-index.invariant.1 c.index.ensures
+    let within = (next_is _ _ _ _ _ _ _ _ c.self.invariant.0 c.self.view_is c.loop-index.invariant.1 c.index.ensures
     (omega (arith, c.self.inside.words.ok.0))
     (omega (arith, c.loop-index.auto.mask-fits)) (omega arith) c.loop-index.invariant.0).0 in
     omega arith
 
 pub overflow_cast-result : goal.overflow_cast-result
 overflow_cast-result c =
-    let within = (next_is _ _ _ _ _ _ _ _ c.self.invariant c.self.view_is c.loop-index.invariant.1 c.index.ensures
+    let within = (next_is _ _ _ _ _ _ _ _ c.self.invariant.0 c.self.view_is c.loop-index.invariant.1 c.index.ensures
     (omega (arith, c.self.inside.words.ok.0))
     (omega (arith, c.loop-index.auto.mask-fits)) (omega arith) c.loop-index.invariant.0).0 in
     omega arith
 
 pub returns-then-word-ne0 : goal.returns-then-word-ne0
 returns-then-word-ne0 c =
-    (next_is _ _ _ _ _ _ _ _ c.self.invariant c.self.view_is c.loop-index.invariant.1 c.index.ensures (omega
+    (next_is _ _ _ _ _ _ _ _ c.self.invariant.0 c.self.view_is c.loop-index.invariant.1 c.index.ensures (omega
     (arith, c.self.inside.words.ok.0))
     (omega (arith, c.loop-index.auto.mask-fits)) (omega arith) c.loop-index.invariant.0).1
 
@@ -46,7 +46,7 @@ pub returns : goal.returns
 returns c j from =
     rw (← c.self.view_is)
     (none_from c.self.inside.words.items c.self.inside.len c.self.inside.total c.args.offset c.loop-index.index
-    c.self.invariant (omega (arith, c.self.inside.words.ok.0)) c.loop-index.invariant.0 j from)
+    c.self.invariant.0 (omega (arith, c.self.inside.words.ok.0)) c.loop-index.invariant.0 j from)
 
 pub returns-then-self-eq0 : goal.returns-then-self-eq0
-returns-then-self-eq0 c j from = none_set _ _ _ (rw c.if-self-eq0.true at c.self.invariant) c.self.view_is j
+returns-then-self-eq0 c j from = none_set _ _ _ (rw c.if-self-eq0.true at c.self.invariant.0) c.self.view_is j

@@ -5,14 +5,14 @@ use Rattle.markbits.proofs.rows.Row.rank_word.Goals as goal
 
 pub index-requires : goal.index-requires
 index-requires c =
-    omega (arith, c.requires.low, c.requires.there, row_length _ _ _ c.self.view_is, c.self.invariant.room)
+    omega (arith, c.requires.low, c.requires.there, row_length _ _ _ c.self.view_is, c.self.invariant.0.room)
 
 pub overflow_add-result : goal.overflow_add-result
 overflow_add-result c =
-    let low = (rank_of_word _ _ _ _ c.args.index _ c.args.below c.self.invariant c.self.view_is c.requires.low
+    let low = (rank_of_word _ _ _ _ c.args.index _ c.args.below c.self.invariant.0 c.self.view_is c.requires.low
     c.requires.there c.requires.below c.index.ensures (omega arith)).0 in
     omega arith
 
 pub returns : goal.returns
-returns c = (rank_of_word _ _ _ _ c.args.index _ c.args.below c.self.invariant c.self.view_is c.requires.low
+returns c = (rank_of_word _ _ _ _ c.args.index _ c.args.below c.self.invariant.0 c.self.view_is c.requires.low
     c.requires.there c.requires.below c.index.ensures (omega arith)).1

@@ -5,10 +5,10 @@ use Rattle.markbits.proofs.rows.Row.test.Goals as goal
 
 pub returns-then-offset-self : goal.returns-then-offset-self
 returns-then-offset-self c =
-    test_is _ _ _ _ _ _ c.self.invariant c.self.view_is
+    test_is _ _ _ _ _ _ c.self.invariant.0 c.self.view_is
     (get_or_read c.self.inside.words.items (c.args.offset / 64) _ (omega
-    (arith, c.self.invariant.room)) c.index.ensures 0)
+    (arith, c.self.invariant.0.room)) c.index.ensures 0)
 
 pub returns-else-offset-self : goal.returns-else-offset-self
 returns-else-offset-self c = le-ltb _ _ c.if-offset-self.false
-    ∙ sym (test_past _ _ _ _ _ c.self.invariant c.self.view_is c.if-offset-self.false)
+    ∙ sym (test_past _ _ _ _ _ c.self.invariant.0 c.self.view_is c.if-offset-self.false)
