@@ -30,7 +30,7 @@ pub use cycle::{
     Actor, Answer, Book, Buffer, Entry, EntryRef, History, Mutating, PageList, Reply, Step, Trap,
     next_drain, run, three_traps,
 };
-pub use drains::is_ready;
+pub use drains::{Portion, is_ready};
 pub use heap::{Config, ConfigFault, NewFault, Refusal};
 pub use layout::{Layout, Layouts};
 pub use managed::ManagedHeap as Heap;
