@@ -56,8 +56,9 @@ def main():
 def table(program, work, heaps):
     """The table of one kind of objects."""
     print()
-    print("| Frames | Words a page | Words an object | Pages filled | Budget | " + " | ".join(KINDS) + " | the longest part |")
-    print("|---" * (6 + len(KINDS)) + "|")
+    heads = ["Frames", "Words a page", "Words an object", "Pages filled", "Budget", *KINDS, "the longest part"]
+    print("| " + " | ".join(heads) + " |")
+    print("|---" * len(heads) + "|")
     for words, frames, size, pages in heaps:
         for budget in BUDGETS:
             found = least(program, work, (words, frames, size, pages, budget))
