@@ -42,17 +42,6 @@ def micros(nanos):
     return f"{nanos / 1e3:,.0f}" if nanos >= 100_000 else f"{nanos / 1e3:.3g}"
 
 
-def main():
-    program = os.path.abspath(sys.argv[1] if len(sys.argv) > 1 else "crates/pauses/out/pauses")
-    if not os.access(program, os.X_OK):
-        sys.exit(f"{program} isn't there: run 'make bench'")
-    print("Microseconds, the longest of each kind of part:")
-    table(program, "parts", HEAPS)
-    print()
-    print("The same, with objects that have references alone:")
-    table(program, "wide", WIDE)
-
-
 def table(program, work, heaps):
     """The table of one kind of objects."""
     print()
@@ -66,6 +55,17 @@ def table(program, work, heaps):
             parts = {kind: row[2] for kind, row in found.items() if kind != "whole"}
             heap = [f"{number:,}" for number in (frames, words, size, pages, budget)]
             print("| " + " | ".join(heap + cells + [max(parts, key=parts.get)]) + " |", flush=True)
+
+
+def main():
+    program = os.path.abspath(sys.argv[1] if len(sys.argv) > 1 else "crates/pauses/out/pauses")
+    if not os.access(program, os.X_OK):
+        sys.exit(f"{program} isn't there: run 'make bench'")
+    print("Microseconds, the longest of each kind of part:")
+    table(program, "parts", HEAPS)
+    print()
+    print("The same, with objects that have references alone:")
+    table(program, "wide", WIDE)
 
 
 if __name__ == "__main__":
