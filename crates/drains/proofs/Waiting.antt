@@ -84,25 +84,25 @@ field_noted h g k xs ys place bits e f d =
     v = reference_in (word_at h.store place)
 
 -- a word is written back, and then its object is marked
-place_then : (h : HeapState) (v : Reference) (xs : List ℕ) (place bits t : ℕ) → Some t ≡ address_in (marked_word h v)
-    → bits ≡ bits_of (marked_word h v)
+place_then : (h : HeapState) (v : Reference) (xs : List ℕ) (place bits a t : ℕ) → Some a ≡ address_in v
+    → t ≡ resolve h a → bits ≡ bits_of (Some (t, h.nmt))
     → marked_at (all_noted (record h { store = with_word h.store place bits }) xs) t
     ≡ with_marked_place (all_noted h xs) place v
 unfolding with_marked_place marked_at all_noted with_mark marked_word resolve entry_at with_word with_words
-place_then h None xs place bits t named f = absurd (cc)
-place_then h (Some x) xs place bits t named f = λ i. record h {
-  mark = with_bit h.mark h.store.words (to i) true;
-  todo = if bit_at h.mark h.store.words (to i) then noting h.todo h.store.words xs
-  else with_bit (noting h.todo h.store.words xs) h.store.words (to i) true;
-  store = with_word h.store place (f i);
+place_then h None xs place bits a t named to f = absurd (cc)
+place_then h (Some x) xs place bits a t named to f = λ i. record h {
+  mark = with_bit h.mark h.store.words (there i) true;
+  todo = if bit_at h.mark h.store.words (there i) then noting h.todo h.store.words xs
+  else with_bit (noting h.todo h.store.words xs) h.store.words (there i) true;
+  store = with_word h.store place ((f ∙ ap (λ n. bits_of (Some (n, h.nmt))) there) i);
 }
   where
-    to : t ≡ resolve h x.0
-    to = same_Some _ _ named
+    there : t ≡ resolve h x.0
+    there = to ∙ ap (resolve h) (same_Some _ _ named)
 
 -- where it names none, nothing is marked
-place_null : (h : HeapState) (v : Reference) (xs : List ℕ) (place bits : ℕ) → None ≡ address_in (marked_word h v)
-    → bits ≡ bits_of (marked_word h v)
+place_null : (h : HeapState) (v : Reference) (xs : List ℕ) (place bits : ℕ) → None ≡ address_in v
+    → bits ≡ bits_of None
     → all_noted (record h { store = with_word h.store place bits }) xs ≡ with_marked_place (all_noted h xs) place v
 unfolding with_marked_place all_noted with_mark marked_word with_word with_words
 place_null h None xs place bits named f = ap (λ n. record h {
@@ -355,27 +355,28 @@ pub pushed_first : (xs : List ℕ) (t : ℕ) → reverse (xs ++ (t ∷ [])) ≡ 
 pushed_first xs t = reverse-append xs (t ∷ [])
 
 -- a field is read and written back, by its place behind the object, and then the object that it names is marked
-pub field_of_word : (h j k : HeapState) (xs ys : List ℕ) (a i n bits t : ℕ) (word marked : Reference)
-    → n ≡ i → word ≡ reference_in (word_at h.store (a + (1 + n))) → marked ≡ marked_word h word → bits ≡ bits_of marked
-    → j ≡ record h { store = with_word h.store (a + (1 + n)) bits } → Some t ≡ address_in marked
+pub field_of_word : (h j k : HeapState) (xs ys : List ℕ) (a i n b t bits : ℕ) (word marked : Reference) (nmt : Bool)
+    → n ≡ i → word ≡ reference_in (word_at h.store (a + (1 + n))) → Some b ≡ address_in word → t ≡ resolve h b
+    → nmt ≡ h.nmt → marked ≡ Some (t, nmt) → bits ≡ bits_of marked
+    → j ≡ record h { store = with_word h.store (a + (1 + n)) bits }
     → all_noted k ys ≡ marked_at (all_noted j xs) t → all_noted k ys ≡ marked_field (all_noted h xs) (field_address a i)
 unfolding marked_field all_noted
-field_of_word h j k xs ys a i n bits t word marked at read e f d named marks =
+field_of_word h j k xs ys a i n b t bits word marked nmt at read named to bit of f d marks =
     marks ∙ ap (λ x. marked_at (all_noted x xs) t) d
-    ∙ place_then h word xs (a + (1 + n)) bits t (named ∙ ap address_in e) (f ∙ ap bits_of e)
+    ∙ place_then h word xs (a + (1 + n)) bits b t named to (f ∙ ap bits_of (of ∙ ap (λ (c : Bool). Some (t, c)) bit))
     ∙ ap (with_marked_place (all_noted h xs) (a + (1 + n))) read
     ∙ ap (λ m. marked_field (all_noted h xs) (a + (1 + m))) at
     ∙ ap (marked_field (all_noted h xs)) (field_behind a i)
 
 -- or it names none
-pub field_of_null : (h j : HeapState) (xs : List ℕ) (a i n bits : ℕ) (word marked : Reference)
-    → n ≡ i → word ≡ reference_in (word_at h.store (a + (1 + n))) → marked ≡ marked_word h word → bits ≡ bits_of marked
-    → j ≡ record h { store = with_word h.store (a + (1 + n)) bits } → None ≡ address_in marked
+pub field_of_null : (h j : HeapState) (xs : List ℕ) (a i n bits : ℕ) (word null : Reference)
+    → n ≡ i → word ≡ reference_in (word_at h.store (a + (1 + n))) → None ≡ address_in word → null ≡ None
+    → bits ≡ bits_of null → j ≡ record h { store = with_word h.store (a + (1 + n)) bits }
     → all_noted j xs ≡ marked_field (all_noted h xs) (field_address a i)
 unfolding marked_field all_noted
-field_of_null h j xs a i n bits word marked at read e f d named =
+field_of_null h j xs a i n bits word null at read named is f d =
     ap (λ x. all_noted x xs) d
-    ∙ place_null h word xs (a + (1 + n)) bits (named ∙ ap address_in e) (f ∙ ap bits_of e)
+    ∙ place_null h word xs (a + (1 + n)) bits named (f ∙ ap bits_of is)
     ∙ ap (with_marked_place (all_noted h xs) (a + (1 + n))) read
     ∙ ap (λ m. marked_field (all_noted h xs) (a + (1 + m))) at
     ∙ ap (marked_field (all_noted h xs)) (field_behind a i)

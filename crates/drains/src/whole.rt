@@ -65,11 +65,13 @@ fn mark_field(heap: &mut Heap, address: Addr, index: u32, waiting: &mut Waiting)
 {
     let ahead = 1 + u64::from(index);
     let word = reference_behind(heap, address, ahead);
-    let marked = heap.marked_word(word);
-    heap.raw_set_word_behind(address, ahead, marked.bits());
-    let Some(target) = marked.addr() else {
+    let Some(named) = word.addr() else {
+        heap.raw_set_word_behind(address, ahead, Word::null().bits());
         return;
     };
+    let target = heap.resolve(named);
+    let marked = Word::of(target, heap.nmt());
+    heap.raw_set_word_behind(address, ahead, marked.bits());
     mark(heap, address, target, waiting);
 }
 
