@@ -32,18 +32,21 @@ pub struct Side {
     copied: Row,
     /// The offset that was kept last: an entry is mostly asked for again, or the next one.
     last: u32,
+    /// The number of its entry; past all where none was kept.
+    number: u32,
 }
 
 impl Model for Side {
     ghost use Rattle.std.specs.Prelude.{List};
     ghost use Rattle.model.specs.declared.records.Forwarding.{Forwarding};
-    ghost use Rattle.forward.specs.Ranked.{entries_of, AreEntries};
+    ghost use Rattle.forward.specs.Ranked.{entries_of, AreEntries, IsKept};
 
     ghost Value = { List Forwarding };
 
     ghost view = { λ s. entries_of s.live s.places.items s.copied };
 
-    ghost invariant = { λ s. AreEntries s.live s.places.items s.copied };
+    ghost invariant = { λ s. AreEntries s.live s.places.items s.copied
+        × IsKept s.live s.places.items s.last s.number };
 }
 
 impl Side {
@@ -57,6 +60,7 @@ impl Side {
             places: Vec::new(alloc),
             copied: Row::empty(alloc),
             last: 0,
+            number: u32::MAX,
         }
     }
 
@@ -75,6 +79,7 @@ impl Side {
             places,
             copied,
             last: 0,
+            number: u32::MAX,
         })
     }
 
@@ -119,7 +124,12 @@ impl Side {
     pub fn entry(&self, index: usize) -> Option<Forwarding>
         ensures { result ≡ slice_get self.now index }
     {
-        self.entry_near(index, self.last)
+        let kept = self.number as usize;
+        if kept < self.places.len() && index == kept + 1 {
+            self.entry_behind(index, self.last)
+        } else {
+            self.entry_near(index, self.last)
+        }
     }
 
     /// The same, whatever the offset says: it is found without a search where it is the first one from
@@ -204,6 +214,7 @@ impl Side {
             let index = self.live.rank(offset as usize);
             self.copied.put(index, true);
             self.last = offset;
+            self.number = index as u32;
         }
     }
 
@@ -231,8 +242,9 @@ impl Side {
     pub fn keep(&mut self, index: usize)
         ensures { self.new ≡ self.old }
     {
-        if let Some(entry) = self.entry_near(index, self.last) {
+        if let Some(entry) = self.entry(index) {
             self.last = entry.offset;
+            self.number = index as u32;
         }
     }
 
