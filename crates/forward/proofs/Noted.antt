@@ -109,7 +109,8 @@ module _ (live : List Bool) (places : List ℕ) (copied : List Bool) where
         let ranked = ranked_offset 0 live place there.0 in
         let read = ap (λ n. get_or (offsets_from 0 live) n 0) there.1 in
         let here : get_or (offsets_from 0 live) number 0 ≡ place = omega (arith, ranked, read) in
-        ap (λ n. offset_of (slice_get all n)) same ∙ ap offset_of (entry_read live places copied number l) ∙ ap Some here
+        ap (λ n. offset_of (slice_get all n)) same ∙ ap offset_of (entry_read live places copied number l)
+        ∙ ap Some here
 
     pub kept_entry : (i : ℕ) (f : Forwarding) → slice_get all i ≡ Some f → IsKept live places f.offset i
     kept_entry i f at l =

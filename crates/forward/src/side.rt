@@ -1,7 +1,7 @@
 //! The side array of a page.
 
-ghost use Rattle.std.specs.Prelude.{◌≡◌, ◌+◌, ◌-◌, ◌<◌, ◌≤◌, ◌==◌, length, map, slice_get, [], Some, IfOk, IfSome, not, count_by};
-ghost use Rattle.std.specs.Prelude.{replicate, false};
+ghost use Rattle.std.specs.Prelude.{◌≡◌, ◌+◌, ◌-◌, ◌<◌, ◌≤◌, ◌==◌, length, map, slice_get, [], Some, IfOk, IfSome};
+ghost use Rattle.std.specs.Prelude.{not, count_by, replicate, false};
 ghost use Rattle.std.specs.List.{list_any};
 ghost use Rattle.model.specs.declared.limits.TheConstants.{MOST_WORDS};
 ghost use Rattle.model.specs.Marks.{entry_of};
