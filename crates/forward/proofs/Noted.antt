@@ -3,7 +3,8 @@ use Rattle.std.proofs.Common.{◌≡◌, ℕ, ◌+◌, ◌-◌, ◌<◌, ◌≤�
 use Rattle.std.proofs.Common.{get_or, Option, Some, None, sym, ◌∙◌, ap, arith, length-set}
 use Rattle.std.specs.List.{slice_get}
 use Rattle.std.proofs.lemmas.List.Sums.{sum_by-set}
-use Rattle.std.proofs.lemmas.Option.{same_Some}
+use Rattle.std.proofs.lemmas.Option.{same_Some, slice_get_within}
+use Rattle.model.specs.declared.limits.TheConstants.{MOST_WORDS}
 use Rattle.model.specs.declared.records.Forwarding.{Forwarding}
 use Rattle.model.specs.Moves.{set_copied_of}
 use Rattle.model.specs.Plans.{offsets_from}
@@ -12,9 +13,9 @@ use Rattle.markbits.specs.Words.{IsFirstFrom, IsNextPlace}
 use Rattle.markbits.proofs.Ranks.{rank_next, rank_first, rank_all}
 use Rattle.forward.specs.Counts.{uncopied_in}
 use Rattle.forward.specs.Noting.{offset_of, place_of, place_to_copy, noted_side}
-use Rattle.forward.specs.Ranked.{numbered_entry, entries_of, AreEntries}
+use Rattle.forward.specs.Ranked.{numbered_entry, entries_of, AreEntries, IsKept}
 use Rattle.forward.proofs.Edited.{noted, left_of, past_all}
-use Rattle.forward.proofs.Ranked.{entry_read, entries_many, bit_numbered, ranked_offset}
+use Rattle.forward.proofs.Ranked.{entry_read, entries_many, entries_few, bit_numbered, ranked_offset}
 
 -- a bit as a number
 abbrev as_one : Bool → ℕ
@@ -97,3 +98,27 @@ module _ (live : List Bool) (places : List ℕ) (copied : List Bool) where
     none_behind l none =
         let many = rank_all live (before + 1) none in
         absurd (omega (arith, many, ranks_behind (omega (arith, l)), is.many, l))
+
+  -- what is kept of an entry
+  module _ (is : AreEntries live places copied) where
+    pub kept_offset : (place number i : ℕ) → IsKept live places place number → number < length places → i ≡ number + 1
+        → offset_of (slice_get all (i - 1)) ≡ Some place
+    kept_offset place number i kept l at =
+        let there = kept l in
+        let same : i - 1 ≡ number = omega (arith, at) in
+        let ranked = ranked_offset 0 live place there.0 in
+        let read = ap (λ n. get_or (offsets_from 0 live) n 0) there.1 in
+        let here : get_or (offsets_from 0 live) number 0 ≡ place = omega (arith, ranked, read) in
+        ap (λ n. offset_of (slice_get all n)) same ∙ ap offset_of (entry_read live places copied number l)
+        ∙ ap Some here
+
+    pub kept_entry : (i : ℕ) (f : Forwarding) → slice_get all i ≡ Some f → IsKept live places f.offset i
+    kept_entry i f at l =
+        let (k, bit) = bit_numbered 0 live i (omega (arith, l, is.many)) in
+        let same : numbered_entry live places copied i ≡ f =
+        same_Some _ _ (sym (entry_read live places copied i l) ∙ at) in
+        let here : k ≡ f.offset = omega (arith, bit.offset, ap (λ (x : Forwarding). x.offset) same) in
+        (ap (λ o. get_or live o false) (sym here) ∙ bit.set, ap (rank_of live) (sym here) ∙ bit.rank)
+
+    pub entry_short : (i : ℕ) (f : Forwarding) → slice_get all i ≡ Some f → i < MOST_WORDS
+    entry_short i f at = omega (arith, slice_get_within all i f at, entries_few live places copied is)

@@ -1,10 +1,12 @@
 -- The entries of a side array, as a row of their offsets, their places in order, and a row of which are copied.
-use Rattle.std.specs.Prelude.{◌≡◌, ℕ, ◌≤◌, Bool, false, List, map, length, count_by, get_or, slice_index_or, is_some}
+use Rattle.std.specs.Prelude.{◌≡◌, ℕ, ◌<◌, ◌≤◌, Bool, true, false, List, map, length, count_by, get_or}
+use Rattle.std.specs.Prelude.{slice_index_or, is_some}
 use Rattle.std.specs.List.{range_with_len}
 use Rattle.model.specs.declared.limits.TheConstants.{MOST_WORDS}
 use Rattle.model.specs.declared.records.Forwarding.{Forwarding}
 use Rattle.model.specs.Marks.{entry_of}
 use Rattle.model.specs.Plans.{offsets_from}
+use Rattle.markbits.specs.Ranks.{rank_of}
 
 -- the entry of a number
 abbrev pub numbered_entry : List Bool → List ℕ → List Bool → ℕ → Forwarding
@@ -23,6 +25,11 @@ pub record AreEntries (live : List Bool) (places : List ℕ) (copied : List Bool
   pub short : length live ≤ MOST_WORDS
   pub many : length places ≡ count_by (λ b. b) live
   pub flags : length copied ≡ length places
+
+-- a place and a number, if there are so many entries, are those of one entry
+abbrev pub IsKept : List Bool → List ℕ → ℕ → ℕ → Type 0
+IsKept live places place number =
+    number < length places → (slice_index_or live place false ≡ true) × (rank_of live place ≡ number)
 
 -- a bit is set exactly where an entry has its offset
 abbrev pub IsLiveOf : List Bool → List Forwarding → Type 0

@@ -1,7 +1,7 @@
 //! The side array of a page.
 
-ghost use Rattle.std.specs.Prelude.{◌≡◌, ◌+◌, ◌-◌, ◌<◌, ◌≤◌, ◌==◌, length, map, slice_get, [], Some, IfOk, IfSome, not, count_by};
-ghost use Rattle.std.specs.Prelude.{replicate, false};
+ghost use Rattle.std.specs.Prelude.{◌≡◌, ◌+◌, ◌-◌, ◌<◌, ◌≤◌, ◌==◌, length, map, slice_get, [], Some, IfOk, IfSome};
+ghost use Rattle.std.specs.Prelude.{not, count_by, replicate, false};
 ghost use Rattle.std.specs.List.{list_any};
 ghost use Rattle.model.specs.declared.limits.TheConstants.{MOST_WORDS};
 ghost use Rattle.model.specs.Marks.{entry_of};
@@ -30,20 +30,23 @@ pub struct Side {
     places: Vec<Addr, Global>,
     /// Bit `i` is set where the entry of number `i` is copied.
     copied: Row,
-    /// The offset from which on an entry is sought: it is mostly asked for again, or the next one.
+    /// The offset that was kept last: an entry is mostly asked for again, or the next one.
     last: u32,
+    /// The number of its entry; past all where none was kept.
+    number: u32,
 }
 
 impl Model for Side {
     ghost use Rattle.std.specs.Prelude.{List};
     ghost use Rattle.model.specs.declared.records.Forwarding.{Forwarding};
-    ghost use Rattle.forward.specs.Ranked.{entries_of, AreEntries};
+    ghost use Rattle.forward.specs.Ranked.{entries_of, AreEntries, IsKept};
 
     ghost Value = { List Forwarding };
 
     ghost view = { λ s. entries_of s.live s.places.items s.copied };
 
-    ghost invariant = { λ s. AreEntries s.live s.places.items s.copied };
+    ghost invariant = { λ s. AreEntries s.live s.places.items s.copied
+        × IsKept s.live s.places.items s.last s.number };
 }
 
 impl Side {
@@ -57,6 +60,7 @@ impl Side {
             places: Vec::new(alloc),
             copied: Row::empty(alloc),
             last: 0,
+            number: u32::MAX,
         }
     }
 
@@ -75,6 +79,7 @@ impl Side {
             places,
             copied,
             last: 0,
+            number: u32::MAX,
         })
     }
 
@@ -115,11 +120,16 @@ impl Side {
     }
 
     /// The entry of a number, from 0, if there is one. It is found without a search where it is the one
-    /// from which on others are sought, or the next: mostly the one that was copied last.
+    /// that was kept last, or noted as copied by its offset, or the next.
     pub fn entry(&self, index: usize) -> Option<Forwarding>
         ensures { result ≡ slice_get self.now index }
     {
-        self.entry_near(index, self.last)
+        let kept = self.number as usize;
+        if kept < self.places.len() && index == kept + 1 {
+            self.entry_behind(index, self.last)
+        } else {
+            self.entry_near(index, self.last)
+        }
     }
 
     /// The same, whatever the offset says: it is found without a search where it is the first one from
@@ -204,6 +214,7 @@ impl Side {
             let index = self.live.rank(offset as usize);
             self.copied.put(index, true);
             self.last = offset;
+            self.number = index as u32;
         }
     }
 
@@ -226,13 +237,14 @@ impl Side {
         Some(to)
     }
 
-    /// The entry of a number, from 0, is the one from which on others are sought, if there is one. That
-    /// changes no entry.
-    pub fn look_from(&mut self, number: usize)
+    /// Keeps where the entry of a number, from 0, lies: then it is found without a search, and the next
+    /// one too.
+    pub fn keep(&mut self, index: usize)
         ensures { self.new ≡ self.old }
     {
-        if let Some(offset) = self.live.place_near(number, self.last as usize) {
-            self.last = offset;
+        if let Some(entry) = self.entry(index) {
+            self.last = entry.offset;
+            self.number = index as u32;
         }
     }
 

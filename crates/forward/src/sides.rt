@@ -218,18 +218,14 @@ impl Sides {
         Some(to)
     }
 
-    /// The entry of a number, from 0, of a page is the one from which on others of that page are sought,
-    /// by the page's number from 1, if there is one. That changes no entry.
-    pub fn look_from(&mut self, page: u64, number: u32)
+    /// Keeps where the entry of a number, from 0, of a page lies, by the page's number from 1: then it is
+    /// found without a search, and the next one too.
+    pub fn keep(&mut self, page: u64, number: u32)
         ensures { self.new ≡ self.old }
     {
-        if page == 0 {
-            return;
-        }
-        let at = (page - 1) as usize;
+        let at = page.saturating_sub(1) as usize;
         if at < self.sides.len() {
-            let side = &mut self.sides[at];
-            side.look_from(number as usize);
+            self.sides[at].keep(number as usize);
         }
     }
 

@@ -33,6 +33,7 @@ use Rattle.heap.proofs.Moving.{copy_keeps}
 
 -- what is noted
 
+-- where an object starts, by where the object of its entry goes
 pub started : (words : ℕ) (starts : List (List Bool)) (o : Option Forwarding) (to : ℕ) → Some to ≡ place_to_copy o
     → with_bit starts words to true ≡ noted_starts words o starts
 started words starts None to e = absurd (cc)

@@ -1,6 +1,6 @@
 -- Rows of bits as words: the next bit, the rank, and what the functions of a row answer.
 use Rattle.std.proofs.Common.{◌≡◌, ℕ, suc, zero, ◌+◌, ◌-◌, ◌*◌, ◌/◌, ◌%◌, ◌^◌, ◌<◌, ◌≤◌, min, Bool, true, false, not}
-use Rattle.std.proofs.Common.{eqb, List, length, replicate, take, get_or, set, refl, sym, ◌∙◌, ap, inl, inr}
+use Rattle.std.proofs.Common.{eqb, List, length, replicate, take, get_or, set, refl, sym, ◌∙◌, ap, subst, inl, inr}
 use Rattle.std.proofs.Common.{arith, eq-eqb, ne_eqb, w64}
 use Rattle.std.proofs.Common.{true≢false}
 use Rattle.std.proofs.lemmas.List.{length-replicate, get_or-replicate, get_or_past, get_or_read, set_past}
@@ -270,6 +270,26 @@ next_is n total words row i k word mask is view masks at within small some clear
     let f = found words n total i k word mask is masks (get_or_read words k word within at 0) small some clear in
     let within : k * 64 + count_trailing_zeros 64 (bit_and word mask) < n = f.within in
     (omega (arith, is.short), rw view at f.first)
+
+-- the same of a whole word
+pub first_in_word : (n total : ℕ) (words : List ℕ) (row : List Bool) (i k word : ℕ) → IsRow words n total
+    → bits_of n words ≡ row → i ≤ 64 * k → word ≡ get_or words k word → k < length words → word < 2 ^ 64 → 0 < word
+    → ClearFrom words i (64 * k)
+    → (k * 64 + count_trailing_zeros 64 word < 2 ^ 32) × IsFirstFrom row i (k * 64 + count_trailing_zeros 64 word)
+first_in_word n total words row i k word is view low at within small some clear =
+    let whole : bit_and word (2 ^ 64 - 1) ≡ word = and_mask word 64 ∙ mod_of_small in
+    subst (λ w. (k * 64 + count_trailing_zeros 64 w < 2 ^ 32) × IsFirstFrom row i (k * 64 + count_trailing_zeros 64 w))
+    whole (next_is n total words row i k word (2 ^ 64 - 1) is view (masks_rest i k low) at within (omega arith)
+    (omega (arith, whole, some)) clear)
+  where
+    mod_of_small : word % 2 ^ 64 ≡ word
+    mod_of_small = omega (arith, small)
+
+-- a word without a bit
+pub skipped_word : (words : List ℕ) (i k word : ℕ) → i ≤ 64 * k → word ≡ get_or words k 0 → word ≡ 0
+    → ClearFrom words i (64 * k) → ClearFrom words i (64 * (k + 1))
+skipped_word words i k word low read none clear =
+    skipped words i k word (2 ^ 64 - 1) (masks_rest i k low) read (and_mask word 64 ∙ omega (arith, none)) clear
 
 pub set_count_none : (words : List ℕ) → 0 ≡ set_count (bits_of 0 words)
 set_count_none words = omega (arith, set_count_le 0 words)

@@ -24,7 +24,7 @@ pub struct Row {
     len: u32,
     /// How many bits are set.
     total: u32,
-    /// No bit is set in the words before the one of this index.
+    /// No bit is set in the words before the one of this index, which is past all where none is.
     low: u32,
 }
 
@@ -39,31 +39,27 @@ impl Model for Row {
     ghost invariant = { λ r. IsRow r.words.items r.len r.total × IsLow (bits_of r.len r.words.items) r.low };
 }
 
-/// Before which word no bit is set, by before which none was and how many were, after a bit of the
-/// word of an index is set.
+/// The word before which no bit is set, after one of the word of an index is set.
 #[inline(always)]
-fn low_with(low: u32, total: u32, index: u32) -> u32
-    ensures index { result ≤ index }
-    ensures low { 0 < total → result ≤ low }
+fn lower(low: &mut u32, index: u32)
+    ensures index { low.new ≤ index }
+    ensures low { low.new ≤ low.old }
 {
-    if total == 0 || index < low {
-        index
-    } else {
-        low
+    if index < *low {
+        *low = index;
     }
 }
 
-/// The same, after a bit of that word is cleared, which leaves the word.
+/// The same, after one of that word is cleared, which leaves the word, and so many in all.
 #[inline(always)]
-fn low_without(low: u32, word: u64, index: u32) -> u32
+fn raise(low: &mut u32, total: u32, word: u64, index: u32)
     requires { index < 2 ^ 31 }
-    ensures low { low ≤ result }
-    ensures next { low < result → (word ≡ 0) × (index ≡ low) × (result ≡ low + 1) }
+    ensures { 0 < total → low.old < low.new → (word ≡ 0) × (index ≡ low.old) × (low.new ≡ low.old + 1) }
 {
-    if word == 0 && index == low {
-        low + 1
-    } else {
-        low
+    if total == 0 {
+        *low = u32::MAX;
+    } else if word == 0 && index == *low {
+        *low += 1;
     }
 }
 
@@ -76,7 +72,7 @@ impl Row {
             words: vec![in alloc; 0u64; (words as usize).div_ceil(64)]?,
             len: words,
             total: 0,
-            low: 0,
+            low: u32::MAX,
         })
     }
 
@@ -89,7 +85,7 @@ impl Row {
             words: Vec::new(alloc),
             len: 0,
             total: 0,
-            low: 0,
+            low: u32::MAX,
         }
     }
 
@@ -130,11 +126,11 @@ impl Row {
             self.words[offset / 64] ^= 1u64 << (offset % 64);
             let index = (offset / 64) as u32;
             if bit {
-                self.low = low_with(self.low, self.total, index);
+                lower(&mut self.low, index);
                 self.total += 1;
             } else {
-                self.low = low_without(self.low, self.words[offset / 64], index);
                 self.total -= 1;
+                raise(&mut self.low, self.total, self.words[offset / 64], index);
             }
         }
     }
@@ -160,6 +156,7 @@ impl Row {
         if self.total != 0 {
             self.words.fill(0);
             self.total = 0;
+            self.low = u32::MAX;
         }
     }
 
@@ -173,24 +170,22 @@ impl Row {
         if let Some(place) = self.next_in_block(offset) {
             return Some(place);
         }
-        self.next_by_words(offset.max(64 * self.low as usize))
+        self.next_by_words((offset / 64 + 1).max(self.low as usize))
     }
 
-    /// The same, found by a look at each word from that of the offset on.
-    fn next_by_words(&self, offset: usize) -> Option<u32>
-        ensures { IsNextPlace self.now offset result }
+    /// The first place from the head of the word of an index on where a bit is set, if there is one.
+    fn next_by_words(&self, first: usize) -> Option<u32>
+        ensures { IsNextPlace self.now (64 * first) result }
     {
         if self.total == 0 {
             return None;
         }
-        let mut mask = u64::MAX << (offset % 64);
-        for index in offset / 64..self.words.len() {
-            let word = self.words[index] & mask;
+        for index in first..self.words.len() {
+            let word = self.words[index];
             if word != 0 {
                 let place = index * 64 + word.trailing_zeros() as usize;
                 return Some(place as u32);
             }
-            mask = u64::MAX;
         }
         None
     }

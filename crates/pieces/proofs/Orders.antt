@@ -1,8 +1,9 @@
 -- Objects that are to lie one behind the other.
-use Rattle.std.proofs.Common.{◌≡◌, ℕ, zero, suc, ◌+◌, ◌≤◌, Option, Some, None, sym, subst, arith}
+use Rattle.std.proofs.Common.{◌≡◌, ℕ, zero, suc, ◌+◌, ◌-◌, ◌≤◌, List, Option, Some, None, sym, ap, ◌∙◌, subst, arith}
 use Rattle.std.specs.List.{slice_get}
 use Rattle.model.specs.declared.records.Forwarding.{Forwarding}
-use Rattle.pieces.specs.Pieces.{SourceState, AreInOrder, Follows, end_by}
+use Rattle.forward.specs.Noting.{offset_of}
+use Rattle.pieces.specs.Pieces.{SourceState, AreInOrder, Follows, end_by, IsBehind}
 
 -- one lies there, and the others behind it
 pub order_more : (s : SourceState) (low end high e d k n : ℕ) → k ≡ suc n → d ≡ e + 1
@@ -24,3 +25,10 @@ order_low s low high e (suc k) h =
     by_entry : (o : Option Forwarding) → Follows s low o → end_by s low o ≤ high → low ≤ high
     by_entry None a b = b
     by_entry (Some f) a b = omega (arith, a, b)
+
+-- the entry behind one whose offset is known
+pub behind_next : (side : List Forwarding) (e d o : ℕ) → offset_of (slice_get side e) ≡ Some o → d ≡ e + 1
+    → IsBehind side d o
+behind_next side e d o at next =
+    let same : d - 1 ≡ e = omega (arith, next) in
+    (omega (arith, next), ap (λ n. offset_of (slice_get side n)) same ∙ at)

@@ -55,7 +55,7 @@ pub(crate) fn place_behind(source: &Source<'_>, to: Addr, base: usize) -> usize
 
 /// The entry of a number, if there is one, by the offset of the entry before it, if that is known.
 #[inline(always)]
-fn entry_by(source: &Source<'_>, index: usize, before: Option<u32>) -> Option<Forwarding>
+pub(crate) fn entry_by(source: &Source<'_>, index: usize, before: Option<u32>) -> Option<Forwarding>
     requires { IfSome before (λ o. IsBehind source.now.side.now index o) }
     ensures { result ≡ slice_get source.now.side.now index }
 {

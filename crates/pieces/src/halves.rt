@@ -1,12 +1,13 @@
 //! Objects are copied by halves, each on a thread of its own (ours).
 
 ghost use Rattle.std.specs.Prelude.{◌≡◌, ◌+◌, ◌-◌, ◌*◌, ◌/◌, ◌<◌, ◌≤◌, ◌^◌, ◌++◌, ℕ, List, true, length, take, drop};
-ghost use Rattle.std.specs.Prelude.{slice_get, IfSome};
+ghost use Rattle.std.specs.Prelude.{slice_get, IfSome, Some};
 ghost use Rattle.std.specs.Thread.{IsSync};
 ghost use Rattle.model.specs.declared.limits.TheConstants.{MOST_WORDS};
-ghost use Rattle.pieces.specs.Pieces.{source_of, laid_from, AreInOrder, Follows, end_by};
+ghost use Rattle.forward.specs.Noting.{offset_of};
+ghost use Rattle.pieces.specs.Pieces.{source_of, laid_from, AreInOrder, Follows, end_by, IsBehind};
 
-use crate::copying::{copy_entries, place_behind};
+use crate::copying::{copy_entries, entry_by, place_behind};
 use crate::source::Source;
 use std::thread::{Threads, join_mut};
 
@@ -31,15 +32,23 @@ fn parts_of(depth: u32) -> u32
     }
 }
 
-/// Where the object of an entry ends in its target, if it doesn't begin below a place, and the entry's
-/// offset. It is sought near another one.
-fn end_behind(source: &Source<'_>, entry: usize, low: usize, near: u32) -> Option<(usize, u32)>
-    requires { 0 < source.now.size }
+/// Where the object of an entry that there is ends in its target, if it doesn't begin below a place, and
+/// the entry's offset. It is found by the offset of the entry before it, if that is known.
+#[inline(always)]
+fn end_behind(
+    source: &Source<'_>,
+    entry: usize,
+    low: usize,
+    before: Option<u32>,
+) -> Option<(usize, u32)>
+    requires size { 0 < source.now.size }
+    requires before { IfSome before (λ o. IsBehind source.now.side.now entry o) }
     ensures follows { IfSome result (λ e. Follows (source_of source.now) low (slice_get source.now.side.now entry)) }
     ensures end { IfSome result (λ e. e.0 ≡ end_by (source_of source.now) low (slice_get source.now.side.now entry)) }
+    ensures offset { IfSome result (λ e. offset_of (slice_get source.now.side.now entry) ≡ Some e.1) }
 {
-    let Some(entry) = source.side.entry_near(entry, near) else {
-        return Some((low, near));
+    let Some(entry) = entry_by(source, entry, before) else {
+        return None;
     };
     let place = place_behind(source, entry.to, 0);
     if place < low {
@@ -49,20 +58,20 @@ fn end_behind(source: &Source<'_>, entry: usize, low: usize, near: u32) -> Optio
 }
 
 /// Whether the objects of entries are to lie one behind the other, and end within so many words.
-#[tactic(auto, using(crate::proofs::Orders::order_more, crate::proofs::Orders::order_all))]
+#[tactic(auto, using(crate::proofs::Orders::order_more, crate::proofs::Orders::order_all, crate::proofs::Orders::behind_next))]
 fn is_in_order(source: &Source<'_>, first: usize, count: usize, high: usize) -> bool
     requires size { 0 < source.now.size }
     requires within { first + count ≤ length source.now.side.now }
     ensures { result ≡ true → AreInOrder (source_of source.now) 0 high first count }
 {
     let _entries = source.side.len();
-    let (mut low, mut near) = (0, 0);
+    let (mut low, mut before) = (0, None);
     for index in 0..count {
-        let Some((end, offset)) = end_behind(source, first + index, low, near) else {
+        let Some((end, offset)) = end_behind(source, first + index, low, before) else {
             return false;
         };
         low = end;
-        near = offset;
+        before = Some(offset);
     }
     low <= high
 }

@@ -28,6 +28,16 @@ fn note_copy(starts: &mut Rows, sides: &mut Sides, store: &Store, page: u64, ent
 
 /// The same of so many entries from a number on.
 #[tactic(auto, using(crate::proofs::Runs::noted_all))]
+fn note_each(starts: &mut Rows, sides: &mut Sides, store: &Store, page: u64, first: u32, count: u32)
+    requires { first + count < 2 ^ 32 }
+    ensures { notes starts.new sides.new ≡ noted_from store.now.words page first count (notes starts.old sides.old) }
+{
+    for index in 0..count {
+        note_copy(starts, sides, store, page, first + index);
+    }
+}
+
+/// The same; and it is kept where the last of them lies, behind which the next one is looked for.
 fn note_copies(
     starts: &mut Rows,
     sides: &mut Sides,
@@ -39,26 +49,8 @@ fn note_copies(
     requires { first + count < 2 ^ 32 }
     ensures { notes starts.new sides.new ≡ noted_from store.now.words page first count (notes starts.old sides.old) }
 {
-    for index in 0..count {
-        note_copy(starts, sides, store, page, first + index);
-    }
-}
-
-/// The same, and others are sought from the last of these entries on: who copies one after the other
-/// asks for the next one then.
-fn note_run(
-    starts: &mut Rows,
-    sides: &mut Sides,
-    store: &Store,
-    page: u64,
-    first: u32,
-    count: u32,
-)
-    requires { first + count < 2 ^ 32 }
-    ensures { notes starts.new sides.new ≡ noted_from store.now.words page first count (notes starts.old sides.old) }
-{
-    note_copies(starts, sides, store, page, first, count);
-    sides.look_from(page, first + count.saturating_sub(1));
+    note_each(starts, sides, store, page, first, count);
+    sides.keep(page, (first + count).saturating_sub(1));
 }
 
 impl Heap {
@@ -86,7 +78,7 @@ impl Heap {
             first as usize,
             count as usize,
         );
-        note_run(
+        note_copies(
             &mut self.starts,
             &mut self.sides,
             &self.store,
@@ -135,7 +127,7 @@ impl Heap {
             depth,
             run,
         );
-        note_run(
+        note_copies(
             &mut self.starts,
             &mut self.sides,
             &self.store,

@@ -16,7 +16,7 @@ returns-then-index-len c =
 pub returns-in_err-offset : goal.returns-in_err-offset
 returns-in_err-offset c =
     c.from_residual.ensures
-    ∙ none_behind c.self.inside.live c.self.inside.places.items c.self.inside.copied c.self.invariant c.args.index
+    ∙ none_behind c.self.inside.live c.self.inside.places.items c.self.inside.copied c.self.invariant.0 c.args.index
     c.args.before c.requires.low
     (ap (λ s. offset_of (slice_get s (c.args.index - 1))) c.self.view_is ∙ c.requires.before)
     (omega (arith, c.if-index-len.false, c.len.ensures))
@@ -28,11 +28,11 @@ returns c =
     let live = c.self.inside.live in
     let places = c.self.inside.places.items in
     let l : c.args.index < length places = omega (arith, c.if-index-len.false, c.len.ensures) in
-    let offset = behind_offset live places c.self.inside.copied c.self.invariant c.args.index
+    let offset = behind_offset live places c.self.inside.copied c.self.invariant.0 c.args.index
     c.args.before c.requires.low
     (ap (λ s. offset_of (slice_get s (c.args.index - 1))) c.self.view_is ∙ c.requires.before) c.in_ok-offset.offset l
     (subst (λ (r : List Bool). IsFirstFrom r (c.args.before + 1) c.in_ok-offset.offset) c.row.ensures
     c.in_ok-offset.ensures) in
-    entry_is live places c.self.inside.copied c.self.invariant c.args.index c.in_ok-offset.offset c.index.result.now
+    entry_is live places c.self.inside.copied c.self.invariant.0 c.args.index c.in_ok-offset.offset c.index.result.now
     c.test.result l offset (get_or_read places c.args.index c.index.result.now l c.index.ensures 0) c.test.ensures
     ∙ ap (λ s. slice_get s c.args.index) c.self.view_is

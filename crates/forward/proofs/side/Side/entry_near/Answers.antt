@@ -27,6 +27,6 @@ returns c =
     let read : get_or (offsets_from 0 live) (rank_of live c.in_ok-offset.offset) 0
     ≡ get_or (offsets_from 0 live) c.args.index 0 = ap (λ n. get_or (offsets_from 0 live) n 0) there.1 in
     let offset : c.in_ok-offset.offset ≡ get_or (offsets_from 0 live) c.args.index 0 = omega (arith, ranked, read) in
-    entry_is live places c.self.inside.copied c.self.invariant c.args.index c.in_ok-offset.offset c.index.result.now
+    entry_is live places c.self.inside.copied c.self.invariant.0 c.args.index c.in_ok-offset.offset c.index.result.now
     c.test.result l offset (get_or_read places c.args.index c.index.result.now l c.index.ensures 0) c.test.ensures
     ∙ ap (λ s. slice_get s c.args.index) c.self.view_is

@@ -38,7 +38,7 @@ pub returns-clause-place : goal.returns-clause-place
 returns-clause-place c =
     let places = c.self.inside.places.items in
     let l : c.args.number < length places = omega (arith, c.if-number-len.false, c.len.ensures) in
-    told_place c.self.inside.live places c.self.inside.copied c.self.invariant c.args.number l
+    told_place c.self.inside.live places c.self.inside.copied c.self.invariant.0 c.args.number l
     (sym c.if-test.false ∙ c.test.ensures) c.index-to.result.now
     (get_or_read places c.args.number c.index-to.result.now l c.index-to.ensures 0)
     ∙ ap (λ s. place_to_copy (slice_get s c.args.number)) c.self.view_is
@@ -46,13 +46,13 @@ returns-clause-place c =
 pub returns-clause-side : goal.returns-clause-side
 returns-clause-side c =
     ap (entries_of c.self.inside.live c.self.inside.places.items) c.put.ensures
-    ∙ noted_number c.self.inside.live c.self.inside.places.items c.self.inside.copied c.self.invariant c.args.number
+    ∙ noted_number c.self.inside.live c.self.inside.places.items c.self.inside.copied c.self.invariant.0 c.args.number
     (omega (arith, c.if-number-len.false, c.len.ensures)) (sym c.if-test.false ∙ c.test.ensures)
     ∙ ap (λ s. noted_side (slice_get s c.args.number) s) c.self.view_is
 
 pub returns-clause-left : goal.returns-clause-left
 returns-clause-left c =
     sym (ap uncopied_in c.self.view_is)
-    ∙ one_fewer c.self.inside.live c.self.inside.places.items c.self.inside.copied c.self.invariant c.args.number
+    ∙ one_fewer c.self.inside.live c.self.inside.places.items c.self.inside.copied c.self.invariant.0 c.args.number
     (omega (arith, c.if-number-len.false, c.len.ensures)) (sym c.if-test.false ∙ c.test.ensures)
     ∙ sym (ap (λ row. uncopied_in (entries_of c.self.inside.live c.self.inside.places.items row) + 1) c.put.ensures)

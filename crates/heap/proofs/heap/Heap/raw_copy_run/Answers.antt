@@ -28,8 +28,8 @@ copy_entries-requires c =
           c.requires.within,
     )
 
-pub note_run-requires : goal.note_run-requires
-note_run-requires c =
+pub note_copies-requires : goal.note_copies-requires
+note_copies-requires c =
     let g : HeapState = heap_of c.self.inside in
     let is = side_there g.sides c.args.page (c.args.page - 1) c.in-Some.side.now c.if-page-eq0.false refl
     c.in-Some.ensures in
@@ -50,8 +50,8 @@ invariant_of-self c =
     let to = subst (λ (h : HeapState). GoTo h.store.words c.args.target (of_page h.sides c.args.page) c.args.first
     c.args.count) (sym c.self.view_is) c.requires.together in
     subst IsHeap (sym (run_done g c.args.page c.args.target c.args.first c.args.count _ c.in-Some.side.now
-    c.copy_entries.new.self c.note_run.new.starts c.note_run.new.sides c.law.ensures c.self.invariant is
-    c.copy_entries.ensures refl c.note_run.ensures to))
+    c.copy_entries.new.self c.note_copies.new.starts c.note_copies.new.sides c.law.ensures c.self.invariant is
+    c.copy_entries.ensures refl c.note_copies.ensures to))
     (entries_keep g c.args.page c.args.first c.args.count c.self.invariant)
 
 pub returns : goal.returns
@@ -62,6 +62,6 @@ returns c =
     let to = subst (λ (h : HeapState). GoTo h.store.words c.args.target (of_page h.sides c.args.page) c.args.first
     c.args.count) (sym c.self.view_is) c.requires.together in
     run_done g c.args.page c.args.target c.args.first c.args.count _ c.in-Some.side.now
-    c.copy_entries.new.self c.note_run.new.starts c.note_run.new.sides c.law.ensures c.self.invariant is
-    c.copy_entries.ensures refl c.note_run.ensures to
+    c.copy_entries.new.self c.note_copies.new.starts c.note_copies.new.sides c.law.ensures c.self.invariant is
+    c.copy_entries.ensures refl c.note_copies.ensures to
     ∙ ap (λ h. with_entries h c.args.page c.args.first c.args.count) c.self.view_is

@@ -11,7 +11,7 @@ invariant_of-self c =
       blank_row_is c.self.inside.len
           (length c.self.inside.words.items) c.self.invariant.0.short c.self.invariant.0.room,
       low_blank c.self.inside.len
-          (length c.self.inside.words.items) c.self.inside.low c.self.invariant.0.short c.self.invariant.0.room,
+          (length c.self.inside.words.items) 4294967295 c.self.invariant.0.short c.self.invariant.0.room,
     )
 
 pub returns-then-self-ne0 : goal.returns-then-self-ne0

@@ -18,9 +18,9 @@ invariant_of-self c =
     c.if-test-bit.true c.index_mut.ensures.value in
     let is = (put.more c.if-bit.true).1 in (
       is,
-      low_set _ _ _ _ c.self.inside.low c.args.offset c.low_with-self-inside.result c.self.invariant.0
-          c.self.invariant.1 (put.is ∙ ap (set _ c.args.offset) c.if-bit.true) c.low_with-self-inside.ensures.index
-          c.low_with-self-inside.ensures.low,
+      low_set _ _ _ c.self.inside.low c.args.offset c.lower.new.low c.self.invariant.1
+          (put.is ∙ ap (set _ c.args.offset) c.if-bit.true) c.lower.ensures.index
+          c.lower.ensures.low,
     )
 
 pub returns-then-bit : goal.returns-then-bit
@@ -41,9 +41,9 @@ invariant_of-self-else-bit c =
     c.if-test-bit.true c.index_mut.ensures.value in
     let is = (put.less c.if-bit.false).1 in (
       is,
-      low_cleared _ _ _ _ c.self.inside.low c.args.offset c.low_without-self-inside.result c.index.result.now is
+      low_cleared _ _ _ _ c.self.inside.low c.args.offset c.raise.new.low c.index.result.now is
           c.self.invariant.1 (put.is ∙ ap (set _ c.args.offset) c.if-bit.false) c.if-offset-self.true c.index.ensures
-          (omega (arith, is.room, c.if-offset-self.true)) c.low_without-self-inside.ensures.next,
+          (omega (arith, is.room, c.if-offset-self.true)) c.raise.ensures,
     )
 
 pub returns-else-bit : goal.returns-else-bit

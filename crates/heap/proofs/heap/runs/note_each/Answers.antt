@@ -1,7 +1,7 @@
 use Rattle.std.proofs.Common.{◌+◌, ◌-◌, ◌∙◌, sym, arith}
 use Rattle.heap.specs.Runs.{notes, noted_from}
 use Rattle.heap.proofs.Runs.{noted_more}
-use Rattle.heap.proofs.heap.runs.note_copies.Goals as goal
+use Rattle.heap.proofs.heap.runs.note_each.Goals as goal
 
 pub loop-index-preserved : goal.loop-index-preserved
 loop-index-preserved c =
