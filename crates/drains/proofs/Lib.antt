@@ -3,3 +3,4 @@ pub mod Drained
 pub mod Ended
 pub mod Bits
 pub mod Waiting
+pub mod Blanks

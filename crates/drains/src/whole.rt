@@ -1,7 +1,7 @@
 //! An object is scanned whole: what `Pick` and the steps `ScanField` of it do, one after the other
 //! (the paper's Mark phase; that it is done at once is ours).
 
-ghost use Rattle.std.specs.Prelude.{◌≡◌, ◌+◌, ◌<◌, ◌^◌, Some, None};
+ghost use Rattle.std.specs.Prelude.{◌≡◌, ◌+◌, ◌<◌, ◌^◌, Some, None, true};
 ghost use Rattle.std.specs.Prelude.{reverse};
 ghost use Rattle.drains.specs.Drains.{refs_at, marked_field, marked_fields, scanned};
 ghost use Rattle.drains.specs.Waiting.{all_noted, AreWaiting, WaitBeside};
@@ -23,6 +23,18 @@ fn reference_behind(heap: &Heap, address: Addr, ahead: u64) -> Word
     match heap.memory().word_behind(address, ahead) {
         None => Word::null(),
         Some(bits) => read_reference(bits),
+    }
+}
+
+/// Whether the reference so many words behind an address is null, and written so.
+#[inline(always)]
+fn is_blank(heap: &Heap, address: Addr, ahead: u64) -> bool
+    requires { ahead < 2 ^ 17 }
+    ensures { result ≡ true → word_at heap.now.store (address + ahead) ≡ Some 0 }
+{
+    match heap.memory().word_behind(address, ahead) {
+        None => false,
+        Some(bits) => bits == 0,
     }
 }
 
@@ -53,8 +65,8 @@ fn mark(heap: &mut Heap, address: Addr, target: Addr, waiting: &mut Waiting)
     wait(heap, address, target, waiting);
 }
 
-/// Marks the word of a reference, and writes it back. It is written before its object is marked, so
-/// that nothing else is written between the two looks at its page.
+/// Marks the word of a reference, and writes it back, where it isn't null already. It is written before
+/// its object is marked, so that nothing else is written between the two looks at its page.
 #[inline(always)]
 fn mark_field(heap: &mut Heap, address: Addr, index: u32, waiting: &mut Waiting)
     requires few { index < 2 ^ 16 }
@@ -64,6 +76,9 @@ fn mark_field(heap: &mut Heap, address: Addr, index: u32, waiting: &mut Waiting)
     ensures waits { WaitBeside heap.new address (reverse waiting.new.items) }
 {
     let ahead = 1 + u64::from(index);
+    if is_blank(heap, address, ahead) {
+        return;
+    }
     let word = reference_behind(heap, address, ahead);
     let Some(named) = word.addr() else {
         heap.raw_set_word_behind(address, ahead, Word::null().bits());

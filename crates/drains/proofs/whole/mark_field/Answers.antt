@@ -1,6 +1,12 @@
 use Rattle.std.proofs.Common.{reverse, sym, ◌∙◌}
+use Rattle.drains.proofs.Blanks.{field_of_blank}
 use Rattle.drains.proofs.Waiting.{field_of_word, field_of_null, written_beside}
 use Rattle.drains.proofs.whole.mark_field.Goals as goal
+
+pub returns-then-is_blank-clause-field : goal.returns-then-is_blank-clause-field
+returns-then-is_blank-clause-field c =
+    field_of_blank c.args.heap.now (reverse c.args.waiting.now.items) c.args.address c.args.index c.from-ahead.result
+    c.from-ahead.ensures (c.is_blank.ensures c.if-is_blank.true)
 
 pub returns-in_default-clause-field : goal.returns-in_default-clause-field
 returns-in_default-clause-field c =
