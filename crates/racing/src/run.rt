@@ -15,8 +15,9 @@ use std::thread::Threads;
 /// How often the entries of a page are cut in two, so that pieces are copied side by side.
 const DEPTH: u32 = 2;
 
-/// How many steps of a drain are done in one hold of the lock at most. A step takes some 100 nanoseconds.
-const PORTION: u32 = 1_024;
+/// How many steps of a drain are done in one hold of the lock at most: some 30 microseconds, and below a
+/// millisecond also where each step copies an object of the largest size first.
+const PORTION: u32 = 256;
 
 /// What all actors of a run share.
 #[derive(Drop)]
@@ -28,6 +29,8 @@ pub(crate) struct Run<'a, R, G> {
     pub(crate) busy: &'a AtomicU64,
     /// Not 0 once memory was refused to an actor.
     pub(crate) lacked: &'a AtomicU64,
+    /// Not 0 while a worker has its turn to drain.
+    pub(crate) turn: &'a AtomicU64,
 }
 
 impl<R: Wait, G: Gate> Run<'_, R, G> {
@@ -99,6 +102,21 @@ impl<R: Wait, G: Gate> Run<'_, R, G> {
     /// One more actor has done its commands.
     pub(crate) fn leave(&self) {
         let _ = self.busy.fetch_sub(1, Ordering::SeqCst);
+    }
+
+    /// Takes the turn to drain, if no worker has it. Whether it was taken.
+    pub(crate) fn take_turn(&self) -> bool {
+        self.turn.swap(1, Ordering::SeqCst) == 0
+    }
+
+    /// Gives the turn back.
+    pub(crate) fn give_turn(&self) {
+        self.turn.store(0, Ordering::SeqCst);
+    }
+
+    /// Whether no thread has commands left: only the worker that has commands may have some.
+    pub(crate) fn is_alone(&self) -> bool {
+        self.busy.load(Ordering::SeqCst) <= 1
     }
 
     /// Whether all actors have done their commands.

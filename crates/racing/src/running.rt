@@ -120,12 +120,14 @@ fn played<R: Threads + Wait + Sync, G: Gate + Sync>(
 ) -> Result<Vec<Seat>, AllocError> {
     let busy = AtomicU64::new(u64::from(sizes.threads) + 1);
     let lacked = AtomicU64::new(0);
+    let turn = AtomicU64::new(0);
     let run = Run {
         rt,
         shared,
         gate,
         busy: &busy,
         lacked: &lacked,
+        turn: &turn,
     };
     all_played(&run, alloc, seats, commands, sizes.registers)
 }
