@@ -12,7 +12,7 @@ use std::thread;
 const PAUSE: u32 = 131_072;
 
 /// The same between two portions of a drain: some 20 microseconds, in which threads get the lock.
-const LULL: u32 = 49_152;
+const LULL: u32 = 24_576;
 
 /// Leaves the lock alone for a while, so that those who have steps to do meet nobody who only looks.
 pub(crate) fn pause<R: Wait, G: Gate>(run: &Run<R, G>) {
