@@ -15,7 +15,7 @@ A wait: the processor time of a thread that waits a second for a step of
 another one.
 
 Holds: each step of a heap of the largest size is timed alone, as a hold of the
-lock is one step, or one look, and nothing else. The longest of each kind is
+lock is one step, one look, or a portion of a drain. The longest of each kind is
 the least of some runs, since a run in which the thread was put aside shows a
 longer one.
 

@@ -3,7 +3,7 @@
 # refused in turn, one a run, and then with each start of a thread. A run has to
 # end: once all threads that were started have ended, with status 3, nothing
 # printed, and the one line 'pauseless: out of memory'; or as if nothing were
-# refused, where that was a hint, or a thread that was to copy a part of a page.
+# refused, where that was a thread that was to copy a part of a page.
 # The program is ./pauseless, or the one that the first argument names.
 
 cd "$(dirname "$0")/.." || exit 1

@@ -3,7 +3,7 @@
 use crate::choice::chosen;
 use crate::gate::Gate;
 use crate::run::Run;
-use crate::scanning::{Scanner, pause};
+use crate::scanning::{drain, pause};
 use cycle::{Actor, PageList, Step};
 use heap::Heap;
 use model::{Phase, Refusal};
@@ -29,7 +29,7 @@ fn first_parked(heap: &Heap) -> Option<u32> {
 /// The worker that has commands.
 #[derive(Drop)]
 pub(crate) struct Collector {
-    pub(crate) scanner: Scanner,
+    pub(crate) worker: u32,
 }
 
 impl Collector {
@@ -56,9 +56,9 @@ impl Collector {
     }
 
     /// Drains the mark and ends it. False where it is refused for good.
-    fn end_mark<R: Wait, G: Gate>(&mut self, run: &Run<R, G>, seat: &mut Seat) -> bool {
+    fn end_mark<R: Wait, G: Gate>(&self, run: &Run<R, G>, seat: &mut Seat) -> bool {
         for _ in run.rt.forever() {
-            self.scanner.drain(run, seat);
+            drain(run, seat, self.worker);
             if run.is_stopped() {
                 return false;
             }
@@ -109,7 +109,7 @@ impl Collector {
     /// The first part of a cycle: marks, and protects the pages that are chosen, which it gives. The
     /// error is want of memory.
     fn roll<R: Wait, G: Gate>(
-        &mut self,
+        &self,
         alloc: Global,
         run: &Run<R, G>,
         seat: &mut Seat,
@@ -126,7 +126,7 @@ impl Collector {
 
     /// A whole cycle: its first part, and then each page is emptied. The error is want of memory.
     fn cycle<R: Threads + Wait + Sync, G: Gate>(
-        &mut self,
+        &self,
         alloc: Global,
         run: &Run<R, G>,
         seat: &mut Seat,
@@ -141,7 +141,7 @@ impl Collector {
 
     /// One command. The error is want of memory.
     fn command<R: Threads + Wait + Sync, G: Gate>(
-        &mut self,
+        &self,
         alloc: Global,
         run: &Run<R, G>,
         seat: &mut Seat,
@@ -159,14 +159,14 @@ impl Collector {
 
     /// All commands of the worker in order.
     pub(crate) fn work<R: Threads + Wait + Sync, G: Gate>(
-        &mut self,
+        &self,
         alloc: Global,
         run: &Run<R, G>,
         mut seat: Seat,
         commands: &[Command],
     ) -> Seat {
         for command in commands {
-            if is_of(command, self.scanner.worker) {
+            if is_of(command, self.worker) {
                 if run.is_stopped() {
                     break;
                 }

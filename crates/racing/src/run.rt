@@ -4,7 +4,7 @@ ghost use Rattle.model.specs.declared.steps.Step.TheVariants as steps;
 ghost use Rattle.sharing.specs.Seats.{Notes};
 
 use crate::gate::Gate;
-use cycle::{Reply, Step};
+use cycle::{Reply, Step, next_drain};
 use heap::Heap;
 use model::{Phase, Refusal};
 use sharing::{Seat, Shared};
@@ -14,6 +14,10 @@ use std::thread::Threads;
 
 /// How often the entries of a page are cut in two, so that pieces are copied side by side.
 const DEPTH: u32 = 2;
+
+/// How many steps of a drain are done in one hold of the lock at most: some 30 microseconds, and below a
+/// millisecond also where each step copies an object of the largest size first.
+const PORTION: u32 = 256;
 
 /// What all actors of a run share.
 #[derive(Drop)]
@@ -25,10 +29,8 @@ pub(crate) struct Run<'a, R, G> {
     pub(crate) busy: &'a AtomicU64,
     /// Not 0 once memory was refused to an actor.
     pub(crate) lacked: &'a AtomicU64,
-    /// The words of a page.
-    pub(crate) words: u32,
-    /// How many workers there are.
-    pub(crate) workers: u32,
+    /// Not 0 while a worker has its turn to drain.
+    pub(crate) turn: &'a AtomicU64,
 }
 
 impl<R: Wait, G: Gate> Run<'_, R, G> {
@@ -42,6 +44,29 @@ impl<R: Wait, G: Gate> Run<'_, R, G> {
         self.gate.after(actor, step);
         self.heed(reply);
         reply
+    }
+
+    /// One portion of a drain of the seat's worker. The gate is told of the step that came first as the
+    /// worker looked, before that and behind it. Whether more may be left. Where no further step can be
+    /// done, all stop.
+    pub(crate) fn drain(&self, seat: &mut Seat, worker: u32) -> bool {
+        let first = self
+            .shared
+            .look(self.rt, |heap: &Heap| next_drain(heap, worker));
+        let Some(step) = first else {
+            return false;
+        };
+        let actor = seat.actor();
+        self.gate.before(actor, &step);
+        let end = self.shared.drain(self.rt, seat, PORTION);
+        self.gate.after(actor, &step);
+        match end {
+            Ok(is_done) => !is_done,
+            Err(refusal) => {
+                self.heed(Err(refusal));
+                false
+            }
+        }
     }
 
     /// Stops all where no further step can be done.
@@ -77,6 +102,21 @@ impl<R: Wait, G: Gate> Run<'_, R, G> {
     /// One more actor has done its commands.
     pub(crate) fn leave(&self) {
         let _ = self.busy.fetch_sub(1, Ordering::SeqCst);
+    }
+
+    /// Takes the turn to drain, if no worker has it. Whether it was taken.
+    pub(crate) fn take_turn(&self) -> bool {
+        self.turn.swap(1, Ordering::SeqCst) == 0
+    }
+
+    /// Gives the turn back.
+    pub(crate) fn give_turn(&self) {
+        self.turn.store(0, Ordering::SeqCst);
+    }
+
+    /// Whether no thread has commands left: only the worker that has commands may have some.
+    pub(crate) fn is_alone(&self) -> bool {
+        self.busy.load(Ordering::SeqCst) <= 1
     }
 
     /// Whether all actors have done their commands.

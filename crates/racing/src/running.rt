@@ -10,9 +10,8 @@ use crate::collector::Collector;
 use crate::gate::Gate;
 use crate::mutator::Mutator;
 use crate::run::Run;
-use crate::scanning::Scanner;
+use crate::scanning::help;
 use cycle::{Actor, Book};
-use hints::{HintSeat, Hints};
 use parser::{Command, LineFault, Script};
 use sharing::{Seat, Settled, Shared, settle};
 use std::alloc::{AllocError, AllocFailed, Global};
@@ -48,24 +47,16 @@ impl<T: Drop> From<AllocFailed<T>> for ThreadsFault {
     }
 }
 
-/// An actor with all that it needs: its seat, and of a worker its seat among the hints.
-#[derive(Drop)]
-struct Player {
-    seat: Seat,
-    hints: Option<HintSeat>,
-}
-
 /// The work of one actor, in its own thread.
 fn play<R: Threads + Wait + Sync, G: Gate>(
     run: &Run<R, G>,
     alloc: Global,
-    player: Player,
+    seat: Seat,
     commands: &[Command],
     registers: u32,
 ) -> Seat {
-    let Player { seat, hints } = player;
-    match (seat.actor(), hints) {
-        (Actor::Thread(thread), _) => {
+    match seat.actor() {
+        Actor::Thread(thread) => {
             let mutator = Mutator {
                 run,
                 thread,
@@ -73,62 +64,38 @@ fn play<R: Threads + Wait + Sync, G: Gate>(
             };
             mutator.work(alloc, seat, commands)
         }
-        (Actor::Worker(worker), Some(hints)) => {
-            let mut scanner = Scanner { worker, hints };
-            if worker == 0 {
-                let mut collector = Collector { scanner };
-                collector.work(alloc, run, seat, commands)
-            } else {
-                scanner.help(run, seat)
-            }
+        Actor::Worker(0) => {
+            let collector = Collector { worker: 0 };
+            collector.work(alloc, run, seat, commands)
         }
-        (Actor::Worker(_), None) => seat,
+        Actor::Worker(worker) => help(run, seat, worker),
     }
-}
-
-/// The actors with their seats, workers with theirs among the hints.
-fn players(
-    alloc: Global,
-    seats: Vec<Seat>,
-    hints: Vec<HintSeat>,
-) -> Result<Vec<Player>, AllocError> {
-    let mut players = Vec::with_capacity(alloc, seats.len())?;
-    let mut left = hints;
-    left.reverse();
-    for seat in seats {
-        let hints = match seat.actor() {
-            Actor::Thread(_) => None,
-            Actor::Worker(_) => left.pop(),
-        };
-        players.push(Player { seat, hints })?;
-    }
-    Ok(players)
 }
 
 /// A thread for each actor, and the seats as they leave them.
 fn all_played<R: Threads + Wait + Sync, G: Gate + Sync>(
     run: &Run<R, G>,
     alloc: Global,
-    players: Vec<Player>,
+    seats: Vec<Seat>,
     commands: &[Command],
     registers: u32,
 ) -> Result<Vec<Seat>, AllocError> {
     thread::scope(thread::scope_env(), run.rt, move |scope| {
-        let mut handles = Vec::with_capacity(alloc, players.len())?;
-        let mut seats = Vec::with_capacity(alloc, players.len())?;
-        for player in players {
-            match scope.spawn(move || play(run, alloc, player, commands, registers)) {
+        let mut handles = Vec::with_capacity(alloc, seats.len())?;
+        let mut left = Vec::with_capacity(alloc, seats.len())?;
+        for seat in seats {
+            match scope.spawn(move || play(run, alloc, seat, commands, registers)) {
                 Ok(handle) => handles.push(handle)?,
                 Err(_) => run.lack(),
             }
         }
         for handle in handles {
-            seats.push(handle.join(run.rt))?;
+            left.push(handle.join(run.rt))?;
         }
         if run.has_lacked() {
             Err(AllocError)
         } else {
-            Ok(seats)
+            Ok(left)
         }
     })
 }
@@ -136,9 +103,7 @@ fn all_played<R: Threads + Wait + Sync, G: Gate + Sync>(
 /// The sizes of a heap that its actors ask for.
 #[derive(Clone, Copy)]
 struct Sizes {
-    words: u32,
     threads: u32,
-    workers: u32,
     registers: u32,
 }
 
@@ -153,20 +118,18 @@ fn played<R: Threads + Wait + Sync, G: Gate + Sync>(
     commands: &[Command],
     gate: &G,
 ) -> Result<Vec<Seat>, AllocError> {
-    let hints = Hints::new(alloc, sizes.workers)?;
-    let players = players(alloc, seats, hints)?;
     let busy = AtomicU64::new(u64::from(sizes.threads) + 1);
     let lacked = AtomicU64::new(0);
+    let turn = AtomicU64::new(0);
     let run = Run {
         rt,
         shared,
         gate,
         busy: &busy,
         lacked: &lacked,
-        words: sizes.words,
-        workers: sizes.workers,
+        turn: &turn,
     };
-    all_played(&run, alloc, players, commands, sizes.registers)
+    all_played(&run, alloc, seats, commands, sizes.registers)
 }
 
 /// Does the commands on a book by threads, one for each actor.
@@ -182,9 +145,7 @@ fn raced<R: Threads + Wait + Sync, G: Gate + Sync>(
 {
     let config = book.heap().config();
     let sizes = Sizes {
-        words: config.words,
         threads: config.threads,
-        workers: config.workers,
         registers: config.registers,
     };
     match Shared::open(alloc, book) {

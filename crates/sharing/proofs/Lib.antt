@@ -1,2 +1,3 @@
 pub mod Opened
+pub mod Growing
 pub mod Settles

@@ -1,3 +1,4 @@
+pub mod Portions
 pub mod Seats
 pub mod SeatViews
 pub mod Settling

@@ -1,12 +1,13 @@
 //! Seats of actors at a book.
 
-ghost use Rattle.std.specs.Prelude.{◌≡◌, IfOk};
-ghost use Rattle.cycle.specs.Books.{Acts, act_outcome};
-ghost use Rattle.model.specs.declared.steps.Actor.TheVariants.{Worker};
+ghost use Rattle.std.specs.Prelude.{◌≡◌, ℕ, Err, IfOk};
+ghost use Rattle.cycle.specs.Books.{Acts, act_outcome, is_full};
+ghost use Rattle.model.specs.declared.steps.Actor.TheVariants.{Thread, Worker};
 ghost use Rattle.model.specs.declared.steps.Step.TheVariants as steps;
+ghost use Rattle.sharing.specs.Portions.{Drains, DrainsSome};
 ghost use Rattle.sharing.specs.Seats.{Notes};
 
-use cycle::{Actor, Book, History, PieceGate, Reply, Step};
+use cycle::{Actor, Book, History, PieceGate, Reply, Step, next_drain};
 use model::Refusal;
 use parts::again;
 use std::alloc::Global;
@@ -29,16 +30,36 @@ impl Model for Seat {
     ghost view = { seat_of };
 }
 
+/// Whether the history has as many entries as it may have.
+#[tactic(auto, unfolding(cycle::specs::Books::is_full))]
+fn is_full(book: &Book) -> bool
+    ensures { result ≡ is_full book.now }
+{
+    let history = book.heap().config().history;
+    book.history().len() as u64 >= history
+}
+
 /// Why a step isn't done where memory was refused: the history is full, which is told first.
-#[tactic(auto, unfolding(cycle::specs::Books::act_outcome, cycle::specs::Books::is_full))]
+#[tactic(auto, unfolding(cycle::specs::Books::act_outcome))]
 fn lacking(book: &Book, actor: Actor, step: &Step) -> Refusal
     ensures { Acts book.now (Err result) book.now (act_outcome book.now actor step.now) }
 {
-    let history = book.heap().config().history;
-    if book.history().len() as u64 >= history {
+    if is_full(book) {
         Refusal::HistoryFull
     } else {
         Refusal::Memory
+    }
+}
+
+/// Why a thread does no step that scans: the history is full, which is told first.
+#[tactic(auto, using(crate::proofs::Growing::full_refused, crate::proofs::Growing::thread_refused))]
+fn no_worker(book: &Book) -> Refusal
+    ensures { (t : ℕ) → act_outcome book.now (Thread t) steps.ScanField ≡ Err result }
+{
+    if is_full(book) {
+        Refusal::HistoryFull
+    } else {
+        Refusal::NoActor
     }
 }
 
@@ -122,5 +143,43 @@ impl Seat {
         self.list
             .enter(Actor::Worker(worker), Step::CopyPage(page), answer);
         Ok(answer)
+    }
+
+    /// At most so many steps of a drain (`cycle::next_drain`), each done as `act` does it: the worker
+    /// scans the object that it has, marks the globals that are still to be marked, and picks and scans
+    /// objects, the one with the least address first. True where nothing is left that no other worker
+    /// has; false where so many steps are done, behind which more may be left. The error is why a step
+    /// was refused, as by `act`; those before it are done, and the call may be made again.
+    ///
+    /// A seat of a thread is refused, as by `act` for a step that scans.
+    pub fn drain(&mut self, alloc: Global, book: &mut Book, most: u32) -> Result<bool, Refusal>
+        ensures { Drains self.old.actor most result self.old book.old self.new book.new }
+    {
+        match self.actor {
+            Actor::Worker(worker) => self.drain_of(alloc, book, worker, most),
+            Actor::Thread(_) => Err(no_worker(book)),
+        }
+    }
+
+    /// The same of a worker.
+    fn drain_of(
+        &mut self,
+        alloc: Global,
+        book: &mut Book,
+        worker: u32,
+        most: u32,
+    ) -> Result<bool, Refusal>
+        requires { self.old.actor ≡ Worker worker }
+        ensures { DrainsSome worker most result self.old book.old self.new book.new }
+    {
+        for _ in 0..most {
+            let Some(step) = next_drain(book.heap(), worker) else {
+                return Ok(true);
+            };
+            if let Err(refusal) = self.act(alloc, book, step) {
+                return Err(refusal);
+            }
+        }
+        Ok(false)
     }
 }

@@ -4,6 +4,7 @@ ghost use Rattle.std.specs.Prelude.{◌≡◌, IfErr, IfOk};
 ghost use Rattle.std.specs.Fn.{FnOnceReturnsAt, FnOnceTakesAt};
 ghost use Rattle.cycle.specs.Books.{BookState};
 ghost use Rattle.cycle.specs.Replays.{IsBook, KeepsPromises};
+ghost use Rattle.sharing.specs.Portions.{Drains};
 ghost use Rattle.sharing.specs.Seats.{Notes, seats_of};
 ghost use Rattle.model.specs.States.{HeapState};
 ghost use Rattle.model.specs.declared.steps.Step.TheVariants as steps;
@@ -46,7 +47,7 @@ impl PieceGate for NoGate {
 
 /// A book under a lock, on which each actor acts by its seat.
 ///
-/// A step is one hold of the lock. What the book holds is what `Book` promises each time.
+/// A step is one hold of the lock, and so is a portion of a drain. What the book holds is what `Book` promises each time.
 #[derive(Drop)]
 pub struct Shared {
     desk: Mutex<Desk>,
@@ -139,6 +140,23 @@ impl Shared {
             self.changed.notify_all();
         }
         reply
+    }
+
+    /// At most so many steps of a drain, as `Seat::drain` does them, under one hold of the lock. Where it
+    /// has done a step, it wakes all that wait.
+    pub fn drain<R: Wait>(&self, rt: &R, seat: &mut Seat, most: u32) -> Result<bool, Refusal>
+        ensures { (b : BookState) × (c : BookState) × IsBook b
+            × Drains seat.old.actor most result seat.old b seat.new c }
+    {
+        let before = seat.list().len();
+        let mut desk = self.desk.lock(rt);
+        desk.book.law();
+        let end = seat.drain(self.alloc, &mut desk.book, most);
+        drop(desk);
+        if seat.list().len() > before {
+            self.changed.notify_all();
+        }
+        end
     }
 
     /// Ends all waits, and changes neither the book nor a list.

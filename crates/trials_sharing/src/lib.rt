@@ -4,6 +4,8 @@
 #[cfg(test)]
 mod choices;
 #[cfg(test)]
+mod draining;
+#[cfg(test)]
 mod mirror;
 #[cfg(test)]
 mod rows;
