@@ -103,7 +103,7 @@ fn takes_lowest(rt: &impl Abort, mut held: impl HeldStore + Drop) {
 }
 
 #[test]
-fn takes_in_the_lowest_page(rt: HostRuntime) -> Result<(), AllocError> {
+fn takes_in_the_lowest_page(rt: HostRuntime) -> Result<(), Fail> {
     takes_lowest(&rt, Store::new(rt.alloc(), 16, 2, 8)?);
     Ok(())
 }
