@@ -17,29 +17,23 @@ pub trait Acting {
     fn accepts(&mut self, step: Step) -> bool;
 }
 
-/// A book, without seats.
-#[derive(Drop)]
-struct Alone {
-    book: Book,
-}
-
-impl Acting for Alone {
+impl Acting for Book {
     #[inline(always)]
     fn accepts(&mut self, step: Step) -> bool {
-        self.book.act(Actor::Thread(0), step).is_ok()
+        self.act(Actor::Thread(0), step).is_ok()
     }
 }
 
-/// The same, where the kind of step isn't known at the call.
+/// An actor that isn't told which kind of step it is asked for.
 #[derive(Drop)]
-struct AnyKind {
-    alone: Alone,
+struct AnyKind<A> {
+    actor: A,
 }
 
-impl Acting for AnyKind {
+impl<A: Acting> Acting for AnyKind<A> {
     #[inline(never)]
     fn accepts(&mut self, step: Step) -> bool {
-        self.alone.accepts(step)
+        self.actor.accepts(step)
     }
 }
 
@@ -94,33 +88,36 @@ pub fn config(alloc: Global, threads: u32) -> Result<Config> {
 
 /// A book that threads share, and its seats.
 pub fn opened(alloc: Global, config: Config) -> Result<(Shared, Vec<Seat>)> {
-    let book = Book::new(alloc, config)?;
-    match Shared::open(alloc, book) {
-        Ok(opened) => Ok(opened),
-        Err(_) => bail!("there is no memory for seats"),
+    match Shared::open(alloc, Book::new(alloc, config)?).ok() {
+        Some(opened) => Ok(opened),
+        None => bail!("there is no memory for seats"),
     }
 }
 
-/// So many steps of an actor, timed.
-fn timed(clock: &impl Clock, mut actor: impl Acting + Drop, count: u32) -> Result<(u64, u64)> {
+/// So many steps of an actor, timed under a name.
+fn timed(
+    clock: &impl Clock,
+    alloc: Global,
+    name: &'static str,
+    mut actor: impl Acting + Drop,
+    count: u32,
+) -> Result<Vec<Lap>> {
     let start = Instant::now(clock)?;
     let done = copy_registers(&mut actor, count);
-    Ok((done, since(clock, start)?))
+    let nanos = since(clock, start)?;
+    Ok(vec![in alloc; Lap::once(name, done, nanos)]?)
 }
 
 /// So many steps by `Book::act`.
 pub fn by_book(clock: &impl Clock, alloc: Global, count: u32) -> Result<Vec<Lap>> {
     let book = Book::new(alloc, config(alloc, 1)?)?;
-    let (done, nanos) = timed(clock, Alone { book }, count)?;
-    Ok(vec![in alloc; Lap::once("act", done, nanos)]?)
+    timed(clock, alloc, "act", book, count)
 }
 
 /// The same where the kind of step isn't known at the call.
 pub fn by_any_kind(clock: &impl Clock, alloc: Global, count: u32) -> Result<Vec<Lap>> {
-    let book = Book::new(alloc, config(alloc, 1)?)?;
-    let alone = Alone { book };
-    let (done, nanos) = timed(clock, AnyKind { alone }, count)?;
-    Ok(vec![in alloc; Lap::once("any", done, nanos)]?)
+    let actor = Book::new(alloc, config(alloc, 1)?)?;
+    timed(clock, alloc, "any", AnyKind { actor }, count)
 }
 
 /// So many steps by `Seat::act`.
@@ -131,6 +128,5 @@ pub fn by_seat(clock: &impl Clock, alloc: Global, count: u32) -> Result<Vec<Lap>
         bail!("there is no seat");
     };
     let book = shared.into_book();
-    let (done, nanos) = timed(clock, Seated { alloc, book, seat }, count)?;
-    Ok(vec![in alloc; Lap::once("seat", done, nanos)]?)
+    timed(clock, alloc, "seat", Seated { alloc, book, seat }, count)
 }

@@ -259,7 +259,7 @@ pub fn holds<R: Clock + Threads + Sync>(
     numbers: [u32; 5],
 ) -> Result<Vec<Lap>> {
     let [words, frames, size, pages, linked] = numbers;
-    let book = Book::new(alloc, config(alloc, words, frames, size)?)?;
+    let config = config(alloc, words, frames, size)?;
     let objects = words.checked_div(size).unwrap_or(0);
     let size = Size {
         words,
@@ -267,5 +267,5 @@ pub fn holds<R: Clock + Threads + Sync>(
         pages,
         linked,
     };
-    held(rt, alloc, book, size)
+    held(rt, alloc, Book::new(alloc, config)?, size)
 }

@@ -77,21 +77,18 @@ fn both<R: Threads + Wait + Clock + Sync>(
     u64::from(scrubbed).wrapping_add(u64::from(crossed))
 }
 
-/// Thread 0 waits so many milliseconds for a step of thread 1.
+/// Thread 0 waits so many milliseconds for a step of thread 1: these have the first two seats. None where
+/// there are none.
 fn waited<R: Threads + Wait + Clock + Sync>(
     rt: &R,
-    alloc: Global,
     shared: &Shared,
     mut seats: Vec<Seat>,
     millis: u32,
-) -> Result<Vec<Lap>> {
+) -> Option<u64> {
     seats.reverse();
-    let (Some(first), Some(second)) = (seats.pop(), seats.pop()) else {
-        bail!("there are no seats");
-    };
-    let start = Instant::now(rt)?;
-    let done = both(rt, shared, first, second, millis);
-    Ok(vec![in alloc; Lap::once("waits", done, since(rt, start)?)]?)
+    let first = seats.pop()?;
+    let second = seats.pop()?;
+    Some(both(rt, shared, first, second, millis))
 }
 
 /// A thread waits so many milliseconds for a step of another one.
@@ -104,5 +101,9 @@ pub fn waits<R: Threads + Wait + Clock + Sync>(
     if !prepare(rt, alloc, &shared, &mut seats)? {
         bail!("a step was refused");
     }
-    waited(rt, alloc, &shared, seats, millis)
+    let start = Instant::now(rt)?;
+    let Some(done) = waited(rt, &shared, seats, millis) else {
+        bail!("there are no seats");
+    };
+    Ok(vec![in alloc; Lap::once("waits", done, since(rt, start)?)]?)
 }

@@ -130,15 +130,31 @@ fn raced<R: Threads + Wait + Sync>(rt: &R, alloc: Global, script: &Script) -> Op
     by_threads(rt, alloc, script, &gate).ok()
 }
 
+/// A run that is settled. It is handed on as one: to hold a `Settled` is dear to prove.
+trait HeldSettled {
+    /// The history of its book.
+    fn history(&self) -> &History;
+}
+
+impl HeldSettled for Settled {
+    fn history(&self) -> &History {
+        self.book.history()
+    }
+}
+
 /// The history of a run, done again on a new book.
-fn again_on_a_book(alloc: Global, script: &Script, settled: &Settled) -> Result<u64> {
-    replayed(alloc, book(alloc, script)?, settled.book.history())
+fn again_on_a_book(
+    alloc: Global,
+    script: &Script,
+    settled: impl HeldSettled + Drop,
+) -> Result<u64> {
+    replayed(alloc, book(alloc, script)?, settled.history())
 }
 
 /// The history of a run by threads, done again on a new book.
 fn compared<R: Threads + Wait + Sync>(rt: &R, alloc: Global, script: &Script) -> Result<u64> {
     match raced(rt, alloc, script) {
-        Some(settled) => again_on_a_book(alloc, script, &settled),
+        Some(settled) => again_on_a_book(alloc, script, settled),
         None => bail!("the run isn't settled"),
     }
 }

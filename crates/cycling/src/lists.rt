@@ -97,7 +97,7 @@ fn is_done<R: Threads + Wait + Clock + Sync>(
     script: &Script,
     watch: &Watch<'_, R>,
 ) -> bool {
-    by_threads(rt, alloc, script, watch).is_ok()
+    by_threads(rt, alloc, script, watch).err().is_none()
 }
 
 /// A cycle on so many lists, timed, of so many objects in all, beside so many loads.

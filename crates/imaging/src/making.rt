@@ -1,6 +1,6 @@
 //! Images that are made up.
 
-use crate::edits::{set_free, set_start, set_word};
+use crate::edits::{set_start, set_word};
 use layout::{Header, Layout};
 use markbits::Row;
 use model::{Forwarding, PageState};
@@ -38,27 +38,48 @@ fn layouts(alloc: Global) -> Result<Vec<Layout>, AllocError> {
     Ok(layouts)
 }
 
+/// So many pages, of which the first owns frame 0 and the others are unused.
+fn pages_of(alloc: Global, count: usize) -> Result<Vec<PageImage>, AllocError> {
+    let mut pages = Vec::with_capacity(alloc, count)?;
+    pages.push(page(alloc, PageState::Open, Some(0))?)?;
+    for _ in 1..count {
+        pages.push(page(alloc, PageState::Unused, None)?)?;
+    }
+    Ok(pages)
+}
+
+/// An image without memory, roots and layouts, of three frames to be.
+fn blank(alloc: Global, pages: Vec<PageImage>) -> Image {
+    Image {
+        words: 16,
+        frame_count: 3,
+        free: Vec::new(alloc),
+        pages,
+        frames: Vec::new(alloc),
+        registers: Vec::new(alloc),
+        loads: Vec::new(alloc),
+        globals: Vec::new(alloc),
+        layouts: Vec::new(alloc),
+    }
+}
+
+/// Such an image gets three frames, of which 1 and 2 are free, two threads with two registers, a global, and
+/// layouts.
+fn fill(alloc: Global, image: &mut Image) -> Result<(), AllocError> {
+    image.free = vec![in alloc; 1, 2]?;
+    image.frames = zeros(alloc, 3, 16)?;
+    image.registers = zeros(alloc, 2, 2)?;
+    image.loads = vec![in alloc; None; 2]?;
+    image.globals = vec![in alloc; 0; 1]?;
+    image.layouts = layouts(alloc)?;
+    Ok(())
+}
+
 /// Three frames, of which 1 and 2 are free, two threads with two registers, a global, and pages of
 /// which the first owns frame 0 and the others are unused. No object is there.
 pub fn bare(alloc: Global, pages: usize) -> Result<Image, AllocError> {
-    let mut all = Vec::with_capacity(alloc, pages)?;
-    all.push(page(alloc, PageState::Open, Some(0))?)?;
-    for _ in 1..pages {
-        all.push(page(alloc, PageState::Unused, None)?)?;
-    }
-    let mut image = Image {
-        words: 16,
-        frame_count: 3,
-        free: vec![in alloc; 0; 2]?,
-        pages: all,
-        frames: zeros(alloc, 3, 16)?,
-        registers: zeros(alloc, 2, 2)?,
-        loads: vec![in alloc; None; 2]?,
-        globals: vec![in alloc; 0; 1]?,
-        layouts: layouts(alloc)?,
-    };
-    set_free(&mut image, 0, 1);
-    set_free(&mut image, 1, 2);
+    let mut image = blank(alloc, pages_of(alloc, pages)?);
+    fill(alloc, &mut image)?;
     Ok(image)
 }
 

@@ -1,10 +1,10 @@
 //! Two actors that run at once: a gate holds each until the other is where it is to be.
 
+use crate::rows::HeldSettled;
 use crate::same::same;
 use cycle::{Actor, Answer, Entry, History, Step};
 use parser::{Script, parse};
 use racing::{Gate, by_threads};
-use sharing::Settled;
 use std::alloc::Global;
 use std::sync::Wait;
 use std::sync::atomic::{AtomicU64, Ordering};
@@ -90,8 +90,8 @@ fn healed(history: &History) -> Option<Answer> {
 }
 
 /// The answer to the first `Heal` of a run that is settled.
-fn healed_of(settled: &Settled) -> Option<Answer> {
-    healed(settled.book.history())
+fn healed_of(held: impl HeldSettled + Drop) -> Option<Answer> {
+    healed(held.settled().book.history())
 }
 
 /// What the first `Heal` of a run is answered. None where it isn't settled.
@@ -101,8 +101,7 @@ fn answered<R: Threads + Wait + Sync, G: Gate + Sync>(
     script: &Script,
     gate: &G,
 ) -> Option<Answer> {
-    let settled = by_threads(rt, alloc, script, gate).ok()?;
-    healed_of(&settled)
+    healed_of(by_threads(rt, alloc, script, gate).ok()?)
 }
 
 #[test]

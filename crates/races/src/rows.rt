@@ -1,7 +1,7 @@
 //! Two threads that link and read back objects while a worker does three cycles, many times.
 
 use parser::{Script, parse};
-use racing::{OpenGate, by_threads};
+use racing::{OpenGate, ThreadsFault, by_threads};
 use sharing::Settled;
 use std::alloc::Global;
 use std::process::Abort;
@@ -25,27 +25,42 @@ const ROLLING: &str =
 
 pub const OUTPUT: &str = "thread 0 births 100 data 100\nthread 1 births 100 data 100\nsettled\n";
 
+/// A run that is settled. A test hands its own on as one: to hold a `Settled` is dear to prove.
+pub trait HeldSettled {
+    /// The book and the seats of the run.
+    fn settled(&self) -> &Settled;
+}
+
+impl HeldSettled for Settled {
+    fn settled(&self) -> &Settled {
+        self
+    }
+}
+
 /// What is printed of a run that is settled.
-pub fn printed(alloc: Global, settled: &Settled) -> Option<Vec<u8>> {
+fn printed(alloc: Global, held: impl HeldSettled + Drop) -> Option<Vec<u8>> {
     let mut output = Vec::new(alloc);
-    match tell_threads(settled, &mut output) {
+    match tell_threads(held.settled(), &mut output) {
         Ok(()) => Some(output),
         Err(_) => None,
     }
 }
 
-/// What a run by threads prints. None where it isn't settled.
-fn raced<R: Threads + Wait + Sync>(rt: &R, alloc: Global, script: &Script) -> Option<Vec<u8>> {
-    let settled = by_threads(rt, alloc, script, &OpenGate).ok()?;
-    printed(alloc, &settled)
+/// What a run by threads prints, where it is settled.
+pub fn raced<R: Threads + Wait + Sync>(
+    rt: &R,
+    alloc: Global,
+    script: &Script,
+) -> Result<Option<Vec<u8>>, ThreadsFault> {
+    Ok(printed(alloc, by_threads(rt, alloc, script, &OpenGate)?))
 }
 
 /// A script that is run fifty times, and prints the same each time.
 fn settles<R: Abort + Threads + Wait + Sync>(rt: &R, alloc: Global, script: &Script) {
     for _ in 0..50u32 {
         match raced(rt, alloc, script) {
-            Some(output) => assert_eq!(rt; output.as_slice(), OUTPUT.as_bytes()),
-            None => assert!(rt; false, "it isn't settled"),
+            Ok(Some(output)) => assert_eq!(rt; output.as_slice(), OUTPUT.as_bytes()),
+            _ => assert!(rt; false, "it isn't settled"),
         }
     }
 }

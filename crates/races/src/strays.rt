@@ -3,7 +3,7 @@
 use crate::same::same;
 use cycle::{Actor, Answer, Book, Step};
 use samples::shared_by_two;
-use sharing::{Seat, Shared, settle};
+use sharing::{Seat, Settled, Shared, settle};
 use std::alloc::{AllocError, Global};
 use std::process::Abort;
 use std::sync::Wait;
@@ -34,10 +34,16 @@ fn take(rt: &(impl Abort + Wait), shared: &Shared, seats: &mut [Seat]) {
     }
 }
 
+/// The seats that were settled with a book.
+fn seats_in(settled: Settled) -> Vec<Seat> {
+    let Settled { book, seats } = settled;
+    drop(book);
+    seats
+}
+
 /// The seats that come back where they are settled with their own book.
 fn settled(shared: Shared, seats: Vec<Seat>) -> Option<Vec<Seat>> {
-    let settled = settle(shared.into_book(), seats).ok()?;
-    Some(settled.seats)
+    settle(shared.into_book(), seats).ok().map(seats_in)
 }
 
 /// The stray of a book that is settled with these seats.

@@ -2,12 +2,12 @@
 //! memory refused in turn: the same call is done when it is made again. A test ends with want of memory
 //! then, else well.
 
-use crate::rows::{OUTPUT, SCRIPT, printed};
+use crate::rows::{OUTPUT, SCRIPT, raced};
 use crate::same::{same, same_at};
 use crate::taking::pop;
 use hints::{HintSeat, Hints};
 use parser::{Script, parse};
-use racing::{OpenGate, ThreadsFault, by_threads};
+use racing::ThreadsFault;
 use refword::Addr;
 use std::alloc::{AllocError, Global};
 use std::process::Abort;
@@ -80,13 +80,13 @@ fn hints_come_back(rt: HostRuntime) -> Result<(), Fail> {
 }
 
 /// What a run by threads prints; nothing where it ends with another fault than want of memory.
-fn raced<R: Threads + Wait + Sync>(
+fn output_of<R: Threads + Wait + Sync>(
     rt: &R,
     alloc: Global,
     script: &Script,
 ) -> Result<Vec<u8>, AllocError> {
-    match by_threads(rt, alloc, script, &OpenGate) {
-        Ok(settled) => printed(alloc, &settled).ok_or(AllocError),
+    match raced(rt, alloc, script) {
+        Ok(output) => output.ok_or(AllocError),
         Err(ThreadsFault::Memory) => Err(AllocError),
         Err(_) => Ok(Vec::new(alloc)),
     }
@@ -98,11 +98,11 @@ fn races<R: Abort + Threads + Wait + Sync>(
     alloc: Global,
     script: &Script,
 ) -> Result<(), AllocError> {
-    if let Ok(output) = raced(rt, alloc, script) {
+    if let Ok(output) = output_of(rt, alloc, script) {
         same(rt, output.as_slice(), OUTPUT.as_bytes());
         return Ok(());
     }
-    let output = raced(rt, alloc, script)?;
+    let output = output_of(rt, alloc, script)?;
     same(rt, output.as_slice(), OUTPUT.as_bytes());
     Err(AllocError)
 }

@@ -106,7 +106,7 @@ fn agree(
 }
 
 /// Runs the steps of a script on one of two new books, and asks the other what it is to say.
-fn runs(
+fn runs_beside(
     rt: &impl Abort,
     alloc: Global,
     mut held: impl HeldBook + Drop,
@@ -121,13 +121,22 @@ fn runs(
     Ok(())
 }
 
+/// The same, where one book is made. The test that made the other doesn't hold it meanwhile.
+fn runs(
+    rt: &impl Abort,
+    alloc: Global,
+    held: impl HeldBook + Drop,
+    script: &Script,
+) -> Result<(), Fail> {
+    runs_beside(rt, alloc, held, book_of(alloc, script)?, script)?;
+    Ok(())
+}
+
 #[test]
 fn a_list_of_steps(rt: HostRuntime) -> Result<(), Fail> {
     let alloc: Global = rt.alloc();
     let script = script_of(alloc, &[HEAD, MARKED, MOVED])?;
-    let book = book_of(alloc, &script)?;
-    runs(&rt, alloc, book, book_of(alloc, &script)?, &script)?;
-    Ok(())
+    runs(&rt, alloc, book_of(alloc, &script)?, &script)
 }
 
 /// A list of three objects, of which a mark has still to scan all.
@@ -147,7 +156,7 @@ fn drains_on(rt: &impl Abort, book: &mut Book, replies: &mut Vec<Reply>) -> bool
 }
 
 /// Both books come to the same by drains, of which the first may be one in two parts.
-fn drains(
+fn drains_beside(
     rt: &impl Abort,
     alloc: Global,
     mut held: impl HeldBook + Drop,
@@ -173,10 +182,19 @@ fn drains(
     }
 }
 
+/// The same, where one book is made. The test that made the other doesn't hold it meanwhile.
+fn drains(
+    rt: &impl Abort,
+    alloc: Global,
+    held: impl HeldBook + Drop,
+    script: &Script,
+) -> Result<(), Fail> {
+    drains_beside(rt, alloc, held, book_of(alloc, script)?, script)
+}
+
 #[test]
 fn a_drain_in_two_parts(rt: HostRuntime) -> Result<(), Fail> {
     let alloc: Global = rt.alloc();
     let script = script_of(alloc, &[HEAD, UNSCANNED])?;
-    let book = book_of(alloc, &script)?;
-    drains(&rt, alloc, book, book_of(alloc, &script)?, &script)
+    drains(&rt, alloc, book_of(alloc, &script)?, &script)
 }

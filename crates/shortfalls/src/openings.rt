@@ -8,16 +8,16 @@ use cycle::Book;
 use heap::Heap;
 use held::HeldBook;
 use parser::Script;
-use sharing::Shared;
+use sharing::{Seat, Shared, settle};
 use std::alloc::{AllocError, Global};
 use std::process::Abort;
 use std::test::Fail;
-use tables::{FULL, HEAD, MARKED, Table, act_all, book_of, image_of, script_of, settled};
+use tables::{FULL, HEAD, MARKED, act_all, book_of, image_of, script_of};
 
 /// A book that can be opened.
 trait Opening: Sized {
-    /// A table of it; where that lacks memory, the book comes back.
-    fn open(self, alloc: Global) -> Result<Table, Self>;
+    /// Opens it, and gives whether its seats agree with it; where that lacks memory, the book comes back.
+    fn open(self, alloc: Global) -> Result<bool, Self>;
 
     /// Does a script's steps.
     fn act_all(&mut self, alloc: Global, script: &Script) -> Result<(), AllocError>;
@@ -26,14 +26,15 @@ trait Opening: Sized {
     fn seen(&self, alloc: Global) -> Result<(String, usize), AllocError>;
 }
 
+/// Whether the seats of a shared book agree with it.
+fn agrees(shared: Shared, seats: Vec<Seat>) -> bool {
+    settle(shared.into_book(), seats).err().is_none()
+}
+
 impl Opening for Book {
-    fn open(self, alloc: Global) -> Result<Table, Book> {
+    fn open(self, alloc: Global) -> Result<bool, Book> {
         match Shared::open(alloc, self) {
-            Ok((shared, seats)) => Ok(Table {
-                shared,
-                seats,
-                depth: 0,
-            }),
+            Ok((shared, seats)) => Ok(agrees(shared, seats)),
             Err(book) => Err(book),
         }
     }
@@ -49,10 +50,7 @@ impl Opening for Book {
 
 /// Whether a book opens, and its seats agree with it.
 fn opens(alloc: Global, book: impl Opening + Drop) -> bool {
-    match book.open(alloc) {
-        Ok(table) => settled(table).is_some(),
-        Err(_) => false,
-    }
+    book.open(alloc).ok() == Some(true)
 }
 
 /// A book that has come back is as it was, and opens then.
@@ -79,8 +77,8 @@ fn opens_behind(
     book.act_all(alloc, script)?;
     let before = book.seen(alloc)?;
     match book.open(alloc) {
-        Ok(table) => {
-            same(rt, settled(table).is_some(), true);
+        Ok(agrees) => {
+            same(rt, agrees, true);
             Ok(())
         }
         Err(back) => opens_again(rt, alloc, back, &before),

@@ -25,6 +25,32 @@ struct Lent {
     seats: Vec<Seat>,
 }
 
+/// A book that is lent. A test hands its own on as one: to hold it over calls is dear to prove.
+trait HeldLent: Sized {
+    /// A seat's step.
+    fn ask(&mut self, alloc: Global, command: &Command) -> Result<Reply, Fail>;
+
+    /// What its heap looks like; nothing, where nobody is to look.
+    fn image(&self, alloc: Global, looks: bool) -> Result<String, AllocError>;
+
+    /// The book, where the seats' lists agree with its history.
+    fn settled(self) -> Option<Book>;
+}
+
+impl HeldLent for Lent {
+    fn ask(&mut self, alloc: Global, command: &Command) -> Result<Reply, Fail> {
+        act_by(alloc, self, command)
+    }
+
+    fn image(&self, alloc: Global, looks: bool) -> Result<String, AllocError> {
+        lent_image(alloc, self, looks)
+    }
+
+    fn settled(self) -> Option<Book> {
+        taken_back(self)
+    }
+}
+
 /// A seat's step on a lent book.
 fn act_by(alloc: Global, lent: &mut Lent, command: &Command) -> Result<Reply, Fail> {
     let step = command.order.step(alloc)?;
@@ -71,19 +97,19 @@ fn lacks(rt: &impl Abort, reply: Reply, wanted: Reply) -> bool {
 fn asks_seat(
     rt: &impl Abort,
     alloc: Global,
-    lent: &mut Lent,
+    lent: &mut impl HeldLent,
     command: &Command,
     wanted: Reply,
 ) -> Result<bool, Fail> {
     let looks = grows(command);
-    let before = lent_image(alloc, lent, looks)?;
-    let reply = act_by(alloc, lent, command)?;
+    let before = lent.image(alloc, looks)?;
+    let reply = lent.ask(alloc, command)?;
     if !lacks(rt, reply, wanted) {
         return Ok(false);
     }
-    let after = lent_image(alloc, lent, looks)?;
+    let after = lent.image(alloc, looks)?;
     same(rt, after.as_str(), before.as_str());
-    same(rt, act_by(alloc, lent, command)?, wanted);
+    same(rt, lent.ask(alloc, command)?, wanted);
     Ok(true)
 }
 
@@ -162,10 +188,10 @@ fn all_at_table<R: Abort + Threads + Wait + Sync>(
 }
 
 /// The same on a lent book.
-fn all_by_seats(
+fn seats_beside(
     rt: &impl Abort,
     alloc: Global,
-    mut lent: Lent,
+    mut lent: impl HeldLent + Drop,
     mut held: impl HeldBook + Drop,
     script: &Script,
     entries: usize,
@@ -176,7 +202,18 @@ fn all_by_seats(
         let wanted = reply_of(alloc, book, command)?;
         lacked = asks_seat(rt, alloc, &mut lent, command, wanted)? || lacked;
     }
-    ends(rt, alloc, taken_back(lent), book, entries, lacked)
+    ends(rt, alloc, lent.settled(), book, entries, lacked)
+}
+
+/// The same, where the other book is made. The test that made the lent one doesn't hold it meanwhile.
+fn all_by_seats(
+    rt: &impl Abort,
+    alloc: Global,
+    lent: impl HeldLent + Drop,
+    script: &Script,
+    entries: usize,
+) -> Result<(), Fail> {
+    seats_beside(rt, alloc, lent, book_of(alloc, script)?, script, entries)
 }
 
 /// The book that was lent, where the seats' lists agree with its history.
@@ -222,7 +259,7 @@ fn steps_of_seats(rt: HostRuntime) -> Result<(), Fail> {
     let alloc: Global = rt.alloc();
     let script = script_of(alloc, &[HEAD, MARKED, PROTECTED])?;
     let lent = lend(table_of(alloc, &script, 0)?);
-    all_by_seats(&rt, alloc, lent, book_of(alloc, &script)?, &script, 17)
+    all_by_seats(&rt, alloc, lent, &script, 17)
 }
 
 #[test]

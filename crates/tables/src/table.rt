@@ -23,14 +23,12 @@ pub struct Table {
 
 /// A table of a book.
 fn open(alloc: Global, book: Book, depth: u32) -> Result<Table, AllocError> {
-    match Shared::open(alloc, book) {
-        Ok((shared, seats)) => Ok(Table {
-            shared,
-            seats,
-            depth,
-        }),
-        Err(_) => Err(AllocError),
-    }
+    let (shared, seats) = Shared::open(alloc, book).ok().ok_or(AllocError)?;
+    Ok(Table {
+        shared,
+        seats,
+        depth,
+    })
 }
 
 /// A table of a new book for a script's steps.

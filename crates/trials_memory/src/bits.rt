@@ -3,8 +3,8 @@
 use crate::same::{same, same_at};
 use markbits::{Row, Rows};
 use samples::scatter;
+use std::alloc::{AllocError, Global};
 use std::process::Abort;
-use std::test::Fail;
 
 /// Every number of words that a page may have.
 pub const PAGE_SIZES: [u32; 12] = [
@@ -51,12 +51,18 @@ fn go_along(rt: &impl Abort, row: &mut Row, flags: &mut [bool]) {
     same(rt, row.count(), flags_below(flags, flags.len()));
 }
 
+/// A row and flags of a page of so many words.
+fn goes_along(rt: &impl Abort, alloc: Global, size: u32) -> Result<(), AllocError> {
+    let mut row = Row::new(alloc, size)?;
+    let mut flags = vec![in alloc; false; size as usize]?;
+    go_along(rt, &mut row, &mut flags);
+    Ok(())
+}
+
 #[test]
-fn rows_go_along_with_flags(rt: HostRuntime) -> Result<(), Fail> {
+fn rows_go_along_with_flags(rt: HostRuntime) -> Result<(), AllocError> {
     for size in PAGE_SIZES {
-        let mut row = Row::new(rt.alloc(), size)?;
-        let mut flags = vec![in rt.alloc(); false; size as usize]?;
-        go_along(&rt, &mut row, &mut flags);
+        goes_along(&rt, rt.alloc(), size)?;
     }
     Ok(())
 }
@@ -80,7 +86,7 @@ fn has_each_third(rt: &impl Abort, row: &Row) {
 }
 
 #[test]
-fn each_third_place(rt: HostRuntime) -> Result<(), Fail> {
+fn each_third_place(rt: HostRuntime) -> Result<(), AllocError> {
     let mut row = Row::new(rt.alloc(), 4096)?;
     set_each_third(&mut row);
     has_each_third(&rt, &row);
@@ -108,7 +114,7 @@ fn change_tables(rt: &impl Abort, rows: &mut Rows, other: &mut Rows) {
 }
 
 #[test]
-fn tables_of_rows(rt: HostRuntime) -> Result<(), Fail> {
+fn tables_of_rows(rt: HostRuntime) -> Result<(), AllocError> {
     let mut rows = Rows::new(rt.alloc(), 3, 100)?;
     let mut other = Rows::new(rt.alloc(), 3, 100)?;
     change_tables(&rt, &mut rows, &mut other);
@@ -116,7 +122,7 @@ fn tables_of_rows(rt: HostRuntime) -> Result<(), Fail> {
 }
 
 #[test]
-fn a_row_is_lent(rt: HostRuntime) -> Result<(), Fail> {
+fn a_row_is_lent(rt: HostRuntime) -> Result<(), AllocError> {
     let mut rows = Rows::new(rt.alloc(), 3, 100)?;
     rows.row_mut(2).put(7, true);
     same(&rt, firsts(&rows), [None, None, Some(7)]);

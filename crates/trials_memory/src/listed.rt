@@ -1,15 +1,14 @@
 //! Side arrays beside plain lists of their entries, in which offsets are sought by halving.
 
-ghost use Rattle.std.specs.Prelude.{◌<◌};
-
 use crate::bits::PAGE_SIZES;
 use crate::same::{same, same_at};
+use crate::sides::side_of;
 use forward::Side;
 use markbits::Row;
 use model::Forwarding;
 use refword::Addr;
 use samples::scatter;
-use std::alloc::Global;
+use std::alloc::{AllocError, Global};
 use std::process::Abort;
 use std::test::Fail;
 
@@ -70,13 +69,11 @@ fn copy(side: &mut Side, entries: &mut [Forwarding], offset: u32) {
 }
 
 /// Some objects are copied, at scattered offsets, some of which have no entry.
-fn go_along(rt: &impl Abort, side: &mut Side, entries: &mut [Forwarding], range: u32)
-    requires { 0 < range }
-{
+fn go_along(rt: &impl Abort, side: &mut Side, entries: &mut [Forwarding], range: u32) {
     let mut number = u64::from(range);
     for _ in 0..100 {
         number = scatter(number);
-        let offset = (number >> 33) as u32 % range;
+        let offset = (number >> 33) as u32 % range.max(1);
         if number >> 62 != 0 {
             copy(side, entries, offset);
         }
@@ -119,29 +116,38 @@ fn listed(alloc: Global, words: u32, mask: u64) -> Result<Vec<Forwarding>, Fail>
     Ok(entries)
 }
 
-/// The side array of entries of a page of so many words.
-fn side_of(alloc: Global, words: u32, entries: &[Forwarding]) -> Result<Side, Fail> {
-    let mut live = Row::new(alloc, words)?;
+/// Where the entries go.
+fn places(alloc: Global, entries: &[Forwarding]) -> Result<Vec<Addr>, AllocError> {
     let mut places = Vec::with_capacity(alloc, entries.len())?;
     for entry in entries {
-        live.put(entry.offset as usize, true);
         places.push(entry.to)?;
     }
-    if live.len() > 32_768 || live.count() != places.len() {
-        return Err("offsets that don't rise".into());
+    Ok(places)
+}
+
+/// The offsets of the entries in a page of so many words.
+fn offsets(alloc: Global, words: u32, entries: &[Forwarding]) -> Result<Row, AllocError> {
+    let mut live = Row::new(alloc, words)?;
+    for entry in entries {
+        live.put(entry.offset as usize, true);
     }
-    Ok(Side::new(alloc, live, places)?)
+    Ok(live)
+}
+
+/// The list and the side array of a page of so many words have the same entries, also when some of them are
+/// copied.
+fn agree(rt: &impl Abort, words: u32, side: &mut Side, entries: &mut [Forwarding]) {
+    finds_each(rt, side, entries);
+    go_along(rt, side, entries, words.saturating_add(8));
+    finds_each(rt, side, entries);
 }
 
 /// A page of so many words, of which some have entries.
 fn compares(rt: &impl Abort, alloc: Global, words: u32, mask: u64) -> Result<(), Fail> {
     let mut entries = listed(alloc, words, mask)?;
-    let mut side = side_of(alloc, words, &entries)?;
-    let range = words.saturating_add(8);
-    assert!(rt; 0 < range);
-    finds_each(rt, &side, &entries);
-    go_along(rt, &mut side, &mut entries, range);
-    finds_each(rt, &side, &entries);
+    let live = offsets(alloc, words, &entries)?;
+    let mut side = side_of(alloc, live, places(alloc, &entries)?)?;
+    agree(rt, words, &mut side, &mut entries);
     Ok(())
 }
 

@@ -1,6 +1,6 @@
 //! Layouts of objects, their headers and parts.
 
-use crate::same::same;
+use crate::same::{same, same_at};
 use layout::{Header, Layout, Layouts, split, split_header, split_parts};
 use std::process::Abort;
 use std::test::Fail;
@@ -37,11 +37,9 @@ fn a_table_of_two(rt: HostRuntime) -> Result<(), Fail> {
     Ok(())
 }
 
-#[test]
-fn writes_through_the_parts(rt: HostRuntime) -> Result<(), Fail> {
-    let mut words = [1, 2, 3, 4, 5, 6];
-    let parts = split(&mut words, &Layout { refs: 2, nums: 3 }).ok_or("not split")?;
-    same(&rt, parts.refs.len(), 2);
+/// Fills the parts of an object. Gives how many references it has.
+fn fill_parts(words: &mut [u64], layout: &Layout) -> Option<usize> {
+    let parts = split(words, layout)?;
     *parts.header = Header {
         birth: 7,
         layout: 0,
@@ -49,8 +47,15 @@ fn writes_through_the_parts(rt: HostRuntime) -> Result<(), Fail> {
     .write();
     parts.refs.fill(8);
     parts.data.fill(9);
+    Some(parts.refs.len())
+}
+
+#[test]
+fn writes_through_the_parts(rt: HostRuntime) {
+    let mut words = [1, 2, 3, 4, 5, 6];
+    let layout = Layout { refs: 2, nums: 3 };
+    same(&rt, fill_parts(&mut words, &layout), Some(2));
     same(&rt, words, [7, 8, 8, 9, 9, 9]);
-    Ok(())
 }
 
 /// Writes numbers that count up.
@@ -63,18 +68,23 @@ fn count_up(words: &mut [u64], first: u64) {
 }
 
 /// Writes through each part of an object: 1, then from 11 on, then from 21 on.
-fn write_parts(part: &mut [u64], layout: &Layout) -> bool {
-    let Some(parts) = split(part, layout) else {
-        return false;
-    };
+fn write_parts(part: &mut [u64], layout: &Layout) -> Option<()> {
+    let parts = split(part, layout)?;
     *parts.header = 1;
     count_up(parts.refs, 11);
     count_up(parts.data, 21);
-    true
+    Some(())
+}
+
+/// Four words, after such writes to an object that they begin with.
+fn written(layout: &Layout) -> Option<[u64; 4]> {
+    let mut words = [0; 4];
+    write_parts(words.get_mut(..layout.size() as usize)?, layout)?;
+    Some(words)
 }
 
 #[test]
-fn each_part_is_at_its_place(rt: HostRuntime) -> Result<(), Fail> {
+fn each_part_is_at_its_place(rt: HostRuntime) {
     for (refs, nums, expected) in [
         (0, 0, [1, 0, 0, 0]),
         (1, 0, [1, 11, 0, 0]),
@@ -87,25 +97,23 @@ fn each_part_is_at_its_place(rt: HostRuntime) -> Result<(), Fail> {
         (1, 2, [1, 11, 21, 22]),
         (0, 3, [1, 21, 22, 23]),
     ] {
-        let layout = Layout { refs, nums };
-        let mut words = [0; 4];
-        let part = words
-            .get_mut(..layout.size() as usize)
-            .ok_or("no such part")?;
-        assert!(rt; write_parts(part, &layout));
-        same(&rt, words, expected);
+        same_at(&rt, refs, written(&Layout { refs, nums }), Some(expected));
     }
-    Ok(())
+}
+
+/// Fills the header, the one reference and the two data of an object, split in two steps.
+fn fill_both(words: &mut [u64]) -> Option<()> {
+    let (header, body) = split_header(words)?;
+    *header = 5;
+    let (refs, data) = split_parts(body, Layout { refs: 1, nums: 2 })?;
+    refs.fill(6);
+    data.fill(7);
+    Some(())
 }
 
 #[test]
-fn writes_through_two_splits(rt: HostRuntime) -> Result<(), Fail> {
+fn writes_through_two_splits(rt: HostRuntime) {
     let mut words = [1, 2, 3, 4];
-    let (header, body) = split_header(&mut words).ok_or("no header")?;
-    *header = 5;
-    let (refs, data) = split_parts(body, Layout { refs: 1, nums: 2 }).ok_or("no references")?;
-    refs.fill(6);
-    data.fill(7);
+    same(&rt, fill_both(&mut words), Some(()));
     same(&rt, words, [5, 6, 7, 7]);
-    Ok(())
 }

@@ -1,9 +1,9 @@
 //! A store of pages, and where its buffers are.
 
 use crate::same::{same, same_at};
+use crate::sides::{live, side_of};
 use forward::Side;
 use layout::{Layout, Layouts};
-use markbits::Row;
 use model::{Buffer, PageState, Room};
 use page::Store;
 use refword::Addr;
@@ -52,13 +52,17 @@ fn fill(rt: &impl Abort, store: &mut Store, buffer: &Buffer, value: u64) {
     store.part_mut(buffer).fill(value);
 }
 
+/// The page and the offset of what was taken.
+fn place_of(taken: Result<Buffer, Room>) -> Result<(u32, u32), Room> {
+    let buffer = taken?;
+    Ok((buffer.page, buffer.next))
+}
+
 /// Takes buffers of the sizes that the rows begin with, and compares page and offset.
-fn takes(rt: &impl Abort, store: &mut Store, rows: &[(u32, u32, u32)]) -> Result<(), Room> {
+fn takes(rt: &impl Abort, store: &mut Store, rows: &[(u32, u32, u32)]) {
     for (n, page, next) in rows {
-        let buffer = take(rt, store, *n)?;
-        same_at(rt, n, (buffer.page, buffer.next), (*page, *next));
+        same_at(rt, n, place_of(take(rt, store, *n)), Ok((*page, *next)));
     }
-    Ok(())
 }
 
 /// No word can be taken.
@@ -89,90 +93,82 @@ fn has_two_open(rt: &impl Abort, store: &Store) {
 }
 
 /// Buffers go into the lowest page that has room, until no frame is free.
-fn takes_lowest(rt: &impl Abort, mut held: impl HeldStore + Drop) -> Result<(), Room> {
+fn takes_lowest(rt: &impl Abort, mut held: impl HeldStore + Drop) {
     let store = held.store();
     let rows = [(10, 1, 0), (7, 2, 0), (6, 1, 10), (9, 2, 7)];
     is_new(rt, store);
-    takes(rt, store, &rows)?;
+    takes(rt, store, &rows);
     is_full(rt, store, Room::NoFrames, 0);
     has_two_open(rt, store);
-    Ok(())
 }
 
 #[test]
 fn takes_in_the_lowest_page(rt: HostRuntime) -> Result<(), Fail> {
-    takes_lowest(&rt, Store::new(rt.alloc(), 16, 2, 8)?)?;
+    takes_lowest(&rt, Store::new(rt.alloc(), 16, 2, 8)?);
     Ok(())
 }
 
-fn gives_back(rt: &impl Abort, mut held: impl HeldStore + Drop) -> Result<(), Room> {
+/// A buffer is given back, and of its page what is behind it can be taken.
+fn gives_back(rt: &impl Abort, mut held: impl HeldStore + Drop) {
     let store = held.store();
-    let buffer = take(rt, store, 9)?;
-    store.give_back(buffer);
-    takes(rt, store, &[(7, 1, 9)])?;
+    if let Ok(buffer) = take(rt, store, 9) {
+        store.give_back(buffer);
+    }
+    takes(rt, store, &[(7, 1, 9)]);
     is_full(rt, store, Room::NoFrames, 0);
-    Ok(())
 }
 
 #[test]
-fn what_is_given_back_is_lost(rt: HostRuntime) -> Result<(), Fail> {
-    gives_back(&rt, Store::new(rt.alloc(), 16, 1, 1)?)?;
+fn what_is_given_back_is_lost(rt: HostRuntime) -> Result<(), AllocError> {
+    gives_back(&rt, Store::new(rt.alloc(), 16, 1, 1)?);
     Ok(())
 }
 
-/// Takes buffers as `takes` does, after which no word can be taken.
+/// Takes buffers as `takes` does from a new store, after which no word can be taken.
 fn fills(
     rt: &impl Abort,
-    mut held: impl HeldStore + Drop,
+    made: Result<impl HeldStore + Drop, AllocError>,
     rows: &[(u32, u32, u32)],
     room: Room,
     free: u32,
-) -> Result<(), Room> {
+) -> Result<(), AllocError> {
+    let mut held = made?;
     let store = held.store();
-    takes(rt, store, rows)?;
+    takes(rt, store, rows);
     is_full(rt, store, room, free);
     Ok(())
 }
 
 #[test]
-fn refuses_for_want_of_pages(rt: HostRuntime) -> Result<(), Fail> {
-    let rows = [(16, 1, 0)];
-    fills(
-        &rt,
-        Store::new(rt.alloc(), 16, 2, 1)?,
-        &rows,
-        Room::NoPages,
-        1,
-    )?;
-    Ok(())
+fn refuses_for_want_of_pages(rt: HostRuntime) -> Result<(), AllocError> {
+    let made = Store::new(rt.alloc(), 16, 2, 1);
+    fills(&rt, made, &[(16, 1, 0)], Room::NoPages, 1)
 }
 
 /// Takes a buffer of so many words in each of the pages 1 to 300.
-fn takes_in_each(rt: &impl Abort, store: &mut Store, n: u32, next: u32) -> Result<(), Room> {
+fn takes_in_each(rt: &impl Abort, store: &mut Store, n: u32, next: u32) {
     for page in 1..301 {
-        takes(rt, store, &[(n, page, next)])?;
+        takes(rt, store, &[(n, page, next)]);
     }
-    Ok(())
 }
 
 /// Each first buffer leaves one word, so that the next needs a page of its own; then the words
 /// that were left are given out from the lowest page on.
-fn fills_pages(rt: &impl Abort, mut held: impl HeldStore + Drop) -> Result<(), Room> {
+fn fills_pages(rt: &impl Abort, mut held: impl HeldStore + Drop) {
     let store = held.store();
-    takes_in_each(rt, store, 15, 0)?;
-    takes_in_each(rt, store, 1, 15)?;
+    takes_in_each(rt, store, 15, 0);
+    takes_in_each(rt, store, 1, 15);
     is_full(rt, store, Room::NoFrames, 0);
+}
+
+#[test]
+fn fills_many_pages(rt: HostRuntime) -> Result<(), AllocError> {
+    fills_pages(&rt, Store::new(rt.alloc(), 16, 300, 700)?);
     Ok(())
 }
 
 #[test]
-fn fills_many_pages(rt: HostRuntime) -> Result<(), Fail> {
-    fills_pages(&rt, Store::new(rt.alloc(), 16, 300, 700)?)?;
-    Ok(())
-}
-
-#[test]
-fn takes_in_a_lower_page_that_has_room(rt: HostRuntime) -> Result<(), Fail> {
+fn takes_in_a_lower_page_that_has_room(rt: HostRuntime) -> Result<(), AllocError> {
     let rows = [
         (10, 1, 0),
         (12, 2, 0),
@@ -185,14 +181,8 @@ fn takes_in_a_lower_page_that_has_room(rt: HostRuntime) -> Result<(), Fail> {
         (16, 5, 0),
         (15, 4, 1),
     ];
-    fills(
-        &rt,
-        Store::new(rt.alloc(), 16, 5, 5)?,
-        &rows,
-        Room::NoFrames,
-        0,
-    )?;
-    Ok(())
+    let made = Store::new(rt.alloc(), 16, 5, 5);
+    fills(&rt, made, &rows, Room::NoFrames, 0)
 }
 
 /// Writes behind the ends of two buffers of page 1 too.
@@ -219,53 +209,36 @@ fn has_words(rt: &impl Abort, store: &Store) {
     }
 }
 
-fn writes_and_reads(rt: &impl Abort, mut held: impl HeldStore + Drop) -> Result<(), Room> {
+fn writes_and_reads(rt: &impl Abort, mut held: impl HeldStore + Drop) {
     let store = held.store();
-    writes(rt, store)?;
+    same(rt, writes(rt, store), Ok(()));
     written(rt, store);
     has_words(rt, store);
-    Ok(())
 }
 
 #[test]
-fn writes_where_a_buffer_is(rt: HostRuntime) -> Result<(), Fail> {
-    writes_and_reads(&rt, Store::new(rt.alloc(), 16, 2, 8)?)?;
+fn writes_where_a_buffer_is(rt: HostRuntime) -> Result<(), AllocError> {
+    writes_and_reads(&rt, Store::new(rt.alloc(), 16, 2, 8)?);
     Ok(())
 }
 
 /// Pages 1 and 2 are taken whole, and the words 1 to 16 are written to page 1.
-fn counts(rt: &impl Abort, store: &mut Store) -> Result<(), Room> {
-    takes(rt, store, &[(16, 1, 0), (16, 2, 0)])?;
+fn counts(rt: &impl Abort, store: &mut Store) {
+    takes(rt, store, &[(16, 1, 0), (16, 2, 0)]);
     for offset in 0..16 {
         store.set_word(16 + offset, offset + 1);
     }
-    Ok(())
 }
 
 /// Places on page 2: past the end of it, inside, and further inside.
-fn places(alloc: Global) -> Result<Vec<Addr>, Fail> {
+fn places(alloc: Global) -> Result<Vec<Addr>, AllocError> {
     let mut places = Vec::with_capacity(alloc, 3)?;
     for offset in [14, 1, 8] {
-        places.push(Addr::new(2 * 16 + offset).ok_or("no address")?)?;
+        if let Some(place) = Addr::new(2 * 16 + offset) {
+            places.push(place)?;
+        }
     }
     Ok(places)
-}
-
-/// A row of 16 places, of which these are set.
-fn live(alloc: Global, offsets: &[usize]) -> Result<Row, AllocError> {
-    let mut live = Row::new(alloc, 16)?;
-    for offset in offsets {
-        live.put(*offset, true);
-    }
-    Ok(live)
-}
-
-/// A side array of such a row, with a place for each object.
-fn side_of(alloc: Global, live: Row, places: Vec<Addr>) -> Result<Side, Fail> {
-    if live.len() > 16 || live.count() != places.len() {
-        return Err("another row".into());
-    }
-    Ok(Side::new(alloc, live, places)?)
 }
 
 /// Objects that go to page 2: the first past the end of it, the last from past the end of its own.
@@ -293,11 +266,10 @@ fn counts_and_copies(
     mut held: impl HeldStore + Drop,
     side: &Side,
     layouts: &Layouts,
-) -> Result<(), Room> {
+) {
     let store = held.store();
-    counts(rt, store)?;
+    counts(rt, store);
     copies(rt, store, side, layouts);
-    Ok(())
 }
 
 /// They are copied in a store of their own.
@@ -306,13 +278,14 @@ fn copied(
     alloc: Global,
     side: impl HeldSide + Drop,
     layouts: &Layouts,
-) -> Result<(), Fail> {
-    counts_and_copies(rt, Store::new(alloc, 16, 2, 8)?, side.side(), layouts)?;
+) -> Result<(), AllocError> {
+    counts_and_copies(rt, Store::new(alloc, 16, 2, 8)?, side.side(), layouts);
     Ok(())
 }
 
 #[test]
 fn objects_are_copied_between_pages(rt: HostRuntime) -> Result<(), Fail> {
     let layouts = Layouts::new(vec![in rt.alloc(); Layout { refs: 0, nums: 2 }]?);
-    copied(&rt, rt.alloc(), three(rt.alloc())?, &layouts)
+    copied(&rt, rt.alloc(), three(rt.alloc())?, &layouts)?;
+    Ok(())
 }

@@ -1,7 +1,5 @@
 //! Plans beside a loop that places objects by hand, and side arrays.
 
-ghost use Rattle.std.specs.Prelude.{◌≡◌, ◌<◌};
-
 use crate::same::{same, same_at};
 use forward::{Plan, Side, Sides};
 use markbits::Row;
@@ -12,14 +10,12 @@ use std::process::Abort;
 use std::test::Fail;
 
 /// So many sizes without order, from 1 on.
-fn sizes(alloc: Global, count: u32, most: u32) -> Result<Vec<u32>, AllocError>
-    requires { 0 < most }
-{
+fn sizes(alloc: Global, count: u32, most: u32) -> Result<Vec<u32>, AllocError> {
     let mut sizes = Vec::with_capacity(alloc, count as usize)?;
     let mut number = u64::from(most);
     for _ in 0..count {
         number = scatter(number);
-        sizes.push((number >> 33) as u32 % most + 1)?;
+        sizes.push((number >> 33) as u32 % most.max(1) + 1)?;
     }
     Ok(sizes)
 }
@@ -39,23 +35,29 @@ fn has_places(rt: &impl Abort, plan: &Plan, places: &[(usize, u32)], targets: us
     same(rt, (plan.len(), plan.targets()), (places.len(), targets));
 }
 
-#[test]
-fn small_plans(rt: HostRuntime) -> Result<(), Fail> {
-    let none = Plan::new(rt.alloc(), 16, &[])?;
-    has_places(&rt, &none, &[], 0);
-    let whole = Plan::new(rt.alloc(), 16, &[16, 16, 16])?;
-    has_places(&rt, &whole, &[(0, 0), (1, 0), (2, 0)], 3);
-    let filled = Plan::new(rt.alloc(), 16, &[10, 6, 7, 9, 1])?;
-    has_places(&rt, &filled, &[(0, 0), (0, 10), (1, 0), (1, 7), (2, 0)], 3);
+/// A plan of objects of these sizes, on pages of 16 words, has these places and no more.
+fn places(
+    rt: &impl Abort,
+    alloc: Global,
+    sizes: &[u32],
+    places: &[(usize, u32)],
+    targets: usize,
+) -> Result<(), AllocError> {
+    has_places(rt, &Plan::new(alloc, 16, sizes)?, places, targets);
     Ok(())
 }
 
-/// An object that would fit into an earlier target goes behind the last one.
+/// In the last, an object that would fit into an earlier target goes behind the last one.
 #[test]
-fn no_earlier_target(rt: HostRuntime) -> Result<(), Fail> {
-    let plan = Plan::new(rt.alloc(), 16, &[10, 12, 5, 4, 6])?;
-    has_places(&rt, &plan, &[(0, 0), (1, 0), (2, 0), (2, 5), (2, 9)], 3);
-    Ok(())
+fn small_plans(rt: HostRuntime) -> Result<(), AllocError> {
+    let alloc: Global = rt.alloc();
+    places(&rt, alloc, &[], &[], 0)?;
+    let whole = [(0, 0), (1, 0), (2, 0)];
+    places(&rt, alloc, &[16, 16, 16], &whole, 3)?;
+    let filled = [(0, 0), (0, 10), (1, 0), (1, 7), (2, 0)];
+    places(&rt, alloc, &[10, 6, 7, 9, 1], &filled, 3)?;
+    let behind = [(0, 0), (1, 0), (2, 0), (2, 5), (2, 9)];
+    places(&rt, alloc, &[10, 12, 5, 4, 6], &behind, 3)
 }
 
 /// Each object stands behind the one before it, or at the head of the next target where the rest
@@ -76,31 +78,35 @@ fn follows(rt: &impl Abort, plan: &Plan, words: u32, sizes: &[u32]) {
     same(rt, plan.targets(), target.saturating_add(1));
 }
 
+/// A plan of 2,000 objects, on pages of so many words.
+fn plans(rt: &impl Abort, alloc: Global, words: u32, most: u32) -> Result<(), AllocError> {
+    let sizes = sizes(alloc, 2000, most)?;
+    follows(rt, &Plan::new(alloc, words, &sizes)?, words, &sizes);
+    Ok(())
+}
+
 #[test]
-fn plans_beside_a_loop(rt: HostRuntime) -> Result<(), Fail> {
+fn plans_beside_a_loop(rt: HostRuntime) -> Result<(), AllocError> {
     for (words, most) in [(16, 16), (16, 5), (64, 33), (512, 512), (4096, 256)] {
-        assert!(rt; 0 < most);
-        let sizes = sizes(rt.alloc(), 2000, most)?;
-        let plan = Plan::new(rt.alloc(), words, &sizes)?;
-        follows(&rt, &plan, words, &sizes);
+        plans(&rt, rt.alloc(), words, most)?;
     }
     Ok(())
 }
 
 const OFFSETS: [u32; 5] = [0, 3, 4, 9, 15];
 
-/// A row of 16 places, of which those offsets are set.
-fn live(alloc: Global) -> Result<Row, AllocError> {
+/// A row of 16 places, of which these are set.
+pub fn live(alloc: Global, offsets: &[u32]) -> Result<Row, AllocError> {
     let mut live = Row::new(alloc, 16)?;
-    for offset in OFFSETS {
-        live.put(offset as usize, true);
+    for offset in offsets {
+        live.put(*offset as usize, true);
     }
     Ok(live)
 }
 
-/// A side array of such a row, with a place for each object.
-fn side_of(alloc: Global, live: Row, places: Vec<Addr>) -> Result<Side, Fail> {
-    if live.len() > 16 || live.count() != places.len() {
+/// A side array of a row of a page, with a place for each object.
+pub fn side_of(alloc: Global, live: Row, places: Vec<Addr>) -> Result<Side, Fail> {
+    if live.len() > 32_768 || live.count() != places.len() {
         return Err("another row".into());
     }
     Ok(Side::new(alloc, live, places)?)
@@ -110,7 +116,7 @@ fn side_of(alloc: Global, live: Row, places: Vec<Addr>) -> Result<Side, Fail> {
 fn five(alloc: Global, to: u64) -> Result<Side, Fail> {
     let to = Addr::new(to).ok_or("no address")?;
     let places = vec![in alloc; to; OFFSETS.len()]?;
-    let mut side = side_of(alloc, live(alloc)?, places)?;
+    let mut side = side_of(alloc, live(alloc, &OFFSETS)?, places)?;
     side.set_copied(4);
     Ok(side)
 }
@@ -239,14 +245,13 @@ fn copies_of_pages(rt: &impl Abort, sides: &mut Sides) {
     same(rt, copied(sides), [true, false, true, true, true, true]);
 }
 
-/// Another side array takes the place of that of page 1, and all are let go.
-fn clears(rt: &impl Abort, alloc: Global, sides: &mut Sides) -> Result<(), Fail> {
-    put_five(alloc, sides, 0, 64)?;
+/// Page 1 has another side array, and all are let go.
+fn clears(rt: &impl Abort, sides: &mut Sides) {
     same(rt, (sides.uncopied(), ninths(sides)[1]), (4, Some(64)));
     sides.clear_all();
     same(rt, (sides.uncopied(), ninths(sides)), (0, [None; 6]));
-    assert!(rt; sides.get(2).is_some() && sides.get(3).is_none());
-    Ok(())
+    let there = (sides.get(2).is_some(), sides.get(3).is_some());
+    same(rt, there, (true, false));
 }
 
 /// Side arrays that can be lent. A test hands its own on as these: to hold `Sides` over calls is dear
@@ -271,7 +276,9 @@ fn changes_sides(
     let sides = held.sides();
     protects(rt, alloc, sides)?;
     copies_of_pages(rt, sides);
-    clears(rt, alloc, sides)
+    put_five(alloc, sides, 0, 64)?;
+    clears(rt, sides);
+    Ok(())
 }
 
 #[test]

@@ -19,9 +19,18 @@ fn output(alloc: Global, layout: &str, commands: &str) -> Result<Vec<u8>, Fail> 
     Ok(written)
 }
 
+/// Runs of scripts, each of a layout and commands, write this.
+fn write(rt: &impl Abort, alloc: Global, rows: &[(&str, &str, &str)]) -> Result<(), Fail> {
+    for (layout, commands, wanted) in rows {
+        let written = output(alloc, layout, commands)?;
+        same(rt, written.as_slice(), wanted.as_bytes());
+    }
+    Ok(())
+}
+
 #[test]
 fn runs(rt: HostRuntime) -> Result<(), Fail> {
-    for (layout, commands, wanted) in [
+    let rows = [
         (
             "0 2",
             "",
@@ -42,11 +51,8 @@ fn runs(rt: HostRuntime) -> Result<(), Fail> {
             "times 2\nt0 null r0\nt0 same r0 r1\nend\nt0 give\n",
             "1 t0 true\n2 t0 true\n3 t0 true\n4 t0 true\n5 t0 refused NoRoom\nphase idle nmt 0 births 0 frames 0/1\nthread 0 running buffer - r0 - r1 -\nglobal 0 -\nbarrier 0 loads 0 gc 0 nmt 0 healed 0 changed 0\n",
         ),
-    ] {
-        let written = output(rt.alloc(), layout, commands)?;
-        same(&rt, written.as_slice(), wanted.as_bytes());
-    }
-    Ok(())
+    ];
+    write(&rt, rt.alloc(), &rows)
 }
 
 /// What a report of a new heap says of the answers to these ends of marks.

@@ -42,18 +42,29 @@ fn has_fault(
     Ok(())
 }
 
+/// Behind the same front each of these texts has its fault, or `none`.
+fn have_faults(
+    rt: &impl Abort,
+    alloc: Global,
+    front: &str,
+    rows: &[(&str, &str)],
+) -> Result<(), Fail> {
+    for (rest, fault) in rows {
+        has_fault(rt, alloc, front, rest, fault)?;
+    }
+    Ok(())
+}
+
 /// The table of all faults is `tests/faults.txt`, which the built program is run on: a table here
 /// would be proved first.
 #[test]
 fn faults(rt: HostRuntime) -> Result<(), Fail> {
-    for (rest, fault) in [
+    let rows = [
         ("", "none"),
         ("t0 take 01\n", "line 3 column 9: number expected"),
         ("times 3\nt0 give\n", "line 5 column 1: times without end"),
-    ] {
-        has_fault(&rt, rt.alloc(), HEAD, rest, fault)?;
-    }
-    Ok(())
+    ];
+    have_faults(&rt, rt.alloc(), HEAD, &rows)
 }
 
 /// The first step of an order, and what follows it.
@@ -72,6 +83,14 @@ fn has_steps(alloc: Global, script: &Script, texts: &[&str]) -> Result<bool, All
     Ok(is_so)
 }
 
+/// A script of these lines has orders whose steps have these texts.
+fn reads(rt: &impl Abort, alloc: Global, lines: &str, texts: &[&str]) -> Result<(), Fail> {
+    let script = parse_parts(alloc, HEAD, lines)?;
+    let is_so = has_steps(alloc, &script, texts)?;
+    assert!(rt; is_so);
+    Ok(())
+}
+
 #[test]
 fn blocks_written_out(rt: HostRuntime) -> Result<(), Fail> {
     let rest = "t0 give\ntimes 2\nt0 trap\n\n# a comment\nt0 heal\nend\ntimes 9\nend\n\
@@ -85,9 +104,7 @@ fn blocks_written_out(rt: HostRuntime) -> Result<(), Fail> {
         "Finish Nothing",
         "Cross Nothing",
     ];
-    let script = parse_parts(rt.alloc(), HEAD, rest)?;
-    assert!(rt; has_steps(rt.alloc(), &script, &texts)?);
-    Ok(())
+    reads(&rt, rt.alloc(), rest, &texts)
 }
 
 #[test]
@@ -105,9 +122,7 @@ fn steps_of_orders(rt: HostRuntime) -> Result<(), Fail> {
         "Load { target: 0, object: 1, field: 2 } LoadsEnd",
         "LoadGlobal { target: 1, global: 3 } LoadsEnd",
     ];
-    let script = parse_parts(rt.alloc(), HEAD, rest)?;
-    assert!(rt; has_steps(rt.alloc(), &script, &texts)?);
-    Ok(())
+    reads(&rt, rt.alloc(), rest, &texts)
 }
 
 #[test]
@@ -124,9 +139,7 @@ fn steps_of_workers(rt: HostRuntime) -> Result<(), Fail> {
         "EndMark Nothing",
         "ScanField Drains",
     ];
-    let script = parse_parts(rt.alloc(), HEAD, rest)?;
-    assert!(rt; has_steps(rt.alloc(), &script, &texts)?);
-    Ok(())
+    reads(&rt, rt.alloc(), rest, &texts)
 }
 
 #[test]
@@ -141,9 +154,7 @@ fn steps_that_relocate(rt: HostRuntime) -> Result<(), Fail> {
         "Copy { page: 3, entry: 1 } Nothing",
         "Release(3) Nothing",
     ];
-    let script = parse_parts(rt.alloc(), HEAD, rest)?;
-    assert!(rt; has_steps(rt.alloc(), &script, &texts)?);
-    Ok(())
+    reads(&rt, rt.alloc(), rest, &texts)
 }
 
 #[test]
@@ -187,9 +198,7 @@ fn orders_of_data(rt: HostRuntime) -> Result<(), Fail> {
         "ClearReg(1) Nothing",
         "GiveBack Nothing",
     ];
-    let script = parse_parts(rt.alloc(), HEAD, rest)?;
-    assert!(rt; has_steps(rt.alloc(), &script, &texts)?);
-    Ok(())
+    reads(&rt, rt.alloc(), rest, &texts)
 }
 
 /// A text of so many newlines.
@@ -232,19 +241,17 @@ fn repeated(alloc: Global, count: usize, line: &str) -> Result<String, AllocErro
 #[test]
 fn many_layouts(rt: HostRuntime) -> Result<(), Fail> {
     let text = repeated(rt.alloc(), 63, "layout 1 1\n")?;
-    for (rest, fault) in [
+    let rows = [
         ("", "none"),
         ("layout 1 1\n", "line 66 column 1: unknown word"),
-    ] {
-        has_fault(&rt, rt.alloc(), text.as_str(), rest, fault)?;
-    }
-    Ok(())
+    ];
+    have_faults(&rt, rt.alloc(), text.as_str(), &rows)
 }
 
 #[test]
 fn too_many_commands(rt: HostRuntime) -> Result<(), Fail> {
     let text = repeated(rt.alloc(), 200_000, "t0 give\n")?;
-    for (rest, fault) in [
+    let rows = [
         ("# a comment\n", "none"),
         ("t0 take x\n", "line 200003 column 1: too many commands"),
         ("t1 give\n", "line 200003 column 1: no such actor"),
@@ -253,8 +260,6 @@ fn too_many_commands(rt: HostRuntime) -> Result<(), Fail> {
             "times 3\nt0 give\nend x\n",
             "line 200005 column 1: too many commands",
         ),
-    ] {
-        has_fault(&rt, rt.alloc(), text.as_str(), rest, fault)?;
-    }
-    Ok(())
+    ];
+    have_faults(&rt, rt.alloc(), text.as_str(), &rows)
 }

@@ -4,6 +4,7 @@ use crate::same::same;
 use model::{Actor, Answer, Buffer, Page, PageState, Phase, Refusal};
 use refword::{Addr, Word};
 use std::alloc::Global;
+use std::fmt::Display;
 use std::process::Abort;
 use std::test::Fail;
 use text::{
@@ -25,34 +26,50 @@ fn has_line(
     Ok(())
 }
 
-#[test]
-fn answers_of_threads(rt: HostRuntime) -> Result<(), Fail> {
-    let lent = Answer::Lent { page: 1, offset: 4 };
-    for (thread, answer, line) in [
-        (0, lent, "7 t0 lent 1.4\n"),
-        (12, Answer::Birth(5), "7 t12 birth 5\n"),
-        (0, Answer::Loaded, "7 t0 loaded\n"),
-        (0, Answer::Moved, "7 t0 moved\n"),
-        (0, Answer::Marked, "7 t0 marked\n"),
-        (0, Answer::Clear, "7 t0 clear\n"),
-        (0, Answer::Healed, "7 t0 healed\n"),
-        (0, Answer::Changed, "7 t0 changed\n"),
-        (0, Answer::Clean, "7 t0 clean\n"),
-        (
-            0,
-            Answer::Datum(u64::MAX),
-            "7 t0 datum 18446744073709551615\n",
-        ),
-        (0, Answer::Truth(true), "7 t0 true\n"),
-        (0, Answer::Truth(false), "7 t0 false\n"),
-    ] {
-        has_line(&rt, rt.alloc(), Actor::Thread(thread), answer, line)?;
+/// The lines of answers to actors, each as the seventh.
+fn have_lines(rt: &impl Abort, alloc: Global, rows: &[(Actor, Answer, &str)]) -> Result<(), Fail> {
+    for (actor, answer, line) in rows {
+        has_line(rt, alloc, *actor, *answer, line)?;
+    }
+    Ok(())
+}
+
+/// What is shown has these texts.
+fn are_shown<T: Display>(rt: &impl Abort, alloc: Global, rows: &[(T, &str)]) -> Result<(), Fail> {
+    for (shown, text) in rows {
+        same(rt, format!(in alloc; "{shown}")?.as_str(), *text);
     }
     Ok(())
 }
 
 #[test]
+fn answers_of_threads(rt: HostRuntime) -> Result<(), Fail> {
+    let (first, last) = (Actor::Thread(0), Actor::Thread(12));
+    let lent = Answer::Lent { page: 1, offset: 4 };
+    let rows = [
+        (first, lent, "7 t0 lent 1.4\n"),
+        (last, Answer::Birth(5), "7 t12 birth 5\n"),
+        (first, Answer::Loaded, "7 t0 loaded\n"),
+        (first, Answer::Moved, "7 t0 moved\n"),
+        (first, Answer::Marked, "7 t0 marked\n"),
+        (first, Answer::Clear, "7 t0 clear\n"),
+        (first, Answer::Healed, "7 t0 healed\n"),
+        (first, Answer::Changed, "7 t0 changed\n"),
+        (first, Answer::Clean, "7 t0 clean\n"),
+        (
+            first,
+            Answer::Datum(u64::MAX),
+            "7 t0 datum 18446744073709551615\n",
+        ),
+        (first, Answer::Truth(true), "7 t0 true\n"),
+        (first, Answer::Truth(false), "7 t0 false\n"),
+    ];
+    have_lines(&rt, rt.alloc(), &rows)
+}
+
+#[test]
 fn answers_of_workers(rt: HostRuntime) -> Result<(), Fail> {
+    let worker = Actor::Worker(3);
     let copied = Answer::MovedTo { page: 2, offset: 0 };
     let ended = Answer::Ended {
         live: 2,
@@ -62,18 +79,20 @@ fn answers_of_workers(rt: HostRuntime) -> Result<(), Fail> {
         objects: 5,
         targets: 1,
     };
-    for (answer, line) in [
-        (Answer::Scanned, "7 w3 scanned\n"),
-        (Answer::Finished, "7 w3 done\n"),
-        (Answer::Done, "7 w3 ok\n"),
-        (copied, "7 w3 copied 2.0\n"),
-        (ended, "7 w3 ended live 2 retired 1\n"),
-        (protected, "7 w3 protected objects 5 targets 1\n"),
-        (Answer::Released { free: 2 }, "7 w3 released free 2\n"),
-    ] {
-        has_line(&rt, rt.alloc(), Actor::Worker(3), answer, line)?;
-    }
-    Ok(())
+    let rows = [
+        (worker, Answer::Scanned, "7 w3 scanned\n"),
+        (worker, Answer::Finished, "7 w3 done\n"),
+        (worker, Answer::Done, "7 w3 ok\n"),
+        (worker, copied, "7 w3 copied 2.0\n"),
+        (worker, ended, "7 w3 ended live 2 retired 1\n"),
+        (worker, protected, "7 w3 protected objects 5 targets 1\n"),
+        (
+            worker,
+            Answer::Released { free: 2 },
+            "7 w3 released free 2\n",
+        ),
+    ];
+    have_lines(&rt, rt.alloc(), &rows)
 }
 
 #[test]
@@ -101,15 +120,9 @@ fn replies(rt: HostRuntime) -> Result<(), Fail> {
     Ok(())
 }
 
-/// What is shown has this text.
-fn is_shown(rt: &impl Abort, alloc: Global, refusal: Refusal, name: &str) -> Result<(), Fail> {
-    same(rt, format!(in alloc; "{refusal}")?.as_str(), name);
-    Ok(())
-}
-
 #[test]
 fn refusals(rt: HostRuntime) -> Result<(), Fail> {
-    for (refusal, name) in [
+    let rows = [
         (Refusal::NoActor, "NoActor"),
         (Refusal::BadIndex, "BadIndex"),
         (Refusal::Parked, "Parked"),
@@ -137,10 +150,8 @@ fn refusals(rt: HostRuntime) -> Result<(), Fail> {
         (Refusal::Births, "Births"),
         (Refusal::HistoryFull, "HistoryFull"),
         (Refusal::Memory, "Memory"),
-    ] {
-        is_shown(&rt, rt.alloc(), refusal, name)?;
-    }
-    Ok(())
+    ];
+    are_shown(&rt, rt.alloc(), &rows)
 }
 
 #[test]
@@ -169,104 +180,73 @@ fn buffers_and_frames(rt: HostRuntime) -> Result<(), Fail> {
     Ok(())
 }
 
-fn phase_is_shown(rt: &impl Abort, alloc: Global, phase: Phase, name: &str) -> Result<(), Fail> {
-    let phase = PhaseText(phase);
-    same(rt, format!(in alloc; "{phase}")?.as_str(), name);
-    Ok(())
-}
-
 #[test]
 fn phases(rt: HostRuntime) -> Result<(), Fail> {
-    for (phase, name) in [
-        (Phase::Idle, "idle"),
-        (Phase::MarkCrossing, "mark-crossing"),
-        (Phase::Scanning, "scanning"),
-        (Phase::ProtectCrossing, "protect-crossing"),
-        (Phase::Relocating, "relocating"),
-    ] {
-        phase_is_shown(&rt, rt.alloc(), phase, name)?;
-    }
-    Ok(())
-}
-
-fn state_is_shown(
-    rt: &impl Abort,
-    alloc: Global,
-    state: PageState,
-    name: &str,
-) -> Result<(), Fail> {
-    let state = PageStateText(state);
-    same(rt, format!(in alloc; "{state}")?.as_str(), name);
-    Ok(())
+    let rows = [
+        (PhaseText(Phase::Idle), "idle"),
+        (PhaseText(Phase::MarkCrossing), "mark-crossing"),
+        (PhaseText(Phase::Scanning), "scanning"),
+        (PhaseText(Phase::ProtectCrossing), "protect-crossing"),
+        (PhaseText(Phase::Relocating), "relocating"),
+    ];
+    are_shown(&rt, rt.alloc(), &rows)
 }
 
 #[test]
 fn states_of_pages(rt: HostRuntime) -> Result<(), Fail> {
-    for (state, name) in [
-        (PageState::Unused, "unused"),
-        (PageState::Open, "open"),
-        (PageState::Closed, "closed"),
-        (PageState::From, "from"),
-        (PageState::Gone, "gone"),
-    ] {
-        state_is_shown(&rt, rt.alloc(), state, name)?;
-    }
-    Ok(())
+    let rows = [
+        (PageStateText(PageState::Unused), "unused"),
+        (PageStateText(PageState::Open), "open"),
+        (PageStateText(PageState::Closed), "closed"),
+        (PageStateText(PageState::From), "from"),
+        (PageStateText(PageState::Gone), "gone"),
+    ];
+    are_shown(&rt, rt.alloc(), &rows)
 }
 
 /// The line of page 7, in which 3 objects start and 2 live.
-fn page_is_shown(
-    rt: &impl Abort,
-    alloc: Global,
-    page: Page,
-    copies: Option<Copies>,
-    text: &str,
-) -> Result<(), Fail> {
-    let line = PageLine {
+fn line(state: PageState, frame: Option<u32>, copies: Option<Copies>) -> PageLine {
+    let page = Page {
+        state,
+        frame,
+        top: 16,
+    };
+    PageLine {
         number: 7,
         page,
         objects: 3,
         live: 2,
         copies,
-    };
-    same(rt, format!(in alloc; "{line}")?.as_str(), text);
-    Ok(())
+    }
 }
 
 #[test]
 fn lines_of_pages(rt: HostRuntime) -> Result<(), Fail> {
-    let (copied, entries) = (1, 2);
-    for (state, frame, copies, text) in [
+    let (one, both) = (
+        Copies {
+            copied: 1,
+            entries: 2,
+        },
+        Copies {
+            copied: 2,
+            entries: 2,
+        },
+    );
+    let rows = [
         (
-            PageState::Closed,
-            Some(0),
-            None,
+            line(PageState::Closed, Some(0), None),
             "page 7 closed frame 0 top 16 objects 3 live 2",
         ),
         (
-            PageState::From,
-            Some(4),
-            Some(Copies { copied, entries }),
+            line(PageState::From, Some(4), Some(one)),
             "page 7 from frame 4 top 16 objects 3 live 2 copied 1/2",
         ),
         (
-            PageState::Gone,
-            None,
-            Some(Copies {
-                copied: entries,
-                entries,
-            }),
+            line(PageState::Gone, None, Some(both)),
             "page 7 gone frame - top 16 objects 3 live 2 copied 2/2",
         ),
-    ] {
-        let page = Page {
-            state,
-            frame,
-            top: 16,
-        };
-        page_is_shown(&rt, rt.alloc(), page, copies, text)?;
-    }
-    Ok(())
+    ];
+    are_shown(&rt, rt.alloc(), &rows)
 }
 
 #[test]
