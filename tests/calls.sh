@@ -51,8 +51,8 @@ for named in \
     shortfalls:openings::pages_are_chosen \
     shortfalls:lists::a_list_of_steps \
     shortfalls:lists::a_drain_in_two_parts \
-    races:wants::hints_come_back \
-    races:wants::runs_by_threads; do
+    trials_threads:wants::hints_come_back \
+    trials_threads:wants::runs_by_threads; do
     crate=${named%%:*}
     test=${named#*:}
     refuse_each "$test" "$crates/$crate/out/${crate}_tests" "$test"

@@ -10,7 +10,7 @@ ghost use Rattle.model.specs.Loads.{are_bits_of, set_healed, heal_place, heal_ou
 ghost use Rattle.model.specs.Loads.{finish_outcome};
 
 use crate::traps::trap_due;
-use heap::{RawEdits, Heap};
+use heap::{Heap, RawEdits};
 use model::{Barrier, Counter, Refusal};
 use refword::Word;
 

@@ -8,7 +8,7 @@ ghost use Rattle.model.specs.declared.steps.Step.TheVariants as steps;
 ghost use Rattle.model.specs.declared.steps.Answer.TheVariants as answers;
 ghost use Rattle.model.specs.Loads.{new_barrier, load_outcome, load_global_outcome};
 
-use heap::{RawEdits, Heap, read_reference};
+use heap::{Heap, RawEdits, read_reference};
 use model::{Barrier, Counter, Place, Refusal};
 use refword::Word;
 

@@ -8,7 +8,7 @@ ghost use Rattle.model.specs.declared.steps.Step.TheVariants as steps;
 ghost use Rattle.model.specs.Loads.{gc_trap_due, nmt_trap_due, trap_due, set_now_of, nmt_trap};
 ghost use Rattle.model.specs.Traps.{gc_trap, trap_outcome};
 
-use heap::{RawEdits, Heap};
+use heap::{Heap, RawEdits};
 use marker::mark;
 use model::{Barrier, Counter, Phase, Refusal, Trap};
 use refword::Word;

@@ -15,7 +15,7 @@ ghost use Rattle.model.specs.Checkpoints.{cross_thread, may_cross, cross_for_out
 ghost use Rattle.model.specs.Checkpoints.{cross_outcome, park_outcome, unpark_outcome};
 ghost use Rattle.model.specs.Traps.{scrub_word, scrub_outcome};
 
-use heap::{RawCollectorEdits, RawEdits, Heap};
+use heap::{Heap, RawCollectorEdits, RawEdits};
 use marker::mark;
 use model::{Answer, Phase, Refusal, Reply};
 use refword::Addr;

@@ -1,19 +1,19 @@
 //! The pages that a cycle by threads protects, which it chooses by many looks, beside those that `choose`
 //! gives at once.
 
+use actor_entries::again;
 use anyhow::{Result, bail};
 use choosing::choose;
 use cycle::{Actor, Book, History, Step};
 use held::{HeldBook, act};
 use parser::{Script, parse};
-use parts::again;
-use racing::{Gate, by_threads};
 use sharing::Settled;
 use std::alloc::{AllocError, Global};
 use std::sync::Wait;
 use std::sync::atomic::{AtomicU64, Ordering};
 use std::thread;
 use std::thread::Threads;
+use threaded_runs::{Gate, by_threads};
 use works::Lap;
 
 /// The heap line and the layout line. There are frames for the pages of both threads, and three more.

@@ -1,10 +1,10 @@
 //! A gate that times a cycle.
 
 use cycle::{Actor, Step};
-use racing::Gate;
 use std::sync::atomic::{AtomicU64, Ordering};
 use std::thread;
 use std::time::{Clock, Instant};
+use threaded_runs::Gate;
 
 /// A gate that holds worker 0 and thread 1 until thread 0 has made its lists, and notes when the cycle
 /// begins and when its parts have ended.

@@ -3,12 +3,12 @@
 use crate::gate::Watch;
 use anyhow::{Result, bail};
 use parser::{Script, parse};
-use racing::by_threads;
 use std::alloc::{AllocError, Global};
 use std::sync::Wait;
 use std::sync::atomic::{AtomicU64, Ordering};
 use std::thread::Threads;
 use std::time::{Clock, Instant};
+use threaded_runs::by_threads;
 use works::Lap;
 
 /// The words of a page.

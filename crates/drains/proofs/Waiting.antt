@@ -93,7 +93,7 @@ place_then h None xs place bits a t named to f = absurd (cc)
 place_then h (Some x) xs place bits a t named to f = λ i. record h {
   mark = with_bit h.mark h.store.words (there i) true;
   todo = if bit_at h.mark h.store.words (there i) then noting h.todo h.store.words xs
-  else with_bit (noting h.todo h.store.words xs) h.store.words (there i) true;
+      else with_bit (noting h.todo h.store.words xs) h.store.words (there i) true;
   store = with_word h.store place ((f ∙ ap (λ n. bits_of (Some (n, h.nmt))) there) i);
 }
   where

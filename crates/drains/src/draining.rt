@@ -83,12 +83,7 @@ fn noted_next(heap: &mut Heap, waiting: &mut Waiting) -> Option<Addr>
 /// An object that waited is the next one. Where another worker has it, which no heap comes to, all are
 /// noted, and the next one is found there.
 #[inline(always)]
-fn waited_next(
-    heap: &mut Heap,
-    alone: bool,
-    address: Addr,
-    waiting: &mut Waiting,
-) -> Option<Addr>
+fn waited_next(heap: &mut Heap, alone: bool, address: Addr, waiting: &mut Waiting) -> Option<Addr>
     requires alone { IsAlone alone heap.old.workers }
     requires waiting { AreWaiting heap.old.mark heap.old.store.words (address ∷ reverse waiting.old.items) }
     ensures { IsNext heap.old (address ∷ reverse waiting.old.items) result heap.new (reverse waiting.new.items) }

@@ -5,7 +5,7 @@ ghost use Rattle.model.specs.References.{global_of};
 ghost use Rattle.model.specs.Scans.{with_marked_global, is_todo_in};
 ghost use Rattle.drains.specs.Drains.{IsReady, HasDrained, NoneTodo, with_global_done};
 
-use heap::{RawCollectorEdits, Heap};
+use heap::{Heap, RawCollectorEdits};
 
 /// Whether a global has still to be marked.
 fn is_todo(heap: &Heap, number: u32) -> bool

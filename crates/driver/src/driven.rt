@@ -1,7 +1,7 @@
 //! What a driver asks of a heap. Nothing is promised here: a loop that held a `Heap` or a `Book` itself
 //! would carry all that each of its steps promises through its proof.
 
-use checking::verify_book;
+use checked_runs::verify_book;
 use cycle::Stepping;
 use heap::Heap;
 use pauseless::{Actor, Book, Reply, Step, Verdict, verify};

@@ -7,7 +7,7 @@ use Rattle.std.specs.Prelude.{◌==◌}
 use Rattle.std.proofs.lemmas.List.{take_all, take-append-le}
 use Rattle.std.proofs.lemmas.List.Sums.{sum_by-cons}
 use Rattle.std.proofs.lemmas.Bool.Decides.{nat_tests}
-use Rattle.threads.proofs.Looping.{length_mapped}
+use Rattle.thread_records.proofs.Looping.{length_mapped}
 use Rattle.model.specs.Cycles.{set_todo_of}
 use Rattle.model.specs.declared.records.Global.{Global}
 use Rattle.model.proofs.Lists.{count_replicate, count_set, count_positive, get_read, as_number}

@@ -23,7 +23,7 @@ use Rattle.model.specs.Holding.{IsHeap, FillsIn, AreRising, AreRowsFor, AreSides
 use Rattle.model.proofs.Tables.{none_goes}
 use Rattle.model.proofs.Lists.{each_replicate}
 use Rattle.page.proofs.Ended.{ended_sized, ended_lies, ended_unprotected}
-use Rattle.threads.proofs.Looping.{length_mapped}
+use Rattle.thread_records.proofs.Looping.{length_mapped}
 
 -- each element of a list comes of one before it
 pub each_mapped : {X Y : Type 0} (P : X → Type 0) (Q : Y → Type 0) (f : X → Y) (xs : List X) → ((x : X) → P x → Q (f x))

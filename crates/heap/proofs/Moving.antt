@@ -23,7 +23,7 @@ use Rattle.page.proofs.Lying.{words_sized_alike, words_lie, words_unprotected}
 use Rattle.page.proofs.Protecting.{released_lies, some_protected}
 use Rattle.heap.proofs.Keeping.{fills_in, store_keeps}
 use Rattle.heap.proofs.Cycling.{each_mapped}
-use Rattle.threads.proofs.Looping.{length_mapped}
+use Rattle.thread_records.proofs.Looping.{length_mapped}
 
 -- side arrays are put in the place of others
 pub sides_keep : (h : HeapState) (sides : List (List Forwarding)) → IsHeap h → AreSidesFor h.config sides

@@ -36,7 +36,7 @@ impl Model for Globals {
 }
 
 /// All globals have still to be marked.
-#[tactic(auto, using(threads::proofs::Looping::mapped_none, threads::proofs::Looping::mapped_more, threads::proofs::Looping::mapped_all))]
+#[tactic(auto, using(thread_records::proofs::Looping::mapped_none, thread_records::proofs::Looping::mapped_more, thread_records::proofs::Looping::mapped_all))]
 fn set_each_todo(globals: &mut [Global])
     ensures { globals.new ≡ map set_todo_of globals.old }
 {

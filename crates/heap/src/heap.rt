@@ -26,7 +26,7 @@ use page::Store;
 use refword::Addr;
 use std::alloc::Global as Memory;
 use std::marker::Model;
-use threads::{Thread, Threads};
+use thread_records::{Thread, Threads};
 
 /// The heap of a program: objects on pages, the threads that use them, and the collector.
 ///

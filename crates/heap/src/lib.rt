@@ -15,4 +15,4 @@ pub use heap::edits::RawEdits;
 pub use heap::references::read_reference;
 pub use markbits::{IndexedRows, Row, Rows};
 pub use model::{Config, ConfigFault, Refusal, Tally};
-pub use threads::Thread;
+pub use thread_records::Thread;

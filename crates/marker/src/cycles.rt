@@ -12,7 +12,7 @@ ghost use Rattle.model.specs.Stores.{is_protected};
 ghost use Rattle.model.specs.declared.steps.Step.TheVariants as steps;
 
 use crate::marks::may_scan;
-use heap::{RawCollectorEdits, Heap};
+use heap::{Heap, RawCollectorEdits};
 use model::{Answer, Page, PageState, Phase, Refusal, Reply};
 
 /// Whether a mark may start in a phase.

@@ -5,7 +5,7 @@ ghost use Rattle.model.specs.Marks.{with_mark, marked_word};
 ghost use Rattle.model.specs.Moves.{copied_for};
 ghost use Rattle.model.specs.Scans.{may_scan};
 
-use heap::{RawCollectorEdits, Heap};
+use heap::{Heap, RawCollectorEdits};
 use model::Refusal;
 use refword::Word;
 use relocate::copy_for;

@@ -13,7 +13,7 @@ ghost use Rattle.model.specs.Stores.{word_at};
 ghost use Rattle.model.specs.declared.steps.Step.TheVariants as steps;
 
 use crate::marks::{mark, may_scan};
-use heap::{RawCollectorEdits, Heap, read_reference};
+use heap::{Heap, RawCollectorEdits, read_reference};
 use model::{Answer, Refusal, Reply, Scan};
 use refword::Word;
 

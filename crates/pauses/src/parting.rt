@@ -141,5 +141,11 @@ pub fn timed<R: Clock>(
 ) -> Result<Vec<Lap>> {
     let [words, frames, _, _, _] = numbers;
     let refs = u32::from(layout.refs);
-    collections(rt, alloc, new_heap(alloc, words, frames, layout)?, refs, numbers)
+    collections(
+        rt,
+        alloc,
+        new_heap(alloc, words, frames, layout)?,
+        refs,
+        numbers,
+    )
 }

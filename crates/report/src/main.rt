@@ -2,10 +2,10 @@
 #![tactic(auto)]
 
 ghost use Rattle.std.specs.Prelude.{IfErr};
-ghost use Rattle.service.specs.Serving.{IsStatus};
+ghost use Rattle.serving_runs.specs.Serving.{IsStatus};
 
-use modes::serve;
-use service::{AskFault, Asked, ask, not_opened};
+use serving_modes::serve;
+use serving_runs::{AskFault, Asked, ask, not_opened};
 use std::process::ExitCode;
 use std::rt::Files;
 use std::{env, fs, io};

@@ -9,11 +9,11 @@ use Rattle.model.specs.declared.records.Page.{Page}
 use Rattle.model.specs.States.{HeapState, ThreadState}
 use Rattle.model.specs.Stores.{is_protected, is_unused}
 use Rattle.entries.specs.declared.entry.Entry.{Entry}
-use Rattle.text.specs.declared.records.Copies.{Copies}
-use Rattle.text.specs.declared.report.Activity.{Activity}
-use Rattle.text.specs.declared.report.Activity.TheVariants as activities
-use Rattle.text.specs.Reports.{texts_from}
-use Rattle.text.specs.Reports as lines
+use Rattle.wording.specs.declared.records.Copies.{Copies}
+use Rattle.wording.specs.declared.report.Activity.{Activity}
+use Rattle.wording.specs.declared.report.Activity.TheVariants as activities
+use Rattle.wording.specs.Reports.{texts_from}
+use Rattle.wording.specs.Reports as lines
 
 -- a line and its newline
 abbrev pub with_newline : List ℕ → List ℕ

@@ -4,7 +4,7 @@ ghost use Rattle.std.specs.Prelude.{◌≡◌, ◌++◌, ◌∷◌, [], IfSome, 
 ghost use Rattle.std.specs.Prelude.{slice_get};
 ghost use Rattle.std.specs.Io.KnownBytes.{Appends};
 ghost use Rattle.model.specs.Stores.{is_protected, is_unused};
-ghost use Rattle.text.specs.Reports.{texts_from};
+ghost use Rattle.wording.specs.Reports.{texts_from};
 ghost use Rattle.reporting.specs.Reports.{head_line, page_line, thread_line, global_line, barrier_line, cycle_line};
 ghost use Rattle.reporting.specs.Reports.{cycles_from, next_cycle, bits_in, copied_in, copies_in, copies_of};
 ghost use Rattle.reporting.specs.Reports.{activity_of};
@@ -17,7 +17,7 @@ use model::{Answer, Global, Page, PageState};
 use std::alloc::AllocError;
 use std::fmt::{Display, Write as _};
 use std::io;
-use text::{
+use wording::{
     Activity, BarrierLine, Copies, CycleLine, GlobalLine, HeadLine, PageLine, RegistersText,
     ThreadLine, WordText,
 };

@@ -18,7 +18,7 @@ use model::{Actor, Answer, Refusal};
 use parser::{Command, Script, Then};
 use std::alloc::{AllocError, Global};
 use std::io;
-use text::{put_drained, put_line};
+use wording::{put_drained, put_line};
 
 /// Adds the line of a drain to a text: how many steps were done, or the refusal that ended it.
 fn put_drain(

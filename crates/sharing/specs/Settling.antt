@@ -1,7 +1,7 @@
 -- The first actor of whom something fails.
 use Rattle.std.specs.Prelude.{◌≡◌, Bool, true, false, Option, Some, None, if◌then◌else◌}
 use Rattle.model.specs.declared.steps.Actor.{Actor}
-use Rattle.parts.specs.Parts.{is_before}
+use Rattle.actor_entries.specs.Parts.{is_before}
 
 -- nobody, or the first actor of whom it fails
 abbrev pub IsFirstNot : (Actor → Type 0) → Option Actor → Type 0

@@ -6,8 +6,8 @@ ghost use Rattle.model.specs.declared.steps.Actor.TheVariants.{Thread, Worker};
 ghost use Rattle.sharing.specs.Seats.{seat_from, seats_of};
 
 use crate::seat::Seat;
+use actor_entries::part;
 use cycle::{Actor, Book, History};
-use parts::part;
 use std::alloc::{AllocError, Global};
 
 /// A seat of an actor, whose list is what the history has of it.

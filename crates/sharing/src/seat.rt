@@ -7,9 +7,9 @@ ghost use Rattle.model.specs.declared.steps.Step.TheVariants as steps;
 ghost use Rattle.sharing.specs.Portions.{Drains, DrainsSome};
 ghost use Rattle.sharing.specs.Seats.{Notes};
 
+use actor_entries::again;
 use cycle::{Actor, Book, History, PieceGate, Reply, Step, next_drain};
 use model::Refusal;
-use parts::again;
 use std::alloc::Global;
 use std::marker::Model;
 use std::thread::Threads;

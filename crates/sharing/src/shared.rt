@@ -11,10 +11,10 @@ ghost use Rattle.model.specs.declared.steps.Step.TheVariants as steps;
 
 use crate::opening::seats;
 use crate::seat::Seat;
+use actor_entries::again;
 use cycle::{Book, PieceGate, Reply, Step};
 use heap::Heap;
 use model::Refusal;
-use parts::again;
 use std::alloc::Global;
 use std::sync::{Condvar, Mutex, Wait};
 use std::thread::Threads;

@@ -10,7 +10,7 @@ use std::alloc::{AllocError, Global};
 use std::fmt::Write as _;
 use std::io;
 use stills::put_step;
-use text::ReplyText;
+use wording::ReplyText;
 
 /// What is written of a command's steps, and what these said.
 #[derive(Drop)]

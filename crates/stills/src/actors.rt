@@ -5,7 +5,7 @@ use heap::{Heap, Thread};
 use model::{Barrier, Place, Scan};
 use std::alloc::AllocError;
 use std::fmt::Write as _;
-use text::BitText;
+use wording::BitText;
 
 /// Puts where a load has its word from.
 fn put_place(heap: &Heap, place: Place, text: &mut String) -> Result<(), AllocError> {

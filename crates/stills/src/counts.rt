@@ -5,7 +5,7 @@ use heap::{Heap, Row};
 use model::{Page, PageState};
 use std::alloc::AllocError;
 use std::fmt::Write as _;
-use text::{BitText, PhaseText};
+use wording::{BitText, PhaseText};
 
 /// How many pages are used in each way, how many words of those with memory were lent or are the targets of
 /// copies, and how many words the objects have that the last mark has found.

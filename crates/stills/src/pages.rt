@@ -7,7 +7,7 @@ use model::Forwarding;
 use refword::Addr;
 use std::alloc::AllocError;
 use std::fmt::Write as _;
-use text::{BitText, WordText};
+use wording::{BitText, WordText};
 
 /// Whether a row has a bit at an offset.
 fn bit(row: Option<&Row>, offset: usize) -> BitText {

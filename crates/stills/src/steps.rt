@@ -4,7 +4,7 @@ use model::{Actor, Step};
 use parser::{Command, Order, Verb};
 use std::alloc::{AllocError, Global};
 use std::fmt::Write as _;
-use text::ActorText;
+use wording::ActorText;
 
 /// Puts the step of a thread on its buffer, its registers or its data.
 fn put_own(text: &mut String, step: &Step) -> Result<(), AllocError> {

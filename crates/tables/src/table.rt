@@ -1,10 +1,10 @@
 //! Shared books with all their seats.
 
 use crate::opened::book_of;
+use actor_entries::is_same;
 use cycle::{Actor, Book, History, Reply};
 use heap::Heap;
 use parser::{Command, Script, Verb};
-use parts::is_same;
 use sharing::{Seat, Shared, settle};
 use std::alloc::{AllocError, Global};
 use std::fmt::Debug;

@@ -8,7 +8,7 @@ use crate::sums::{SumsLine, add_up};
 use model::Actor;
 use sharing::{Seat, Settled};
 use std::io;
-use text::ActorText;
+use wording::ActorText;
 
 /// Writes the line of a stray actor, as `stray t0`. The error is a writer that failed.
 pub fn tell_stray<W: io::Write>(actor: Actor, w: &mut W) -> io::Result<()>

@@ -28,7 +28,12 @@ const POLICY: Policy = Policy {
 
 /// A heap with pages of 1,024 words, and objects of 1,000 references.
 fn heap_of(alloc: Global) -> Result<ManagedHeap, Fail> {
-    let layouts = Layouts::new(vec![in alloc; Layout { refs: 1000, nums: 0 }]?);
+    let layouts = Layouts::new(vec![in alloc;
+        Layout {
+            refs: 1000,
+            nums: 0
+        },
+    ]?);
     Ok(ManagedHeap::new(alloc, Config::new(1024, 16, layouts))?)
 }
 

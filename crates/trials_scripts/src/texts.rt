@@ -7,7 +7,7 @@ use std::alloc::Global;
 use std::fmt::Display;
 use std::process::Abort;
 use std::test::Fail;
-use text::{
+use wording::{
     BufferText, Copies, FrameText, PageLine, PageStateText, PhaseText, WordText, put_line,
     write_line,
 };

@@ -3,7 +3,7 @@
 //! of memory then, or of writing where what is written to is a list in memory; else well.
 
 use crate::same::same;
-use checking::by_check;
+use checked_runs::by_check;
 use parser::{ParseFault, Script, parse};
 use script::{RunFault, by_schedule};
 use std::alloc::Global;

@@ -1,8 +1,8 @@
 //! What the program's words ask for, and what it writes and answers for scripts and for files
 //! that can't be read.
 
-use modes::serve;
-use service::{AskFault, Asked, Mode, ask};
+use serving_modes::serve;
+use serving_runs::{AskFault, Asked, Mode, ask};
 use std::alloc::Global;
 use std::io;
 use std::io::{BufWriter, Read};

@@ -1,7 +1,7 @@
 //! Writers that fail in each mode: at some write, or when they are flushed.
 
 use crate::serving::{CHECKED, OUTPUT, SCRIPT, words_asked};
-use modes::serve;
+use serving_modes::serve;
 use std::alloc::Global;
 use std::io;
 use std::io::{BufWriter, Write};

@@ -1,7 +1,7 @@
 //! Images of heaps, and their texts; the texts of faults.
 
 use crate::same::same;
-use checking::{FaultText, verify_book};
+use checked_runs::{FaultText, verify_book};
 use cycle::{Actor, Answer, Book, Step};
 use heap::NewFault;
 use held::{HeldBook, act};

@@ -13,7 +13,7 @@ use model::{Forwarding, Global as Root};
 use page::{Frames, Store};
 use refword::Word;
 use std::alloc::{AllocError, Global};
-use threads::Thread;
+use thread_records::Thread;
 
 /// The numbers that stand for words.
 fn numbers(alloc: Global, words: &[Word]) -> Result<Words, AllocError>

@@ -21,7 +21,7 @@ use markbits::{IndexedRows, Rows};
 use model::{PageState, Phase, Scan};
 use page::Store;
 use refword::{Addr, Word};
-use threads::Threads;
+use thread_records::Threads;
 
 /// Raw edits for the crates that do rows of the collector's steps. Threads, workers and globals count
 /// from 0.

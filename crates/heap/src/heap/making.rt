@@ -13,7 +13,7 @@ use markbits::{IndexedRows, Rows};
 use model::{Config, Phase, Scan};
 use page::{Store, many, record_count};
 use std::alloc::{AllocError, Global as Memory};
-use threads::Threads;
+use thread_records::Threads;
 
 /// Threads, workers and globals of a new heap.
 #[derive(Drop)]

@@ -1,6 +1,6 @@
 use Rattle.std.proofs.Common.{ap, sym}
 use Rattle.model.specs.Cycles.{set_todo_of}
-use Rattle.threads.proofs.Looping.{mapped_more}
+use Rattle.thread_records.proofs.Looping.{mapped_more}
 use Rattle.heap.proofs.globals.set_each_todo.Goals as goal
 
 pub loop-global-preserved : goal.loop-global-preserved

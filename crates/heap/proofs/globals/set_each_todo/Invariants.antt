@@ -1,5 +1,5 @@
 use Rattle.model.specs.Cycles.{set_todo_of}
-use Rattle.threads.proofs.Looping.{AreMapped}
+use Rattle.thread_records.proofs.Looping.{AreMapped}
 use Rattle.heap.proofs.globals.set_each_todo.Given as goal
 
 abbrev pub invariant-loop-global : goal.invariant-loop-global

@@ -1,6 +1,6 @@
 use Rattle.std.proofs.Common.{drop}
 use Rattle.std.specs.List.{flat_map}
-use Rattle.text.specs.Texts.{Leads}
+use Rattle.wording.specs.Texts.{Leads}
 use Rattle.telling.specs.Settled.{seat_text}
 use Rattle.telling.proofs.telling.tell_seats.Given as goal
 

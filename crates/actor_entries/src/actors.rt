@@ -1,0 +1,31 @@
+//! Actors, compared.
+
+ghost use Rattle.std.specs.Prelude.{◌≡◌};
+ghost use Rattle.actor_entries.specs.Parts.{is_before, is_same};
+
+use model::Actor;
+
+/// Whether two actors are one and the same.
+#[tactic(auto, unfolding(crate::specs::Parts::is_same))]
+pub fn is_same(left: Actor, right: Actor) -> bool
+    ensures { result ≡ is_same left right }
+{
+    match (left, right) {
+        (Actor::Thread(m), Actor::Thread(n)) => m == n,
+        (Actor::Worker(m), Actor::Worker(n)) => m == n,
+        _ => false,
+    }
+}
+
+/// Whether an actor comes before another one: threads are before workers, each in their order.
+#[tactic(auto, unfolding(crate::specs::Parts::is_before))]
+pub fn is_before(left: Actor, right: Actor) -> bool
+    ensures { result ≡ is_before left right }
+{
+    match (left, right) {
+        (Actor::Thread(m), Actor::Thread(n)) => m < n,
+        (Actor::Worker(m), Actor::Worker(n)) => m < n,
+        (Actor::Thread(_), Actor::Worker(_)) => true,
+        (Actor::Worker(_), Actor::Thread(_)) => false,
+    }
+}

@@ -1,6 +1,0 @@
-use Rattle.std.proofs.Common.{◌≡◌, replicate}
-use Rattle.model.specs.First.{blank_thread}
-use Rattle.threads.proofs.threads.blank_threads.Given as goal
-
-abbrev pub invariant-loop-thread : goal.invariant-loop-thread
-invariant-loop-thread l = l.threads.items ≡ replicate l._thread (blank_thread l.registers)
