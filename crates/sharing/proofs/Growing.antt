@@ -1,6 +1,6 @@
 -- A portion of a drain grows by one step after another.
-use Rattle.std.proofs.Common.{◌≡◌, ℕ, zero, suc, ◌+◌, Bool, true, false, List, [], ◌∷◌, ◌++◌, length, length-append}
-use Rattle.std.proofs.Common.{Option, Some, None, refl, ap, sym, subst, ◌∙◌, append_assoc, append-nil, arith}
+use Rattle.std.proofs.Common.{◌≡◌, ℕ, suc, ◌+◌, Bool, true, false, List, [], ◌∷◌, ◌++◌, length, length-append}
+use Rattle.std.proofs.Common.{Option, Some, None, refl, ap, sym, subst, ◌∙◌, append_assoc, append-nil}
 use Rattle.std.specs.Prelude.{Result, Ok, Err, if◌then◌else◌, ◌||◌, nat_le}
 use Rattle.model.specs.declared.steps.Step.TheVariants as steps
 use Rattle.model.specs.States.{HeapState}
@@ -54,7 +54,7 @@ went n b d w a rs e = by_next (next_drain b.heap w) refl e
     by_outcome step next (Ok x) acted e =
         let book : (drain_within n x.0 w).book ≡ d = ap (λ (t : Told). t.book) e in
         let same : ◌≡◌ {A = List Reply} (Ok x.1 ∷ (drain_within n x.0 w).replies) (Ok a ∷ rs) =
-            ap (λ (t : Told). t.replies) e in
+        ap (λ (t : Told). t.replies) e in
         let head : x.1 ≡ a = cc in
         let tail : (drain_within n x.0 w).replies ≡ rs = cc in
         record {
@@ -136,10 +136,10 @@ one_more n w s t u b c d step reply a p is next ok acts notes =
     let same : t.actor ≡ Worker w = ap (λ (x : SeatState). x.actor) p.list ∙ is in
     let e : Entry = record { actor = t.actor; step = step; answer = a } in
     let acted : act_outcome c t.actor step ≡ Ok (d, a) =
-        subst (λ (x : Reply). Acts c x d (act_outcome c t.actor step)) ok acts in
+    subst (λ (x : Reply). Acts c x d (act_outcome c t.actor step)) ok acts in
     let noted : u ≡ record t { list = t.list ++ e ∷ [] } = subst (λ (x : Reply). Notes t step x u) ok notes in
     let by_worker : act_outcome c (Worker w) step ≡ Ok (d, a) =
-        subst (λ (x : Actor). act_outcome c x step ≡ Ok (d, a)) same acted in
+    subst (λ (x : Actor). act_outcome c x step ≡ Ok (d, a)) same acted in
     let counted : length p.steps ≡ n = p.count in
     let more : length (p.steps ++ e ∷ []) ≡ n + 1 = length-append p.steps (e ∷ []) ∙ ap (λ (k : ℕ). k + 1) counted in
     record {
