@@ -99,7 +99,8 @@ entered : (b c : BookState) (actor : Actor) (step : Step) (o : Outcome) (a : Ans
     → c.history ≡ b.history ++ record { actor = actor; step = step; answer = a } ∷ []
 entered b c actor step (Err e) a h = absurd cc
 entered b c actor step (Ok x) a h =
-    subst (λ (y : BookState × Answer). y.0.history ≡ b.history ++ record { actor = actor; step = step; answer = y.1 } ∷ [])
+    subst (λ (y : BookState × Answer). y.0.history
+    ≡ b.history ++ record { actor = actor; step = step; answer = y.1 } ∷ [])
     (same_pair _ (c, a) h) refl
   where
     same_pair : (y z : BookState × Answer) → ◌≡◌ {A = BookOutcome} (Ok y) (Ok z) → y ≡ z
