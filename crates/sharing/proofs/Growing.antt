@@ -1,6 +1,6 @@
 -- A portion of a drain grows by one step after another.
-use Rattle.std.proofs.Common.{◌≡◌, ℕ, zero, suc, ◌+◌, Bool, true, false, List, [], ◌∷◌, ◌++◌, length, length-append}
-use Rattle.std.proofs.Common.{Option, Some, None, refl, ap, sym, subst, ◌∙◌, append_assoc, append-nil, arith}
+use Rattle.std.proofs.Common.{◌≡◌, ℕ, suc, ◌+◌, Bool, true, false, List, [], ◌∷◌, ◌++◌, length, length-append}
+use Rattle.std.proofs.Common.{Option, Some, None, refl, ap, sym, subst, ◌∙◌, append_assoc, append-nil}
 use Rattle.std.specs.Prelude.{Result, Ok, Err, if◌then◌else◌, ◌||◌, nat_le}
 use Rattle.model.specs.declared.steps.Step.TheVariants as steps
 use Rattle.model.specs.States.{HeapState}
@@ -99,7 +99,8 @@ entered : (b c : BookState) (actor : Actor) (step : Step) (o : Outcome) (a : Ans
     → c.history ≡ b.history ++ record { actor = actor; step = step; answer = a } ∷ []
 entered b c actor step (Err e) a h = absurd cc
 entered b c actor step (Ok x) a h =
-    subst (λ (y : BookState × Answer). y.0.history ≡ b.history ++ record { actor = actor; step = step; answer = y.1 } ∷ [])
+    subst (λ (y : BookState × Answer). y.0.history
+    ≡ b.history ++ record { actor = actor; step = step; answer = y.1 } ∷ [])
     (same_pair _ (c, a) h) refl
   where
     same_pair : (y z : BookState × Answer) → ◌≡◌ {A = BookOutcome} (Ok y) (Ok z) → y ≡ z

@@ -47,7 +47,8 @@ impl PieceGate for NoGate {
 
 /// A book under a lock, on which each actor acts by its seat.
 ///
-/// A step is one hold of the lock, and so is a portion of a drain. What the book holds is what `Book` promises each time.
+/// A step is one hold of the lock, and so is a portion of a drain. What the book holds is what `Book`
+/// promises each time.
 #[derive(Drop)]
 pub struct Shared {
     desk: Mutex<Desk>,
