@@ -89,7 +89,8 @@ gate_not h w s = by_tests (nat_le (length h.workers) w || not (is_for_workers s)
     passed : Result (Unit {0}) Refusal
     passed = Ok tt
 
-    by_tests : (a b : Bool) → IsNotRoom (if a then Err refusals.NoActor else (if b then Err refusals.BadIndex else passed))
+    by_tests : (a b : Bool)
+        → IsNotRoom (if a then Err refusals.NoActor else (if b then Err refusals.BadIndex else passed))
     by_tests true b = refl
     by_tests false true = refl
     by_tests false false = tt
@@ -160,7 +161,8 @@ one_ripe h n = by_tests (is_open (state_at h.store n) && is_lent h.threads n) (i
     passed : Result (Unit {0}) Refusal
     passed = Ok tt
 
-    by_tests : (a b : Bool) → IsNotRoom (if a then Err (refusals.Lent n) else (if b then passed else Err (refusals.Unripe n)))
+    by_tests : (a b : Bool)
+        → IsNotRoom (if a then Err (refusals.Lent n) else (if b then passed else Err (refusals.Unripe n)))
     by_tests true b = refl
     by_tests false true = tt
     by_tests false false = refl
@@ -240,7 +242,8 @@ due_not true h e g k = marking_stops_not h e g k
 due_not false h e g (inl k) = of_refused (outcome h (Worker WORKER) steps.StartMark) e (start_not h WORKER) k.0
 due_not false h e g (inr k) = marking_stops_not k.0 e g k.2
 
-refused_or_lacks : (h g : HeapState) (ns : List ℕ) (e : Refusal) (o : Outcome) → DoesStep h (steps.Protect ns) (Err e) g o
+refused_or_lacks : (h g : HeapState) (ns : List ℕ) (e : Refusal) (o : Outcome)
+    → DoesStep h (steps.Protect ns) (Err e) g o
     → (e ≡ refusals.Memory) ⊎ (o ≡ Err e)
 refused_or_lacks h g ns refusals.Memory o does = inl refl
 refused_or_lacks h g ns _ o does = inr does.0

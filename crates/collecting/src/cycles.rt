@@ -1,6 +1,7 @@
 //! A mark, and the pages that are emptied behind it.
 
-ghost use Rattle.collecting.specs.Collections.{Collects, EndsBehind, EndsDueMark, EndsChosen, EndsSparse, EndsCycle, MarksWhole};
+ghost use Rattle.collecting.specs.Collections.{Collects, EndsBehind, EndsDueMark, EndsChosen, EndsSparse, EndsCycle};
+ghost use Rattle.collecting.specs.Collections.{MarksWhole};
 
 use crate::collecting::Collected;
 use crate::leftovers::settle;

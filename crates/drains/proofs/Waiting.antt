@@ -1,6 +1,7 @@
 -- Objects that wait for their scan, and the heap in which it is noted that they are to be scanned.
 use Rattle.std.proofs.Common.{◌≡◌, ◌≢◌, inl, inr, ℕ, zero, suc, ◌+◌, ◌-◌, ◌/◌, ◌%◌, ◌<◌, ◌&&◌, not, Bool}
-use Rattle.std.proofs.Common.{true, false, List, [], ◌∷◌, ◌++◌, reverse, get_or, is_some, length, Option, Some, None, refl, sym}
+use Rattle.std.proofs.Common.{true, false, List, [], ◌∷◌, ◌++◌, reverse, get_or, is_some, length, Option, Some, None}
+use Rattle.std.proofs.Common.{refl, sym}
 use Rattle.std.proofs.Common.{◌∙◌, ap}
 use Rattle.std.proofs.Common.{arith}
 use Rattle.std.proofs.lemmas.List.{reverse-append}

@@ -1,5 +1,6 @@
 -- A load whose trap is clear ends: neither its heal nor its end is refused. And of three traps one is clear.
-use Rattle.std.proofs.Common.{◌≡◌, ◌⊎◌, ◌∙◌, ◌/◌, ℕ, suc, Bool, true, false, not, List, length, Option, Some, None, nat_le}
+use Rattle.std.proofs.Common.{◌≡◌, ◌⊎◌, ◌∙◌, ◌/◌, ℕ, suc, Bool, true, false, not, List, length, Option, Some, None}
+use Rattle.std.proofs.Common.{nat_le}
 use Rattle.std.proofs.Common.{refl, sym, subst, ap, inl, inr}
 use Rattle.std.specs.Prelude.{Result, Ok, Err, if◌then◌else◌, ◌&&◌, ◌||◌}
 use Rattle.std.specs.List.{slice_get}
@@ -18,8 +19,10 @@ use Rattle.model.specs.declared.steps.Refusal.{Refusal}
 use Rattle.model.specs.declared.steps.Refusal.TheVariants as refusals
 use Rattle.model.specs.declared.steps.Trap.{Trap}
 use Rattle.model.specs.Holding.{IsHeap}
-use Rattle.model.specs.Loads.{barrier_of_thread, with_barrier, with_loaded, gc_trap_due, nmt_trap_due, nmt_trap, trap_due}
-use Rattle.model.specs.Loads.{is_refused, bits_at, are_bits_of, set_healed, set_now_of, heal_place, heal_outcome, may_finish}
+use Rattle.model.specs.Loads.{barrier_of_thread, with_barrier, with_loaded, gc_trap_due, nmt_trap_due, nmt_trap}
+use Rattle.model.specs.Loads.{trap_due}
+use Rattle.model.specs.Loads.{is_refused, bits_at, are_bits_of, set_healed, set_now_of, heal_place, heal_outcome}
+use Rattle.model.specs.Loads.{may_finish}
 use Rattle.model.specs.Loads.{end_load, finish_outcome}
 use Rattle.model.specs.Marks.{with_mark, marked_word}
 use Rattle.model.specs.Moves.{copied_for}
@@ -266,7 +269,8 @@ module _ (h : HeapState) (t : ℕ) (b : Barrier) (k : Open h t b) where
   }
     where
       by_now : (v : Reference) → due_by (with_barrier (with_place h (places.Field a i) b.now) t (set_healed b) n)
-          (has_crossed (slice_get (with_barrier (with_place h (places.Field a i) b.now) t (set_healed b) n).threads t)) v
+          (has_crossed
+          (slice_get (with_barrier (with_place h (places.Field a i) b.now) t (set_healed b) n).threads t)) v
           ≡ trap_due h t v
       by_now None = still n None
       by_now (Some w) = still n (Some w)

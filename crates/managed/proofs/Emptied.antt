@@ -1,5 +1,6 @@
 -- Pages that are emptied, from one step to the next: which have a frame, and how many are free.
-use Rattle.std.proofs.Common.{◌≡◌, ◌≢◌, ◌⊎◌, ◌∙◌, ℕ, zero, suc, ◌+◌, ◌-◌, ◌*◌, ◌<◌, ◌≤◌, Bool, true, false, List, [], ◌∷◌, length}
+use Rattle.std.proofs.Common.{◌≡◌, ◌≢◌, ◌⊎◌, ◌∙◌, ℕ, zero, suc, ◌+◌, ◌-◌, ◌*◌, ◌<◌, ◌≤◌, Bool, true, false, List, []}
+use Rattle.std.proofs.Common.{◌∷◌, length}
 use Rattle.std.proofs.Common.{cond, not, nat_eq, set, drop, get_or, is_none, count_by, refl, sym, subst, ap, inl, inr}
 use Rattle.std.proofs.Common.{arith, Option, Some, None}
 use Rattle.std.specs.Prelude.{Result, Ok, Err}
@@ -26,7 +27,8 @@ use Rattle.model.specs.Cycles.{is_uncopied}
 use Rattle.model.specs.Emptying.{crossed_if_protecting, entry_on, copy_outcome, heap_after, copies_from, copy_page}
 use Rattle.model.specs.Emptying.{copy_page_outcome, release_outcome}
 use Rattle.model.specs.Marks.{with_mark, entry_at}
-use Rattle.model.specs.Moves.{with_copy, with_copied_words, copied_by, copied_first, copied_for, with_released, moved_word}
+use Rattle.model.specs.Moves.{with_copy, with_copied_words, copied_by, copied_first, copied_for, with_released}
+use Rattle.model.specs.Moves.{moved_word}
 use Rattle.model.specs.Moves.{with_free, set_gone_of}
 use Rattle.model.specs.Outcome.{outcome, worker_gate, thread_gate}
 use Rattle.model.specs.Owning.{IsStore}

@@ -78,8 +78,8 @@ EndsProtected w h ns (Err e) g = StopsProtected w h ns e g
 abbrev pub Protects : ℕ → HeapState → List ℕ → HeapState → Type 0
 Protects w h ns g = (a : Answer) × Steps (Worker w) (steps.Protect ns) a h g
 
--- how the emptying of pages ended, from their protection on: they are protected, and then emptied as far as it was told;
--- or that they are protected is refused so, or lacked memory, and nothing is done
+-- how the emptying of pages ended, from their protection on: they are protected, and then emptied as far as it was
+-- told; or that they are protected is refused so, or lacked memory, and nothing is done
 abbrev pub EndsEmptying : ℕ → HeapState → List ℕ → Result Unit Refusal → HeapState → Type 0
 EndsEmptying w h ns (Ok u) g = (m : HeapState) × Protects w h ns m × PagesFreed w m ns g
 EndsEmptying w h ns (Err e) g =

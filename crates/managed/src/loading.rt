@@ -2,7 +2,8 @@
 
 ghost use Rattle.std.specs.Prelude.{◌≡◌};
 ghost use Rattle.model.specs.declared.steps.Step.TheVariants as steps;
-ghost use Rattle.managed.specs.Goings.{EndsLoad, EndsTrap, Goes, IsClear, IsInBarrier, LoadsWhole, LoadStands, TrapsLeft};
+ghost use Rattle.managed.specs.Goings.{EndsLoad, EndsTrap, Goes, IsClear, IsInBarrier, LoadsWhole, LoadStands};
+ghost use Rattle.managed.specs.Goings.{TrapsLeft};
 
 use crate::managed::ManagedHeap;
 use cycle::{MOST_TRAPS, Mutating, heal_is_due};

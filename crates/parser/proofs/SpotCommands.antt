@@ -66,7 +66,8 @@ pub other_start : (s : Sought) (line : List ℕ) → (first_byte line == 119) �
 other_start sought.Cycle line h = rw h refl
 other_start sought.Other line h = rw h refl
 
-thread_line : (s : Sought) (t : ℕ) (c : Command) (line : List ℕ) → c.actor ≡ Thread t → does (Thread t) c.order.verb ≡ true
+thread_line : (s : Sought) (t : ℕ) (c : Command) (line : List ℕ) → c.actor ≡ Thread t
+    → does (Thread t) c.order.verb ≡ true
     → first_byte line ≡ 116 → is_sought s line ≡ is_sought_command s c
 thread_line sought.Cycle t c line a own first =
     other_start sought.Cycle line (rw first refl) ∙ sym (no_cycle c.order.verb own)

@@ -76,7 +76,8 @@ abbrev pub SpellsNone : Sought → Config → List ℕ → Type 0
 SpellsNone s config line =
     (c : Command) → IsCommand config c → line ≡ command_line_of c → is_sought_command s c ≡ false
 
--- The fault stands at the verb's word of a line that spells a command which is sought, and no line before it spells one.
+-- The fault stands at the verb's word of a line that spells a command which is sought, and no line before it spells
+-- one.
 pub record IsFirstSpot (s : Sought) (config : Config) (bytes : List ℕ) (fault : LineFault) : Type 0 where
   pub before : List (List ℕ)
   pub command : Command

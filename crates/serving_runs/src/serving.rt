@@ -8,7 +8,8 @@ ghost use Rattle.serving_runs.specs.declared.asking.Mode.TheVariants.{Run, Threa
 ghost use Rattle.std.specs.Io.Buffered.{writer_buffer, writer_contents};
 ghost use Rattle.std.specs.Io.KnownBytes.{Appends, Keeps};
 ghost use Rattle.script.specs.Output.{output_text};
-ghost use Rattle.serving_runs.specs.Serving.{HasFault, HoldsScript, IsNoScript, IsStatus, Prints, ReadsUpTo, fault_status};
+ghost use Rattle.serving_runs.specs.Serving.{HasFault, HoldsScript, IsNoScript, IsStatus, Prints, ReadsUpTo};
+ghost use Rattle.serving_runs.specs.Serving.{fault_status};
 
 use crate::asking::{Asked, Mode};
 use checked_runs::{Checked, by_check};

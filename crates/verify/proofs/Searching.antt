@@ -42,17 +42,20 @@ module _ (words : ℕ) (side : List Forwarding) (rising : AreRising words 0 side
       grind (arith, nat_tests))
 
   -- the entry of a number has the offset
-  pub found : (i : ℕ) (f : Forwarding) → i < length side → HoldsAt (λ (g : Forwarding). nat_cmp g.offset o ≡ Equal) side i
+  pub found : (i : ℕ) (f : Forwarding) → i < length side
+      → HoldsAt (λ (g : Forwarding). nat_cmp g.offset o ≡ Equal) side i
       → f ≡ get_or side i f → copy_of f ≡ copy_in side o
   found i f b equal is =
       let here : slice_get side i ≡ Some f = slice_get-get_or side i f b ∙ ap Some (sym is) in
-      let at : f.offset ≡ o = ap (λ (g : Forwarding). g.offset) is ∙ ranked (get_or side i f).offset o Equal (sym (equal f)) in
+      let at : f.offset ≡ o =
+      ap (λ (g : Forwarding). g.offset) is ∙ ranked (get_or side i f).offset o Equal (sym (equal f)) in
       sym (ap (option_and_then copy_of) (same_entry side o ∙ entry_here words 0 side o i f rising here at))
 
   -- none has it
   pub absent : (at : ℕ)
       → (IsNonDecreasingBy (λ (f : Forwarding). ordering_index (nat_cmp f.offset o)) side
-      → IsPartitionPoint (λ (g : Forwarding). nat_cmp g.offset o ≡ Less) (λ (g : Forwarding). nat_cmp g.offset o ≡ Greater) side at)
+      → IsPartitionPoint (λ (g : Forwarding). nat_cmp g.offset o ≡ Less)
+      (λ (g : Forwarding). nat_cmp g.offset o ≡ Greater) side at)
       → None ≡ copy_in side o
   absent at parted = sym (ap (option_and_then copy_of) (same_entry side o ∙ entry_none side o other))
     where
@@ -67,10 +70,12 @@ module _ (words : ℕ) (side : List Forwarding) (rising : AreRising words 0 side
 
           by_place : (i < at) ⊎ (at ≤ i) → ⊥
           by_place (inl l) =
-              let less : offset_at i < o = ranked (offset_at i) o Less (sym ((parted comparisons_rise).0 i none (omega arith) l)) in
+              let less : offset_at i < o =
+              ranked (offset_at i) o Less (sym ((parted comparisons_rise).0 i none (omega arith) l)) in
               omega (arith, less, here)
           by_place (inr l) =
-              let more : o < offset_at i = ranked (offset_at i) o Greater (sym ((parted comparisons_rise).1 i none l b)) in
+              let more : o < offset_at i =
+              ranked (offset_at i) o Greater (sym ((parted comparisons_rise).1 i none l b)) in
               omega (arith, more, here)
 
 -- the last entries of a side array rise, and lie above what is below them

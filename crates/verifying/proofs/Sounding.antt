@@ -11,7 +11,8 @@ use Rattle.verify.specs.declared.verdict.Verdict.TheVariants.{Sound}
 use Rattle.verify.specs.Faults.{VerdictIs, OneVerdict}
 use Rattle.verify.specs.Pictures.{image_of}
 
-pub held_sound : {E : Type 0} (h : HeapState) (r : Result Verdict E) → Promises h → IsStore h.store → IsHeap h → ImagesSound
+pub held_sound : {E : Type 0} (h : HeapState) (r : Result Verdict E) → Promises h → IsStore h.store → IsHeap h
+    → ImagesSound
     → OneVerdict → IfOk r (VerdictIs (image_of h)) → IfOk r (λ (v : Verdict). v ≡ Sound)
 held_sound h (Ok v) k store heap sound one found = one (image_of h) v Sound found (sound h _ _ store heap k.holds)
 held_sound h (Err e) k store heap sound one found = tt

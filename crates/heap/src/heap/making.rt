@@ -27,7 +27,8 @@ struct BlankActors {
 fn blank_actors(alloc: Memory, config: &Config) -> Result<BlankActors, AllocError>
     ensures threads { IfOk result (λ a. a.threads ≡ replicate config.now.threads (blank_thread config.now.registers)) }
     ensures workers { IfOk result (λ a. a.workers.items ≡ replicate config.now.workers None) }
-    ensures globals { IfOk result (λ a. a.globals ≡ replicate config.now.globals (record { word = None; todo = false })) }
+    ensures globals { IfOk result (λ a. a.globals
+        ≡ replicate config.now.globals (record { word = None; todo = false })) }
 {
     let threads = Threads::new(alloc, config.threads, config.registers)?;
     let workers = many(alloc, config.workers, None)?;

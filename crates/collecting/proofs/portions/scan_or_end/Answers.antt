@@ -4,7 +4,8 @@ use Rattle.collecting.proofs.Parted.{scanned_all, scanned_none, scanned_some, sc
 use Rattle.collecting.proofs.portions.scan_or_end.Goals as goal
 
 pub end_mark-requires : goal.end_mark-requires
-end_mark-requires c = scanned_none c.args.heap.now c.scan_some.new.heap c.scan_some.result (c.in-Ok-true.is ∙ ap Ok c.in-Ok-true.field-0-test)
+end_mark-requires c = scanned_none c.args.heap.now c.scan_some.new.heap c.scan_some.result
+    (c.in-Ok-true.is ∙ ap Ok c.in-Ok-true.field-0-test)
     c.scan_some.ensures
 
 pub returns-in-Ok-true : goal.returns-in-Ok-true
@@ -12,7 +13,8 @@ returns-in-Ok-true c = scanned_all c.args.heap.now c.scan_some.new.heap c.end_ma
     c.end_mark.result (c.in-Ok-true.is ∙ ap Ok c.in-Ok-true.field-0-test) c.scan_some.ensures c.end_mark.ensures
 
 pub returns-in-Ok-false : goal.returns-in-Ok-false
-returns-in-Ok-false c = scanned_some c.args.heap.now c.scan_some.new.heap c.scan_some.result (c.in-Ok-false.is ∙ ap Ok c.in-Ok-false.field-0-test)
+returns-in-Ok-false c = scanned_some c.args.heap.now c.scan_some.new.heap c.scan_some.result
+    (c.in-Ok-false.is ∙ ap Ok c.in-Ok-false.field-0-test)
     c.scan_some.ensures
 
 pub returns-in-Err : goal.returns-in-Err

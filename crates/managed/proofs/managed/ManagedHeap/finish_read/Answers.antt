@@ -29,7 +29,8 @@ returns-in-Err c =
 pub returns-else-heal_is_due : goal.returns-else-heal_is_due
 returns-else-heal_is_due c =
     let k = clears c.args.self.now c.args.thread c.requires in
-    finish_clear c.args.self.now c.finish-else-heal_is_due.new.self c.args.thread k.barrier c.finish-else-heal_is_due.result k.open_load
+    finish_clear c.args.self.now c.finish-else-heal_is_due.new.self c.args.thread k.barrier
+    c.finish-else-heal_is_due.result k.open_load
     (finishes c.args.self.now c.args.thread k
     (ap (λ (h : HeapState). waits_for_heal (barrier_of_thread h c.args.thread)) (sym c.heap.ensures)
     ∙ sym c.heal_is_due.ensures ∙ c.if-heal_is_due.false))

@@ -7,17 +7,22 @@ use Rattle.managed.proofs.managed.ManagedHeap.scan_portion.Goals as goal
 
 pub invariant_of-self : goal.invariant_of-self
 invariant_of-self c = managed_goes (IsScan c.args.worker) c.self.inside.heap c.drain_some.new.heap c.self.invariant
-    (drained_goes c.self.inside.heap c.drain_some.new.heap c.args.worker c.drain_some.result.objects c.law.ensures.steps
+    (drained_goes c.self.inside.heap c.drain_some.new.heap c.args.worker c.drain_some.result.objects
+    c.law.ensures.steps
     c.drain_some.ensures.drained)
 
 pub returns-clause-objects : goal.returns-clause-objects
 returns-clause-objects c =
-    subst (λ (h : HeapState). ScansObjects c.args.worker c.drain_some.result.objects h c.drain_some.new.heap) c.self.view_is
-    (drained_objects c.self.inside.heap c.drain_some.new.heap c.args.worker c.drain_some.result.objects c.law.ensures.steps
+    subst (λ (h : HeapState). ScansObjects c.args.worker c.drain_some.result.objects h c.drain_some.new.heap)
+    c.self.view_is
+    (drained_objects c.self.inside.heap c.drain_some.new.heap c.args.worker c.drain_some.result.objects
+    c.law.ensures.steps
     c.drain_some.ensures.drained)
 
 pub returns-clause-stands : goal.returns-clause-stands
 returns-clause-stands c = scans_same c.args.worker c.args.self.now c.drain_some.new.heap
-    (subst (λ (h : HeapState). ScansObjects c.args.worker c.drain_some.result.objects h c.drain_some.new.heap) c.self.view_is
-    (drained_objects c.self.inside.heap c.drain_some.new.heap c.args.worker c.drain_some.result.objects c.law.ensures.steps
+    (subst (λ (h : HeapState). ScansObjects c.args.worker c.drain_some.result.objects h c.drain_some.new.heap)
+    c.self.view_is
+    (drained_objects c.self.inside.heap c.drain_some.new.heap c.args.worker c.drain_some.result.objects
+    c.law.ensures.steps
     c.drain_some.ensures.drained)).goes
