@@ -1,5 +1,6 @@
 -- A reference that is null, and written so, is as its mark leaves it.
-use Rattle.std.proofs.Common.{◌≡◌, ℕ, ◌+◌, ◌/◌, ◌%◌, List, Option, Some, None, refl, sym, ◌∙◌, ap, set}
+use Rattle.std.proofs.Common.{◌≡◌, ℕ, zero, suc, ◌+◌, ◌/◌, ◌%◌, List, [], ◌∷◌, Option, Some, None, refl, sym, ◌∙◌, ap}
+use Rattle.std.proofs.Common.{set}
 use Rattle.std.specs.List.{slice_get}
 use Rattle.std.specs.Option.{option_and_then}
 use Rattle.model.specs.Marks.{with_mark, marked_word}
@@ -33,6 +34,42 @@ written_again s a v e = by_frame (frame_in (page_at s (a / s.words))) e
     by_frame (Some x) k =
         ap (λ (fs : List (List ℕ)). record s { frames = fs }) (by_words x (slice_get s.frames x) refl k)
 
+-- where there is no memory, none is written
+past_end : (ws : List ℕ) (o v : ℕ) → slice_get ws o ≡ None → set ws o v ≡ ws
+past_end [] o v e = refl
+past_end (w ∷ ws) zero v e = absurd (cc)
+past_end (w ∷ ws) (suc o) v e = ap (λ us. w ∷ us) (past_end ws o v e)
+
+nothing_written : (s : StoreState) (a v : ℕ) → word_at s a ≡ None → with_word s a v ≡ s
+unfolding word_at spot_of with_word with_words
+nothing_written s a v e = by_frame (frame_in (page_at s (a / s.words))) e
+  where
+    f : List ℕ → List ℕ
+    f ws = set ws (a % s.words) v
+
+    by_words : (x : ℕ) (o : Option (List ℕ)) → slice_get s.frames x ≡ o
+        → option_and_then (λ (ws : List ℕ). slice_get ws (a % s.words)) o ≡ None
+        → changed_frame s.frames x o f ≡ s.frames
+    by_words x None z k = refl
+    by_words x (Some ws) z k = ap (set s.frames x) (past_end ws (a % s.words) v k) ∙ same_set s.frames x ws z
+
+    by_frame : (o : Option ℕ) → word_in s.frames (at_offset o (a % s.words)) ≡ None
+        → (record s { frames = changed_in s.frames o f }) ≡ s
+    by_frame None k = refl
+    by_frame (Some x) k =
+        ap (λ (fs : List (List ℕ)). record s { frames = fs }) (by_words x (slice_get s.frames x) refl k)
+
+-- a field in no memory is left
+pub field_of_nothing : (h : HeapState) (xs : List ℕ) (a i n : ℕ) → n ≡ i → word_at h.store (a + (1 + n)) ≡ None
+    → all_noted h xs ≡ marked_field (all_noted h xs) (field_address a i)
+unfolding marked_field with_marked_place with_mark marked_word all_noted
+field_of_nothing h xs a i n at e =
+    ap (λ (s : StoreState). record (all_noted h xs) { store = s }) (sym (nothing_written h.store (a + (1 + n)) 0 e))
+    ∙ ap (with_marked_place (all_noted h xs) (a + (1 + n))) (sym (ap reference_in e))
+    ∙ ap (λ m. marked_field (all_noted h xs) (a + (1 + m))) at
+    ∙ ap (marked_field (all_noted h xs)) (field_behind a i)
+
+-- and so is one that is null, and written so
 pub field_of_blank : (h : HeapState) (xs : List ℕ) (a i n : ℕ) → n ≡ i → word_at h.store (a + (1 + n)) ≡ Some 0
     → all_noted h xs ≡ marked_field (all_noted h xs) (field_address a i)
 unfolding marked_field with_marked_place with_mark marked_word all_noted

@@ -1,42 +1,16 @@
 //! An object is scanned whole: what `Pick` and the steps `ScanField` of it do, one after the other
 //! (the paper's Mark phase; that it is done at once is ours).
 
-ghost use Rattle.std.specs.Prelude.{◌≡◌, ◌+◌, ◌<◌, ◌^◌, Some, None, true};
+ghost use Rattle.std.specs.Prelude.{◌≡◌, ◌+◌, ◌<◌, ◌^◌};
 ghost use Rattle.std.specs.Prelude.{reverse};
 ghost use Rattle.drains.specs.Drains.{refs_at, marked_field, marked_fields, scanned};
 ghost use Rattle.drains.specs.Waiting.{all_noted, AreWaiting, WaitBeside};
 ghost use Rattle.heap.specs.Marking.{marked_at};
 ghost use Rattle.model.specs.References.{field_address};
-ghost use Rattle.model.specs.Scans.{reference_in};
-ghost use Rattle.model.specs.Stores.{word_at};
 
 use crate::backlog::{Waiting, wait};
 use heap::{Heap, read_reference};
 use refword::{Addr, Word};
-
-/// The reference so many words behind an address; null where there is no memory.
-#[inline(always)]
-fn reference_behind(heap: &Heap, address: Addr, ahead: u64) -> Word
-    requires { ahead < 2 ^ 17 }
-    ensures { result ≡ reference_in (word_at heap.now.store (address + ahead)) }
-{
-    match heap.memory().word_behind(address, ahead) {
-        None => Word::null(),
-        Some(bits) => read_reference(bits),
-    }
-}
-
-/// Whether the reference so many words behind an address is null, and written so.
-#[inline(always)]
-fn is_blank(heap: &Heap, address: Addr, ahead: u64) -> bool
-    requires { ahead < 2 ^ 17 }
-    ensures { result ≡ true → word_at heap.now.store (address + ahead) ≡ Some 0 }
-{
-    match heap.memory().word_behind(address, ahead) {
-        None => false,
-        Some(bits) => bits == 0,
-    }
-}
 
 /// How many references the object at an address has.
 #[inline(always)]
@@ -65,8 +39,8 @@ fn mark(heap: &mut Heap, address: Addr, target: Addr, waiting: &mut Waiting)
     wait(heap, address, target, waiting);
 }
 
-/// Marks the word of a reference, and writes it back, where it isn't null already. It is written before
-/// its object is marked, so that nothing else is written between the two looks at its page.
+/// Marks the word of a reference, and writes it back, where it isn't null and written so. It is written
+/// before its object is marked, so that nothing else is written between the two looks at its page.
 #[inline(always)]
 fn mark_field(heap: &mut Heap, address: Addr, index: u32, waiting: &mut Waiting)
     requires few { index < 2 ^ 16 }
@@ -76,10 +50,13 @@ fn mark_field(heap: &mut Heap, address: Addr, index: u32, waiting: &mut Waiting)
     ensures waits { WaitBeside heap.new address (reverse waiting.new.items) }
 {
     let ahead = 1 + u64::from(index);
-    if is_blank(heap, address, ahead) {
+    let Some(bits) = heap.memory().word_behind(address, ahead) else {
+        return;
+    };
+    if bits == 0 {
         return;
     }
-    let word = reference_behind(heap, address, ahead);
+    let word = read_reference(bits);
     let Some(named) = word.addr() else {
         heap.raw_set_word_behind(address, ahead, Word::null().bits());
         return;
