@@ -105,13 +105,12 @@ install: pauseless libpauseless.a
 
 bench: pauseless libpauseless.a
 	@cd crates/bench && $(RT) run -- copies 64 3 2 > '$(CURDIR)/$(LOG)' 2>&1 || { cd '$(CURDIR)'; $(show_log); }
-	@cd crates/shapes && $(RT) run -- mark-list 10 2 1 1 > '$(CURDIR)/$(LOG)' 2>&1 || { cd '$(CURDIR)'; $(show_log); }
+	@cd crates/timings && $(RT) run -- mark-list 10 2 1 1 > '$(CURDIR)/$(LOG)' 2>&1 || { cd '$(CURDIR)'; $(show_log); }
 	@cd crates/crowds && $(RT) run -- act 100 > '$(CURDIR)/$(LOG)' 2>&1 || { cd '$(CURDIR)'; $(show_log); }
 	@cd crates/cycling && $(RT) run -- cycle 1 1 10 10 > '$(CURDIR)/$(LOG)' 2>&1 || { cd '$(CURDIR)'; $(show_log); }
-	@cd crates/pauses && $(RT) run -- parts 16 8 4 5 3 > '$(CURDIR)/$(LOG)' 2>&1 || { cd '$(CURDIR)'; $(show_log); }
 	$(PYTHON) bench/run.py ./pauseless
 	$(PYTHON) bench/calls.py crates/bench/out/bench
-	CC='$(CC)' $(PYTHON) bench/boehm.py crates/shapes/out/shapes
+	CC='$(CC)' $(PYTHON) bench/boehm.py crates/timings/out/timings
 	$(PYTHON) bench/crowds.py
 	$(PYTHON) bench/pauses.py
 	$(PYTHON) bench/commands.py ./pauseless
@@ -165,8 +164,7 @@ SOAK_OBJECTS = 100000000
 soak:
 	@$(needs_toolchain)
 	@cd crates/driver && $(RT) run -- rolling 1 100000 1 > '$(CURDIR)/$(LOG)' 2>&1 || { cd '$(CURDIR)'; $(show_log); }
-	@cd crates/soak && $(RT) run > '$(CURDIR)/$(LOG)' 2>&1 || { cd '$(CURDIR)'; $(show_log); }
-	@crates/soak/out/soak $(SOAK_OBJECTS)
+	@crates/driver/out/driver waste $(SOAK_OBJECTS)
 	@for heap in $(SOAKED); do crates/driver/out/driver $$heap 1 $(SOAK_STEPS) 1000 1 || exit 1; done
 
 FUZZ_SECONDS = 600

@@ -1,7 +1,7 @@
 #!/usr/bin/env python3
 """Times collections beside the collector of Boehm, Demers and Weiser: boehm.py [--instructions] [PROGRAM].
 
-The program is that of the crate `shapes`; `bench/boehm.c` has the same on bdwgc, with one marker, and is built here.
+The program is that of the crate `timings`; `bench/boehm.c` has the same on bdwgc, with one marker, and is built here.
 Where libgc isn't there, a line says so, and this heap's figures stand alone. The figures are nanoseconds of a
 processor, or with --instructions instructions, which `valgrind` counts, for one object that lives or that is made.
 Each is the difference of two runs, the best of several, which differ in one loop alone; the runs of both sides take
@@ -148,7 +148,7 @@ def print_making(bench):
 
 def main():
     what = "Times collections beside the collector of Boehm, Demers and Weiser."
-    program, instructions = asked(what, "crates/shapes/out/shapes")
+    program, instructions = asked(what, "crates/timings/out/timings")
     with tempfile.TemporaryDirectory() as folder:
         bench = Bench(program, built(folder), instructions)
         print("Instructions an object:" if instructions else "Nanoseconds an object:")

@@ -1,7 +1,7 @@
 #!/usr/bin/env python3
 """Times the parts of collections in parts: python3 bench/pauses.py [PROGRAM].
 
-The program is that of the crate `pauses`, which reads a clock itself. Pages of a
+The program is that of the crate `timings`, which reads a clock itself. Pages of a
 heap are filled with objects, of which each second one lives, in a list. Then the
 heap is collected three times in parts, each of which is timed alone, and once by
 one call. The longest part of each kind is the least of some runs, since a run in
@@ -58,7 +58,7 @@ def table(program, work, heaps):
 
 
 def main():
-    program = os.path.abspath(sys.argv[1] if len(sys.argv) > 1 else "crates/pauses/out/pauses")
+    program = os.path.abspath(sys.argv[1] if len(sys.argv) > 1 else "crates/timings/out/timings")
     if not os.access(program, os.X_OK):
         sys.exit(f"{program} isn't there: run 'make bench'")
     print("Microseconds, the longest of each kind of part:")

@@ -1,5 +1,7 @@
 //! Pages full of live objects are copied, beside slices of the same words.
 
+ghost use Rattle.std.specs.Prelude.{◌<◌};
+
 use crate::asking::{Steps, THREAD, WORKER};
 use crate::mixes::WORDS;
 use anyhow::Result;
@@ -141,6 +143,19 @@ pub fn copies(alloc: Global, by: CopyBy, size: u32, pages: u32, count: u32) -> R
     copied(alloc, heap, by, size, pages, count)
 }
 
+/// Copies so many words at a time, so often.
+fn copy_slices(from: &[u64], to: &mut [u64], each: usize, count: usize)
+    requires { 0 < each }
+{
+    for (to, from) in to
+        .chunks_exact_mut(each)
+        .zip(from.chunks_exact(each))
+        .take(count)
+    {
+        to.copy_from_slice(from);
+    }
+}
+
 /// As many words as pages have are made twice; then those of so many pages are copied, so many words
 /// at a time. Gives one of the words.
 pub fn slices(alloc: Global, size: u32, pages: u32, copied: u32) -> Result<u64> {
@@ -149,12 +164,6 @@ pub fn slices(alloc: Global, size: u32, pages: u32, copied: u32) -> Result<u64> 
     let mut to: Vec<u64> = vec![in alloc; 3; words]?;
     let each = size.max(1) as usize;
     let count = copied as usize * (WORDS as usize / each);
-    for (to, from) in to
-        .chunks_exact_mut(each)
-        .zip(from.chunks_exact(each))
-        .take(count)
-    {
-        to.copy_from_slice(from);
-    }
+    copy_slices(&from, &mut to, each, count);
     Ok(to.first().copied().unwrap_or(0))
 }

@@ -46,6 +46,32 @@ fn all<R: Threads + Wait + Sync>(
     })
 }
 
+/// The threads of these seats do so many steps each.
+fn timed<R: Threads + Wait + Clock + Sync>(
+    rt: &R,
+    alloc: Global,
+    shared: &Shared,
+    seats: Vec<Seat>,
+    count: u32,
+) -> Result<Lap> {
+    let seats = of_threads(alloc, seats)?;
+    let start = Instant::now(rt)?;
+    let done = all(rt, alloc, shared, seats, count)?;
+    let nanos = since(rt, start)?;
+    Ok(Lap::once("steps", done, nanos))
+}
+
+/// So many threads do so many steps each on a new book.
+fn lap<R: Threads + Wait + Clock + Sync>(
+    rt: &R,
+    alloc: Global,
+    threads: u32,
+    count: u32,
+) -> Result<Lap> {
+    let (shared, seats) = opened(alloc, config(alloc, threads)?)?;
+    timed(rt, alloc, &shared, seats, count)
+}
+
 /// So many threads do so many steps each by `Shared::step`.
 pub fn steps<R: Threads + Wait + Clock + Sync>(
     rt: &R,
@@ -53,10 +79,6 @@ pub fn steps<R: Threads + Wait + Clock + Sync>(
     threads: u32,
     count: u32,
 ) -> Result<Vec<Lap>> {
-    let (shared, seats) = opened(alloc, config(alloc, threads)?)?;
-    let seats = of_threads(alloc, seats)?;
-    let start = Instant::now(rt)?;
-    let done = all(rt, alloc, &shared, seats, count)?;
-    let nanos = since(rt, start)?;
-    Ok(vec![in alloc; Lap::once("steps", done, nanos)]?)
+    let lap = lap(rt, alloc, threads, count)?;
+    Ok(vec![in alloc; lap]?)
 }

@@ -307,22 +307,6 @@ unfolding marked_field with_marked_place with_mark
 workers_stay h a i zero = refl
 workers_stay h a i (suc k) = workers_stay (marked_field h (field_address a i)) a (i + 1) k
 
-pub ended : (h : HeapState) (w a : ℕ) (s : Scan) → slice_get h.workers w ≡ Some None → s.object ≡ a
-    → with_scan_end h w s ≡ without_todo h a
-unfolding with_scan_end without_todo with_scan
-ended h w a s e f = λ i. record h {
-  workers = same_set h.workers w None e i;
-  todo = with_bit h.todo h.store.words (f i) false;
-}
-
-pub scan_done : (h g k : HeapState) (w a refs : ℕ) (s : Scan) → slice_get h.workers w ≡ Some None → refs ≡ refs_at h a
-    → g ≡ marked_fields h a 0 refs → k ≡ with_scan_end g w s → s.object ≡ a → k ≡ scanned h a
-unfolding scanned
-scan_done h g k w a refs s worker r f e o =
-    e ∙ ended g w a s (ap (λ (x : HeapState). slice_get x.workers w) f
-    ∙ ap (λ (ws : List (Option Scan)). slice_get ws w) (workers_stay h a 0 refs) ∙ worker) o
-    ∙ ap (λ x. without_todo x a) (f ∙ ap (marked_fields h a 0) r)
-
 pub fields_keep : (h : HeapState) (w a i k : ℕ) → MayScan h w → MayScan (marked_fields h a i k) w
 fields_keep h w a i zero m = m
 fields_keep h w a i (suc k) m = fields_keep (marked_field h (field_address a i)) w a (i + 1) k

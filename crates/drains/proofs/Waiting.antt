@@ -468,20 +468,16 @@ none_taken h alone a k e = ap not (sym (by_workers h.workers (k e)))
     by_workers (None ∷ ws) f = by_workers ws f
     by_workers (Some s ∷ ws) f = absurd (cc)
 
+is_false : (c : Bool) → not c ≡ true → c ≡ false
+is_false false k = refl
+is_false true k = absurd (cc)
+
 pub not_taken : (h : HeapState) (a n : ℕ) (b : Bool) → n ≡ a → b ≡ not (is_taken h n) → b ≡ true
     → is_taken h a ≡ false
 not_taken h a n b e f g = ap (is_taken h) (sym e) ∙ is_false (is_taken h n) (sym f ∙ g)
-  where
-    is_false : (c : Bool) → not c ≡ true → c ≡ false
-    is_false false k = refl
-    is_false true k = absurd (cc)
 
 pub alone_first : (ws : List (Option Scan)) (alone : Bool) → alone ≡ not (list_any is_some ws) → IsAlone alone ws
 alone_first ws alone e f = is_false (list_any is_some ws) (sym e ∙ f)
-  where
-    is_false : (c : Bool) → not c ≡ true → c ≡ false
-    is_false false k = refl
-    is_false true k = absurd (cc)
 
 pub alone_still : (h g k : HeapState) (alone : Bool) (a : ℕ) (xs ys zs : List ℕ) → IsAlone alone h.workers
     → IsNextObject h xs a g ys → all_noted k zs ≡ scanned (all_noted g ys) a → IsAlone alone k.workers

@@ -2,7 +2,7 @@
 //! order, is ours).
 
 ghost use Rattle.std.specs.Prelude.{◌≡◌, ◌≢◌, ◌<◌, ◌≤◌, ◌∷◌, Ok, Some, None, MatchBool, slice_get};
-ghost use Rattle.std.specs.Prelude.{reverse, not, is_some, true, false};
+ghost use Rattle.std.specs.Prelude.{reverse, not, is_some, true, false, IfSome};
 ghost use Rattle.std.specs.List.{list_any};
 ghost use Rattle.model.specs.Scans.{is_scan_of, is_taken, may_scan, next_todo, next_drain};
 ghost use Rattle.drains.specs.Drains.{IsDrained, IsReady, ObjectsDone, KeepsPlain};
@@ -158,7 +158,7 @@ pub fn drain(heap: &mut Heap, worker: u32, most: u64) -> u64
     portion.objects
 }
 
-/// What a portion of a drain came to.
+/// What a portion of a drain came to (ours).
 #[derive(Clone, Copy, Debug, PartialEq, Eq)]
 pub struct Portion {
     /// How many objects were scanned.
@@ -167,14 +167,16 @@ pub struct Portion {
     pub has_ended: bool,
 }
 
-/// A portion of a drain, in which also the references are bounded: as `drain`, but it stops behind the
-/// object with which so many references were scanned, as well. An object has at most 1,023 references.
+/// A portion of a drain, in which also the references are bounded (ours): as `drain`, but it stops behind
+/// the object with which so many references were scanned, as well. An object has at most 1,023 references.
+/// Where it may scan any object and reference, it scans one, or nothing is left.
 pub fn drain_some(heap: &mut Heap, worker: u32, most: u64, references: u64) -> Portion
     requires { IsReady heap.old worker }
     ensures drained { IsDrained heap.old worker result.objects heap.new }
     ensures stands { KeepsPlain heap.old heap.new }
     ensures few { result.objects ≤ most }
     ensures end { result.has_ended ≡ true → next_drain heap.new worker ≡ None }
+    ensures goes { 0 < most → 0 < references → result.has_ended ≡ false → 0 < result.objects }
 {
     refinement::law();
     mark_globals(heap, worker);
@@ -184,7 +186,8 @@ pub fn drain_some(heap: &mut Heap, worker: u32, most: u64, references: u64) -> P
 /// Whether so many references are as many as are to be scanned, if that is bounded.
 #[inline(always)]
 fn is_enough(scanned: u64, limit: Option<u64>) -> bool
-    ensures { limit ≡ None → result ≡ false }
+    ensures free { limit ≡ None → result ≡ false }
+    ensures many { result ≡ true → IfSome limit (λ most. most ≤ scanned) }
 {
     match limit {
         None => false,
@@ -200,6 +203,7 @@ fn scan_objects(heap: &mut Heap, worker: u32, most: u64, limit: Option<u64>) -> 
     ensures few { result.objects ≤ most }
     ensures end { result.has_ended ≡ true → next_todo heap.new ≡ None }
     ensures all { limit ≡ None → result.objects < most → result.has_ended ≡ true }
+    ensures goes { 0 < most → IfSome limit (λ n. 0 < n) → result.has_ended ≡ false → 0 < result.objects }
 {
     let alone = is_alone(heap);
     let mut waiting = Waiting::new();

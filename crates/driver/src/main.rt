@@ -1,11 +1,12 @@
 //! Drives heaps by random steps, which the verifier looks at: half of them are of threads, with random
-//! operands, and half of workers, in a cycle without end.
+//! operands, and half of workers, in a cycle without end. And makes objects that nobody keeps.
 //!
 //! | Words | What is done |
 //! |---|---|
 //! | `HEAP SEED STEPS` | so many steps of a book, whose heap is verified after each accepted one |
 //! | `HEAP SEED STEPS EVERY` | the same without a history, verified after each so many accepted ones |
 //! | `HEAP SEED STEPS EVERY 1` | and it prints how often each kind of step was accepted |
+//! | `waste COUNT` | so many objects are made that nobody keeps, a quarter in each of the smallest heaps |
 //!
 //! `setups` has the heaps. A work ends with an error where the verifier finds a fault, where a kind of
 //! step was never accepted, no trap moved a word, or no heal found its place changed. The word `then`
@@ -20,12 +21,14 @@ mod numbers;
 mod setups;
 mod telling;
 mod tending;
+mod wasting;
 
 use crate::counts::Counts;
 use crate::driven::Driven;
 use crate::driving::{Drive, goes};
 use crate::setups::setup;
 use crate::telling::{misses, tell};
+use crate::wasting::waste_in_each;
 use anyhow::{Result, bail};
 use heap::Heap;
 use pauseless::{Book, Config};
@@ -47,8 +50,16 @@ fn by_heap(alloc: Global, config: Config, how: Drive) -> Result<Counts> {
     drives(alloc, Heap::new(alloc, config)?, how)
 }
 
-/// Does one work, and prints what it has come to.
-fn work<R: Print>(rt: &R, alloc: Global, work: &Work) -> Result<()> {
+/// Makes so many objects that nobody keeps, and prints what has come of it.
+fn waste<R: Print>(rt: &R, alloc: Global, objects: u32) -> Result<()> {
+    let count = objects / 4;
+    let number = waste_in_each(alloc, u64::from(count))?;
+    println!(rt; "{count} in each of 4 heaps, {number} is kept")?;
+    Ok(())
+}
+
+/// Drives a heap, and prints what it has come to.
+fn drive<R: Print>(rt: &R, alloc: Global, work: &Work) -> Result<()> {
     let [seed, steps, every, all, _] = work.numbers;
     let Some((config, habits)) = setup(alloc, work.name.as_str())? else {
         bail!("no such heap");
@@ -70,6 +81,15 @@ fn work<R: Print>(rt: &R, alloc: Global, work: &Work) -> Result<()> {
     misses(&counts, habits)?;
     println!(rt; "{} {steps}", work.name)?;
     Ok(())
+}
+
+/// Does one work.
+fn work<R: Print>(rt: &R, alloc: Global, asked: &Work) -> Result<()> {
+    if asked.name.as_str() == "waste" {
+        let [objects, _, _, _, _] = asked.numbers;
+        return waste(rt, alloc, objects);
+    }
+    drive(rt, alloc, asked)
 }
 
 /// Does each work.

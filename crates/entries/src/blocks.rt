@@ -12,7 +12,7 @@ use std::marker::Model;
 use std::mem::replace;
 
 /// An entry as it is kept.
-#[derive(Clone, Copy, Debug)]
+#[derive(Clone, Copy)]
 pub(crate) struct Kept {
     pub(crate) actor: Actor,
     pub(crate) event: Event,
@@ -28,7 +28,7 @@ const MOST: usize = 1 << 62;
 
 /// A list of entries, in blocks: one that is full stays where it is as more entries come. The first
 /// block grows as it is filled. A contract sees the list, and whether there is room for one more.
-#[derive(Debug, Drop)]
+#[derive(Drop)]
 pub(crate) struct Blocks {
     full: Vec<Vec<Kept, Global>, Global>,
     /// The block that isn't full, or the last one.

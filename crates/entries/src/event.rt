@@ -9,7 +9,7 @@ use model::{Answer, Step};
 
 /// A step and its answer, in 24 bytes: each is named by its step, and has the numbers of the step,
 /// then those of the answer. `Whole` has the place of an entry that stands whole.
-#[derive(Clone, Copy, Debug)]
+#[derive(Clone, Copy)]
 pub(crate) enum Event {
     Take(u32, u32, u32),
     GiveBack,

@@ -11,13 +11,14 @@ use crate::entry::{Entry, EntryRef};
 use crate::event::{Event, answer_in, place_in, short_event, step_in};
 use model::{Actor, Answer, Step};
 use std::alloc::{AllocError, Global};
+use std::fmt;
 use std::marker::Model;
 
 /// Accepted steps with their answers, oldest first. An entry takes 32 bytes; that of `Protect`, and
 /// of a step with an answer that it never has in a heap, takes 64 more, and the list (ours).
 ///
 /// A contract sees the list of the entries, and whether there is room for one more.
-#[derive(Debug, Drop)]
+#[derive(Drop)]
 pub struct History {
     kept: Blocks,
     /// The entries that have no short form.
@@ -128,5 +129,14 @@ impl History {
                 );
             }
         }
+    }
+}
+
+impl fmt::Debug for History {
+    /// How many entries there are, and none of them: a book may have a million.
+    fn fmt<W: fmt::Write>(&self, f: &mut fmt::Formatter<W>) -> fmt::Result {
+        f.debug_struct("History")
+            .field("len", &self.len())
+            .finish_non_exhaustive()
     }
 }

@@ -111,10 +111,7 @@ fn make_of(alloc: Global, config: Config) -> Result<Box<Held>, u32>
     match ManagedHeap::new(alloc, config) {
         Ok(heap) => {
             let parts = Parts::new(alloc);
-            match Box::new(alloc, Held { heap, parts }) {
-                Ok(held) => Ok(held),
-                Err(_) => Err(NO_MEMORY),
-            }
+            Box::new(alloc, Held { heap, parts }).ok().ok_or(NO_MEMORY)
         }
         Err(NewFault::Config(fault)) => Err(config_code(fault)),
         Err(NewFault::Memory) => Err(NO_MEMORY),

@@ -1,6 +1,6 @@
 //! Scans of one worker.
 
-ghost use Rattle.std.specs.Prelude.{◌≡◌, ◌<◌, ◌≤◌, None, true};
+ghost use Rattle.std.specs.Prelude.{◌≡◌, ◌<◌, ◌≤◌, None, true, false};
 ghost use Rattle.drains.specs.Drains.{IsReady};
 ghost use Rattle.model.specs.Scans.{next_drain};
 ghost use Rattle.managed.specs.Goings.{EndsDrain, EndsScan, Goes, IsDrain, IsScan, ScansFar, ScansObjects};
@@ -57,14 +57,16 @@ impl ManagedHeap {
         drain(&mut self.heap, worker, most)
     }
 
-    /// A portion of that, in which also the references are bounded: it stops behind the object with which so
-    /// many were scanned, as well. An object has at most 1,023 references.
+    /// A portion of that, in which also the references are bounded (ours): it stops behind the object with
+    /// which so many were scanned, as well. An object has at most 1,023 references. Where it may scan any
+    /// object and reference, it scans one, or nothing is left.
     pub fn scan_portion(&mut self, worker: u32, most: u64, references: u64) -> Portion
         requires { IsReady self.old worker }
         ensures objects { ScansObjects worker result.objects self.old self.new }
         ensures stands { StandsForSame self.old self.new }
         ensures few { result.objects ≤ most }
         ensures end { result.has_ended ≡ true → next_drain self.new worker ≡ None }
+        ensures goes { 0 < most → 0 < references → result.has_ended ≡ false → 0 < result.objects }
     {
         refinement::law();
         drain_some(&mut self.heap, worker, most, references)

@@ -101,7 +101,11 @@ pub fn settle(book: Book, seats: Vec<Seat>) -> Result<Settled, Stray>
         × ((a : Actor) → is_before a s.actor ≡ true → Agrees book.history seats.items a)) }
 {
     match first_stray(book.history(), seats.as_slice()) {
-        Some(actor) => Err(Stray { actor }),
+        Some(actor) => {
+            drop(seats);
+            drop(book);
+            Err(Stray { actor })
+        }
         None => Ok(Settled { book, seats }),
     }
 }

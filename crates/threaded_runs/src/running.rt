@@ -148,13 +148,11 @@ fn raced<R: Threads + Wait + Sync, G: Gate + Sync>(
         threads: config.threads,
         registers: config.registers,
     };
-    match Shared::open(alloc, book) {
-        Ok((shared, seats)) => {
-            let seats = played(rt, alloc, &shared, seats, sizes, commands, gate);
-            settled_or_stray(shared, seats)
-        }
-        Err(_) => Err(ThreadsFault::Memory),
-    }
+    let Some((shared, seats)) = Shared::open(alloc, book).ok() else {
+        return Err(ThreadsFault::Memory);
+    };
+    let seats = played(rt, alloc, &shared, seats, sizes, commands, gate);
+    settled_or_stray(shared, seats)
 }
 
 /// The book and the seats, where they agree.

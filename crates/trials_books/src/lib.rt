@@ -1,4 +1,4 @@
-//! The tests of books: steps with their answers, whole loads, marks and cycles, and histories.
+//! The tests of books: steps with their answers, whole loads, drains, copies by halves, and histories.
 #![tactic(auto)]
 
 #[cfg(test)]
@@ -13,7 +13,5 @@ mod loads;
 mod marks;
 #[cfg(test)]
 mod numbered;
-#[cfg(test)]
-mod plans;
 #[cfg(test)]
 mod same;

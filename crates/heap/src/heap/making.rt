@@ -3,7 +3,7 @@
 ghost use Rattle.std.specs.Prelude.{◌≡◌, false, None, replicate, IfOk};
 ghost use Rattle.model.specs.Configs.{IsRanged};
 ghost use Rattle.model.specs.First.{first_heap, blank_rows, blank_thread};
-ghost use Rattle.heap.specs.Making.{Makes};
+ghost use Rattle.heap.specs.Making.{AreBlank, Makes};
 
 use crate::fault::NewFault;
 use crate::globals::Globals;
@@ -71,6 +71,33 @@ fn blank_rows(alloc: Memory, config: &Config) -> Result<BlankRows, AllocError>
     })
 }
 
+/// What a new heap is made of, beside its configuration.
+#[derive(Drop)]
+struct BlankParts {
+    store: Store,
+    sides: Sides,
+    rows: BlankRows,
+    actors: BlankActors,
+}
+
+/// All parts, each of which can fail by memory. What is let go at the cost of the longest proof, where a
+/// later one fails, is made last.
+fn blank_parts(alloc: Memory, config: &Config) -> Result<BlankParts, AllocError>
+    requires { IsRanged config.now }
+    ensures { IfOk result (AreBlank config.now) }
+{
+    let sides = Sides::new(alloc, record_count(config.frames, config.pages))?;
+    let actors = blank_actors(alloc, config)?;
+    let rows = blank_rows(alloc, config)?;
+    let store = Store::new(alloc, config.words, config.frames, config.pages)?;
+    Ok(BlankParts {
+        store,
+        sides,
+        rows,
+        actors,
+    })
+}
+
 impl Heap {
     /// A heap of this configuration: all pages unused, all registers and globals null, no
     /// births, all threads crossed and running, the collector idle.
@@ -83,35 +110,33 @@ impl Heap {
         if let Some(fault) = config.fault() {
             return Err(NewFault::Config(fault));
         }
-        match Heap::first(alloc, config) {
-            Ok(heap) => Ok(heap),
+        match blank_parts(alloc, &config) {
+            Ok(parts) => Ok(Heap::first(config, parts)),
             Err(_) => Err(NewFault::Memory),
         }
     }
 
+    /// The heap of these parts.
     #[tactic(auto, unfolding(model::specs::First::first_heap))]
-    fn first(alloc: Memory, config: Config) -> Result<Heap, AllocError>
-        requires { IsRanged config }
-        ensures { IfOk result (λ h. h ≡ first_heap config) }
+    fn first(config: Config, parts: BlankParts) -> Heap
+        requires ranged { IsRanged config }
+        requires blank { AreBlank config parts }
+        ensures { result ≡ first_heap config }
     {
-        let store = Store::new(alloc, config.words, config.frames, config.pages)?;
-        let rows = blank_rows(alloc, &config)?;
-        let sides = Sides::new(alloc, record_count(config.frames, config.pages))?;
-        let actors = blank_actors(alloc, &config)?;
-        Ok(Heap {
-            store,
-            starts: rows.starts,
-            live: rows.live,
-            mark: rows.mark,
-            todo: rows.todo,
-            sides,
-            threads: actors.threads,
-            workers: actors.workers,
-            globals: actors.globals,
+        Heap {
+            store: parts.store,
+            starts: parts.rows.starts,
+            live: parts.rows.live,
+            mark: parts.rows.mark,
+            todo: parts.rows.todo,
+            sides: parts.sides,
+            threads: parts.actors.threads,
+            workers: parts.actors.workers,
+            globals: parts.actors.globals,
             phase: Phase::Idle,
             nmt: false,
             births: 0,
             config,
-        })
+        }
     }
 }

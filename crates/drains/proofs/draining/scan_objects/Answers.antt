@@ -1,4 +1,4 @@
-use Rattle.std.proofs.Common.{reverse}
+use Rattle.std.proofs.Common.{refl, arith, reverse}
 use Rattle.drains.proofs.Waiting.{objects_begin, object_more, alone_first, alone_still}
 use Rattle.drains.proofs.draining.scan_objects.Goals as goal
 
@@ -6,7 +6,7 @@ pub loop-done-init : goal.loop-done-init
 loop-done-init c =
     let (done, waiting) =
     objects_begin c.args.heap.now c.args.worker c.new-waiting.result.items c.requires c.new-waiting.ensures in
-    (done, waiting, alone_first c.args.heap.now.workers c.is_alone-alone.result c.is_alone-alone.ensures)
+    (done, waiting, alone_first c.args.heap.now.workers c.is_alone-alone.result c.is_alone-alone.ensures, λ first. refl)
 
 pub loop-done-preserved : goal.loop-done-preserved
 loop-done-preserved c = (
@@ -19,4 +19,5 @@ loop-done-preserved c = (
       c.in-Some.address (reverse c.loop-done.waiting.items) (reverse c.next_object.new.waiting.items)
       (reverse c.scan_object-scanned.new.waiting.items) c.loop-done.invariant.2 c.in-Some.ensures
       c.scan_object-scanned.ensures.scanned,
+  λ first. absurd (omega (arith, first)),
 )

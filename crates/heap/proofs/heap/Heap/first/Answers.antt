@@ -16,25 +16,24 @@ rows_for c new e = subst (AreRowsFor c) (sym e) (first_rows c)
 pub invariant_of-result : goal.invariant_of-result
 unfolding first_store
 invariant_of-result c = record {
-  config = c.requires;
+  config = c.requires.ranged;
   sizes = record {
-    words = ap (λ (s : StoreState). s.words) c.in_ok-store.ensures;
-    frames = ap (λ (s : StoreState). length s.frames) c.in_ok-store.ensures ∙ length-replicate c.args.config.frames _;
-    pages = ap (λ (s : StoreState). s.count) c.in_ok-store.ensures;
-    threads = ap length c.in_ok-actors.ensures.threads ∙ length-replicate c.args.config.threads _;
-    workers = ap length c.in_ok-actors.ensures.workers ∙ length-replicate c.args.config.workers _;
-    globals = ap length c.in_ok-actors.ensures.globals ∙ length-replicate c.args.config.globals _;
+    words = ap (λ (s : StoreState). s.words) c.requires.blank.store;
+    frames = ap (λ (s : StoreState). length s.frames) c.requires.blank.store ∙ length-replicate c.args.config.frames _;
+    pages = ap (λ (s : StoreState). s.count) c.requires.blank.store;
+    threads = ap length c.requires.blank.threads ∙ length-replicate c.args.config.threads _;
+    workers = ap length c.requires.blank.workers ∙ length-replicate c.args.config.workers _;
+    globals = ap length c.requires.blank.globals ∙ length-replicate c.args.config.globals _;
   };
-  starts = rows_for c.args.config _ c.in_ok-rows.ensures.starts;
-  live = rows_for c.args.config _ c.in_ok-rows.ensures.live;
-  mark = rows_for c.args.config _ c.in_ok-rows.ensures.mark;
-  todo = rows_for c.args.config _ c.in_ok-rows.ensures.todo;
-  sides = subst (AreSidesFor c.args.config) (sym (c.in_ok-sides.ensures
-      ∙ ap (λ n. replicate n []) c.record_count.ensures)) (first_sides c.args.config);
+  starts = rows_for c.args.config _ c.requires.blank.starts;
+  live = rows_for c.args.config _ c.requires.blank.live;
+  mark = rows_for c.args.config _ c.requires.blank.mark;
+  todo = rows_for c.args.config _ c.requires.blank.todo;
+  sides = subst (AreSidesFor c.args.config) (sym c.requires.blank.sides) (first_sides c.args.config);
   births = omega arith;
   buffers = first_fills _ c.args.config.threads c.args.config.registers
-      _ c.in_ok-actors.ensures.threads;
-  idle = λ e. subst NoneProtected (sym c.in_ok-store.ensures)
+      _ c.requires.blank.threads;
+  idle = λ e. subst NoneProtected (sym c.requires.blank.store)
       (each_replicate (λ p. is_protected p.state ≡ false) (record_count c.args.config.frames c.args.config.pages)
       blank_page refl);
 }

@@ -1,5 +1,4 @@
-//! Objects that nobody keeps, as many as the command line says, in the smallest heaps: these are collected
-//! as it goes, and are never full. A number that is left out is 100,000.
+//! Objects that nobody keeps, in the smallest heaps: these are collected as it goes, and are never full.
 //!
 //! | Frames | Pages | Words of a page | Kept |
 //! |---|---|---|---|
@@ -7,12 +6,10 @@
 //! | 1 | 2 | 16 | nothing |
 //! | 2 | 2 | 16 | the last object |
 //! | 3 | 6 | 16 | the last object, and the first one, whose number is still there at the end |
-#![tactic(auto)]
 
 use anyhow::Result;
 use pauseless::{Config, Heap, Holding, Layout, Layouts, Policy};
 use std::alloc::Global;
-use std::env;
 
 /// The program's one thread.
 const ME: u32 = 0;
@@ -27,14 +24,6 @@ const WORDS: u32 = 16;
 
 /// A number that is kept.
 const NUMBER: u64 = 4711;
-
-/// How many objects each of the four heaps makes.
-fn count(rt: &HostRuntime) -> Result<u64> {
-    for word in env::args(rt)?.skip(1) {
-        return Ok(word.parse::<u64>()? / 4);
-    }
-    Ok(25_000)
-}
 
 /// A heap of so many frames and pages.
 fn new_heap(alloc: Global, frames: u32, pages: u32) -> Result<Heap> {
@@ -96,16 +85,6 @@ fn waste_in_two(alloc: Global, count: u64) -> Result<()> {
     )
 }
 
-/// The same in a heap of three frames, which keeps one object.
-fn keep_in_three(alloc: Global, count: u64) -> Result<u64> {
-    keep_one(
-        alloc,
-        new_heap(alloc, 3, 6)?,
-        Policy::usual(WORDS, 3),
-        count,
-    )
-}
-
 /// The same in a heap that keeps one object. Gives the number in it at the end.
 fn keep_one(
     alloc: Global,
@@ -119,11 +98,8 @@ fn keep_one(
     Ok(heap.datum(ME, KEPT, 0)?)
 }
 
-/// Makes so many objects in each of the four heaps. Gives the number that one of them keeps.
-fn soak(alloc: Global, count: u64) -> Result<u64> {
-    waste_in_one(alloc, 1, count)?;
-    waste_in_one(alloc, 2, count)?;
-    waste_in_two(alloc, count)?;
+/// The same in a heap of three frames and six pages, which keeps one object.
+fn keep_in_three(alloc: Global, count: u64) -> Result<u64> {
     keep_one(
         alloc,
         new_heap(alloc, 3, 6)?,
@@ -132,9 +108,10 @@ fn soak(alloc: Global, count: u64) -> Result<u64> {
     )
 }
 
-fn main(rt: HostRuntime) -> Result<()> {
-    let count = count(&rt)?;
-    let number = soak(rt.alloc(), count)?;
-    println!(rt; "{count} in each of 4 heaps, {number} is kept")?;
-    Ok(())
+/// Makes so many objects in each of the four heaps. Gives the number that one of them keeps.
+pub fn waste_in_each(alloc: Global, count: u64) -> Result<u64> {
+    waste_in_one(alloc, 1, count)?;
+    waste_in_one(alloc, 2, count)?;
+    waste_in_two(alloc, count)?;
+    keep_in_three(alloc, count)
 }
