@@ -1,11 +1,19 @@
 # What the tests of the program begin with; they read it by '.', at the top of
 # the repository. The program is ./pauseless, or the one that the first argument
-# names. $kept is a folder that is gone at the end.
+# names. $kept is a folder that is gone at the end. Where $in_memory is set it is on
+# a file system in memory, if there is one that programs may be run from: a file
+# that is written anew in each of many runs waits for a disk each time.
 
 program=${1:-./pauseless}
 passed=0
 failed=0
 
-kept=$(mktemp -d) || exit 1
+if [ -n "$in_memory" ] && [ -w /dev/shm ] && kept=$(TMPDIR=/dev/shm mktemp -d); then
+    cp /bin/true "$kept/true"
+    "$kept/true" 2> /dev/null || { rm -rf "$kept"; in_memory=; }
+else
+    in_memory=
+fi
+[ -n "$in_memory" ] || kept=$(mktemp -d) || exit 1
 trap 'rm -rf "$kept"' EXIT
 trap 'exit 1' HUP INT TERM

@@ -8,6 +8,7 @@
 
 cd "$(dirname "$0")/.." || exit 1
 crates=${1:-crates}
+in_memory=1
 . tests/begin.sh
 . tests/refusing.sh
 

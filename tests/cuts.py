@@ -5,8 +5,8 @@ Each beginning of a script that has no fault ends as its lines say: where it is 
 layout line and no open block, it is run, and the lines of its commands are the first ones of NAME.expected; else it is
 one fault that SCRIPT.md names, in its last line or at its end. A beginning of another script, and a script with one
 byte changed to any other, is run or is one such fault, which doesn't stand before the changed byte's line. Nothing is
-printed where there is a fault, and no run ends otherwise. The last line is 'N passed, M failed': each script is one
-test, and its changed bytes are another one. The line before says how many runs there were.
+printed where there is a fault, and no run ends otherwise. The last line is 'N passed, M failed': each script that is
+cut is one test, and so are the bytes of each line that are changed. The line before says how many runs there were.
 """
 
 import glob
@@ -26,6 +26,8 @@ FAULT = re.compile(r"pauseless: line (\d+) column (\d+): (.*)\n")
 CUT = {"run": ("examples/*", "tests/scripts/*"), "threads": ("examples/threads/*", "tests/threads/two_lists")}
 # The scripts of which each byte is changed to each other one.
 CHANGED = ("examples/first.script",)
+# Where there is one, a file system in memory: a file that is written anew so often waits for a disk each time.
+MEMORY = "/dev/shm"
 NEW = os.O_WRONLY | os.O_CREAT | os.O_TRUNC
 
 
@@ -39,7 +41,7 @@ class Runs:
 
     def __init__(self, program, mode):
         self.program, self.mode = program, mode
-        self.folder = tempfile.TemporaryDirectory(prefix="cuts-")
+        self.folder = tempfile.TemporaryDirectory(prefix="cuts-", dir=MEMORY if os.path.isdir(MEMORY) else None)
         self.script, self.output, self.errors = (f"{self.folder.name}/{it}" for it in ("script", "output", "errors"))
 
     def end(self, text):
@@ -111,19 +113,19 @@ def cut(program, mode, script):
     return len(whole) + 1
 
 
-def change(program, mode, script):
-    """Runs a script with each of its bytes changed to each other one. Gives how many runs there were."""
-    whole, runs = read(script), Runs(program, mode)
-    for at, byte in enumerate(whole):
-        line = whole.count(b"\n", 0, at) + 1
+def change(program, mode, line, script):
+    """Runs a script with each byte of a line changed to each other one. Gives how many runs there were."""
+    lines, runs = read(script).splitlines(keepends=True), Runs(program, mode)
+    before, text, behind = b"".join(lines[:line - 1]), lines[line - 1], b"".join(lines[line:])
+    for at, byte in enumerate(text):
         for other in set(range(256)) - {byte}:
             try:
-                fault = fault_of(runs.end(whole[:at] + bytes([other]) + whole[at + 1:]))
+                fault = fault_of(runs.end(before + text[:at] + bytes([other]) + text[at + 1:] + behind))
                 if fault and fault[0] < line:
                     raise ValueError(f"line {fault[0]}")
             except ValueError as error:
-                raise ValueError(f"byte {at} changed to {other}: {error}") from None
-    return 255 * len(whole)
+                raise ValueError(f"byte {at} of line {line} changed to {other}: {error}") from None
+    return 255 * len(text)
 
 
 def try_one(what):
@@ -137,7 +139,8 @@ def try_one(what):
 
 def main(program):
     program = os.path.abspath(program)
-    tests = [(change, program, "run", script) for script in CHANGED]
+    tests = [(change, program, "run", line + 1, script)
+             for script in CHANGED for line in range(len(read(script).splitlines()))]
     for mode, patterns in CUT.items():
         scripts = sorted(script for it in patterns for script in glob.glob(f"{it}.script"))
         tests += [(cut, program, mode, script) for script in scripts]

@@ -7,6 +7,7 @@
 # The program is ./pauseless, or the one that the first argument names.
 
 cd "$(dirname "$0")/.." || exit 1
+in_memory=1
 . tests/begin.sh
 . tests/refusing.sh
 

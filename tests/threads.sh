@@ -6,6 +6,7 @@
 # program is ./pauseless, or the one that the first argument names.
 
 cd "$(dirname "$0")/.." || exit 1
+in_memory=1
 . tests/begin.sh
 
 # races SCRIPT: runs the program on the script.

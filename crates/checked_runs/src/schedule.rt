@@ -126,7 +126,9 @@ fn run_checked<W: io::Write>(alloc: Global, script: &Script, w: &mut W) -> Resul
     ensures { IfOk result IsClean }
 {
     let mut book = new_book(alloc, script)?;
-    check_book(alloc, &mut book, script.commands(), w)
+    let checked = check_book(alloc, &mut book, script.commands(), w);
+    drop(book);
+    checked
 }
 
 /// Runs a script on a new heap as `by_schedule` does, and verifies the heap before the first command

@@ -12,7 +12,7 @@ use Rattle.layout.specs.declared.shape.Layout.{Layout}
 use Rattle.model.specs.declared.records.Scan.{Scan}
 use Rattle.model.specs.declared.steps.Refusal.{Refusal}
 use Rattle.model.specs.declared.steps.Refusal.TheVariants as refusals
-use Rattle.model.specs.Bits.{bit_at, with_bit}
+use Rattle.model.specs.Bits.{bit_at}
 use Rattle.model.specs.Holding.{IsHeap}
 use Rattle.heap.proofs.Keeping.{store_keeps}
 use Rattle.heap.proofs.Marking.{marks_keep, bit_keeps, bit_kept}

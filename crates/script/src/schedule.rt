@@ -123,7 +123,9 @@ fn scheduled<W: io::Write>(alloc: Global, script: &Script, w: &mut W) -> Result<
     ensures { OnOk result (Appends (W.contents w.old) (W.contents w.new) (output_text (script_alone script.now))) }
 {
     let mut book = new_book(alloc, script)?;
-    tell_all(alloc, &mut book, script.commands(), w)
+    let told = tell_all(alloc, &mut book, script.commands(), w);
+    drop(book);
+    told
 }
 
 /// Runs a script on a new heap: writes the line of each command, and then the report.

@@ -90,7 +90,11 @@ fn race_script<S: Threads + Wait + Sync, W: io::Write + Drop>(
     ensures kept { IfErr result (λ fault. fault_status fault ≡ 2 → output.new ≡ output.old) }
 {
     match by_threads(rt, alloc, script, &OpenGate) {
-        Ok(settled) => told_settled(&settled, output),
+        Ok(settled) => {
+            let told = told_settled(&settled, output);
+            drop(settled);
+            told
+        }
         Err(ThreadsFault::Stray(actor)) => told_stray(actor, output),
         Err(ThreadsFault::Line(fault)) => Err(ServeFault::Parse(ParseFault::Line(fault))),
         Err(ThreadsFault::Memory) => Err(ServeFault::Run(RunFault::Memory)),

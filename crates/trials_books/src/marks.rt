@@ -87,11 +87,7 @@ fn have_drained(rt: &impl Abort, ended: Answer, replies: &[Result<Answer, Refusa
         live: 1,
         retired: 0,
     };
-    let wanted = [
-        Ok(Answer::Done),
-        Ok(Answer::Scanned),
-        Ok(Answer::Finished),
-    ];
+    let wanted = [Ok(Answer::Done), Ok(Answer::Scanned), Ok(Answer::Finished)];
     same(rt, ended, one);
     same(rt, replies, wanted.as_slice());
 }

@@ -1,4 +1,4 @@
-use Rattle.std.proofs.Common.{◌≡◌, ◌∙◌, Bool, false, List, [], replicate, ap, refl, sym, subst, arith, length}
+use Rattle.std.proofs.Common.{◌≡◌, ◌∙◌, Bool, false, List, ap, refl, sym, subst, arith, length}
 use Rattle.std.proofs.Math.ListN.{length-replicate}
 use Rattle.model.specs.Stores.{StoreState, first_store, record_count, blank_page, is_protected}
 use Rattle.model.specs.Owning.{NoneProtected}
