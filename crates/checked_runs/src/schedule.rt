@@ -127,6 +127,7 @@ fn run_checked<W: io::Write>(alloc: Global, script: &Script, w: &mut W) -> Resul
 {
     let mut book = new_book(alloc, script)?;
     let checked = check_book(alloc, &mut book, script.commands(), w);
+    // (by a call: what goes out of scope is let go in the steps of this function, which are proved)
     drop(book);
     checked
 }

@@ -124,6 +124,7 @@ fn scheduled<W: io::Write>(alloc: Global, script: &Script, w: &mut W) -> Result<
 {
     let mut book = new_book(alloc, script)?;
     let told = tell_all(alloc, &mut book, script.commands(), w);
+    // (by a call: what goes out of scope is let go in the steps of this function, which are proved)
     drop(book);
     told
 }

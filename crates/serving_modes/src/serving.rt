@@ -92,6 +92,7 @@ fn race_script<S: Threads + Wait + Sync, W: io::Write + Drop>(
     match by_threads(rt, alloc, script, &OpenGate) {
         Ok(settled) => {
             let told = told_settled(&settled, output);
+            // (by a call: what goes out of scope is let go in the steps of this function, which are proved)
             drop(settled);
             told
         }

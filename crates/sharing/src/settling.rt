@@ -102,6 +102,7 @@ pub fn settle(book: Book, seats: Vec<Seat>) -> Result<Settled, Stray>
 {
     match first_stray(book.history(), seats.as_slice()) {
         Some(actor) => {
+            // (by a call: what goes out of scope is let go in the steps of this function, which are proved)
             drop(seats);
             drop(book);
             Err(Stray { actor })

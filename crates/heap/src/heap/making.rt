@@ -80,8 +80,8 @@ struct BlankParts {
     actors: BlankActors,
 }
 
-/// All parts, each of which can fail by memory. What is let go at the cost of the longest proof, where a
-/// later one fails, is made last.
+/// All parts. Fails only by memory. The store comes last, so that it is never let go here, where that takes the
+/// longest proof of all.
 fn blank_parts(alloc: Memory, config: &Config) -> Result<BlankParts, AllocError>
     requires { IsRanged config.now }
     ensures { IfOk result (AreBlank config.now) }
