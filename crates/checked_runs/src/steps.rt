@@ -13,9 +13,10 @@ ghost use Rattle.parser.specs.Orders.{step_of};
 ghost use Rattle.script.specs.Output.{done};
 
 use cycle::{Actor, Book, MOST_TRAPS, Reply, Step, is_clear, next_drain};
+use heap_images::verify;
 use parser::{Command, Then};
 use std::alloc::{AllocError, Global};
-use verify::{Fault, Verdict, one_verdict, verify};
+use verify::{Fault, Verdict, one_verdict};
 
 /// Why the steps of a command stop before their end.
 #[derive(Clone, Copy, Debug, PartialEq, Eq)]

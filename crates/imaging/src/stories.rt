@@ -2,6 +2,7 @@
 
 use cycle::{Actor, Book, PageList, Reply, Step};
 use heap::{Config, NewFault, Refusal};
+use heap_images::image_of;
 use layout::{Layout, Layouts};
 use std::alloc::{AllocError, Global};
 use std::test::Fail;
@@ -42,7 +43,7 @@ impl Telling for Book {
     }
 
     fn image(&self, alloc: Global) -> Result<Image, AllocError> {
-        Image::of(alloc, self.heap())
+        image_of(alloc, self.heap())
     }
 }
 

@@ -32,9 +32,10 @@ pub use cycle::{
 };
 pub use drains::{Portion, is_ready};
 pub use heap::{Config, ConfigFault, NewFault, Refusal};
+pub use heap_images::{image_of, verify};
 pub use layout::{Layout, Layouts};
 pub use managed::ManagedHeap as Heap;
 pub use reporting::{ReportFault, report_heap};
 pub use sharing::{Seat, Settled, Shared, Stray, settle};
-pub use verify::{Fault, Image, PageImage, Root, Verdict, Words, verify, verify_image};
+pub use verify::{Fault, Image, PageImage, Root, Verdict, Words, verify_image};
 pub use verifying::verify_held;

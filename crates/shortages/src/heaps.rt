@@ -2,12 +2,13 @@
 
 use cycle::{Actor, Reply, Step, Stepping, next_drain};
 use heap::{Config, Heap, NewFault, Refusal};
+use heap_images::{image_of, verify};
 use layout::{Layout, Layouts};
 use managed::ManagedHeap;
 use model::Phase;
 use std::alloc::{AllocError, Global};
 use std::fmt::Write as _;
-use verify::{Image, Verdict, verify};
+use verify::Verdict;
 
 const THREAD: Actor = Actor::Thread(0);
 
@@ -69,7 +70,7 @@ impl Moving for Heap {
     }
 
     fn text(&self, alloc: Global) -> Result<String, AllocError> {
-        let image = Image::of(alloc, self)?;
+        let image = image_of(alloc, self)?;
         text_of(alloc, &image)
     }
 

@@ -11,7 +11,6 @@ use std::fmt::Debug;
 use std::sync::Wait;
 use std::test::Fail;
 use std::thread::Threads;
-use verify::Image;
 
 /// A shared book with its seats, and the depth to which it halves what it copies.
 #[derive(Drop)]
@@ -80,7 +79,7 @@ pub fn ask<R: Threads + Wait + Sync>(
 
 /// The image of a heap, as a text.
 pub fn image_of(alloc: Global, heap: &Heap) -> Result<String, AllocError> {
-    let image = Image::of(alloc, heap)?;
+    let image = heap_images::image_of(alloc, heap)?;
     text_of(alloc, &image)
 }
 

@@ -4,6 +4,7 @@ use crate::same::same;
 use checked_runs::{FaultText, verify_book};
 use cycle::{Actor, Answer, Book, Step};
 use heap::NewFault;
+use heap_images::{image_of, verify};
 use held::{HeldBook, act};
 use imaging::{add_entry, set_load, set_page};
 use layout::{Layout, Layouts};
@@ -12,7 +13,7 @@ use std::alloc::{AllocError, Global};
 use std::fmt::{Display, Write as _};
 use std::process::Abort;
 use std::test::Fail;
-use verify::{Fault, Image, Root, Verdict, verify, verify_image};
+use verify::{Fault, Image, Root, Verdict, verify_image};
 
 const THREAD: Actor = Actor::Thread(0);
 
@@ -87,7 +88,7 @@ fn text_of<D: Display>(alloc: Global, what: &D) -> Result<String, AllocError> {
 
 /// The heap of a book has an image of this text, and is sound.
 fn looks(rt: &impl Abort, alloc: Global, book: &Book, wanted: &str) -> Result<(), AllocError> {
-    let image = Image::of(alloc, book.heap())?;
+    let image = image_of(alloc, book.heap())?;
     same(rt, text_of(alloc, &image)?.as_str(), wanted);
     same(rt, verify(alloc, book.heap())?, Verdict::Sound);
     same(rt, verify_book(alloc, book)?, Verdict::Sound);
@@ -203,7 +204,7 @@ fn move_off(
     same(rt, move_object(book, pages), Ok(()));
     let released = act(book, WORKER, Step::Release(1));
     same(rt, released, Ok(Answer::Released { free: 2 }));
-    Image::of(alloc, book.heap())
+    image_of(alloc, book.heap())
 }
 
 /// The image of a book whose object has moved so.

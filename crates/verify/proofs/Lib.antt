@@ -7,7 +7,6 @@ pub mod Claiming
 pub mod Verdicts
 pub mod Searching
 pub mod Tabling
-mod Listing
 mod Spotting
 mod Starting
 mod Looking

@@ -12,11 +12,10 @@ mod printing;
 mod roots;
 mod spots;
 mod tables;
-mod taking;
 mod verdict;
 mod verifier;
 mod walk;
 
 pub use image::{Image, PageImage, Words};
 pub use verdict::{Fault, Root, Verdict};
-pub use verifier::{one_verdict, verify, verify_image};
+pub use verifier::{one_verdict, verify_image};

@@ -4,7 +4,6 @@ ghost use Rattle.std.specs.Prelude.{IfOk};
 ghost use Rattle.verify.specs.Soundness.{HasFrames};
 ghost use Rattle.verify.specs.Walks.{IsWalk};
 ghost use Rattle.verify.specs.Faults.{VerdictIs, OneVerdict};
-ghost use Rattle.verify.specs.Pictures.{image_of};
 
 use crate::births::least_twins;
 use crate::chart::Chart;
@@ -14,7 +13,6 @@ use crate::image::Image;
 use crate::roots::find_reached;
 use crate::verdict::{Fault, Verdict};
 use crate::walk::Walk;
-use heap::Heap;
 use std::alloc::{AllocError, Global};
 
 /// Whether an image is sound, or else its first fault (ours): the frames first, then roots, then
@@ -48,15 +46,6 @@ fn verify_chart(alloc: Global, walk: Walk, chart: &Chart) -> Result<Verdict, All
         None => Ok(Verdict::Sound),
         Some(birth) => Ok(Verdict::Faulty(Fault::Twins(birth))),
     }
-}
-
-/// Whether a heap is sound as it stands, or else its first fault (ours): an image is taken, and
-/// verified. Its time is linear in the words of all frames and pages. Fails only by memory.
-pub fn verify(alloc: Global, heap: &Heap) -> Result<Verdict, AllocError>
-    ensures { IfOk result (VerdictIs (image_of heap.now)) }
-{
-    let image = Image::of(alloc, heap)?;
-    verify_image(alloc, &image)
 }
 
 /// There is one verdict on an image (ours).

@@ -5,9 +5,10 @@ ghost use Rattle.verify.specs.Faults.{VerdictIs};
 ghost use Rattle.verify.specs.Pictures.{image_of};
 ghost use Rattle.verify.specs.declared.verdict.Verdict.TheVariants.{Sound};
 
+use heap_images::verify;
 use managed::ManagedHeap;
 use std::alloc::{AllocError, Global};
-use verify::{Verdict, one_verdict, verify};
+use verify::{Verdict, one_verdict};
 
 /// Whether a managed heap is sound as it stands, or else its first fault (ours): the verdict on its image,
 /// which is that it is sound. Its time is linear in the words of all frames and pages. Fails only by memory.

@@ -6,7 +6,6 @@ ghost use Rattle.model.specs.Stores.{frame_in, page_at};
 ghost use Rattle.refword.specs.Words.{bits_of};
 ghost use Rattle.verify.specs.Pictures.{free_of, image_of, is_free, load_of, page_data, pages_of, registers_of};
 
-use crate::image::{Image, PageImage, Words};
 use heap::Heap;
 use markbits::Row;
 use model::{Forwarding, Global as Root};
@@ -14,6 +13,7 @@ use page::{Frames, Store};
 use refword::Word;
 use std::alloc::{AllocError, Global};
 use thread_records::Thread;
+use verify::{Image, PageImage, Words};
 
 /// The numbers that stand for words.
 fn numbers(alloc: Global, words: &[Word]) -> Result<Words, AllocError>
@@ -155,26 +155,24 @@ fn pages(alloc: Global, heap: &Heap) -> Result<Vec<PageImage>, AllocError>
     Ok(pages)
 }
 
-impl Image {
-    /// The image of a heap as it stands: all that can be reached from it is in the image, and no
-    /// part of the heap is lent. Fails only by memory.
-    #[tactic(auto, unfolding(crate::specs::Pictures::image_of))]
-    pub fn of(alloc: Global, heap: &Heap) -> Result<Image, AllocError>
-        ensures { IfOk result (λ image. image ≡ image_of heap.now) }
-    {
-        heap.law();
-        let store = heap.memory();
-        let config = heap.config();
-        Ok(Image {
-            words: store.page_words(),
-            frame_count: config.frames,
-            free: free_frames(alloc, store, config.frames)?,
-            pages: pages(alloc, heap)?,
-            frames: frames(alloc, store.frames())?,
-            registers: registers(alloc, heap.threads())?,
-            loads: loads(alloc, heap.threads())?,
-            globals: globals(alloc, heap.globals())?,
-            layouts: Vec::from_slice(alloc, config.layouts.as_slice())?,
-        })
-    }
+/// The image of a heap as it stands: all that can be reached from it is in the image, and no part of the heap
+/// is lent. Fails only by memory.
+#[tactic(auto, unfolding(verify::specs::Pictures::image_of))]
+pub fn image_of(alloc: Global, heap: &Heap) -> Result<Image, AllocError>
+    ensures { IfOk result (λ image. image ≡ image_of heap.now) }
+{
+    heap.law();
+    let store = heap.memory();
+    let config = heap.config();
+    Ok(Image {
+        words: store.page_words(),
+        frame_count: config.frames,
+        free: free_frames(alloc, store, config.frames)?,
+        pages: pages(alloc, heap)?,
+        frames: frames(alloc, store.frames())?,
+        registers: registers(alloc, heap.threads())?,
+        loads: loads(alloc, heap.threads())?,
+        globals: globals(alloc, heap.globals())?,
+        layouts: Vec::from_slice(alloc, config.layouts.as_slice())?,
+    })
 }

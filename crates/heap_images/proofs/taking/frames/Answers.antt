@@ -1,5 +1,5 @@
-use Rattle.verify.proofs.Listing.{taken_more}
-use Rattle.verify.proofs.taking.frames.Goals as goal
+use Rattle.heap_images.proofs.Listing.{taken_more}
+use Rattle.heap_images.proofs.taking.frames.Goals as goal
 
 pub loop-number-preserved : goal.loop-number-preserved
 loop-number-preserved c = taken_more c.args.frames.now c.loop-number.memory.items _ c.loop-number.number
