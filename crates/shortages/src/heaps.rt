@@ -8,7 +8,7 @@ use managed::ManagedHeap;
 use model::Phase;
 use std::alloc::{AllocError, Global};
 use std::fmt::Write as _;
-use verify::Verdict;
+use verify::{Image, Verdict};
 
 const THREAD: Actor = Actor::Thread(0);
 
