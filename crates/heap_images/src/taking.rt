@@ -155,8 +155,8 @@ fn pages(alloc: Global, heap: &Heap) -> Result<Vec<PageImage>, AllocError>
     Ok(pages)
 }
 
-/// The image of a heap as it stands: all that can be reached from it is in the image, and no part of the heap
-/// is lent. Fails only by memory.
+/// The image of a heap as it stands (ours): all that can be reached from it is in the image, and no part of the
+/// heap is lent. Fails only by memory.
 #[tactic(auto, unfolding(verify::specs::Pictures::image_of))]
 pub fn image_of(alloc: Global, heap: &Heap) -> Result<Image, AllocError>
     ensures { IfOk result (λ image. image ≡ image_of heap.now) }

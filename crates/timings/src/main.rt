@@ -32,7 +32,7 @@
 //! | Kind of part | Does |
 //! |---|---|
 //! | `begin` | begins a mark, and has all threads cross |
-//! | `scan` | scans `BUDGET` objects |
+//! | `scan` | scans at most `BUDGET` objects, and 64 times as many references |
 //! | `end` | scans what is left, and ends the mark |
 //! | `measure` | measures pages |
 //! | `protect` | measures the last pages, chooses some, protects them, and has all threads cross |
