@@ -4,13 +4,14 @@ use Rattle.std.proofs.Common.{◌∷◌, set}
 use Rattle.std.proofs.Common.{Option, Some, None, get_or, refl, sym, ◌∙◌, ap, arith}
 use Rattle.std.specs.List.{slice_get}
 use Rattle.std.proofs.lemmas.Bool.{true≢false}
-use Rattle.std.proofs.lemmas.Nat.{div-add-mod'}
+use Rattle.std.proofs.lemmas.List.{set-set}
 use Rattle.std.proofs.lemmas.Option.{same_Some, get_or_from_slice_get}
 use Rattle.refword.specs.Words.{IsAddress}
 use Rattle.heap.specs.Marking.{bit_in}
 use Rattle.model.specs.Bits.{of_page, bit_at, put_bit, with_bit}
 use Rattle.model.specs.States.{change_at, change_found}
 use Rattle.drains.specs.Waiting.{noting, IsOther, AreWaiting}
+use Rattle.drains.proofs.Scanned.{parted}
 
 -- ---- one element of a list
 
@@ -61,20 +62,12 @@ set_two (x ∷ xs) zero (suc j) v w k = refl
 set_two (x ∷ xs) (suc i) zero v w k = refl
 set_two (x ∷ xs) (suc i) (suc j) v w k = ap (λ ys. x ∷ ys) (set_two xs i j v w (λ e. k (ap suc e)))
 
-set_again : {X : Type 0} (xs : List X) (i : ℕ) (v w : X) → set (set xs i v) i w ≡ set xs i w
-set_again [] i v w = refl
-set_again (x ∷ xs) zero v w = refl
-set_again (x ∷ xs) (suc i) v w = ap (λ ys. x ∷ ys) (set_again xs i v w)
-
 -- ---- bits by addresses
 
 pub bits_two : (rows : List (List Bool)) (w a b : ℕ)
     → with_bit (with_bit rows w a true) w b true ≡ with_bit (with_bit rows w b true) w a true
 bits_two rows w a b = changed_two rows (a / w - 1) (b / w - 1) (put_bit (a % w) true) (put_bit (b % w) true)
     (λ row e. set_two row (a % w) (b % w) true true (λ f. refl))
-
-parted : (a b w : ℕ) → a / w ≡ b / w → a % w ≡ b % w → a ≡ b
-parted a b w e f = sym (div-add-mod' a w) ∙ (λ i. e i * w + f i) ∙ div-add-mod' b w
 
 same_page : (m n : ℕ) → 0 < m → 0 < n → m - 1 ≡ n - 1 → m ≡ n
 same_page m n a b e = omega arith
@@ -89,7 +82,7 @@ bits_apart rows w a b low high apart =
 pub bit_again : (rows : List (List Bool)) (w a : ℕ)
     → with_bit (with_bit rows w a true) w a false ≡ with_bit rows w a false
 bit_again rows w a = changed_again rows (a / w - 1) (put_bit (a % w) true) (put_bit (a % w) false)
-    (put_bit (a % w) false) (λ row. set_again row (a % w) true false)
+    (put_bit (a % w) false) (λ row. set-set row (a % w) true false)
 
 -- ---- the bits of objects that wait
 

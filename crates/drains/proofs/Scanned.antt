@@ -6,6 +6,7 @@ use Rattle.std.specs.Option.{option_and_then}
 use Rattle.std.specs.Prelude.{Result, Ok}
 use Rattle.std.proofs.Math.ListN.{length-set}
 use Rattle.std.proofs.lemmas.Bool.{cases_eq}
+use Rattle.std.proofs.lemmas.List.{set-set}
 use Rattle.std.proofs.lemmas.Nat.{div-add-mod'}
 use Rattle.refword.specs.Words.{bits_of}
 use Rattle.layout.specs.declared.shape.Layout.{Layout}
@@ -40,12 +41,7 @@ use Rattle.drains.specs.Drains.{refs_in, refs_at, marked_field, marked_fields, w
 
 -- ---- a word that is written leaves the others
 
-set_twice : {X : Type 0} (xs : List X) (i : ℕ) (v w : X) → set (set xs i v) i w ≡ set xs i w
-set_twice [] i v w = refl
-set_twice (x ∷ xs) zero v w = refl
-set_twice (x ∷ xs) (suc i) v w = ap (λ ys. x ∷ ys) (set_twice xs i v w)
-
-parted : (a b w : ℕ) → a / w ≡ b / w → a % w ≡ b % w → a ≡ b
+pub parted : (a b w : ℕ) → a / w ≡ b / w → a % w ≡ b % w → a ≡ b
 parted a b w e f = sym (div-add-mod' a w) ∙ (λ i. e i * w + f i) ∙ div-add-mod' b w
 
 pub word_stays : (s : StoreState) (a place v : ℕ) → IsStore s → a ≢ place
@@ -190,7 +186,7 @@ none_copied h (Some x) e = sym (none_to_copy h x.0 e)
 
 scan_again : (h : HeapState) (w : ℕ) (s t : Option Scan) → with_scan (with_scan h w s) w t ≡ with_scan h w t
 unfolding with_scan
-scan_again h w s t = ap (λ (ws : List (Option Scan)). record h { workers = ws }) (set_twice h.workers w s t)
+scan_again h w s t = ap (λ (ws : List (Option Scan)). record h { workers = ws }) (set-set h.workers w s t)
 
 abbrev row : HeapState → ℕ → Result Unit Refusal → Option Scan → Outcome
 row g w r o = r >>= (λ u. or_refuse o refusals.NotTodo >>= (λ s. scan_next g w s (field_at g s.object s.next)))
@@ -242,7 +238,7 @@ last_field h w a i m high =
     ap (heap_after g) (field_row h w s m
     ∙ ap (scan_next g w s) (field_is h w (Some s) a i (layout_at h a) refl ∙ by_layout (layout_at h a) high))
     ∙ ap (λ (ws : List (Option Scan)). record (without_todo h a) { workers = ws })
-    (set_twice h.workers w (Some s) None ∙ same_set h.workers w None m.worker)
+    (set-set h.workers w (Some s) None ∙ same_set h.workers w None m.worker)
   where
     s : Scan
     s = at_field a i

@@ -8,7 +8,7 @@ use Rattle.std.proofs.lemmas.List.{reverse-append}
 use Rattle.std.proofs.Common.{subst}
 use Rattle.std.specs.List.{slice_get, list_any}
 use Rattle.std.specs.Prelude.{if◌then◌else◌}
-use Rattle.std.proofs.lemmas.Bool.{and_parts}
+use Rattle.std.proofs.lemmas.Bool.{and_parts, not-true}
 use Rattle.std.proofs.lemmas.Option.{slice_get-get_or, slice_get_within, same_Some}
 use Rattle.refword.specs.Words.{bits_of, address_in, IsAddress}
 use Rattle.heap.specs.Marking.{bit_in, noted, marked_at, MarksFirst, MarksApart}
@@ -468,16 +468,12 @@ none_taken h alone a k e = ap not (sym (by_workers h.workers (k e)))
     by_workers (None ∷ ws) f = by_workers ws f
     by_workers (Some s ∷ ws) f = absurd (cc)
 
-is_false : (c : Bool) → not c ≡ true → c ≡ false
-is_false false k = refl
-is_false true k = absurd (cc)
-
 pub not_taken : (h : HeapState) (a n : ℕ) (b : Bool) → n ≡ a → b ≡ not (is_taken h n) → b ≡ true
     → is_taken h a ≡ false
-not_taken h a n b e f g = ap (is_taken h) (sym e) ∙ is_false (is_taken h n) (sym f ∙ g)
+not_taken h a n b e f g = ap (is_taken h) (sym e) ∙ not-true (is_taken h n) (sym f ∙ g)
 
 pub alone_first : (ws : List (Option Scan)) (alone : Bool) → alone ≡ not (list_any is_some ws) → IsAlone alone ws
-alone_first ws alone e f = is_false (list_any is_some ws) (sym e ∙ f)
+alone_first ws alone e f = not-true (list_any is_some ws) (sym e ∙ f)
 
 pub alone_still : (h g k : HeapState) (alone : Bool) (a : ℕ) (xs ys zs : List ℕ) → IsAlone alone h.workers
     → IsNextObject h xs a g ys → all_noted k zs ≡ scanned (all_noted g ys) a → IsAlone alone k.workers
