@@ -107,7 +107,7 @@ bench: pauseless libpauseless.a
 	@cd crates/bench && $(RT) run -- copies 64 3 2 > '$(CURDIR)/$(LOG)' 2>&1 || { cd '$(CURDIR)'; $(show_log); }
 	@cd crates/timings && $(RT) run -- mark-list 10 2 1 1 > '$(CURDIR)/$(LOG)' 2>&1 || { cd '$(CURDIR)'; $(show_log); }
 	@cd crates/crowds && $(RT) run -- act 100 > '$(CURDIR)/$(LOG)' 2>&1 || { cd '$(CURDIR)'; $(show_log); }
-	@cd crates/cycling && $(RT) run -- cycle 1 1 10 10 > '$(CURDIR)/$(LOG)' 2>&1 || { cd '$(CURDIR)'; $(show_log); }
+	@cd crates/holds && $(RT) run -- holds 64 8 4 2 10 > '$(CURDIR)/$(LOG)' 2>&1 || { cd '$(CURDIR)'; $(show_log); }
 	$(PYTHON) bench/run.py ./pauseless
 	$(PYTHON) bench/calls.py crates/bench/out/bench
 	CC='$(CC)' $(PYTHON) bench/boehm.py crates/timings/out/timings

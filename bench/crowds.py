@@ -1,7 +1,7 @@
 #!/usr/bin/env python3
-"""Times threads that share a book, holds of its lock, and cycles: python3 bench/crowds.py [CROWDS [CYCLING]].
+"""Times threads that share a book, holds of its lock, and cycles: python3 bench/crowds.py [CROWDS [HOLDS]].
 
-The programs are those of the crates `crowds` and `cycling`, which read a clock
+The programs are those of the crates `crowds` and `holds`, which read a clock
 themselves. Forms take turns, so that a slow moment doesn't fall on one alone. Figures of one
 thread are the best of several runs, those of several threads the median: the
 best would be of a run in which they hardly met. Where other programs use the
@@ -128,19 +128,19 @@ def print_cycles(program):
 def main():
     parser = argparse.ArgumentParser(description="Times threads that share a book, holds of its lock, and cycles.")
     parser.add_argument("crowds", nargs="?", default="crates/crowds/out/crowds")
-    parser.add_argument("cycling", nargs="?", default="crates/cycling/out/cycling")
+    parser.add_argument("holds", nargs="?", default="crates/holds/out/holds")
     words = parser.parse_args()
-    crowds, cycling = os.path.abspath(words.crowds), os.path.abspath(words.cycling)
-    for program in (crowds, cycling):
+    crowds, holds = os.path.abspath(words.crowds), os.path.abspath(words.holds)
+    for program in (crowds, holds):
         if not os.access(program, os.X_OK):
             sys.exit(f"{program} isn't there: run 'make bench'")
     print_steps(crowds)
     print()
     print_wait(crowds)
     print()
-    print_holds(crowds)
+    print_holds(holds)
     print()
-    print_cycles(cycling)
+    print_cycles(crowds)
 
 
 if __name__ == "__main__":

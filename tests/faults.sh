@@ -14,6 +14,14 @@ sizes='heap words 16 frames 1 pages 1 threads 1 workers 1 registers 2 globals 0'
 head="$sizes\\nlayout 0 2\\n"
 block="${head}times 100000\\nt0 give\\nt0 give\\n"
 
+# repeated COUNT LINE: the line so many times, as a table has it.
+repeated() {
+    awk -v count="$1" -v line="$2" 'BEGIN { for (; count > 0; count--) printf "%s\\n", line }'
+}
+
+lines=$head$(repeated 200000 't0 give')
+layouts=$head$(repeated 63 'layout 1 1')
+
 # tells MODE: the script in $kept/script has the fault $fault, or none, in this mode.
 tells() {
     if [ "$fault" = none ]; then
@@ -46,6 +54,8 @@ all_told() {
         HEAD*) text=$head${script#HEAD} ;;
         THREE*) text="${block}t0 give\\n${script#THREE}" ;;
         TWO*) text="${block}end\\n${script#TWO}" ;;
+        LINES*) text=$lines${script#LINES} ;;
+        LAYOUTS*) text=$layouts${script#LAYOUTS} ;;
         *) text=$script ;;
         esac
         printf '%b' "$text" > "$kept/script"

@@ -61,7 +61,9 @@ is_told 'three words with threads' 2 "$usage" threads "$script" "$script"
 is_told 'a mode in capital letters' 2 "$usage" Threads "$script"
 is_told 'a flag with threads' 2 "$usage" threads --help
 is_told 'an empty mode' 2 "$usage" '' "$script"
+is_told 'a mode that is nearly there' 2 "$usage" checks "$script"
 is_told 'a flag' 2 "$usage" run --help
+is_told 'a flag alone' 2 "$usage" --version
 is_told 'a flag for a file' 2 "$usage" run "-name"
 is_told 'a name that is not UTF-8' 2 "$usage" run "$strange"
 is_told 'a mode that is not UTF-8' 2 "$usage" "$(printf '\377')" "$script"
@@ -167,6 +169,9 @@ ends 'a fault and a full device for threads' 2 'pauseless: line 1 column 5: unkn
 head -c 4194305 /dev/zero | tr '\0' '\n' > "$kept/large"
 is_told 'a script too long' 2 'pauseless: script too long\n' run "$kept/large"
 is_told 'a script too long for threads' 2 'pauseless: script too long\n' threads "$kept/large"
+is_told 'a script without end' 2 'pauseless: script too long\n' run /dev/zero
+head -c 4194304 /dev/zero | tr '\0' '\n' > "$kept/largest"
+is_told 'a script as long as may be' 2 'pauseless: line 4194305 column 1: heap line expected\n' run "$kept/largest"
 
 # Errors that can't be told change no status.
 "$program" run "$kept/fault" > "$kept/output" 2> /dev/full

@@ -1,30 +1,13 @@
-//! Books as tests hold them: nothing is known of them, and nothing is promised of what they answer.
+//! Books as tests hold them, of one thread or shared with all their seats, and scripts of what is done on them.
+//! Nothing is known of them, and nothing is promised of what they answer, so that the proofs of tests are short.
 #![tactic(auto)]
 
-use cycle::{Actor, Book, Reply, Step};
-use heap::NewFault;
-use samples::small;
-use std::alloc::Global;
+mod book;
+mod opened;
+mod table;
 
-/// A new book of the small configuration.
-pub fn small_book(alloc: Global) -> Result<Book, NewFault> {
-    Book::new(alloc, small(alloc)?)
-}
-
-/// A step of a book. It promises nothing, so that the proofs of tests with many steps are short.
-pub fn act(book: &mut Book, actor: Actor, step: Step) -> Reply {
-    book.act(actor, step)
-}
-
-/// A book that can be lent. A test hands its book on as one: to hold a `Book` over calls is dear to
-/// prove.
-pub trait HeldBook {
-    /// The book.
-    fn book(&mut self) -> &mut Book;
-}
-
-impl HeldBook for Book {
-    fn book(&mut self) -> &mut Book {
-        self
-    }
-}
+pub use book::{HeldBook, act, small_book};
+pub use opened::{FULL, HEAD, LINKED, MARKED, ROOMY, WHOLE_PAGES, act_all, book_of, script_of};
+pub use table::{
+    HeldTable, Table, ask, entry_text, image_of, seat_of, shared_image, table_of, text_of,
+};

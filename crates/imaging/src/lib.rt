@@ -1,14 +1,14 @@
-//! Images of heaps for tests: made up, changed, and of books on which something was done. Nothing is
-//! promised of what is done here, so that the proofs of tests are short.
+//! Images of heaps for tests: made up, changed, and judged by a slow verdict that was written from the
+//! definition. Nothing is promised of what is done here, so that the proofs of tests are short.
 #![tactic(auto)]
 
 mod edits;
 mod making;
-mod stories;
+mod slow;
 
 pub use edits::{
     entry, set_entry, set_frame, set_free, set_global, set_load, set_page, set_register, set_start,
     set_word, shorten_starts, word,
 };
 pub use making::{add_entry, bare, page, put};
-pub use stories::{Telling, closed, moved, new_book, trapped};
+pub use slow::slow_verdict;

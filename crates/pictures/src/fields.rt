@@ -2,9 +2,9 @@
 //! are images of a heap.
 
 use crate::pictures::{frame, judged, page_state, rooted, value};
+use crate::stories::{Story, told};
 use imaging::{
-    closed, moved, new_book, set_free, set_global, set_load, set_page, set_register, set_start,
-    set_word, shorten_starts, trapped,
+    set_free, set_global, set_load, set_page, set_register, set_start, set_word, shorten_starts,
 };
 use layout::Header;
 use model::Forwarding;
@@ -175,9 +175,9 @@ fn change(image: &mut Image, dice: &mut Dice, field: usize) {
 /// An image in which nothing is wrong: one that is made up, or that of a book's heap.
 fn whole(alloc: Global, dice: &mut Dice) -> Result<Image, Fail> {
     match dice.roll(6) {
-        0 => closed(alloc, new_book(alloc)?),
-        1 => moved(alloc, new_book(alloc)?),
-        2 => trapped(alloc, new_book(alloc)?),
+        0 => told(alloc, Story::Closed),
+        1 => told(alloc, Story::Moved),
+        2 => told(alloc, Story::Trapped),
         _ => Ok(rooted(alloc, dice)?),
     }
 }

@@ -1,5 +1,5 @@
 //! Images with faults: some that are planted, each alone, into images of a book's heap, and some at random,
-//! beside a slow verdict that was written from the definition.
+//! beside a slow verdict.
 #![tactic(auto)]
 
 #[cfg(test)]
@@ -7,10 +7,8 @@ mod faults;
 #[cfg(test)]
 mod fields;
 #[cfg(test)]
-mod moved;
-#[cfg(test)]
-mod naive;
-#[cfg(test)]
 mod pictures;
 #[cfg(test)]
 mod same;
+#[cfg(test)]
+mod stories;

@@ -1,10 +1,9 @@
 //! A thousand images with faults at random, beside the slow verdict.
 
-use crate::naive::verdict;
 use crate::same::same;
 use imaging::{
     add_entry, bare, put, set_free, set_global, set_load, set_page, set_register, set_start,
-    set_word, shorten_starts,
+    set_word, shorten_starts, slow_verdict,
 };
 use model::PageState;
 use samples::Dice;
@@ -213,7 +212,7 @@ fn kind(verdict: Verdict) -> usize {
 
 /// Both verdicts on an image are the same; its kind.
 pub fn judged(rt: &impl Abort, alloc: Global, image: &Image) -> Result<usize, AllocError> {
-    let wanted = verdict(alloc, image)?;
+    let wanted = slow_verdict(alloc, image)?;
     same(rt, verify_image(alloc, image), Ok(wanted));
     Ok(kind(wanted))
 }

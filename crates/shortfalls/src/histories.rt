@@ -2,11 +2,10 @@
 
 use crate::same::{same, same_at};
 use cycle::{Book, History};
-use held::HeldBook;
+use held::{HeldBook, entry_text};
 use std::alloc::{AllocError, Global};
 use std::process::Abort;
 use std::test::Fail;
-use tables::entry_text;
 
 /// Two histories have the same entries, so many.
 pub fn same_histories(

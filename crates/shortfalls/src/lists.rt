@@ -6,12 +6,11 @@ use crate::histories::same_histories;
 use crate::same::same;
 use cycle::{Actor, Book, Reply, Step, run};
 use heap::Refusal;
-use held::HeldBook;
+use held::{HEAD, HeldBook, MARKED, act_all, book_of, image_of, script_of};
 use parser::Script;
 use std::alloc::{AllocError, Global};
 use std::process::Abort;
 use std::test::Fail;
-use tables::{HEAD, MARKED, act_all, book_of, image_of, script_of};
 
 /// The object moves, and its page is released.
 const MOVED: &str =

@@ -6,13 +6,12 @@ use crate::same::same;
 use choosing::choose;
 use cycle::Book;
 use heap::Heap;
-use held::HeldBook;
+use held::{FULL, HEAD, HeldBook, MARKED, act_all, book_of, image_of, script_of};
 use parser::Script;
 use sharing::{Seat, Shared, settle};
 use std::alloc::{AllocError, Global};
 use std::process::Abort;
 use std::test::Fail;
-use tables::{FULL, HEAD, MARKED, act_all, book_of, image_of, script_of};
 
 /// A book that can be opened.
 trait Opening: Sized {

@@ -5,7 +5,10 @@ use crate::histories::tells_the_same;
 use crate::same::same;
 use cycle::{Book, Reply};
 use heap::Refusal;
-use held::{HeldBook, act};
+use held::{
+    HEAD, HeldBook, HeldTable, LINKED, MARKED, ROOMY, Table, WHOLE_PAGES, act, ask, book_of,
+    image_of, script_of, seat_of, shared_image, table_of,
+};
 use parser::{Command, Script, Verb};
 use sharing::{Seat, settle};
 use std::alloc::{AllocError, Global};
@@ -13,10 +16,6 @@ use std::process::Abort;
 use std::sync::Wait;
 use std::test::Fail;
 use std::thread::Threads;
-use tables::{
-    HEAD, LINKED, MARKED, ROOMY, Table, WHOLE_PAGES, ask, book_of, image_of, script_of, seat_of,
-    settled, shared_image, table_of,
-};
 
 /// A book with the seats of its actors, to which it is lent.
 #[derive(Drop)]
@@ -173,7 +172,7 @@ fn ends(
 fn all_at_table<R: Abort + Threads + Wait + Sync>(
     rt: &R,
     alloc: Global,
-    mut table: Table,
+    mut table: impl HeldTable + Drop,
     mut held: impl HeldBook + Drop,
     script: &Script,
     entries: usize,
@@ -182,9 +181,20 @@ fn all_at_table<R: Abort + Threads + Wait + Sync>(
     let mut lacked = false;
     for command in script.commands() {
         let wanted = reply_of(alloc, book, command)?;
-        lacked = asks_table(rt, alloc, &mut table, command, wanted)? || lacked;
+        lacked = asks_table(rt, alloc, table.table(), command, wanted)? || lacked;
     }
-    ends(rt, alloc, settled(table), book, entries, lacked)
+    ends(rt, alloc, table.settled(), book, entries, lacked)
+}
+
+/// The same, where the book is made. Who made the table doesn't hold it meanwhile.
+fn table_beside<R: Abort + Threads + Wait + Sync>(
+    rt: &R,
+    alloc: Global,
+    table: impl HeldTable + Drop,
+    script: &Script,
+    entries: usize,
+) -> Result<(), Fail> {
+    all_at_table(rt, alloc, table, book_of(alloc, script)?, script, entries)
 }
 
 /// The same on a lent book.
@@ -247,8 +257,13 @@ fn by_table<R: Abort + Threads + Wait + Sync>(
     entries: usize,
 ) -> Result<(), Fail> {
     let script = script_of(alloc, parts)?;
-    let table = table_of(alloc, &script, depth)?;
-    all_at_table(rt, alloc, table, book_of(alloc, &script)?, &script, entries)
+    table_beside(
+        rt,
+        alloc,
+        table_of(alloc, &script, depth)?,
+        &script,
+        entries,
+    )
 }
 
 /// The page of one object is protected.

@@ -1,6 +1,6 @@
 //! The first state of a heap, through its readers.
 
-use crate::moves::HeldHeap;
+use crate::protections::HeldHeap;
 use crate::same::{same, same_at};
 use heap::{Config, Heap, Row, Thread};
 use layout::{Layout, Layouts};

@@ -6,8 +6,6 @@ mod beginnings;
 #[cfg(test)]
 mod heaps;
 #[cfg(test)]
-mod moves;
-#[cfg(test)]
 mod mutating;
 #[cfg(test)]
 mod protections;

@@ -92,22 +92,11 @@ fn takes(rt: &impl Abort, alloc: Global, budget: u32, wanted: u32) -> Result<(),
     Ok(())
 }
 
+/// The smaller the budget, the more parts.
 #[test]
-fn parts_of_one_object(rt: HostRuntime) -> Result<(), Fail> {
-    takes(&rt, rt.alloc(), 1, 73)
-}
-
-#[test]
-fn parts_of_two_objects(rt: HostRuntime) -> Result<(), Fail> {
-    takes(&rt, rt.alloc(), 2, 63)
-}
-
-#[test]
-fn parts_of_sixteen_objects(rt: HostRuntime) -> Result<(), Fail> {
-    takes(&rt, rt.alloc(), 16, 54)
-}
-
-#[test]
-fn parts_of_all_objects(rt: HostRuntime) -> Result<(), Fail> {
-    takes(&rt, rt.alloc(), 1000, 15)
+fn parts_by_budget(rt: HostRuntime) -> Result<(), Fail> {
+    for (budget, parts) in [(1, 73), (2, 63), (16, 54), (1000, 15)] {
+        takes(&rt, rt.alloc(), budget, parts)?;
+    }
+    Ok(())
 }

@@ -75,23 +75,24 @@ fn wastes(
 }
 
 #[test]
-fn one_page(rt: HostRuntime) -> Result<(), Fail> {
-    wastes_all(&rt, rt.alloc(), new_heap(rt.alloc(), 1, 1)?, 1)
-}
-
-#[test]
 fn one_frame(rt: HostRuntime) -> Result<(), Fail> {
-    wastes_all(&rt, rt.alloc(), new_heap(rt.alloc(), 1, 2)?, 1)
+    for pages in [1, 2] {
+        wastes_all(&rt, rt.alloc(), new_heap(rt.alloc(), 1, pages)?, 1)?;
+    }
+    Ok(())
 }
 
 #[test]
-fn two_frames(rt: HostRuntime) -> Result<(), Fail> {
-    wastes(&rt, rt.alloc(), new_heap(rt.alloc(), 2, 2)?, 2)
-}
-
-#[test]
-fn three_frames(rt: HostRuntime) -> Result<(), Fail> {
-    wastes(&rt, rt.alloc(), new_heap(rt.alloc(), 3, 6)?, 3)
+fn more_frames(rt: HostRuntime) -> Result<(), Fail> {
+    for (frames, pages) in [(2, 2), (3, 6)] {
+        wastes(
+            &rt,
+            rt.alloc(),
+            new_heap(rt.alloc(), frames, pages)?,
+            frames,
+        )?;
+    }
+    Ok(())
 }
 
 /// An object is kept among those that aren't, and it moves.

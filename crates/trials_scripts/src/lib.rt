@@ -1,4 +1,5 @@
-//! The tests of scripts: how they are read, what running them writes, and the texts.
+//! The tests of scripts that the program can't show: how they are read, what runs of them write where memory or a
+//! writer fails, and texts that no output has.
 #![tactic(auto)]
 
 #[cfg(test)]
@@ -11,3 +12,5 @@ mod scripts;
 mod texts;
 #[cfg(test)]
 mod wants;
+#[cfg(test)]
+mod writers;

@@ -1,9 +1,9 @@
-//! Faults as a user reads them, and scripts that are read.
+//! Scripts that are read. Their faults are tested by the program itself, on `tests/faults.txt`.
 //!
 //! `rt try --test --fail-alloc N` refuses the Nth allocation of a test: `parse` then says that it
 //! is out of memory.
 
-use crate::same::{same, same_at};
+use crate::same::same;
 use layout::Layout;
 use model::Config;
 use parser::{Command, Order, ParseFault, Script, parse};
@@ -19,52 +19,6 @@ fn parse_parts(alloc: Global, front: &str, rest: &str) -> Result<Script, ParseFa
     let mut text = String::from_str(alloc, front)?;
     text.push_str(rest)?;
     parse(alloc, text.as_bytes())
-}
-
-/// The text of what reading gave, which is `none` for a script.
-fn fault_text(alloc: Global, read: Result<Script, ParseFault>) -> Result<String, AllocError> {
-    match read {
-        Ok(_) => String::from_str(alloc, "none"),
-        Err(fault) => format!(in alloc; "{fault}"),
-    }
-}
-
-/// The text in two parts has this fault, or `none`.
-fn has_fault(
-    rt: &impl Abort,
-    alloc: Global,
-    front: &str,
-    rest: &str,
-    fault: &str,
-) -> Result<(), Fail> {
-    let told = fault_text(alloc, parse_parts(alloc, front, rest))?;
-    same_at(rt, rest, told.as_str(), fault);
-    Ok(())
-}
-
-/// Behind the same front each of these texts has its fault, or `none`.
-fn have_faults(
-    rt: &impl Abort,
-    alloc: Global,
-    front: &str,
-    rows: &[(&str, &str)],
-) -> Result<(), Fail> {
-    for (rest, fault) in rows {
-        has_fault(rt, alloc, front, rest, fault)?;
-    }
-    Ok(())
-}
-
-/// The table of all faults is `tests/faults.txt`, which the built program is run on: a table here
-/// would be proved first.
-#[test]
-fn faults(rt: HostRuntime) -> Result<(), Fail> {
-    let rows = [
-        ("", "none"),
-        ("t0 take 01\n", "line 3 column 9: number expected"),
-        ("times 3\nt0 give\n", "line 5 column 1: times without end"),
-    ];
-    have_faults(&rt, rt.alloc(), HEAD, &rows)
 }
 
 /// The first step of an order, and what follows it.
@@ -199,67 +153,4 @@ fn orders_of_data(rt: HostRuntime) -> Result<(), Fail> {
         "GiveBack Nothing",
     ];
     reads(&rt, rt.alloc(), rest, &texts)
-}
-
-/// A text of so many newlines.
-fn newlines(alloc: Global, count: usize) -> Result<Vec<u8>, Fail> {
-    let mut bytes = Vec::with_capacity(alloc, count)?;
-    for _ in 0..count {
-        bytes.push(b'\n')?;
-    }
-    Ok(bytes)
-}
-
-/// So many newlines have this fault.
-fn newlines_have(rt: &impl Abort, alloc: Global, count: usize, fault: &str) -> Result<(), Fail> {
-    let bytes = newlines(alloc, count)?;
-    let told = fault_text(alloc, parse(alloc, &bytes))?;
-    same(rt, told.as_str(), fault);
-    Ok(())
-}
-
-#[test]
-fn limits(rt: HostRuntime) -> Result<(), Fail> {
-    newlines_have(&rt, rt.alloc(), 4_194_305, "script too long")?;
-    newlines_have(
-        &rt,
-        rt.alloc(),
-        4_194_304,
-        "line 4194305 column 1: heap line expected",
-    )
-}
-
-/// The head, and then a line so many times.
-fn repeated(alloc: Global, count: usize, line: &str) -> Result<String, AllocError> {
-    let mut text = String::from_str(alloc, HEAD)?;
-    for _ in 0..count {
-        text.push_str(line)?;
-    }
-    Ok(text)
-}
-
-#[test]
-fn many_layouts(rt: HostRuntime) -> Result<(), Fail> {
-    let text = repeated(rt.alloc(), 63, "layout 1 1\n")?;
-    let rows = [
-        ("", "none"),
-        ("layout 1 1\n", "line 66 column 1: unknown word"),
-    ];
-    have_faults(&rt, rt.alloc(), text.as_str(), &rows)
-}
-
-#[test]
-fn too_many_commands(rt: HostRuntime) -> Result<(), Fail> {
-    let text = repeated(rt.alloc(), 200_000, "t0 give\n")?;
-    let rows = [
-        ("# a comment\n", "none"),
-        ("t0 take x\n", "line 200003 column 1: too many commands"),
-        ("t1 give\n", "line 200003 column 1: no such actor"),
-        ("times 3\nend\n", "none"),
-        (
-            "times 3\nt0 give\nend x\n",
-            "line 200005 column 1: too many commands",
-        ),
-    ];
-    have_faults(&rt, rt.alloc(), text.as_str(), &rows)
 }

@@ -3,12 +3,11 @@
 use crate::same::same;
 use choosing::choose;
 use cycle::Book;
-use held::HeldBook;
+use held::{FULL, HEAD, HeldBook, MARKED, act_all, book_of, script_of};
 use parser::Script;
 use std::alloc::{AllocError, Global};
 use std::process::Abort;
 use std::test::Fail;
-use tables::{FULL, HEAD, MARKED, act_all, book_of, script_of};
 
 /// At most so many words of a hundred are to be live: these pages of a book are chosen.
 fn chooses(
@@ -51,22 +50,21 @@ fn finds_behind(
     Ok(())
 }
 
-/// Three words of sixteen are live.
-#[test]
-fn a_page_of_one_object(rt: HostRuntime) -> Result<(), Fail> {
-    finds_behind(&rt, rt.alloc(), MARKED, (Some(18), 19))
-}
-
 /// Nothing is live.
 const DEAD: &str =
     "t0 take 16\nt0 new r0 0\nt0 clear r0\nt0 give\nw0 mark\nt0 cross\nt1 cross\nw0 scang 0\nw0 endmark\n";
 
+/// Where a page has one object, of three words of sixteen, where nothing is live, and where there is room for one
+/// page.
 #[test]
-fn a_page_without_live_objects(rt: HostRuntime) -> Result<(), Fail> {
-    finds_behind(&rt, rt.alloc(), DEAD, (None, 0))
-}
-
-#[test]
-fn room_for_one_page(rt: HostRuntime) -> Result<(), Fail> {
-    finds_behind(&rt, rt.alloc(), FULL, (Some(93), 94))
+fn pages_are_chosen(rt: HostRuntime) -> Result<(), Fail> {
+    let none = (None, 0);
+    for (rest, limits) in [
+        (MARKED, (Some(18), 19)),
+        (DEAD, none),
+        (FULL, (Some(93), 94)),
+    ] {
+        finds_behind(&rt, rt.alloc(), rest, limits)?;
+    }
+    Ok(())
 }

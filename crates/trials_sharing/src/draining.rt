@@ -3,7 +3,9 @@
 use crate::same::same;
 use crate::table::settles;
 use cycle::Actor;
-use held::HeldBook;
+use held::{
+    HEAD, HeldBook, HeldTable, MARKED, Table, act_all, ask, book_of, script_of, seat_of, table_of,
+};
 use model::Refusal;
 use parser::Script;
 use sharing::{Seat, Shared};
@@ -12,7 +14,6 @@ use std::process::Abort;
 use std::sync::Wait;
 use std::test::Fail;
 use std::thread::Threads;
-use tables::{HEAD, MARKED, Table, act_all, ask, book_of, script_of, seat_of, table_of};
 
 /// Behind a whole mark six objects of one list, of which the next mark has to scan all.
 const UNSCANNED: &str =
@@ -56,7 +57,7 @@ fn drained<R: Threads + Wait + Sync>(
 fn agrees(
     rt: &impl Abort,
     alloc: Global,
-    table: Table,
+    table: impl HeldTable + Drop,
     mut held: impl HeldBook + Drop,
     script: &Script,
 ) -> Result<(), Fail> {
@@ -65,18 +66,33 @@ fn agrees(
     let mut replies = Vec::new(alloc);
     let end = book.drain(0, &mut replies);
     same(rt, end, Ok(()));
-    settles(rt, alloc, table, book, ENTRIES)
+    settles(rt, alloc, table.settled(), book, ENTRIES)
 }
 
 /// A thread's seat drains nothing.
-fn refuses(rt: &(impl Abort + Wait), shared: &Shared, seats: &mut [Seat]) {
-    match seats.first_mut() {
-        Some(seat) => same(rt, shared.drain(rt, seat, 5), Err(Refusal::NoActor)),
+fn refuses(rt: &(impl Abort + Wait), table: &mut Table) {
+    match table.seats.first_mut() {
+        Some(seat) => same(rt, table.shared.drain(rt, seat, 5), Err(Refusal::NoActor)),
         None => assert!(rt; false, "there is no seat"),
     }
 }
 
-/// A drain by portions of so many steps takes so many of them.
+/// A drain of a table by portions of so many steps takes so many of them.
+fn drains_table<R: Abort + Threads + Wait + Sync>(
+    rt: &R,
+    alloc: Global,
+    mut table: impl HeldTable + Drop,
+    script: &Script,
+    most: u32,
+    count: u32,
+) -> Result<(), Fail> {
+    refuses(rt, table.table());
+    let found = drained(rt, alloc, table.table(), script, most)?;
+    same(rt, found, Some(Ok(count)));
+    agrees(rt, alloc, table, book_of(alloc, script)?, script)
+}
+
+/// The same of a new table.
 fn drains<R: Abort + Threads + Wait + Sync>(
     rt: &R,
     alloc: Global,
@@ -84,18 +100,15 @@ fn drains<R: Abort + Threads + Wait + Sync>(
     count: u32,
 ) -> Result<(), Fail> {
     let script = script_of(alloc, &[HEAD, MARKED, UNSCANNED])?;
-    let mut table = table_of(alloc, &script, 0)?;
-    refuses(rt, &table.shared, &mut table.seats);
-    let found = drained(rt, alloc, &mut table, &script, most)?;
-    same(rt, found, Some(Ok(count)));
-    agrees(rt, alloc, table, book_of(alloc, &script)?, &script)
+    let table = table_of(alloc, &script, 0)?;
+    drains_table(rt, alloc, table, &script, most, count)
 }
 
 /// Of 19 steps a portion of 19 can't tell that nothing is left.
 #[test]
 fn by_portions(rt: HostRuntime) -> Result<(), Fail> {
-    drains(&rt, rt.alloc(), 1, 20)?;
-    drains(&rt, rt.alloc(), 5, 4)?;
-    drains(&rt, rt.alloc(), 19, 2)?;
-    drains(&rt, rt.alloc(), 1_024, 1)
+    for (most, count) in [(1, 20), (5, 4), (19, 2), (1_024, 1)] {
+        drains(&rt, rt.alloc(), most, count)?;
+    }
+    Ok(())
 }

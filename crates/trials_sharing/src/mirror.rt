@@ -3,14 +3,15 @@
 use crate::same::same_at;
 use crate::table::settles;
 use cycle::Book;
-use held::{HeldBook, act};
+use held::{
+    HeldBook, HeldTable, Table, act, ask, book_of, image_of, script_of, shared_image, table_of,
+};
 use parser::{Command, Script};
 use std::alloc::Global;
 use std::process::Abort;
 use std::sync::Wait;
 use std::test::Fail;
 use std::thread::Threads;
-use tables::{Table, ask, book_of, image_of, script_of, shared_image, table_of};
 
 /// The step of the command of a number on both books, whose answers and images are the same.
 fn both<R: Abort + Threads + Wait + Sync>(
@@ -34,16 +35,27 @@ fn both<R: Abort + Threads + Wait + Sync>(
 fn all<R: Abort + Threads + Wait + Sync>(
     rt: &R,
     alloc: Global,
-    mut table: Table,
+    mut table: impl HeldTable + Drop,
     mut held: impl HeldBook + Drop,
     script: &Script,
     entries: usize,
 ) -> Result<(), Fail> {
     let book = held.book();
     for (place, command) in script.commands().iter().enumerate() {
-        both(rt, alloc, &mut table, book, place, command)?;
+        both(rt, alloc, table.table(), book, place, command)?;
     }
-    settles(rt, alloc, table, book, entries)
+    settles(rt, alloc, table.settled(), book, entries)
+}
+
+/// The same, where the book is made. Who made the table doesn't hold it meanwhile.
+fn beside<R: Abort + Threads + Wait + Sync>(
+    rt: &R,
+    alloc: Global,
+    table: impl HeldTable + Drop,
+    script: &Script,
+    entries: usize,
+) -> Result<(), Fail> {
+    all(rt, alloc, table, book_of(alloc, script)?, script, entries)
 }
 
 /// The steps of a script are the same on both books, of which the shared one copies pages to a depth; so
@@ -56,8 +68,13 @@ pub fn mirrors<R: Abort + Threads + Wait + Sync>(
     entries: usize,
 ) -> Result<(), Fail> {
     let script = script_of(alloc, parts)?;
-    let table = table_of(alloc, &script, depth)?;
-    all(rt, alloc, table, book_of(alloc, &script)?, &script, entries)
+    beside(
+        rt,
+        alloc,
+        table_of(alloc, &script, depth)?,
+        &script,
+        entries,
+    )
 }
 
 /// The same where the shared book was stopped before.
@@ -70,5 +87,5 @@ pub fn mirrors_stopped<R: Abort + Threads + Wait + Sync>(
     let script = script_of(alloc, parts)?;
     let table = table_of(alloc, &script, 0)?;
     table.shared.stop(rt);
-    all(rt, alloc, table, book_of(alloc, &script)?, &script, entries)
+    beside(rt, alloc, table, &script, entries)
 }

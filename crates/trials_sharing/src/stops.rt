@@ -2,6 +2,9 @@
 
 use crate::same::same;
 use cycle::{Actor, Answer, Reply, Step};
+use held::{
+    HEAD, HeldTable, MARKED, Table, ask, script_of, seat_of, shared_image, table_of, text_of,
+};
 use model::Refusal;
 use parser::Script;
 use sharing::{Seat, Shared};
@@ -12,7 +15,6 @@ use std::sync::atomic::{AtomicU64, Ordering};
 use std::test::Fail;
 use std::thread;
 use std::thread::{Threads, join};
-use tables::{HEAD, MARKED, Table, ask, script_of, seat_of, shared_image, table_of, text_of};
 
 /// The marked object's page is protected, and one thread of two has crossed: it may not use the object yet.
 const HALF_CROSSED: &str = "w0 protect 1\nt0 cross\n";
@@ -23,12 +25,21 @@ const READ: Step = Step::Datum {
     index: 0,
 };
 
-/// A table where that is so.
+/// A table behind a script's steps.
+fn behind<R: Threads + Wait + Sync, T: HeldTable + Drop>(
+    rt: &R,
+    alloc: Global,
+    mut table: T,
+    script: &Script,
+) -> Result<T, Fail> {
+    ask_all(rt, alloc, table.table(), script)?;
+    Ok(table)
+}
+
+/// A table where one thread has crossed.
 fn half_crossed<R: Threads + Wait + Sync>(rt: &R, alloc: Global) -> Result<Table, Fail> {
     let script = script_of(alloc, &[HEAD, MARKED, HALF_CROSSED])?;
-    let mut table = table_of(alloc, &script, 0)?;
-    ask_all(rt, alloc, &mut table, &script)?;
-    Ok(table)
+    behind(rt, alloc, table_of(alloc, &script, 0)?, &script)
 }
 
 /// All steps of a script at a table.
@@ -76,15 +87,24 @@ fn stalls<R: Abort + Wait>(rt: &R, shared: &Shared, seat: &mut Seat) {
     same(rt, shared.ask(rt, seat, &READ), Err(Refusal::Stall));
 }
 
-#[test]
-fn a_stop_is_seen(rt: HostRuntime) -> Result<(), Fail> {
-    let mut table = half_crossed(&rt, rt.alloc())?;
-    sees_stop(&rt, rt.alloc(), &table)?;
+/// A table is stopped, and a step that would wait is refused then.
+fn is_stopped(
+    rt: &(impl Abort + Wait),
+    alloc: Global,
+    mut held: impl HeldTable + Drop,
+) -> Result<(), Fail> {
+    let table = held.table();
+    sees_stop(rt, alloc, table)?;
     match seat_of(&mut table.seats, Actor::Thread(0)) {
-        Some(seat) => stalls(&rt, &table.shared, seat),
+        Some(seat) => stalls(rt, &table.shared, seat),
         None => return Err("no such seat".into()),
     }
     Ok(())
+}
+
+#[test]
+fn a_stop_is_seen(rt: HostRuntime) -> Result<(), Fail> {
+    is_stopped(&rt, rt.alloc(), half_crossed(&rt, rt.alloc())?)
 }
 
 /// Returns when another thread has begun to ask and had time to wait.
@@ -150,24 +170,36 @@ fn first_waits<R: Threads + Wait + Sync>(
     }
 }
 
-#[test]
-fn a_stop_ends_a_wait(rt: HostRuntime) -> Result<(), Fail> {
-    let mut table = half_crossed(&rt, rt.alloc())?;
+/// At a table a thread waits, and is woken by a stop.
+fn wakes_by_stop<R: Abort + Threads + Wait + Sync>(
+    rt: &R,
+    mut held: impl HeldTable + Drop,
+) -> Result<(), Fail> {
+    let table = held.table();
     match seat_of(&mut table.seats, Actor::Thread(0)) {
         Some(seat) => {
-            let reply = woken_by_stop(&rt, &table.shared, seat);
-            same(&rt, reply, Err(Refusal::Stall));
+            let reply = woken_by_stop(rt, &table.shared, seat);
+            same(rt, reply, Err(Refusal::Stall));
         }
         None => return Err("no such seat".into()),
     }
     Ok(())
 }
 
-/// Behind the crossing the register is to be scrubbed first.
+#[test]
+fn a_stop_ends_a_wait(rt: HostRuntime) -> Result<(), Fail> {
+    wakes_by_stop(&rt, half_crossed(&rt, rt.alloc())?)
+}
+
+/// At a table a thread waits, and is woken by a crossing, behind which the register is to be scrubbed first.
+fn wakes_by_step<R: Abort + Threads + Wait + Sync>(rt: &R, mut held: impl HeldTable + Drop) {
+    let table = held.table();
+    let replies = first_waits(rt, &table.shared, &mut table.seats);
+    same(rt, replies, Some((Err(Refusal::Stale), Ok(Answer::Done))));
+}
+
 #[test]
 fn a_step_ends_a_wait(rt: HostRuntime) -> Result<(), Fail> {
-    let mut table = half_crossed(&rt, rt.alloc())?;
-    let replies = first_waits(&rt, &table.shared, &mut table.seats);
-    same(&rt, replies, Some((Err(Refusal::Stale), Ok(Answer::Done))));
+    wakes_by_step(&rt, half_crossed(&rt, rt.alloc())?);
     Ok(())
 }

@@ -1,12 +1,11 @@
-//! What a table comes to, beside a book of one thread.
+//! What a table's book comes to, beside a book of one thread.
 
 use crate::same::{same, same_at};
 use cycle::{Book, History};
-use held::HeldBook;
+use held::{HeldBook, entry_text};
 use std::alloc::{AllocError, Global};
 use std::process::Abort;
 use std::test::Fail;
-use tables::{Table, entry_text, settled};
 
 /// Two histories have the same entries, so many.
 pub fn same_histories(
@@ -39,15 +38,15 @@ pub fn tells_the_same(
     Ok(())
 }
 
-/// The book and the seats of a table agree, and its history is that of another book, of so many entries.
+/// The book of a table agrees with its seats, and its history is that of another book, of so many entries.
 pub fn settles(
     rt: &impl Abort,
     alloc: Global,
-    table: Table,
+    end: Option<Book>,
     book: &Book,
     entries: usize,
 ) -> Result<(), Fail> {
-    match settled(table) {
+    match end {
         Some(other) => tells_the_same(rt, alloc, other, book, entries),
         None => Err("a stray".into()),
     }

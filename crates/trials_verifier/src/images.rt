@@ -1,9 +1,9 @@
-//! Verdicts on images of heaps: planted faults, and the order of faults.
+//! Verdicts on images that are made up: the order of faults, twins, and side arrays. Faults that are planted
+//! alone are in `pictures`.
 
 use crate::same::same;
 use imaging::{
-    add_entry, bare, put, set_free, set_global, set_load, set_page, set_register, set_start,
-    set_word,
+    add_entry, bare, put, set_free, set_global, set_load, set_page, set_register, set_word,
 };
 use model::PageState;
 use std::alloc::{AllocError, Global};
@@ -38,65 +38,6 @@ fn is_sound(rt: &impl Abort, alloc: Global, image: &Image) {
     same(rt, verify_image(alloc, image), Ok(Verdict::Sound));
 }
 
-#[test]
-fn sound_image(rt: HostRuntime) -> Result<(), Fail> {
-    let image = sample(rt.alloc())?;
-    is_sound(&rt, rt.alloc(), &image);
-    Ok(())
-}
-
-#[test]
-fn frame_of_two_pages(rt: HostRuntime) -> Result<(), Fail> {
-    let mut image = sample(rt.alloc())?;
-    set_page(&mut image, 2, PageState::Unused, Some(0));
-    has_fault(&rt, rt.alloc(), &image, Fault::Frames);
-    set_page(&mut image, 2, PageState::Open, Some(0));
-    has_fault(&rt, rt.alloc(), &image, Fault::Frames);
-    Ok(())
-}
-
-#[test]
-fn frame_free_twice(rt: HostRuntime) -> Result<(), Fail> {
-    let mut image = sample(rt.alloc())?;
-    set_free(&mut image, 1, 1);
-    has_fault(&rt, rt.alloc(), &image, Fault::Frames);
-    Ok(())
-}
-
-#[test]
-fn start_lost(rt: HostRuntime) -> Result<(), Fail> {
-    let mut image = sample(rt.alloc())?;
-    set_start(&mut image, 1, 0, false);
-    has_fault(&rt, rt.alloc(), &image, Fault::Root(Root::Register(0, 0)));
-    Ok(())
-}
-
-#[test]
-fn global_of_no_word(rt: HostRuntime) -> Result<(), Fail> {
-    let mut image = sample(rt.alloc())?;
-    set_global(&mut image, 1 << 62);
-    has_fault(&rt, rt.alloc(), &image, Fault::Root(Root::Global(0)));
-    Ok(())
-}
-
-#[test]
-fn reference_into_an_unused_page(rt: HostRuntime) -> Result<(), Fail> {
-    let mut image = sample(rt.alloc())?;
-    set_word(&mut image, 0, 1, 0x8000_0000_0000_0030);
-    has_fault(&rt, rt.alloc(), &image, Fault::Field(16, 0));
-    Ok(())
-}
-
-/// The second object isn't reached.
-#[test]
-fn object_repeated(rt: HostRuntime) -> Result<(), Fail> {
-    let mut image = sample(rt.alloc())?;
-    put(&mut image, (1, 0), 3, 0, 0);
-    set_word(&mut image, 0, 4, NAMED);
-    has_fault(&rt, rt.alloc(), &image, Fault::Twins(0));
-    Ok(())
-}
-
 /// Faults are planted from the last kind to the first, and each is told before those planted so far.
 fn faults_in_turn(rt: &impl Abort, alloc: Global, image: &mut Image) {
     put(image, (1, 0), 3, 0, 0);
@@ -122,6 +63,7 @@ fn faults_in_turn(rt: &impl Abort, alloc: Global, image: &mut Image) {
 #[test]
 fn first_fault(rt: HostRuntime) -> Result<(), Fail> {
     let mut image = sample(rt.alloc())?;
+    is_sound(&rt, rt.alloc(), &image);
     faults_in_turn(&rt, rt.alloc(), &mut image);
     Ok(())
 }

@@ -2,18 +2,17 @@
 
 use crate::same::same;
 use checked_runs::{FaultText, verify_book};
-use cycle::{Actor, Answer, Book, Step};
+use cycle::{Actor, Book, Step};
 use heap::NewFault;
 use heap_images::{image_of, verify};
 use held::{HeldBook, act};
-use imaging::{add_entry, set_load, set_page};
 use layout::{Layout, Layouts};
-use model::{Config, PageList, PageState, Refusal};
+use model::{Config, PageList, Refusal};
 use std::alloc::{AllocError, Global};
 use std::fmt::{Display, Write as _};
 use std::process::Abort;
 use std::test::Fail;
-use verify::{Fault, Image, Root, Verdict, verify_image};
+use verify::{Fault, Root, Verdict};
 
 const THREAD: Actor = Actor::Thread(0);
 
@@ -188,78 +187,5 @@ fn the_texts_of_faults(rt: HostRuntime) -> Result<(), Fail> {
     reads(&rt, alloc, Fault::Root(Root::Global(4)), "fault global 4")?;
     reads(&rt, alloc, Fault::Field(37, 5), "fault field 2.5.5")?;
     reads(&rt, alloc, Fault::Twins(6), "fault twins 6")?;
-    Ok(())
-}
-
-/// The object moves from page 1, which is released, to page 2. A register, a global and a load that
-/// hasn't ended name it by its old address. Gives the image then.
-fn move_off(
-    rt: &impl Abort,
-    alloc: Global,
-    mut held: impl HeldBook + Drop,
-    pages: PageList,
-) -> Result<Image, AllocError> {
-    let book = held.book();
-    same(rt, make_object(book), Ok(()));
-    same(rt, move_object(book, pages), Ok(()));
-    let released = act(book, WORKER, Step::Release(1));
-    same(rt, released, Ok(Answer::Released { free: 2 }));
-    image_of(alloc, book.heap())
-}
-
-/// The image of a book whose object has moved so.
-fn moved_image(rt: &impl Abort, alloc: Global) -> Result<Image, NewFault> {
-    let pages = PageList::new(vec![in alloc; 1; 1]?);
-    let image = move_off(rt, alloc, book(alloc)?, pages)?;
-    Ok(image)
-}
-
-/// An image has this as its first fault.
-fn finds(rt: &impl Abort, alloc: Global, image: &Image, fault: Fault) {
-    same(rt, verify_image(alloc, image), Ok(Verdict::Faulty(fault)));
-}
-
-/// With this entry alone in the first page's side array, an image has this as its first fault.
-fn finds_by_entry(
-    rt: &impl Abort,
-    alloc: Global,
-    image: &mut Image,
-    entry: (u32, u64, bool),
-    fault: Fault,
-) -> Result<(), AllocError> {
-    if let Some(page) = image.pages.first_mut() {
-        page.side.clear();
-    }
-    add_entry(image, 1, entry)?;
-    finds(rt, alloc, image, fault);
-    Ok(())
-}
-
-#[test]
-fn entries_that_lead_nowhere(rt: HostRuntime) -> Result<(), Fail> {
-    let alloc: Global = rt.alloc();
-    let mut image = moved_image(&rt, alloc)?;
-    same(&rt, verify_image(alloc, &image), Ok(Verdict::Sound));
-    let first = Fault::Root(Root::Register(0, 0));
-    finds_by_entry(&rt, alloc, &mut image, (0, 32, false), first)?;
-    finds_by_entry(&rt, alloc, &mut image, (0, 33, true), first)?;
-    Ok(())
-}
-
-#[test]
-fn a_copy_without_memory(rt: HostRuntime) -> Result<(), Fail> {
-    let alloc: Global = rt.alloc();
-    let mut image = moved_image(&rt, alloc)?;
-    set_page(&mut image, 2, PageState::Open, None);
-    finds(&rt, alloc, &image, Fault::Frames);
-    Ok(())
-}
-
-#[test]
-fn a_load_that_names_nothing(rt: HostRuntime) -> Result<(), Fail> {
-    let alloc: Global = rt.alloc();
-    let mut image = moved_image(&rt, alloc)?;
-    set_load(&mut image, 0, Some((1 << 63) + 48));
-    finds(&rt, alloc, &image, Fault::Root(Root::Pending(0)));
     Ok(())
 }

@@ -1,7 +1,7 @@
 //! What is done on the heaps into whose images faults are planted.
 
 use cycle::{Actor, Book, PageList, Reply, Step};
-use heap::{Config, NewFault, Refusal};
+use heap::{Config, Refusal};
 use heap_images::image_of;
 use layout::{Layout, Layouts};
 use std::alloc::{AllocError, Global};
@@ -15,7 +15,7 @@ const SECOND: Actor = Actor::Thread(1);
 const WORKER: Actor = Actor::Worker(0);
 
 /// What a story asks of a book. It promises nothing, so that the proofs of stories are short.
-pub trait Telling {
+trait Telling {
     /// A step of an actor.
     fn act(&mut self, actor: Actor, step: Step) -> Reply;
 
@@ -57,11 +57,6 @@ fn config(alloc: Global) -> Result<Config, AllocError> {
     config.registers = 4;
     config.globals = 1;
     Ok(config)
-}
-
-/// A book of such a heap.
-pub fn new_book(alloc: Global) -> Result<Book, NewFault> {
-    Book::new(alloc, config(alloc)?)
 }
 
 /// Thread 0 makes an object with a datum of 5 at page 1, offset 0, and stores it in the global.
@@ -127,23 +122,38 @@ fn first_page(alloc: Global) -> Result<PageList, AllocError> {
     Ok(PageList::new(vec![in alloc; 1; 1]?))
 }
 
-/// The image of a book's heap behind a mark.
-pub fn closed(alloc: Global, mut book: impl Telling + Drop) -> Result<Image, Fail> {
-    close(alloc, &mut book)?;
+/// What is done on a heap before its image is taken.
+#[derive(Clone, Copy)]
+pub enum Story {
+    /// A mark has closed the page of an object that a register of each thread and the global name.
+    Closed,
+    /// Then the object has moved, and its old page is released.
+    Moved,
+    /// Then the next mark has started, and a thread loads what names the object's old place.
+    Trapped,
+}
+
+/// All that a story says is done.
+fn act_out(alloc: Global, book: &mut impl Telling, story: Story) -> Result<(), Fail> {
+    close(alloc, book)?;
+    if matches!(story, Story::Closed) {
+        return Ok(());
+    }
+    move_off(book, first_page(alloc)?)?;
+    if matches!(story, Story::Trapped) {
+        trap(book)?;
+    }
+    Ok(())
+}
+
+/// The image of a book's heap at the end of a story.
+fn image_of_end(alloc: Global, mut book: impl Telling + Drop, story: Story) -> Result<Image, Fail> {
+    act_out(alloc, &mut book, story)?;
     Ok(book.image(alloc)?)
 }
 
-/// The image once the object has moved.
-pub fn moved(alloc: Global, mut book: impl Telling + Drop) -> Result<Image, Fail> {
-    close(alloc, &mut book)?;
-    move_off(&mut book, first_page(alloc)?)?;
-    Ok(book.image(alloc)?)
-}
-
-/// The image while a thread loads what names the object's old place, in the next mark.
-pub fn trapped(alloc: Global, mut book: impl Telling + Drop) -> Result<Image, Fail> {
-    close(alloc, &mut book)?;
-    move_off(&mut book, first_page(alloc)?)?;
-    trap(&mut book)?;
-    Ok(book.image(alloc)?)
+/// The image of a heap at the end of a story that began with a new one.
+pub fn told(alloc: Global, story: Story) -> Result<Image, Fail> {
+    let book = Book::new(alloc, config(alloc)?)?;
+    image_of_end(alloc, book, story)
 }

@@ -277,7 +277,7 @@ fn twins(image: &Image, reached: &Reached) -> Option<u32> {
 }
 
 /// The verdict on a small image.
-pub fn verdict(alloc: Global, image: &Image) -> Result<Verdict, AllocError> {
+pub fn slow_verdict(alloc: Global, image: &Image) -> Result<Verdict, AllocError> {
     if !has_frames(image) {
         return Ok(Verdict::Faulty(Fault::Frames));
     }

@@ -1,8 +1,8 @@
 //! Books of scripts.
 
+use crate::book::act;
 use cycle::Book;
 use heap::Refusal;
-use held::act;
 use parser::{ParseFault, Script, parse};
 use std::alloc::{AllocError, Global};
 use std::test::Fail;

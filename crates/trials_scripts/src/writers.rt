@@ -1,7 +1,8 @@
-//! Writers that fail in each mode: at some write, or when they are flushed.
+//! Writers that fail in each mode: at some write, or when they are flushed. Words, scripts and files are
+//! tested by the program itself.
 
-use crate::serving::{CHECKED, OUTPUT, SCRIPT, words_asked};
 use serving_modes::serve;
+use serving_runs::{AskFault, Asked, ask};
 use std::alloc::Global;
 use std::io;
 use std::io::{BufWriter, Write};
@@ -9,6 +10,25 @@ use std::process::Abort;
 use std::sync::Wait;
 use std::test::Fail;
 use std::thread::Threads;
+
+const SCRIPT: &str =
+    "heap words 16 frames 1 pages 1 threads 1 workers 1 registers 2 globals 0\nlayout 0 2\nt0 take 4\nt0 datum r1 0\n";
+
+const OUTPUT: &str =
+    "1 t0 lent 1.0\n2 t0 refused Null\nphase idle nmt 0 births 0 frames 1/1\npage 1 open frame 0 top 4 objects 0 live 0\nthread 0 running buffer 1.0-4 r0 - r1 -\nbarrier 0 loads 0 gc 0 nmt 0 healed 0 changed 0\n";
+
+/// What `check` writes: the same, and that the heap was verified twice.
+const CHECKED: &str =
+    "1 t0 lent 1.0\n2 t0 refused Null\nphase idle nmt 0 births 0 frames 1/1\npage 1 open frame 0 top 4 objects 0 live 0\nthread 0 running buffer 1.0-4 r0 - r1 -\nbarrier 0 loads 0 gc 0 nmt 0 healed 0 changed 0\nverified 2\n";
+
+/// What the words of a line ask for.
+fn words_asked(alloc: Global, line: &str) -> Result<Asked, AskFault> {
+    let mut words = Vec::new(alloc);
+    for word in line.split_whitespace() {
+        words.push(String::from_str(alloc, word)?)?;
+    }
+    ask(alloc, &words)
+}
 
 /// What is asked for: the words, what is written then, and in how many writes behind a buffer of 8 bytes.
 #[derive(Clone, Copy)]

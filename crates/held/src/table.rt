@@ -96,8 +96,27 @@ pub fn entry_text(alloc: Global, history: &History, index: usize) -> Result<Stri
     }
 }
 
+/// A table that can be lent. A test hands its own on as one: to hold a `Table` over calls is dear to prove.
+pub trait HeldTable: Sized {
+    /// The table.
+    fn table(&mut self) -> &mut Table;
+
+    /// Its book, where its seats agree with it.
+    fn settled(self) -> Option<Book>;
+}
+
+impl HeldTable for Table {
+    fn table(&mut self) -> &mut Table {
+        self
+    }
+
+    fn settled(self) -> Option<Book> {
+        settled(self)
+    }
+}
+
 /// A table's book, where its seats agree with it.
-pub fn settled(table: Table) -> Option<Book> {
+fn settled(table: Table) -> Option<Book> {
     let Table {
         shared,
         seats,
