@@ -140,7 +140,7 @@ def main():
     print()
     print_holds(holds)
     print()
-    print_cycles(crowds)
+    print_cycles(holds)
 
 
 if __name__ == "__main__":

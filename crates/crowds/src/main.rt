@@ -1,5 +1,5 @@
-//! What threads that share a book cost, and cycles of several workers, which `bench/crowds.py` asks for. Each
-//! work prints what it has done; behind the word `timed` it prints nanoseconds too.
+//! What threads that share a book cost, which `bench/crowds.py` asks for. Each work prints what it has done;
+//! behind the word `timed` it prints nanoseconds too.
 //!
 //! | Words | What is done |
 //! |---|---|
@@ -9,18 +9,13 @@
 //! | `steps THREADS STEPS` | the same by `Shared::step`, by so many threads that have so many steps each |
 //! | `counter THREADS STEPS` | so many threads add to a number under a lock, so often each |
 //! | `waits MILLISECONDS` | a thread waits so long for a step that is refused as `Stall` |
-//! | `cycle WORKERS LISTS PAIRS LOADS` | a cycle beside two threads that load so often each (`lists`) |
-//! | `choice` | the pages of a cycle beside those of `choose`: how many, or 0 where they differ |
 //!
 //! The word `then` parts one such work from the next.
 #![tactic(auto)]
 
 mod acting;
-mod choice;
 mod counting;
 mod crowding;
-mod gate;
-mod lists;
 mod waiting;
 
 use anyhow::{Result, bail};
@@ -37,7 +32,7 @@ fn work<R: Threads + Wait + Clock + Sync>(
     name: &str,
     numbers: [u32; 5],
 ) -> Result<Vec<Lap>> {
-    let [first, second, third, fourth, _] = numbers;
+    let [first, second, _, _, _] = numbers;
     match name {
         "act" => acting::by_book(rt, alloc, first),
         "any" => acting::by_any_kind(rt, alloc, first),
@@ -45,8 +40,6 @@ fn work<R: Threads + Wait + Clock + Sync>(
         "steps" => crowding::steps(rt, alloc, first, second),
         "counter" => counting::counts(rt, alloc, first, second),
         "waits" => waiting::waits(rt, alloc, first),
-        "cycle" => lists::cycle(rt, alloc, [first, second, third, fourth]),
-        "choice" => choice::choice(rt, alloc),
         _ => bail!("no such work"),
     }
 }

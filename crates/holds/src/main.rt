@@ -1,38 +1,52 @@
-//! How long a step holds the lock of a book that threads share, which `bench/crowds.py` asks for. Each work
-//! prints what it has done; behind the word `timed` it prints nanoseconds too.
+//! How long a step holds the lock of a book that threads share, and cycles of several workers, which
+//! `bench/crowds.py` asks for. Each work prints what it has done; behind the word `timed` it prints
+//! nanoseconds too.
 //!
 //! | Words | What is done |
 //! |---|---|
 //! | `holds WORDS FRAMES SIZE PAGES LINKED` | steps of each kind, each alone, on a heap (`holding`) |
+//! | `cycle WORKERS LISTS PAIRS LOADS` | a cycle beside two threads that load so often each (`lists`) |
+//! | `choice` | the pages of a cycle beside those of `choose`: how many, or 0 where they differ |
 //!
 //! The word `then` parts one such work from the next.
 #![tactic(auto)]
 
+mod choice;
+mod gate;
 mod holding;
+mod lists;
 mod looking;
 mod timing;
 
 use anyhow::{Result, bail};
 use std::alloc::Global;
+use std::sync::Wait;
 use std::thread::Threads;
 use std::time::Clock;
 use works::{Lap, Work, tell, works};
 
 /// Does a work by its name.
-fn work<R: Threads + Clock + Sync>(
+fn work<R: Threads + Wait + Clock + Sync>(
     rt: &R,
     alloc: Global,
     name: &str,
     numbers: [u32; 5],
 ) -> Result<Vec<Lap>> {
+    let [first, second, third, fourth, _] = numbers;
     match name {
         "holds" => holding::holds(rt, alloc, numbers),
+        "cycle" => lists::cycle(rt, alloc, [first, second, third, fourth]),
+        "choice" => choice::choice(rt, alloc),
         _ => bail!("no such work"),
     }
 }
 
 /// Does each work, and prints what it has done.
-fn run<R: Threads + Clock + Print + Sync>(rt: &R, alloc: Global, works: &[Work]) -> Result<()> {
+fn run<R: Threads + Wait + Clock + Print + Sync>(
+    rt: &R,
+    alloc: Global,
+    works: &[Work],
+) -> Result<()> {
     for asked in works {
         let laps = work(rt, alloc, asked.name.as_str(), asked.numbers)?;
         tell(rt, &laps, asked.timed)?;

@@ -10,5 +10,5 @@ pub use edits::{
     entry, set_entry, set_frame, set_free, set_global, set_load, set_page, set_register, set_start,
     set_word, shorten_starts, word,
 };
-pub use making::{add_entry, bare, page, put};
+pub use making::{add_entry, bare, put};
 pub use slow::slow_verdict;

@@ -9,7 +9,7 @@ use std::alloc::{AllocError, Global};
 use verify::{Image, PageImage, Words};
 
 /// A page of 16 words in which no object starts.
-pub fn page(alloc: Global, state: PageState, frame: Option<u32>) -> Result<PageImage, AllocError> {
+fn page(alloc: Global, state: PageState, frame: Option<u32>) -> Result<PageImage, AllocError> {
     Ok(PageImage {
         state,
         frame,
