@@ -6,12 +6,10 @@
 //! |---|---|
 //! | `holds WORDS FRAMES SIZE PAGES LINKED` | steps of each kind, each alone, on a heap (`holding`) |
 //! | `cycle WORKERS LISTS PAIRS LOADS` | a cycle beside two threads that load so often each (`lists`) |
-//! | `choice` | the pages of a cycle beside those of `choose`: how many, or 0 where they differ |
 //!
 //! The word `then` parts one such work from the next.
 #![tactic(auto)]
 
-mod choice;
 mod gate;
 mod holding;
 mod lists;
@@ -36,7 +34,6 @@ fn work<R: Threads + Wait + Clock + Sync>(
     match name {
         "holds" => holding::holds(rt, alloc, numbers),
         "cycle" => lists::cycle(rt, alloc, [first, second, third, fourth]),
-        "choice" => choice::choice(rt, alloc),
         _ => bail!("no such work"),
     }
 }
