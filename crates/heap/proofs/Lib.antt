@@ -1,3 +1,4 @@
+pub mod AtOnce
 pub mod Cycling
 pub mod Counting
 pub mod Keeping

@@ -1,4 +1,5 @@
 //! The heap.
+mod at_once;
 mod birth;
 mod buffers;
 pub mod collecting;

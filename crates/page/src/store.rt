@@ -6,7 +6,7 @@ mod relocating;
 mod runs;
 
 ghost use Rattle.std.specs.Prelude.{◌≡◌, ◌≤◌, ◌<◌, ◌+◌, ◌/◌, ◌%◌, ◌^◌, length, slice_set};
-ghost use Rattle.std.specs.Prelude.{IfOk, count_by, is_some, is_none, Some, true};
+ghost use Rattle.std.specs.Prelude.{IfOk, IfSome, count_by, is_some, is_none, Some, true};
 ghost use Rattle.std.specs.Option.{option_map};
 ghost use Rattle.model.specs.Stores.{first_store, page_at, state_at, spot_of, word_in, word_at, changed_in};
 ghost use Rattle.model.specs.Stores.{with_word, words_at, frame_in, record_count};
@@ -299,6 +299,18 @@ impl Store {
         }
         let frame = self.recorded_frame(self.page_of(address))?;
         self.word_in(frame, offset as usize)
+    }
+
+    /// The words of the page of an address, and where in them the address is, if the page has memory.
+    #[inline(always)]
+    #[tactic(auto, unfolding(model::specs::Stores::words_at))]
+    pub fn page_behind(&self, address: Addr) -> Option<(&[u64], usize)>
+        ensures words { IfSome result (λ r. words_at self.now (address / self.now.words) ≡ Some r.0.now) }
+        ensures offset { IfSome result (λ r. r.1 ≡ address % self.now.words) }
+    {
+        let number = self.recorded_frame(self.page_of(address))?;
+        let frame = self.frames.get(number as usize)?;
+        Some((frame.words(), self.offset_of(address) as usize))
     }
 
     /// The words of a page by its number, if it has memory.

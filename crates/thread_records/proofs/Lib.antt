@@ -1,2 +1,3 @@
+pub mod AtOnce
 pub mod Counting
 pub mod Looping

@@ -6,6 +6,8 @@ ghost use Rattle.model.specs.States.{flat};
 ghost use Rattle.model.specs.Threads.{set_register_of, set_buffer_of, set_barrier_of, set_loaded_of, set_parked_of};
 ghost use Rattle.model.specs.Threads.{set_crossed_of};
 ghost use Rattle.model.specs.First.{blank_thread};
+ghost use Rattle.model.specs.declared.records.Barrier.{Barrier};
+ghost use Rattle.model.specs.declared.records.Counter.TheVariants as counters;
 ghost use Rattle.thread_records.specs.Counting.{counted_behind};
 
 use model::{Barrier, Buffer, Counter, Tally};
@@ -158,6 +160,19 @@ impl Thread {
     {
         self.set_register(number, word);
         self.barrier = None;
+    }
+
+    /// Begins a load and ends it at once: a register, by its number from 0, gets the word, if it is there,
+    /// and the load is counted. Whatever barrier it would have had in between is closed again.
+    #[inline(always)]
+    #[tactic(auto, using(crate::proofs::AtOnce::read_at_once))]
+    pub(crate) fn set_read(&mut self, number: u32, word: Word)
+        requires { self.old.barrier ≡ None }
+        ensures value { (b : Barrier) → self.new ≡ set_loaded_of number word (set_barrier_of b counters.Loads self.old) }
+        ensures crossed { self.new.crossed ≡ self.old.crossed }
+    {
+        self.set_register(number, word);
+        self.tally.count(Counter::Loads);
     }
 
     /// Parks it, or lets it run.

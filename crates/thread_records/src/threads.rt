@@ -10,6 +10,9 @@ ghost use Rattle.model.specs.States.{change_at};
 ghost use Rattle.model.specs.Threads.{has_crossed, is_parked_in, register_in, buffer_in, barrier_of, tally_in};
 ghost use Rattle.model.specs.Threads.{set_register_of, set_buffer_of, set_barrier_of, set_loaded_of, set_parked_of};
 ghost use Rattle.model.specs.Threads.{set_crossed_of};
+ghost use Rattle.std.specs.Prelude.{None};
+ghost use Rattle.model.specs.declared.records.Barrier.{Barrier};
+ghost use Rattle.model.specs.declared.records.Counter.TheVariants as counters;
 
 use crate::thread::Thread;
 use model::{Barrier, Buffer, Counter, Tally};
@@ -246,6 +249,21 @@ impl Threads {
         if (thread as usize) < self.list.len() {
             let record = &mut self.list[thread as usize];
             record.set_loaded(register, word);
+        }
+    }
+
+    /// A load of a thread, if it is there, begins and ends at once: a register, by its number from 0, gets
+    /// the word, and the load is counted. Whatever barrier it would have had in between is closed again.
+    #[inline(always)]
+    #[tactic(auto, using(crate::proofs::Counting::still_behind))]
+    pub fn set_read(&mut self, thread: u32, register: u32, word: Word)
+        requires { barrier_of (slice_get self.old thread) ≡ None }
+        ensures { (b : Barrier) → self.new
+            ≡ change_at self.old thread (λ x. set_loaded_of register word (set_barrier_of b counters.Loads x)) }
+    {
+        if (thread as usize) < self.list.len() {
+            let record = &mut self.list[thread as usize];
+            record.set_read(register, word);
         }
     }
 

@@ -1,0 +1,68 @@
+-- Loads that are done at once, where no collection runs.
+use Rattle.std.specs.Prelude.{◌≡◌, ◌/◌, ℕ, Ok, Some, None, Bool, true, false, IfSome}
+use Rattle.model.specs.declared.records.Counter.TheVariants as counters
+use Rattle.model.specs.declared.records.Place.TheVariants as places
+use Rattle.model.specs.declared.steps.Actor.TheVariants.{Thread}
+use Rattle.model.specs.declared.steps.Answer.TheVariants as answers
+use Rattle.model.specs.declared.steps.Step.TheVariants as steps
+use Rattle.model.specs.Holding.{IsHeap}
+use Rattle.model.specs.Owning.{IsStore}
+use Rattle.model.specs.Loads.{with_barrier, new_barrier, barrier_of_thread}
+use Rattle.model.specs.declared.steps.Step.{Step}
+use Rattle.model.specs.Outcome.{outcome, Passes, is_for_workers, has_bad_index, no_register}
+use Rattle.model.specs.References.{read_reference, field_at}
+use Rattle.model.specs.Registers.{usable}
+use Rattle.model.specs.States.{Reference, HeapState}
+use Rattle.model.specs.Stores.{word_at, state_at, is_protected}
+use Rattle.model.specs.Phases.{is_marking}
+
+-- the heap after a load of reference i of the object at an address has begun, which has read a word
+abbrev pub begun : HeapState → ℕ → ℕ → ℕ → ℕ → Reference → HeapState
+begun h t target address i w = with_barrier h t (new_barrier target (places.Field address i) w) counters.Loads
+
+-- an address is on no protected page
+abbrev pub IsOpenTo : HeapState → ℕ → Type 0
+IsOpenTo h address = is_protected (state_at h.store (address / h.store.words)) ≡ false
+
+-- no mark runs, and a word is on no protected page
+pub record IsQuiet (h : HeapState) (w : Reference) : Type 0 where
+  pub unmarked : is_marking h.phase ≡ false
+  pub free : IfSome w (λ v. IsOpenTo h v.0)
+
+-- thread t may load a reference of the object at an address, which register object names, for register target
+pub record NamesAtOnce (h : HeapState) (t target object address : ℕ) : Type 0 where
+  pub passes : (i : ℕ) → Passes h t (steps.Load target object i)
+  pub usable : usable h t object ≡ Ok address
+  pub closed : barrier_of_thread h t ≡ None
+
+-- reference i of the object at an address is this word
+pub record ReadsAtOnce (h : HeapState) (address i : ℕ) (w : Reference) : Type 0 where
+  pub place : ℕ
+  pub bits : ℕ
+  pub stands : field_at h address i ≡ Some place
+  pub read : word_at h.store place ≡ Some bits
+  pub word : w ≡ read_reference bits
+
+-- heap g is what a load of a field leads to by its first step and its last, between which no trap is due; the heap
+-- between them keeps what all heaps keep
+pub record LoadsAtOnce (h : HeapState) (t target object i : ℕ) (g : HeapState) : Type 0 where
+  pub between : HeapState
+  pub heap : IsHeap between
+  pub store : IsStore between.store
+  pub loads : outcome h (Thread t) (steps.Load target object i) ≡ Ok (between, answers.Loaded)
+  pub ends : outcome between (Thread t) steps.Finish ≡ Ok (g, answers.Done)
+
+-- true where the load is done at once, and false where nothing is done
+abbrev pub MayLoadAtOnce : Bool → HeapState → ℕ → ℕ → ℕ → ℕ → HeapState → Type 0
+MayLoadAtOnce true h t target object i g = LoadsAtOnce h t target object i g
+MayLoadAtOnce false h t target object i g = g ≡ h
+
+-- thread t may use the object at an address, which a register names
+pub record UsesAtOnce (h : HeapState) (t object address : ℕ) : Type 0 where
+  pub passes : (s : Step) → is_for_workers s ≡ false → has_bad_index h s ≡ false → Passes h t s
+  pub there : no_register h object ≡ false
+  pub usable : usable h t object ≡ Ok address
+
+-- a datum is read
+abbrev pub GivesDatum : HeapState → ℕ → ℕ → ℕ → ℕ → Type 0
+GivesDatum h t object j value = outcome h (Thread t) (steps.Datum object j) ≡ Ok (h, answers.Datum value)
