@@ -41,53 +41,47 @@ fn copy_words(rt: &impl Abort, from: &[u64], to: &mut [u64]) {
 }
 
 /// Borrows page 1 for reading and page 2 for writing. No page is lent beside itself or beside one without a frame.
-fn lends(rt: &impl Abort, mut held: impl HeldStore + Drop) {
-    let store = held.store();
-    fill_pages(rt, store);
+fn lend_pages(rt: &impl Abort, store: &mut Store) {
     match store.lend(1, 2) {
         Some((from, to)) => copy_words(rt, from, to),
         None => assert!(rt; false, "not lent"),
     }
-    has_second(
-        rt,
-        store,
-        &[99, 2, 3, 4, 5, 6, 7, 8, 9, 10, 11, 12, 13, 14, 15, 16],
-    );
     for (from, to) in [(1, 1), (1, 4), (4, 1), (0, 1), (1, 9)] {
         same_at(rt, from, store.lend(from, to).is_some(), false);
     }
 }
 
-#[test]
-fn a_page_beside_another(rt: HostRuntime) -> Result<(), AllocError> {
-    lends(&rt, Store::new(rt.alloc(), 16, 4, 8)?);
-    Ok(())
-}
-
 /// Borrows page 2 for writing.
-fn writes_page(rt: &impl Abort, mut held: impl HeldStore + Drop) {
-    let store = held.store();
-    fill_pages(rt, store);
+fn write_page(rt: &impl Abort, store: &mut Store) {
     assert!(rt; store.has_frame(2));
     let words = store.words_mut(2);
     words.fill(7);
     if let Some(word) = words.last_mut() {
         *word = 8;
     }
+}
+
+/// Writes to page 2 beside page 1, and then alone.
+fn writes(rt: &impl Abort, mut held: impl HeldStore + Drop) {
+    let store = held.store();
+    fill_pages(rt, store);
+    lend_pages(rt, store);
     has_second(
         rt,
         store,
-        &[7, 7, 7, 7, 7, 7, 7, 7, 7, 7, 7, 7, 7, 7, 7, 8],
+        &[99, 2, 3, 4, 5, 6, 7, 8, 9, 10, 11, 12, 13, 14, 15, 16],
     );
+    write_page(rt, store);
+    has_second(rt, store, &[7, 7, 7, 7, 7, 7, 7, 7, 7, 7, 7, 7, 7, 7, 7, 8]);
 }
 
 #[test]
-fn a_whole_page(rt: HostRuntime) -> Result<(), AllocError> {
-    writes_page(&rt, Store::new(rt.alloc(), 16, 4, 8)?);
+fn words_of_pages(rt: HostRuntime) -> Result<(), AllocError> {
+    writes(&rt, Store::new(rt.alloc(), 16, 4, 8)?);
     Ok(())
 }
 
-/// Writes one number over all words of a piece, of which there are so many.
+/// Writes one number over all words of a piece, which has `len` of them.
 fn fill_piece(rt: &impl Abort, piece: Option<&mut [u64]>, len: usize, value: u64) {
     match piece {
         Some(words) => {
