@@ -40,7 +40,8 @@ fn copy_words(rt: &impl Abort, from: &[u64], to: &mut [u64]) {
     }
 }
 
-/// Borrows page 1 for reading and page 2 for writing. `lend` returns `None` for two equal pages, and if one has no frame.
+/// Borrows page 1 for reading and page 2 for writing. `lend` returns `None` for two equal pages, and if one has no
+/// frame.
 fn lend_pages(rt: &impl Abort, store: &mut Store) {
     match store.lend(1, 2) {
         Some((from, to)) => copy_words(rt, from, to),
@@ -92,8 +93,8 @@ fn fill_piece(rt: &impl Abort, piece: Option<&mut [u64]>, len: usize, value: u64
     }
 }
 
-/// Cuts pieces of 3, 0, 4 and 2 words off ten, and writes to them in reverse order. Two requests for more words than are
-/// left cut nothing.
+/// Cuts pieces of 3, 0, 4 and 2 words off ten, and writes to them in reverse order. Two requests for more words than
+/// are left cut nothing.
 fn cut_pieces(rt: &impl Abort, words: &mut [u64]) {
     let mut cutter = Cutter::new(words);
     let first = cutter.cut(3);
