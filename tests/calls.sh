@@ -41,6 +41,7 @@ for named in \
     trials_books:marks::a_drain \
     trials_verifier:verified::the_image_of_an_object_that_moves \
     trials_scripts:scripts::steps_of_orders \
+    trials_scripts:protections::the_report_stays \
     trials_scripts:reports::cycles \
     trials_scripts:wants::read_and_run \
     trials_scripts:wants::read_and_checked \

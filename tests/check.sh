@@ -1,10 +1,11 @@
 #!/bin/sh
 # Runs the program in its mode 'check' on each script of examples/ and of
 # tests/scripts/: it has to print what 'run' prints, which is NAME.expected, and
-# then 'verified N', where N is one more than the accepted steps in it, or what
-# NAME.verified says, where a drain was refused behind accepted steps. A script
-# with a fault has the same error and status as under 'run'. The program is
-# ./pauseless, or the one that the first argument names.
+# then 'verified N'. N is the number in NAME.verified if that file exists, and
+# otherwise one more than the accepted steps in NAME.expected; a script in which
+# a drain is rejected after accepted steps needs the file. A script with a fault
+# has the same error and status as under 'run'. The program is ./pauseless, or
+# the one that the first argument names.
 
 cd "$(dirname "$0")/.." || exit 1
 . tests/begin.sh

@@ -7,6 +7,8 @@ mod bits;
 #[cfg(test)]
 mod configs;
 #[cfg(test)]
+mod lending;
+#[cfg(test)]
 mod listed;
 #[cfg(test)]
 mod objects;

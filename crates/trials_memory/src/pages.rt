@@ -13,7 +13,7 @@ use std::test::Fail;
 
 /// A store that can be lent. A test hands its store on as one: to hold a `Store` over calls is dear to
 /// prove.
-trait HeldStore {
+pub trait HeldStore {
     /// The store.
     fn store(&mut self) -> &mut Store;
 }
@@ -59,7 +59,7 @@ fn place_of(taken: Result<Buffer, Room>) -> Result<(u32, u32), Room> {
 }
 
 /// Takes buffers of the sizes that the rows begin with, and compares page and offset.
-fn takes(rt: &impl Abort, store: &mut Store, rows: &[(u32, u32, u32)]) {
+pub fn takes(rt: &impl Abort, store: &mut Store, rows: &[(u32, u32, u32)]) {
     for (n, page, next) in rows {
         same_at(rt, n, place_of(take(rt, store, *n)), Ok((*page, *next)));
     }

@@ -3,6 +3,8 @@
 #![tactic(auto)]
 
 #[cfg(test)]
+mod protections;
+#[cfg(test)]
 mod reports;
 #[cfg(test)]
 mod same;
