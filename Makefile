@@ -110,7 +110,8 @@ app:
 	@$(call needs,NAME,mycache)
 ifdef TRY
 	@$(unproved) --fast '$(NAME)'
-	@'target/unproved/$(NAME)-fast' $(ARGS)
+	@'target/unproved/$(NAME)-fast' $(ARGS) || { status=$$?; [ $$status != 132 ] || \
+		echo "make: a test of the code stopped it; 'rt try' in crates/$(NAME) prints where" >&2; exit $$status; }
 else
 	@$(needs_toolchain)
 	@$(PROGRESS) --crate '$(NAME)' --run --log '$(CURDIR)/$(LOG)' -- $(RT) run -- $(ARGS)
