@@ -10,7 +10,8 @@
 # make edits        tries all mutants that the prover has to reject, or with CRATES="page heap" those of these crates,
 #                   and records in tests/refused.txt the crates of which each was rejected; with CHECK=1 it tries
 #                   nothing, and prints which crates aren't recorded
-# make lib          builds the static library for C and leaves it as ./libpauseless.a
+# make lib          builds the static library for C and leaves it as ./libpauseless.a; with TRY=1 as
+#                   target/unproved/libpauseless.a, by a build that proves nothing
 # make install      installs the program in PREFIX/bin, and the library, its header and its pkg-config file
 # make bench        times the program on generated scripts, loops over the library's calls, collections compared with
 #                   bdwgc, and the Lisp in C
@@ -61,7 +62,7 @@ PROGRESS = $(PYTHON) tools/progress.py
 # built CRATE,WORDS: proves and builds a crate's program, and runs it on these words. 'rt run' keeps it in out/.
 built = $(PROGRESS) --crate $(1) --log '$(CURDIR)/$(LOG)' -- $(RT) run -- $(2) || $(show_log)
 
-# unproved CRATE: builds a crate's program without a proof and keeps it as target/unproved/CRATE.
+# unproved CRATE: builds a crate's program without a proof, and keeps it as target/unproved/CRATE until a source changes.
 unproved = RT='$(RT)' $(PYTHON) tools/unproved.py
 
 # part WORDS: says which part of a long command begins. What follows it is run with a line that has its time.
@@ -88,7 +89,13 @@ libpauseless.a: $(SOURCES)
 	@printf 'create %s\naddlib %s\naddlib %s\nsave\nend\n' $@ crates/foreign/out/libforeign.a \
 		"$$(dirname "$$($(RT) doc)")/c/liblibc_c.a" | $(AR) -M
 
+ifdef TRY
+lib:
+	@AR='$(AR)' $(unproved) foreign
+	@echo 'The library is target/unproved/libpauseless.a.'
+else
 lib: libpauseless.a
+endif
 
 run: pauseless
 	@./pauseless run examples/first.script
