@@ -62,7 +62,7 @@ PROGRESS = $(PYTHON) tools/progress.py
 # built CRATE,WORDS: proves and builds a crate's program, and runs it on these words. 'rt run' keeps it in out/.
 built = $(PROGRESS) --crate $(1) --log '$(CURDIR)/$(LOG)' -- $(RT) run -- $(2) || $(show_log)
 
-# unproved CRATE: builds a crate's program without a proof, and keeps it as target/unproved/CRATE until a source changes.
+# unproved CRATE: builds a program without a proof, and keeps it as target/unproved/CRATE while no source changes.
 unproved = RT='$(RT)' $(PYTHON) tools/unproved.py
 
 # part WORDS: says which part of a long command begins. What follows it is run with a line that has its time.
