@@ -1,9 +1,14 @@
-"""What crates.txt says: each crate of the repository, and what it depends on."""
+"""What crates.txt says: each crate of the repository, and what it depends on.
+
+The repository is that of the current folder, if that has a crates.txt, and else the one in which this file is.
+"""
 
 import os
 import re
 
-TOP = os.path.dirname(os.path.dirname(os.path.abspath(__file__)))
+TOP = os.getcwd()
+if not os.path.exists(os.path.join(TOP, "crates.txt")):
+    TOP = os.path.dirname(os.path.dirname(os.path.abspath(__file__)))
 
 
 def crates():
