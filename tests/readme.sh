@@ -79,8 +79,12 @@ indented heap > "$kept/script"
 indented 1 > "$kept/output"
 is_same 'the first script' examples/first.script "$kept/script"
 is_same 'what the first script prints' examples/first.expected "$kept/output"
-"$PYTHON" tests/figures.py > "$kept/output"
-if [ $? = 0 ]; then passes 'the figures of README.md'; else fails 'the figures of README.md:'; cat "$kept/output"; fi
+if "$PYTHON" tests/figures.py > "$kept/output"; then
+    passes 'the figures of README.md'
+else
+    fails 'the figures of README.md:'
+    grep '^failed' "$kept/output"
+fi
 
 # A copy without what checks have kept, but with what was built without a proof.
 copy=$kept/copy
