@@ -60,7 +60,7 @@ class Line:
         while not self.ended.wait(PAUSE):
             text = self.text(clock(time.monotonic() - self.began))
             with self.drawing:
-                sys.stderr.write("\r\033[K" + text[:max(20, os.get_terminal_size(2).columns - 1)])
+                sys.stderr.write("\r\033[K" + text[:(os.get_terminal_size(2).columns or 80) - 1])
                 sys.stderr.flush()
         self.write(b"")
 
@@ -243,6 +243,8 @@ def built_and_run(words, folder):
 
 def main():
     words = asked()
+    if words.crate and words.crate not in crates():
+        sys.exit(f"make: crates.txt has no crate '{words.crate}'")
     folder = os.path.join(TOP, "crates", words.crate) if words.crate else os.getcwd()
     try:
         if words.run:
