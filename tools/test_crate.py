@@ -2,7 +2,7 @@
 """Runs what tests a crate: tools/test_crate.py [--try] CRATE
 
 These are the tests in the crate itself, and in each crate that depends on it directly. They are proved first, or with
---try compiled without a proof. The last line is 'N passed, M failed', which counts crates of tests.
+--try built without a proof. The last line is 'N passed, M failed', which counts crates of tests.
 """
 
 import argparse
@@ -14,6 +14,7 @@ import sys
 
 from crates import TOP, crates
 from progress import shown
+from unproved import KEPT, toolchain
 
 # What 'rt' prints of a run of tests that passed.
 PASSED = re.compile(r"^test result: ok\. .*$", re.M)
@@ -29,13 +30,23 @@ def has_tests(crate):
     return False
 
 
+def command_of(crate, is_tried):
+    """What runs the tests of a crate. Without a proof they are built first."""
+    if not is_tried:
+        return [*shlex.split(os.environ.get("RT", "rt")), "test"]
+    builder = os.path.join(os.path.dirname(os.path.abspath(__file__)), "unproved.py")
+    if subprocess.run([sys.executable, builder, "--tests", crate], check=False).returncode:
+        return ["false"]
+    return [os.path.join(toolchain(), "bin", "rattle-test"), os.path.join(KEPT, f"{crate}-tests")]
+
+
 def run(crate, is_tried):
     """Runs the tests of one crate. Returns whether they passed."""
-    command = [*shlex.split(os.environ.get("RT", "rt")), *(["try", "--test"] if is_tried else ["test"])]
+    command = command_of(crate, is_tried)
     how = {"cwd": os.path.join(TOP, "crates", crate), "stdin": subprocess.DEVNULL, "stdout": subprocess.PIPE,
            "stderr": subprocess.STDOUT, "text": True, "errors": "replace"}
     with shown(f"tests of {crate}"):
-        ran = subprocess.run([*command], check=False, **how)
+        ran = subprocess.run(command, check=False, **how)
     counts = PASSED.search(ran.stdout)
     is_passed = ran.returncode == 0 and counts is not None
     if is_passed:
