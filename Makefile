@@ -194,7 +194,7 @@ EVERY = 1
 ifdef TRY
 states = $(unproved) states
 else
-states = $(MAKE) -q $(STATES) 2> /dev/null || { \
+states = $(MAKE) --no-print-directory -q $(STATES) 2> /dev/null || { \
 	$(unproved) states && target/unproved/states '$(SCRIPT)' 1000000 > /dev/null && \
 	$(MAKE) --no-print-directory $(STATES); }
 endif
