@@ -46,6 +46,14 @@ for script in examples/threads/*.script tests/threads/*.script; do
     repeats "$script" "$base" "$runs" "$script"
 done
 
+# The two lists with one worker, and with sixteen.
+for workers in 1 16; do
+    for name in two_lists rolling_lists; do
+        sed "s/workers 2/workers $workers/" "tests/threads/$name.script" > "$kept/workers.script"
+        repeats "$kept/workers.script" "tests/threads/$name" 50 "$name with $workers workers"
+    done
+done
+
 # The two lists among 64 threads and 16 workers. A thread without commands parks at once.
 {
     head -n 2 tests/threads/two_lists.expected

@@ -9,13 +9,11 @@
 //! | `steps THREADS STEPS` | the same by `Shared::step`, by so many threads that have so many steps each |
 //! | `counter THREADS STEPS` | so many threads add to a number under a lock, so often each |
 //! | `waits MILLISECONDS` | a thread waits so long for a step that is refused as `Stall` |
-//! | `choice` | the pages of a cycle beside those of `choose`: how many, or 0 where they differ |
 //!
 //! The word `then` parts one such work from the next.
 #![tactic(auto)]
 
 mod acting;
-mod choice;
 mod counting;
 mod crowding;
 mod waiting;
@@ -42,7 +40,6 @@ fn work<R: Threads + Wait + Clock + Sync>(
         "steps" => crowding::steps(rt, alloc, first, second),
         "counter" => counting::counts(rt, alloc, first, second),
         "waits" => waiting::waits(rt, alloc, first),
-        "choice" => choice::choice(rt, alloc),
         _ => bail!("no such work"),
     }
 }

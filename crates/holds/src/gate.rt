@@ -72,6 +72,8 @@ impl<'a, R: Clock> Watch<'a, R> {
 }
 
 impl<R: Clock> Gate for Watch<'_, R> {
+    const WATCHES: bool = false;
+
     fn before(&self, actor: Actor, step: &Step) {
         match (actor, step) {
             (Actor::Worker(0), Step::StartMark) => {

@@ -1,3 +1,4 @@
+pub mod AtOnce
 pub mod Running
 pub mod Going
 pub mod Gathering

@@ -107,6 +107,11 @@ LoadStands h t begin (Ok u) g = (p p0 : PlainHeap) → Holds h p p0 → Holds g 
 LoadStands h t begin (Err e) g = (p p0 : PlainHeap) → Holds h p p0
     → (Holds g p p0 ⊎ Holds g (plain_step h.config.layouts p (Thread t) begin) p0)
 
+-- a whole load in one go: true if it is done, and false if nothing is
+abbrev pub MayLoadWhole : Bool → HeapState → ℕ → Step → HeapState → Type 0
+MayLoadWhole true h t begin g = LoadsWhole h t begin (Ok tt) g × LoadStands h t begin (Ok tt) g
+MayLoadWhole false h t begin g = g ≡ h
+
 -- a step that scans
 abbrev pub Scans : Step → Type 0
 Scans (steps.Pick page offset) = Unit {0}

@@ -3,7 +3,7 @@
 ghost use Rattle.std.specs.Prelude.{◌≡◌};
 ghost use Rattle.model.specs.declared.steps.Step.TheVariants as steps;
 ghost use Rattle.managed.specs.Goings.{EndsLoad, EndsTrap, Goes, IsClear, IsInBarrier, LoadsWhole, LoadStands};
-ghost use Rattle.managed.specs.Goings.{TrapsLeft};
+ghost use Rattle.managed.specs.Goings.{MayLoadWhole, TrapsLeft};
 
 use crate::managed::ManagedHeap;
 use cycle::{MOST_TRAPS, Mutating, heal_is_due};
@@ -78,13 +78,45 @@ impl ManagedHeap {
         }
     }
 
-    /// Loads a reference field of an object into a register, whole. Refused as `load` or as `end_read` is.
-    pub fn read(&mut self, thread: u32, target: u32, object: u32, field: u32) -> Result<(), Refusal>
+    /// A complete load of a field in one go, if no test refuses it and no trap is due. Returns whether it
+    /// is done; else nothing is.
+    #[inline(always)]
+    #[tactic(auto, using(crate::proofs::AtOnce::may_load_whole))]
+    fn read_at_once(&mut self, thread: u32, target: u32, object: u32, field: u32) -> bool
+        ensures { MayLoadWhole result self.old thread (steps.Load target object field) self.new }
+    {
+        self.heap.law();
+        refinement::law();
+        self.heap.load_at_once(thread, target, object, field)
+    }
+
+    /// A complete load of a field by its steps.
+    #[cold]
+    #[inline(never)]
+    fn read_by_steps(
+        &mut self,
+        thread: u32,
+        target: u32,
+        object: u32,
+        field: u32,
+    ) -> Result<(), Refusal>
         ensures loads { LoadsWhole self.old thread (steps.Load target object field) result self.new }
         ensures stands { LoadStands self.old thread (steps.Load target object field) result self.new }
     {
         self.load(thread, target, object, field)?;
         self.end_read(thread)
+    }
+
+    /// Loads a reference field of an object into a register, whole. Refused as `load` or as `end_read` is.
+    #[inline(always)]
+    pub fn read(&mut self, thread: u32, target: u32, object: u32, field: u32) -> Result<(), Refusal>
+        ensures loads { LoadsWhole self.old thread (steps.Load target object field) result self.new }
+        ensures stands { LoadStands self.old thread (steps.Load target object field) result self.new }
+    {
+        match self.read_at_once(thread, target, object, field) {
+            true => Ok(()),
+            false => self.read_by_steps(thread, target, object, field),
+        }
     }
 
     /// Loads a global into a register, whole. Refused as `load_global` or as `end_read` is.

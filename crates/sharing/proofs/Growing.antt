@@ -106,7 +106,7 @@ entered b c actor step (Ok x) a h =
     same_pair : (y z : BookState × Answer) → ◌≡◌ {A = BookOutcome} (Ok y) (Ok z) → y ≡ z
     same_pair y z e = cc
 
-acted_history : (b c : BookState) (actor : Actor) (step : Step) (a : Answer) → act_outcome b actor step ≡ Ok (c, a)
+pub acted_history : (b c : BookState) (actor : Actor) (step : Step) (a : Answer) → act_outcome b actor step ≡ Ok (c, a)
     → c.history ≡ b.history ++ record { actor = actor; step = step; answer = a } ∷ []
 unfolding act_outcome
 acted_history b c actor step a h = by_full (is_full b) h

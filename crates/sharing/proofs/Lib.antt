@@ -1,3 +1,4 @@
+pub mod Many
 pub mod Opened
 pub mod Growing
 pub mod Settles

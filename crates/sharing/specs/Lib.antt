@@ -1,3 +1,4 @@
+pub mod Many
 pub mod Portions
 pub mod Seats
 pub mod SeatViews

@@ -6,7 +6,9 @@ mod opening;
 mod seat;
 mod settling;
 mod shared;
+mod steps;
 
 pub use seat::Seat;
 pub use settling::{Settled, Stray, settle};
 pub use shared::Shared;
+pub use steps::Steps;

@@ -4,9 +4,11 @@ ghost use Rattle.std.specs.Prelude.{◌≡◌, ℕ, Err, IfOk};
 ghost use Rattle.cycle.specs.Books.{Acts, act_outcome, is_full};
 ghost use Rattle.model.specs.declared.steps.Actor.TheVariants.{Thread, Worker};
 ghost use Rattle.model.specs.declared.steps.Step.TheVariants as steps;
+ghost use Rattle.sharing.specs.Many.{ActsMany};
 ghost use Rattle.sharing.specs.Portions.{Drains, DrainsSome};
 ghost use Rattle.sharing.specs.Seats.{Notes};
 
+use crate::steps::Steps;
 use actor_entries::again;
 use cycle::{Actor, Book, History, PieceGate, Reply, Step, next_drain};
 use model::Refusal;
@@ -178,6 +180,33 @@ impl Seat {
             };
             if let Err(refusal) = self.act(alloc, book, step) {
                 return Err(refusal);
+            }
+        }
+        Ok(false)
+    }
+
+    /// Does up to `most` steps of the seat's actor, each as `act` does it: the next one is decided by
+    /// the heap as the one before it left it. Returns true if there was nothing more to do, false
+    /// after `most` steps, and the error of a refused step that wasn't passed over.
+    pub fn act_many<S: Steps>(
+        &mut self,
+        alloc: Global,
+        book: &mut Book,
+        most: u32,
+        steps: &mut S,
+    ) -> Result<bool, Refusal>
+        ensures { ActsMany most result self.old book.old self.new book.new }
+    {
+        for _ in 0..most {
+            let Some(step) = steps.next(book.heap()) else {
+                return Ok(true);
+            };
+            let reply = self.act(alloc, book, step);
+            if !steps.note(book.heap(), reply) {
+                return match reply {
+                    Ok(_) => Ok(true),
+                    Err(refusal) => Err(refusal),
+                };
             }
         }
         Ok(false)

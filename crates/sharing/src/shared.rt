@@ -4,6 +4,7 @@ ghost use Rattle.std.specs.Prelude.{◌≡◌, IfErr, IfOk};
 ghost use Rattle.std.specs.Fn.{FnOnceReturnsAt, FnOnceTakesAt};
 ghost use Rattle.cycle.specs.Books.{BookState};
 ghost use Rattle.cycle.specs.Replays.{IsBook, KeepsPromises};
+ghost use Rattle.sharing.specs.Many.{ActsMany};
 ghost use Rattle.sharing.specs.Portions.{Drains};
 ghost use Rattle.sharing.specs.Seats.{Notes, seats_of};
 ghost use Rattle.model.specs.States.{HeapState};
@@ -11,6 +12,7 @@ ghost use Rattle.model.specs.declared.steps.Step.TheVariants as steps;
 
 use crate::opening::seats;
 use crate::seat::Seat;
+use crate::steps::Steps;
 use actor_entries::again;
 use cycle::{Book, PieceGate, Reply, Step};
 use heap::Heap;
@@ -153,6 +155,28 @@ impl Shared {
         let mut desk = self.desk.lock(rt);
         desk.book.law();
         let end = seat.drain(self.alloc, &mut desk.book, most);
+        drop(desk);
+        if seat.list().len() > before {
+            self.changed.notify_all();
+        }
+        end
+    }
+
+    /// Does up to `most` steps of the seat's actor, as `Seat::act_many` does them, under one hold of
+    /// the lock. Wakes all that wait if a step was accepted.
+    pub fn act_many<R: Wait, S: Steps>(
+        &self,
+        rt: &R,
+        seat: &mut Seat,
+        most: u32,
+        steps: &mut S,
+    ) -> Result<bool, Refusal>
+        ensures { (b : BookState) × (c : BookState) × IsBook b × ActsMany most result seat.old b seat.new c }
+    {
+        let before = seat.list().len();
+        let mut desk = self.desk.lock(rt);
+        desk.book.law();
+        let end = seat.act_many(self.alloc, &mut desk.book, most, steps);
         drop(desk);
         if seat.list().len() > before {
             self.changed.notify_all();

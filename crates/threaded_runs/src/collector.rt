@@ -1,9 +1,10 @@
 //! The cycles of the worker that has commands.
 
-use crate::choice::chosen;
 use crate::gate::Gate;
 use crate::run::Run;
+use crate::scanner::Scanner;
 use crate::scanning::{drain, pause};
+use choosing::choose;
 use cycle::{Actor, PageList, Step};
 use heap::Heap;
 use model::{Phase, Refusal};
@@ -26,10 +27,10 @@ fn first_parked(heap: &Heap) -> Option<u32> {
     None
 }
 
-/// The worker that has commands.
+/// The worker that has commands: worker 0.
 #[derive(Drop)]
 pub(crate) struct Collector {
-    pub(crate) worker: u32,
+    pub(crate) scanner: Scanner,
 }
 
 impl Collector {
@@ -55,17 +56,14 @@ impl Collector {
         unreachable!()
     }
 
-    /// Drains the mark and ends it. False where it is refused for good.
-    fn end_mark<R: Wait, G: Gate>(&self, run: &Run<R, G>, seat: &mut Seat) -> bool {
+    /// Drains the mark and ends it. False if all stop, or it is refused for good.
+    fn end_mark<R: Wait, G: Gate>(&mut self, run: &Run<R, G>, seat: &mut Seat) -> bool {
         for _ in run.rt.forever() {
-            drain(run, seat, self.worker);
-            if run.is_stopped() {
-                return false;
-            }
+            drain(run, seat, &mut self.scanner);
             match run.ask(seat, &Step::EndMark) {
-                Ok(_) => return true,
-                Err(Refusal::TodoLeft | Refusal::Pending { .. }) => pause(run),
-                Err(_) => return false,
+                Some(Ok(_)) => return true,
+                Some(Err(Refusal::TodoLeft | Refusal::Pending { .. })) => pause(run),
+                _ => return false,
             }
         }
         unreachable!()
@@ -78,9 +76,6 @@ impl Collector {
         seat: &mut Seat,
         page: u32,
     ) {
-        if run.is_stopped() {
-            return;
-        }
         let _ = run.copy_page(seat, page);
         let _ = run.ask(seat, &Step::Release(page));
     }
@@ -94,13 +89,15 @@ impl Collector {
         seat: &mut Seat,
         percent: u32,
     ) -> Result<Vec<u32>, AllocError> {
-        let pages = chosen(alloc, run, percent)?;
+        let pages = run
+            .shared
+            .look(run.rt, |heap: &Heap| choose(alloc, heap, percent))?;
         if pages.is_empty() {
             return Ok(pages);
         }
         let named = Vec::from_slice(alloc, &pages)?;
         let protected = run.ask(seat, &Step::Protect(PageList::new(named)));
-        if protected.is_err() || !self.wait_for(run, seat, Phase::Relocating) {
+        if !matches!(protected, Some(Ok(_))) || !self.wait_for(run, seat, Phase::Relocating) {
             return Ok(Vec::new(alloc));
         }
         Ok(pages)
@@ -109,13 +106,13 @@ impl Collector {
     /// The first part of a cycle: marks, and protects the pages that are chosen, which it gives. The
     /// error is want of memory.
     fn roll<R: Wait, G: Gate>(
-        &self,
+        &mut self,
         alloc: Global,
         run: &Run<R, G>,
         seat: &mut Seat,
         percent: u32,
     ) -> Result<Vec<u32>, AllocError> {
-        if run.ask(seat, &Step::StartMark).is_err() {
+        if !matches!(run.ask(seat, &Step::StartMark), Some(Ok(_))) {
             return Ok(Vec::new(alloc));
         }
         if !self.wait_for(run, seat, Phase::Scanning) || !self.end_mark(run, seat) {
@@ -126,7 +123,7 @@ impl Collector {
 
     /// A whole cycle: its first part, and then each page is emptied. The error is want of memory.
     fn cycle<R: Threads + Wait + Sync, G: Gate>(
-        &self,
+        &mut self,
         alloc: Global,
         run: &Run<R, G>,
         seat: &mut Seat,
@@ -141,7 +138,7 @@ impl Collector {
 
     /// One command. The error is want of memory.
     fn command<R: Threads + Wait + Sync, G: Gate>(
-        &self,
+        &mut self,
         alloc: Global,
         run: &Run<R, G>,
         seat: &mut Seat,
@@ -159,14 +156,14 @@ impl Collector {
 
     /// All commands of the worker in order.
     pub(crate) fn work<R: Threads + Wait + Sync, G: Gate>(
-        &self,
+        mut self,
         alloc: Global,
         run: &Run<R, G>,
         mut seat: Seat,
         commands: &[Command],
     ) -> Seat {
         for command in commands {
-            if is_of(command, self.worker) {
+            if is_worker_0(command) {
                 if run.is_stopped() {
                     break;
                 }
@@ -180,10 +177,7 @@ impl Collector {
     }
 }
 
-/// Whether a command is a worker's.
-fn is_of(command: &Command, worker: u32) -> bool {
-    match command.actor {
-        Actor::Worker(number) => number == worker,
-        Actor::Thread(_) => false,
-    }
+/// Whether a command is worker 0's.
+fn is_worker_0(command: &Command) -> bool {
+    matches!(command.actor, Actor::Worker(0))
 }

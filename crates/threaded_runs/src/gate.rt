@@ -1,12 +1,13 @@
-//! Gates: what is told of each step, outside the lock.
+//! Gates: what is called around each step, outside the lock.
 
 use cycle::{Actor, Step};
 
-/// What is told of each step, outside the lock. It may hold the thread that calls it.
-///
-/// Of a drain's steps it is told of one in each portion, before and behind the whole portion: the step
-/// that came first as the worker looked for it. Another worker may have done that by then.
+/// What is called around each step, outside the lock. It may hold up the thread that calls it.
 pub trait Gate {
+    /// Whether it watches: then each step is one hold of the lock, between `before` and `after`. For a
+    /// gate that doesn't, a worker does several steps that scan in one hold, and calls nothing there.
+    const WATCHES: bool = true;
+
     /// An actor is about to do a step.
     fn before(&self, actor: Actor, step: &Step);
 
@@ -14,10 +15,12 @@ pub trait Gate {
     fn after(&self, actor: Actor, step: &Step);
 }
 
-/// A gate that holds nobody.
+/// A gate that watches nothing.
 pub struct OpenGate;
 
 impl Gate for OpenGate {
+    const WATCHES: bool = false;
+
     fn before(&self, _actor: Actor, _step: &Step) {}
 
     fn after(&self, _actor: Actor, _step: &Step) {}

@@ -1,12 +1,12 @@
-//! Runs of scripts in which each actor has a thread of the system (ours).
+//! Runs of scripts in which each actor has a thread of the system.
 #![tactic(auto)]
 
-mod choice;
 mod collector;
 mod gate;
 mod mutator;
 mod run;
 mod running;
+mod scanner;
 mod scanning;
 
 pub use gate::{Gate, OpenGate};

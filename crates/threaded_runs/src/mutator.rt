@@ -41,6 +41,11 @@ fn is_stale(reply: Reply) -> bool {
     matches!(reply, Err(Refusal::Stale))
 }
 
+/// Whether a step was accepted.
+fn is_accepted(reply: Option<Reply>) -> bool {
+    matches!(reply, Some(Ok(_)))
+}
+
 /// A mutator at its thread.
 #[derive(Drop)]
 pub(crate) struct Mutator<'a, R, G> {
@@ -62,46 +67,46 @@ impl<R: Wait, G: Gate> Mutator<'_, R, G> {
         }
     }
 
-    /// Corrects each register that isn't null.
+    /// Corrects each register that isn't null, until all stop.
     fn scrub(&self, seat: &mut Seat) {
         let thread = self.thread;
         let run = self.run;
         for register in 0..self.registers {
-            if run
+            let is_used = run
                 .shared
-                .look(run.rt, |heap: &Heap| is_used(heap, thread, register))
-            {
-                let _ = run.ask(seat, &Step::Scrub(register));
+                .look(run.rt, |heap: &Heap| is_used(heap, thread, register));
+            if is_used && run.ask(seat, &Step::Scrub(register)).is_none() {
+                return;
             }
         }
     }
 
-    /// One step, behind a checkpoint that is to be crossed. A stale register is corrected, and the step
-    /// asked for again.
-    fn step(&self, seat: &mut Seat, step: &Step) -> Reply {
+    /// One step, after a checkpoint that is to be crossed. After a stale register all are corrected,
+    /// and the step is asked for again. `None` if all stop.
+    fn step(&self, seat: &mut Seat, step: &Step) -> Option<Reply> {
         for _ in self.run.rt.forever() {
             self.cross(seat);
-            let reply = self.run.ask(seat, step);
-            if !is_stale(reply) || self.run.is_stopped() {
-                return reply;
+            let reply = self.run.ask(seat, step)?;
+            if !is_stale(reply) {
+                return Some(reply);
             }
             self.scrub(seat);
         }
         unreachable!()
     }
 
-    /// Goes on with a load to its end, or to the first refusal: traps until one is clear, heals where one
-    /// was due, and finishes.
+    /// Goes on with a load to its end, or to the first refusal, or until all stop: traps until one is
+    /// clear, heals if one was due, and finishes.
     fn end_load(&self, seat: &mut Seat, healing: bool) {
         let mut due = healing;
         for _ in self.run.rt.forever() {
             match self.step(seat, &Step::Trap) {
-                Ok(Answer::Clear) => break,
-                Ok(_) => due = true,
-                Err(_) => return,
+                Some(Ok(Answer::Clear)) => break,
+                Some(Ok(_)) => due = true,
+                _ => return,
             }
         }
-        if due && self.step(seat, &Step::Heal).is_err() {
+        if due && !is_accepted(self.step(seat, &Step::Heal)) {
             return;
         }
         let _ = self.step(seat, &Step::Finish);
@@ -114,7 +119,7 @@ impl<R: Wait, G: Gate> Mutator<'_, R, G> {
             return;
         };
         let reply = self.step(seat, &step);
-        if reply.is_ok() && matches!(command.order.then(), Then::LoadsEnd) {
+        if is_accepted(reply) && matches!(command.order.then(), Then::LoadsEnd) {
             self.end_load(seat, false);
         }
     }
@@ -133,7 +138,7 @@ impl<R: Wait, G: Gate> Mutator<'_, R, G> {
         let _ = self.step(seat, &Step::Park);
     }
 
-    /// All commands of the seat's actor in order, and then the end.
+    /// All commands of the seat's actor in order, and then the end; nothing more once all stop.
     pub(crate) fn work(&self, alloc: Global, mut seat: Seat, commands: &[Command]) -> Seat {
         for command in commands {
             if is_of(command, self.thread) {
@@ -143,9 +148,7 @@ impl<R: Wait, G: Gate> Mutator<'_, R, G> {
                 self.command(alloc, &mut seat, command);
             }
         }
-        if !self.run.is_stopped() {
-            self.end(&mut seat);
-        }
+        self.end(&mut seat);
         self.run.leave();
         seat
     }

@@ -1,23 +1,26 @@
 //! What all actors of a run share.
 
+ghost use Rattle.std.specs.Prelude.{◌≡◌, MatchOption};
 ghost use Rattle.model.specs.declared.steps.Step.TheVariants as steps;
 ghost use Rattle.sharing.specs.Seats.{Notes};
 
 use crate::gate::Gate;
-use cycle::{Reply, Step, next_drain};
+use crate::scanner::Scanner;
+use cycle::{Reply, Step};
 use heap::Heap;
 use model::{Phase, Refusal};
-use sharing::{Seat, Shared};
+use sharing::{Seat, Shared, Steps};
 use std::sync::Wait;
 use std::sync::atomic::{AtomicU64, Ordering};
 use std::thread::Threads;
+use std::time::Duration;
 
 /// How often the entries of a page are cut in two, so that pieces are copied side by side.
 const DEPTH: u32 = 2;
 
-/// How many steps of a drain are done in one hold of the lock at most: some 30 microseconds, and below a
-/// millisecond also where each step copies an object of the largest size first.
-const PORTION: u32 = 256;
+/// The most steps that scan in one hold of the lock: some 30 microseconds, and below a millisecond also
+/// if each step copies an object of the largest size first.
+const QUANTUM: u32 = 256;
 
 /// What all actors of a run share.
 #[derive(Drop)]
@@ -27,40 +30,56 @@ pub(crate) struct Run<'a, R, G> {
     pub(crate) gate: &'a G,
     /// How many actors have commands left.
     pub(crate) busy: &'a AtomicU64,
+    /// How many workers there are.
+    pub(crate) workers: u32,
     /// Not 0 once memory was refused to an actor.
     pub(crate) lacked: &'a AtomicU64,
-    /// Not 0 while a worker has its turn to drain.
-    pub(crate) turn: &'a AtomicU64,
 }
 
 impl<R: Wait, G: Gate> Run<'_, R, G> {
-    /// One step, which is told to the gate. Where no further step can be done, all stop.
-    pub(crate) fn ask(&self, seat: &mut Seat, step: &Step) -> Reply
-        ensures { Notes seat.old step.now result seat.new }
+    /// One step through the gate, in one hold of the lock; `None` if all stop. Stops all where no
+    /// further step can be done.
+    pub(crate) fn ask(&self, seat: &mut Seat, step: &Step) -> Option<Reply>
+        ensures { MatchOption result (seat.new ≡ seat.old) (λ reply. Notes seat.old step.now reply seat.new) }
     {
+        if self.is_stopped() {
+            return None;
+        }
         let actor = seat.actor();
         self.gate.before(actor, step);
         let reply = self.shared.ask(self.rt, seat, step);
-        self.gate.after(actor, step);
         self.heed(reply);
-        reply
+        self.gate.after(actor, step);
+        Some(reply)
     }
 
-    /// One portion of a drain of the seat's worker. The gate is told of the step that came first as the
-    /// worker looked, before that and behind it. Whether more may be left. Where no further step can be
-    /// done, all stop.
-    pub(crate) fn drain(&self, seat: &mut Seat, worker: u32) -> bool {
-        let first = self
-            .shared
-            .look(self.rt, |heap: &Heap| next_drain(heap, worker));
-        let Some(step) = first else {
+    /// One step of a worker that scans, if the gate watches; else several of them in one hold of the
+    /// lock. Returns whether more may be left.
+    pub(crate) fn scan(&self, seat: &mut Seat, scanner: &mut Scanner) -> bool {
+        if G::WATCHES {
+            self.scan_one(seat, scanner)
+        } else {
+            self.scan_many(seat, scanner)
+        }
+    }
+
+    /// One step that scans, through the gate.
+    fn scan_one(&self, seat: &mut Seat, scanner: &mut Scanner) -> bool {
+        let next = self.shared.look(self.rt, |heap: &Heap| scanner.next(heap));
+        let Some(step) = next else {
             return false;
         };
-        let actor = seat.actor();
-        self.gate.before(actor, &step);
-        let end = self.shared.drain(self.rt, seat, PORTION);
-        self.gate.after(actor, &step);
-        match end {
+        match self.ask(seat, &step) {
+            Some(reply) => self
+                .shared
+                .look(self.rt, |heap: &Heap| scanner.note(heap, reply)),
+            None => false,
+        }
+    }
+
+    /// Several steps that scan, in one hold of the lock.
+    fn scan_many(&self, seat: &mut Seat, scanner: &mut Scanner) -> bool {
+        match self.shared.act_many(self.rt, seat, QUANTUM, scanner) {
             Ok(is_done) => !is_done,
             Err(refusal) => {
                 self.heed(Err(refusal));
@@ -99,24 +118,24 @@ impl<R: Wait, G: Gate> Run<'_, R, G> {
         self.shared.look(self.rt, |heap: &Heap| heap.phase())
     }
 
-    /// One more actor has done its commands.
+    /// One more actor has done its commands. After the last one nobody waits any more.
     pub(crate) fn leave(&self) {
-        let _ = self.busy.fetch_sub(1, Ordering::SeqCst);
+        if self.busy.fetch_sub(1, Ordering::SeqCst) == 1 {
+            self.busy.wake_all();
+        }
     }
 
-    /// Takes the turn to drain, if no worker has it. Whether it was taken.
-    pub(crate) fn take_turn(&self) -> bool {
-        self.turn.swap(1, Ordering::SeqCst) == 0
+    /// Waits for some time, at most until all actors have done their commands.
+    pub(crate) fn wait(&self, time: Duration) {
+        let busy = self.busy.load(Ordering::SeqCst);
+        if let (true, Ok(expected)) = (busy > 0, u32::try_from(busy)) {
+            self.busy.park_timeout(self.rt, expected, time);
+        }
     }
 
-    /// Gives the turn back.
-    pub(crate) fn give_turn(&self) {
-        self.turn.store(0, Ordering::SeqCst);
-    }
-
-    /// Whether no thread has commands left: only the worker that has commands may have some.
+    /// Whether nobody but the one worker may have something to do: no thread has commands left.
     pub(crate) fn is_alone(&self) -> bool {
-        self.busy.load(Ordering::SeqCst) <= 1
+        self.workers <= 1 && self.busy.load(Ordering::SeqCst) <= 1
     }
 
     /// Whether all actors have done their commands.
@@ -126,17 +145,21 @@ impl<R: Wait, G: Gate> Run<'_, R, G> {
 }
 
 impl<R: Threads + Wait + Sync, G: Gate> Run<'_, R, G> {
-    /// The step that copies the objects of a page, by halves on threads, told to the gate as each
-    /// step is. Where no further step can be done, all stop.
-    pub(crate) fn copy_page(&self, seat: &mut Seat, page: u32) -> Reply
-        ensures { Notes seat.old (steps.CopyPage page) result seat.new }
+    /// The step that copies the objects of a page, by halves on threads, through the gate; `None` if
+    /// all stop. Stops all where no further step can be done.
+    pub(crate) fn copy_page(&self, seat: &mut Seat, page: u32) -> Option<Reply>
+        ensures { MatchOption result (seat.new ≡ seat.old)
+            (λ reply. Notes seat.old (steps.CopyPage page) reply seat.new) }
     {
+        if self.is_stopped() {
+            return None;
+        }
         let actor = seat.actor();
         let step = Step::CopyPage(page);
         self.gate.before(actor, &step);
         let reply = self.shared.copy_page(self.rt, seat, page, DEPTH);
-        self.gate.after(actor, &step);
         self.heed(reply);
-        reply
+        self.gate.after(actor, &step);
+        Some(reply)
     }
 }

@@ -10,8 +10,10 @@ use crate::collector::Collector;
 use crate::gate::Gate;
 use crate::mutator::Mutator;
 use crate::run::Run;
+use crate::scanner::Scanner;
 use crate::scanning::help;
 use cycle::{Actor, Book};
+use hints::{HintSeat, Hints};
 use parser::{Command, LineFault, Script};
 use sharing::{Seat, Settled, Shared, settle};
 use std::alloc::{AllocError, AllocFailed, Global};
@@ -19,6 +21,7 @@ use std::sync::Wait;
 use std::sync::atomic::AtomicU64;
 use std::thread;
 use std::thread::Threads;
+use std::vec::IntoIter;
 
 /// Why a run by threads has no result.
 #[derive(Clone, Copy, Debug, PartialEq, Eq)]
@@ -47,28 +50,46 @@ impl<T: Drop> From<AllocFailed<T>> for ThreadsFault {
     }
 }
 
-/// The work of one actor, in its own thread.
+/// The sizes of a heap that its actors ask for.
+#[derive(Clone, Copy)]
+struct Sizes {
+    threads: u32,
+    workers: u32,
+    registers: u32,
+}
+
+/// The work of one actor, in its own thread; a worker's with its seat at the hints.
 fn play<R: Threads + Wait + Sync, G: Gate>(
     run: &Run<R, G>,
     alloc: Global,
     seat: Seat,
+    hints: Option<HintSeat>,
     commands: &[Command],
-    registers: u32,
+    sizes: Sizes,
 ) -> Seat {
     match seat.actor() {
         Actor::Thread(thread) => {
             let mutator = Mutator {
                 run,
                 thread,
-                registers,
+                registers: sizes.registers,
             };
             mutator.work(alloc, seat, commands)
         }
         Actor::Worker(0) => {
-            let collector = Collector { worker: 0 };
+            let scanner = Scanner::new(0, sizes.workers, hints);
+            let collector = Collector { scanner };
             collector.work(alloc, run, seat, commands)
         }
-        Actor::Worker(worker) => help(run, seat, worker),
+        Actor::Worker(worker) => help(run, seat, Scanner::new(worker, sizes.workers, hints)),
+    }
+}
+
+/// The next seat at the hints, if the seat is a worker's.
+fn hints_for(seat: &Seat, hints: &mut IntoIter<HintSeat>) -> Option<HintSeat> {
+    match seat.actor() {
+        Actor::Thread(_) => None,
+        Actor::Worker(_) => hints.next(),
     }
 }
 
@@ -77,14 +98,17 @@ fn all_played<R: Threads + Wait + Sync, G: Gate + Sync>(
     run: &Run<R, G>,
     alloc: Global,
     seats: Vec<Seat>,
+    hints: Vec<HintSeat>,
     commands: &[Command],
-    registers: u32,
+    sizes: Sizes,
 ) -> Result<Vec<Seat>, AllocError> {
     thread::scope(thread::scope_env(), run.rt, move |scope| {
         let mut handles = Vec::with_capacity(alloc, seats.len())?;
         let mut left = Vec::with_capacity(alloc, seats.len())?;
+        let mut hints = hints.into_iter();
         for seat in seats {
-            match scope.spawn(move || play(run, alloc, seat, commands, registers)) {
+            let own = hints_for(&seat, &mut hints);
+            match scope.spawn(move || play(run, alloc, seat, own, commands, sizes)) {
                 Ok(handle) => handles.push(handle)?,
                 Err(_) => run.lack(),
             }
@@ -100,15 +124,8 @@ fn all_played<R: Threads + Wait + Sync, G: Gate + Sync>(
     })
 }
 
-/// The sizes of a heap that its actors ask for.
-#[derive(Clone, Copy)]
-struct Sizes {
-    threads: u32,
-    registers: u32,
-}
-
-/// Does the commands on a shared book by threads, one for each seat, and gives the seats as these leave
-/// them.
+/// Does the commands on a shared book by threads, one for each seat, and returns the seats as these
+/// leave them.
 fn played<R: Threads + Wait + Sync, G: Gate + Sync>(
     rt: &R,
     alloc: Global,
@@ -118,18 +135,18 @@ fn played<R: Threads + Wait + Sync, G: Gate + Sync>(
     commands: &[Command],
     gate: &G,
 ) -> Result<Vec<Seat>, AllocError> {
+    let hints = Hints::new(alloc, sizes.workers)?;
     let busy = AtomicU64::new(u64::from(sizes.threads) + 1);
     let lacked = AtomicU64::new(0);
-    let turn = AtomicU64::new(0);
     let run = Run {
         rt,
         shared,
         gate,
         busy: &busy,
+        workers: sizes.workers,
         lacked: &lacked,
-        turn: &turn,
     };
-    all_played(&run, alloc, seats, commands, sizes.registers)
+    all_played(&run, alloc, seats, hints, commands, sizes)
 }
 
 /// Does the commands on a book by threads, one for each actor.
@@ -146,6 +163,7 @@ fn raced<R: Threads + Wait + Sync, G: Gate + Sync>(
     let config = book.heap().config();
     let sizes = Sizes {
         threads: config.threads,
+        workers: config.workers,
         registers: config.registers,
     };
     let Some((shared, seats)) = Shared::open(alloc, book).ok() else {
@@ -173,8 +191,8 @@ fn settled_or_stray(
 }
 
 /// Runs a script on a new heap by threads of the system, one for each actor: each does its own commands
-/// in the script's order, each step under one hold of the lock, and told to the gate. Then the seats and
-/// the history are settled.
+/// in the script's order, each step through the gate and in one hold of the lock (of a gate that doesn't
+/// watch, several steps that scan in one hold). Then the seats and the history are settled.
 ///
 /// The faults are want of memory, also where a thread couldn't be started; a stray actor; and, before any
 /// step, exactly where the script has one, the first command that such a run doesn't do.

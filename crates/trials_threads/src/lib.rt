@@ -2,7 +2,13 @@
 #![tactic(auto)]
 
 #[cfg(test)]
+mod emptying;
+#[cfg(test)]
 mod gates;
+#[cfg(test)]
+mod halting;
+#[cfg(test)]
+mod recorder;
 #[cfg(test)]
 mod rows;
 #[cfg(test)]
@@ -17,3 +23,7 @@ mod taking;
 mod turns;
 #[cfg(test)]
 mod wants;
+#[cfg(test)]
+mod watching;
+#[cfg(test)]
+mod workers;

@@ -10,6 +10,7 @@ use std::thread::Threads;
 use telling::tell_threads;
 use threaded_runs::{OpenGate, ThreadsFault, by_threads};
 
+/// Three cycles.
 pub const SCRIPT: &str =
     "heap words 512 frames 8 pages 40 threads 2 workers 2 registers 4 globals 2\nlayout 1 1\nt0 take 300\n\
     t1 take 300\ntimes 100\nt0 new r1 0\nt0 set r1 0 1\nt0 store r1 0 r0\nt0 mov r0 r1\nt0 storeg 0 r0\n\

@@ -1,7 +1,7 @@
 use Rattle.std.proofs.Common.{refl}
 use Rattle.model.specs.declared.steps.Step.TheVariants as steps
 use Rattle.managed.proofs.Going.{whole, whole_stands}
-use Rattle.managed.proofs.managed.ManagedHeap.read.Goals as goal
+use Rattle.managed.proofs.managed.ManagedHeap.read_by_steps.Goals as goal
 
 pub returns-clause-loads : goal.returns-clause-loads
 returns-clause-loads c = whole c.args.self.now c.load.new.self c.end_read.new.self c.args.thread
