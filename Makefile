@@ -47,7 +47,7 @@ SOURCES := crates.txt $(shell find crates -type d -name out -prune -o \
 # The toolchain is there, or what is needed is printed.
 needs_toolchain = command -v '$(firstword $(RT))' > /dev/null || { \
 	echo "make: the Rattle toolchain isn't there: no command '$(firstword $(RT))'." >&2; \
-	echo "make: README.md says under 'Commands' what is needed; RT=.. names another path." >&2; \
+	echo "make: README.md says under 'A first script' what is needed; RT=.. names another path." >&2; \
 	exit 1; }
 
 # A step failed: shows how its log ends.
