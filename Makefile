@@ -1,24 +1,30 @@
-# make            builds the program and leaves it as ./pauseless
-# make try        runs examples/first.script by a build that proves nothing
-# make run        builds the program and runs examples/first.script
-# make test       the whole test command; its last line is 'N passed, M failed, K skipped'
-# make edits      tries all edits that must fail, or with CRATES="page heap" theirs, and writes down in
-#                 tests/refused.txt the crates of which each was refused; with CHECK=1 it tries nothing,
-#                 and says which crates aren't written down
-# make lib        builds the static library for C and leaves it as ./libpauseless.a
-# make install    puts the program into PREFIX/bin, and the library, its header and its pkg-config file beside it
-# make bench      times the program on generated scripts, loops over the library's calls, collections beside bdwgc,
-#                 and the Lisp in C
-# make film       makes film.html of examples/moving.script, or with SCRIPT=.. of another script; FILM=.. names
-#                 another file; with TRY=1 by a build that proves nothing
-# make plot       makes plot.html of a long run, or with SCRIPT=.. of another script; PLOT=.. names another file;
-#                 EVERY=.. takes counts behind each so many commands
-# make soak       drives heaps by 10,000,000 random steps each, verified now and then, with SOAK_STEPS=.. by so many;
-#                 and makes 100,000,000 objects that nobody keeps in the smallest heaps, with SOAK_OBJECTS=.. so many
-# make fuzz       runs the program on changed scripts for FUZZ_SECONDS seconds; 600, where it isn't set
-# make clean      removes the program, the library, the log and all that earlier checks kept
+# make              builds the program and leaves it as ./pauseless
+# make try          runs examples/first.script, or SCRIPT=.., by a build that proves nothing and is kept; MODE=check
+#                   verifies the heap after each step, MODE=threads gives each actor a thread of the system
+# make run          builds the program and runs examples/first.script
+# make new NAME=..  starts a program of one's own, on the library
+# make app NAME=..  builds that program, optimized, and runs it on ARGS=..; with TRY=1 by a build that proves nothing
+# make check CRATE=..       proves one crate; with ONLY=.. one function of it
+# make test-crate CRATE=..  runs the tests of one crate, and those of the crates of tests that depend on it
+# make test         the complete test command; its last line is 'N passed, M failed, K skipped'
+# make edits        tries all mutants that the prover has to reject, or with CRATES="page heap" those of these crates,
+#                   and records in tests/refused.txt the crates of which each was rejected; with CHECK=1 it tries
+#                   nothing, and prints which crates aren't recorded
+# make lib          builds the static library for C and leaves it as ./libpauseless.a; with TRY=1 as
+#                   target/unproved/libpauseless.a, by a build that proves nothing
+# make install      installs the program in PREFIX/bin, and the library, its header and its pkg-config file
+# make bench        times the program on generated scripts, loops over the library's calls, collections compared with
+#                   bdwgc, and the Lisp in C
+# make film         makes film.html of examples/moving.script, or of SCRIPT=..; FILM=.. names another file; with TRY=1
+#                   by a build that proves nothing and is kept
+# make plot         makes plot.html of a long run, or of SCRIPT=..; PLOT=.. names another file; EVERY=.. counts after
+#                   every so many commands; TRY=1 as for a film
+# make soak         drives heaps by 10,000,000 random steps each, or SOAK_STEPS=.., verified at intervals; and makes
+#                   100,000,000 objects that nobody keeps, or SOAK_OBJECTS=.., in the smallest heaps
+# make fuzz         runs the program on changed scripts for 600 seconds, or FUZZ_SECONDS=..
+# make clean        removes the program, the library, the log and all that earlier builds and checks kept
 #
-# The program is proved before it is built, so a first build takes minutes.
+# The program is proved before it is built, so a first build takes minutes. Without a proof: 'make try'.
 
 RT = rt
 PYTHON = python3
@@ -28,72 +34,121 @@ CC = cc
 PREFIX = /usr/local
 DESTDIR =
 
-# What the prover and the compiler say.
+# What the prover and the compiler print.
 LOG = build.log
+
+# The version, which the header defines.
+VERSION = $(shell sed -n 's/^\#define PAUSELESS_VERSION "\(.*\)"/\1/p' include/pauseless.h)
 
 # The files that the program is made of, with the proofs.
 SOURCES := crates.txt $(shell find crates -type d -name out -prune -o \
 	-type f \( -name '*.rt' -o -name '*.antt' \) -print)
 
-# The toolchain is there, or it is said where it is described.
+# The toolchain is there, or what is needed is printed.
 needs_toolchain = command -v '$(firstword $(RT))' > /dev/null || { \
 	echo "make: the Rattle toolchain isn't there: no command '$(firstword $(RT))'." >&2; \
-	echo "make: README.md says under 'Commands' what is needed; RT=.. names another path." >&2; \
+	echo "make: README.md says under 'A first script' what is needed; RT=.. names another path." >&2; \
 	exit 1; }
 
 # A step failed: shows how its log ends.
 show_log = { echo 'make: this failed; the end of $(LOG):' >&2; tail -n 20 '$(LOG)' >&2; exit 1; }
 
-.PHONY: all lib try run test edits install bench film plot soak fuzz clean
+# A variable that the command needs is set, or the command is shown with it.
+needs = [ -n '$($(1))' ] || { echo "make: try 'make $@ $(1)=$(2)'" >&2; exit 1; }
 
-# The crates whose edits 'make edits' tries; none: all that have any. How many of them side by side; 0: as many as
-# processors and memory allow.
-CRATES =
-JOBS = 0
+# Runs a command, and shows on a terminal how far it is.
+PROGRESS = $(PYTHON) tools/progress.py
+
+# built CRATE,WORDS: proves and builds a crate's program, and runs it on these words. 'rt run' keeps it in out/.
+built = $(PROGRESS) --crate $(1) --log '$(CURDIR)/$(LOG)' -- $(RT) run -- $(2) || $(show_log)
+
+# unproved CRATE: builds a program without a proof, and keeps it as target/unproved/CRATE while no source changes.
+unproved = RT='$(RT)' $(PYTHON) tools/unproved.py
+
+# part WORDS: says which part of a long command begins. What follows it is run with a line that has its time.
+part = echo '$@: $(1)' >&2; $(PROGRESS) --say '$@: $(1)' --
+
+.PHONY: all lib try run new app check test-crate test edits install bench film plot soak fuzz clean
 
 all: pauseless
 
-# 'rt run' proves and builds the program, keeps it as out/report, and runs it
-# on the words after '--'.
 pauseless: $(SOURCES)
 	@$(needs_toolchain)
-	@echo 'Proving the program, then building it. A first time takes some 30 minutes; $(LOG) has the rest.'
-	@cd crates/report && $(RT) run -- run '$(CURDIR)/examples/first.script' \
-		> '$(CURDIR)/$(LOG)' 2>&1 || { cd '$(CURDIR)'; $(show_log); }
+	@echo 'Proving the program, then building it. The first time takes about 30 minutes; the log is $(LOG).'
+	@$(call built,report,run '$(CURDIR)/examples/first.script')
 	@$(INSTALL) -m 755 crates/report/out/report $@
 
 # What makes crates/foreign/out/libforeign.a.
-LIBRARY = (cd crates/foreign && $(RT) lib)
+LIBRARY = $(PROGRESS) --crate foreign --log '$(CURDIR)/$(LOG)' -- $(RT) lib
 
-# That, with the toolchain's functions round malloc, realloc and free.
+# That, with the toolchain's functions around malloc, realloc and free.
 libpauseless.a: $(SOURCES)
 	@$(needs_toolchain)
-	@echo 'Proving the library, then building it. A first time takes some 20 minutes; $(LOG) has the rest.'
-	@{ $(LIBRARY); } > '$(LOG)' 2>&1 || { $(show_log); }
+	@echo 'Proving the library, then building it. The first time takes about 20 minutes; the log is $(LOG).'
+	@$(LIBRARY) || $(show_log)
 	@printf 'create %s\naddlib %s\naddlib %s\nsave\nend\n' $@ crates/foreign/out/libforeign.a \
 		"$$(dirname "$$($(RT) doc)")/c/liblibc_c.a" | $(AR) -M
 
+ifdef TRY
+lib:
+	@AR='$(AR)' $(unproved) foreign
+	@echo 'The library is target/unproved/libpauseless.a.'
+else
 lib: libpauseless.a
+endif
 
 run: pauseless
 	@./pauseless run examples/first.script
 
+try: SCRIPT = examples/first.script
+try: MODE = run
 try:
+	@$(unproved) report
+	@target/unproved/report '$(MODE)' '$(SCRIPT)'
+
+new:
+	@$(call needs,NAME,mycache)
+	@$(PYTHON) tools/new.py '$(NAME)'
+
+# What 'make app' runs its program on.
+ARGS =
+
+app:
+	@$(call needs,NAME,mycache)
+ifdef TRY
+	@$(unproved) --fast '$(NAME)'
+	@'target/unproved/$(NAME)-fast' $(ARGS) || { status=$$?; [ $$status != 132 ] || \
+		echo "make: a test of the code stopped it; 'rt try' in crates/$(NAME) prints where" >&2; exit $$status; }
+else
 	@$(needs_toolchain)
-	@echo "This build proves nothing ('make run' does), and takes some minutes; $(LOG) has the rest."
-	@cd crates/report && $(RT) try --data first.script='$(CURDIR)/examples/first.script' -- run first.script \
-		2> '$(CURDIR)/$(LOG)' || { cd '$(CURDIR)'; $(show_log); }
+	@$(PROGRESS) --crate '$(NAME)' --run --log '$(CURDIR)/$(LOG)' -- $(RT) run -- $(ARGS)
+endif
+
+check:
+	@$(needs_toolchain)
+	@$(call needs,CRATE,heap)
+	@$(PROGRESS) --crate '$(CRATE)' -- $(RT) check $(if $(ONLY),--only '$(ONLY)')
+
+test-crate:
+	@$(needs_toolchain)
+	@$(call needs,CRATE,heap)
+	@RT='$(RT)' $(PYTHON) tools/test_crate.py $(if $(TRY),--try) '$(CRATE)'
 
 test:
 	@$(needs_toolchain)
 	@RT='$(RT)' INSTALL='$(INSTALL)' PYTHON='$(PYTHON)' sh tests/all.sh
+
+# The crates whose mutants 'make edits' tries; none: all that have any. How many of them in parallel; 0: as many as
+# processors and memory allow.
+CRATES =
+JOBS = 0
 
 edits:
 	@$(needs_toolchain)
 ifdef CHECK
 	@$(PYTHON) tests/edits.py check $(CRATES)
 else
-	@RT='$(RT)' $(PYTHON) tests/edits.py try --jobs $(JOBS) $(CRATES)
+	@RT='$(RT)' $(PROGRESS) --say 'trying mutants' -- $(PYTHON) tests/edits.py try --jobs $(JOBS) $(CRATES)
 endif
 
 install: pauseless libpauseless.a
@@ -101,59 +156,66 @@ install: pauseless libpauseless.a
 	$(INSTALL) -m 755 pauseless '$(DESTDIR)$(PREFIX)/bin/pauseless'
 	$(INSTALL) -m 644 include/pauseless.h '$(DESTDIR)$(PREFIX)/include/pauseless.h'
 	$(INSTALL) -m 644 libpauseless.a '$(DESTDIR)$(PREFIX)/lib/libpauseless.a'
-	sed 's|@PREFIX@|$(PREFIX)|' include/pauseless.pc.in > '$(DESTDIR)$(PREFIX)/lib/pkgconfig/pauseless.pc'
+	sed 's|@PREFIX@|$(PREFIX)|; s|@VERSION@|$(VERSION)|' include/pauseless.pc.in \
+		> '$(DESTDIR)$(PREFIX)/lib/pkgconfig/pauseless.pc'
 
 bench: pauseless libpauseless.a
-	@cd crates/bench && $(RT) run -- copies 64 3 2 > '$(CURDIR)/$(LOG)' 2>&1 || { cd '$(CURDIR)'; $(show_log); }
-	@cd crates/timings && $(RT) run -- mark-list 10 2 1 1 > '$(CURDIR)/$(LOG)' 2>&1 || { cd '$(CURDIR)'; $(show_log); }
-	@cd crates/crowds && $(RT) run -- act 100 > '$(CURDIR)/$(LOG)' 2>&1 || { cd '$(CURDIR)'; $(show_log); }
-	@cd crates/holds && $(RT) run -- holds 64 8 4 2 10 > '$(CURDIR)/$(LOG)' 2>&1 || { cd '$(CURDIR)'; $(show_log); }
-	$(PYTHON) bench/run.py ./pauseless
-	$(PYTHON) bench/calls.py crates/bench/out/bench
-	CC='$(CC)' $(PYTHON) bench/boehm.py crates/timings/out/timings
-	$(PYTHON) bench/crowds.py
-	$(PYTHON) bench/pauses.py
-	$(PYTHON) bench/commands.py ./pauseless
-	CC='$(CC)' $(PYTHON) bench/lisp.py ./libpauseless.a
+	@$(call built,bench,copies 64 3 2)
+	@$(call built,timings,mark-list 10 2 1 1)
+	@$(call built,crowds,act 100)
+	@$(call built,holds,holds 64 8 4 2 10)
+	@$(call part,1 of 7: the program on generated scripts) $(PYTHON) bench/run.py ./pauseless
+	@$(call part,2 of 7: calls of the library) $(PYTHON) bench/calls.py crates/bench/out/bench
+	@export CC='$(CC)'; $(call part,3 of 7: collections compared with bdwgc) \
+		$(PYTHON) bench/boehm.py crates/timings/out/timings
+	@$(call part,4 of 7: threads that share a heap) $(PYTHON) bench/crowds.py
+	@$(call part,5 of 7: pauses of collections in parts) $(PYTHON) bench/pauses.py
+	@$(call part,6 of 7: commands of scripts) $(PYTHON) bench/commands.py ./pauseless
+	@export CC='$(CC)'; $(call part,7 of 7: the Lisp) $(PYTHON) bench/lisp.py ./libpauseless.a
 
-# The program that writes the states of a script's heap.
-STATES = crates/states/out/states
-
-$(STATES): $(SOURCES)
-	@$(needs_toolchain)
-	@echo 'Proving the program, then building it. A first time takes some 30 minutes; $(LOG) has the rest.'
-	@cd crates/states && $(RT) run -- '$(CURDIR)/examples/first.script' \
-		> '$(CURDIR)/$(LOG)' 2>&1 || { cd '$(CURDIR)'; $(show_log); }
-
-# What writes states: the program that is built, or with TRY=1 a build that proves nothing. It takes the script, and
-# behind how many commands counts are to be written, if they are.
+# The program that writes the states of a script's heap, with TRY=1 as a build that proves nothing.
 ifdef TRY
-run_states = { (cd crates/states && $(RT) try --data film.script='$(abspath $(1))' -- film.script $(2) \
-	2> '$(CURDIR)/$(LOG)') || $(show_log); }
+STATES = target/unproved/states
 else
-run_states = $(STATES) '$(1)' $(2)
-needs_states = $(STATES)
+STATES = crates/states/out/states
 endif
+
+crates/states/out/states: $(SOURCES)
+	@$(needs_toolchain)
+	@echo 'Proving the program, then building it. The first time takes about 30 minutes; the log is $(LOG).'
+	@$(call built,states,'$(CURDIR)/examples/first.script')
 
 FILM = film.html
 PLOT = plot.html
 EVERY = 1
 
+# Builds the program. A script with a fault is to be rejected in a minute and not after a proof of half an hour: so if
+# the proved program has to be built first, the script is read by one that isn't proved.
+ifdef TRY
+states = $(unproved) states
+else
+states = $(MAKE) --no-print-directory -q $(STATES) 2> /dev/null || { \
+	$(unproved) states && target/unproved/states '$(SCRIPT)' 1000000 > /dev/null && \
+	$(MAKE) --no-print-directory $(STATES); }
+endif
+
+# drawn PROGRAM,FILE,WORDS: writes a page of the states that a script's heap has, by a program of film/. If that fails
+# the page stays as it was, and nothing else is left.
+drawn = trap 'rm -f "$(2).states" "$(2).part"' EXIT; trap 'exit 1' HUP INT TERM; \
+	$(STATES) '$(SCRIPT)' $(3) > '$(2).states' && \
+	$(PYTHON) $(1) '$(SCRIPT)' < '$(2).states' > '$(2).part' && mv '$(2).part' '$(2)'
+
 film: SCRIPT = examples/moving.script
-film: $(needs_states)
-	@$(needs_toolchain)
-	@$(call run_states,$(SCRIPT)) > '$(FILM).states' || { rm -f '$(FILM).states'; exit 1; }
-	@$(PYTHON) film/film.py '$(SCRIPT)' < '$(FILM).states' > '$(FILM)'
-	@rm -f '$(FILM).states'
+film:
+	@$(states)
+	@$(call drawn,film/film.py,$(FILM))
 	@echo 'The film is $(FILM).'
 
 plot: SCRIPT = rounds.script
-plot: $(needs_states)
-	@$(needs_toolchain)
+plot:
 	@[ '$(SCRIPT)' != rounds.script ] || $(PYTHON) film/rounds.py > rounds.script
-	@$(call run_states,$(SCRIPT),$(EVERY)) > '$(PLOT).states' || { rm -f '$(PLOT).states'; exit 1; }
-	@$(PYTHON) film/plot.py '$(SCRIPT)' < '$(PLOT).states' > '$(PLOT)'
-	@rm -f '$(PLOT).states'
+	@$(states)
+	@$(call drawn,film/plot.py,$(PLOT),$(EVERY))
 	@echo 'The plot is $(PLOT).'
 
 # The heaps that are driven, and the steps of each.
@@ -163,9 +225,15 @@ SOAK_OBJECTS = 100000000
 
 soak:
 	@$(needs_toolchain)
-	@cd crates/driver && $(RT) run -- rolling 1 100000 1 > '$(CURDIR)/$(LOG)' 2>&1 || { cd '$(CURDIR)'; $(show_log); }
-	@crates/driver/out/driver waste $(SOAK_OBJECTS)
-	@for heap in $(SOAKED); do crates/driver/out/driver $$heap 1 $(SOAK_STEPS) 1000 1 || exit 1; done
+	@$(call built,driver,rolling 1 100000 1)
+	@$(call part,1 of $(words x $(SOAKED)): $(SOAK_OBJECTS) objects that nobody keeps) \
+		crates/driver/out/driver waste $(SOAK_OBJECTS)
+	@number=1; for heap in $(SOAKED); do \
+		number=$$((number + 1)); \
+		what="soak: $$number of $(words x $(SOAKED)): $(SOAK_STEPS) steps on the heap '$$heap'"; \
+		echo "$$what" >&2; \
+		$(PROGRESS) --say "$$what" -- crates/driver/out/driver $$heap 1 $(SOAK_STEPS) 1000 1 || exit 1; \
+	done
 
 FUZZ_SECONDS = 600
 
@@ -174,4 +242,4 @@ fuzz: pauseless
 
 clean:
 	rm -f pauseless libpauseless.a '$(LOG)' '$(FILM)' '$(PLOT)' rounds.script
-	rm -rf crates/*/out
+	rm -rf crates/*/out target

@@ -5,19 +5,22 @@ The program is that of the crate `timings`; `bench/boehm.c` has the same on bdwg
 Where libgc isn't there, a line says so, and this heap's figures stand alone. The figures are nanoseconds of a
 processor, or with --instructions instructions, which `valgrind` counts, for one object that lives or that is made.
 Each is the difference of two runs, the best of several, which differ in one loop alone; the runs of both sides take
-turns. bdwgc runs as it is, and as it is told that references lead to where objects begin; the lesser figure stands.
+turns. A '-' is a difference that isn't robust: half of the runs gives another one, as other work on the machine took
+more than what was measured. bdwgc runs as it is, and told that references lead to where objects begin; the lower
+figure is printed.
 
 'mark' is a mark drained by one call, 'collect' a whole collection, both of objects that stay where they are. bdwgc has
 whole collections alone, and leaves what is dead to be swept by whoever makes objects. Where half of the objects are
 dead the first collection moves what lives, and the second corrects the references to it.
 """
 
+import math
 import os
 import shutil
 import subprocess
 import tempfile
 
-from calls import counted, differences, timed
+from calls import counted, differences, figure, timed
 from measuring import asked
 
 # What is marked and collected: its shape, its objects, and the words of one.
@@ -82,7 +85,8 @@ class Bench:
         each = {form: took[form] / self.objects[form] * scale for form in self.forms}
         if self.others:
             for key in {form[0] for form in each}:
-                each[key, "bdwgc"] = min(each.pop((key, "bdwgc", place)) for place in range(len(self.others)))
+                both = [each.pop((key, "bdwgc", place)) for place in range(len(self.others))]
+                each[key, "bdwgc"] = min((it for it in both if not math.isnan(it)), default=math.nan)
         self.forms, self.objects = {}, {}
         return each
 
@@ -92,10 +96,10 @@ class Bench:
         print("| " + " | ".join(heads) + " |")
         print("|---" * len(heads) + "|")
         for key, words in keys.items():
-            cells = words + [f"{each[key, name]:.1f}" for name in ours]
+            cells = words + [figure(each[key, name]) for name in ours]
             if self.others:
                 other = each[key, "bdwgc"]
-                cells += [f"{other:.1f}"] + [f"{each[key, name] / other:.1f}" for name in ours]
+                cells += [figure(other)] + [figure(each[key, name] / other) for name in ours]
             print("| " + " | ".join(cells) + " |")
         print(flush=True)
 

@@ -3,7 +3,8 @@
 
 The program is that of the crate `bench`. Each figure is the difference of two
 runs, the best of several, of which one leaves the calls out; the runs take
-turns, so that a slow moment doesn't fall on one alone.
+turns, so that a slow moment doesn't fall on one alone. A '-' is a difference
+that isn't robust: half of the runs gives another one.
 
 Copies: pages of 4,096 words are filled with objects that live, and protected;
 then each object is copied by a step of its own, or those of a page by one step.
@@ -26,6 +27,7 @@ With --instructions copies, drains and steps are done, and instructions are
 counted, by `valgrind`, instead of time.
 """
 
+import math
 import os
 import re
 import resource
@@ -88,14 +90,28 @@ def counted(command):
     return int(re.search(r"Collected : (\d+)", run.stderr).group(1))
 
 
+def difference(pairs):
+    """How much more the second run of a pair takes than the first, by the least of each; NaN, if that isn't robust.
+
+    It is robust if the pairs with even and with odd numbers, each taken alone, give a difference above zero, and the
+    same one but for a fifth: else other work on the machine was as large as what was measured."""
+    every, *halves = (min(second for _, second in some) - min(first for first, _ in some)
+                      for some in (pairs, pairs[::2], pairs[1::2] or pairs))
+    return every if 0 < max(halves) <= 1.2 * min(halves) else math.nan
+
+
 def differences(measured, runs, forms):
-    """What the second of each form's two commands takes more than the first, by a measure of a run."""
-    best = {(form, which): float("inf") for form in forms for which in (0, 1)}
+    """For each form the difference of its two commands, by a measure of a run."""
+    took = {form: [] for form in forms}
     for _ in range(runs):
-        for form, which in best:
-            command = [str(word) for word in forms[form][which]]
-            best[form, which] = min(best[form, which], measured(command))
-    return {form: best[form, 1] - best[form, 0] for form in forms}
+        for form, commands in forms.items():
+            took[form].append(tuple(measured([str(word) for word in command]) for command in commands))
+    return {form: difference(pairs) for form, pairs in took.items()}
+
+
+def figure(number, digits=1):
+    """A number as a table has it; '-' for one that isn't robust."""
+    return "-" if math.isnan(number) else f"{number:.{digits}f}"
 
 
 def print_copies(program):
@@ -105,15 +121,16 @@ def print_copies(program):
     forms["slices"] = [[program, "slices", WORDS, PAGES, copied] for copied in (0, PAGES)]
     took = differences(timed, RUNS, forms)
     slices = took["slices"] / (PAGES * WORDS) * 1e9
-    print(f"A word of a slice: {slices:.2f} ns")
+    print(f"A word of a slice: {figure(slices, 2)} ns")
     print()
     print("| Words an object | ns an object | ns a word | over a slice | by the page: ns an object | over a slice |")
     print("|---|---|---|---|---|---|")
     for size in SIZES:
         objects = WORDS // size * PAGES
         each, paged = took["copies", size] / objects * 1e9, took["pages", size] / objects * 1e9
-        print(f"| {size} | {each:.1f} | {each / size:.2f} | {each / size / slices:.2f}"
-              f" | {paged:.1f} | {paged / size / slices:.2f} |")
+        cells = [figure(each), figure(each / size, 2), figure(each / size / slices, 2), figure(paged),
+                 figure(paged / size / slices, 2)]
+        print(f"| {size} | {' | '.join(cells)} |")
 
 
 def print_counted_copies(program):
@@ -126,7 +143,8 @@ def print_counted_copies(program):
     for size in COUNTED_SIZES:
         objects = WORDS // size * COUNTED_PAGES
         paged, each, plain = (took[name, size] / objects for name in ("pages", "copies", "slices"))
-        print(f"| {size} | {paged:.0f} | {each:.0f} | {plain:.0f} | {paged / plain:.1f} |")
+        cells = [figure(paged, 0), figure(each, 0), figure(plain, 0), figure(paged / plain)]
+        print(f"| {size} | {' | '.join(cells)} |")
 
 
 def print_drains(program, instructions):
@@ -141,7 +159,7 @@ def print_drains(program, instructions):
     for (shape, count), objects in SHAPES.items():
         found = times[objects] * objects
         steps, call = (took[form, shape, count] / found * scale for form in ("scan", "drain"))
-        print(f"| {shape} | {objects:,} | {steps:.1f} | {call:.1f} | {steps / call:.1f} |")
+        print(f"| {shape} | {objects:,} | {figure(steps)} | {figure(call)} | {figure(steps / call)} |")
 
 
 def print_verifications(program):
@@ -153,7 +171,8 @@ def print_verifications(program):
     print("|---|---|---|---|")
     for words, frames, times in HEAPS:
         each = took[words, frames, times] / times
-        print(f"| {words:,} | {frames:,} | {each * 1e3:.3f} | {each / (words * frames) * 1e9:.1f} |")
+        a_word = each / (words * frames)
+        print(f"| {words:,} | {frames:,} | {figure(each * 1e3, 3)} | {figure(a_word * 1e9)} |")
 
 
 def compiled_plain(folder):
@@ -220,8 +239,8 @@ def print_steps(program, instructions):
     print("| " + " | ".join(heads) + " |")
     print("|---" * len(heads) + "|")
     for mix in MIXES:
-        cells = [f"{each[mix, form]:.1f}" for form in forms]
-        cells += [f"{each[mix, form] / each[mix, 'plain']:.1f}" for form in over]
+        cells = [figure(each[mix, form]) for form in forms]
+        cells += [figure(each[mix, form] / each[mix, "plain"]) for form in over]
         print("| " + " | ".join([mix] + cells) + " |")
 
 

@@ -14,7 +14,7 @@ FOLDER = os.path.dirname(os.path.abspath(__file__))
 PHASES = {"idle": "#8c99a5", "mark-crossing": "#6aa7d8", "scanning": "#1f5f99", "protect-crossing": "#e39a52",
           "relocating": "#c25e00"}
 STATES = {"open": "#2b8a57", "closed": "#5b6b7c", "from": "#c25e00"}
-LENT, LIVE, GONE = "#6b4fb3", "#1d7d46", "#a3324a"
+LENT, LIVE, GONE = "#6b4fb3", "#0e7490", "#a3324a"
 
 
 def read_sizes(words):

@@ -16,6 +16,9 @@
 #ifndef PAUSELESS_H
 #define PAUSELESS_H
 
+/* The version of the library, by https://semver.org. */
+#define PAUSELESS_VERSION "1.1.0"
+
 #include <stdbool.h>
 #include <stddef.h>
 #include <stdint.h>

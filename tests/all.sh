@@ -60,7 +60,8 @@ show() {
 
 # The library for C is built over what was proved, as 'rt ci' builds none.
 build_library() {
-    "${MAKE:-make}" -C "$proved" lib RT="$RT" LIBRARY="'$PYTHON' tests/archive.py ." && echo '1 passed, 0 failed'
+    "${MAKE:-make}" -C "$proved" lib RT="$RT" LIBRARY="'$PYTHON' tests/archive.py . > build.log 2>&1" &&
+        echo '1 passed, 0 failed'
 }
 
 # The copy in which all is proved has then the program and the tests as they were built.

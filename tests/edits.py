@@ -50,7 +50,7 @@ def files_of(root):
     else:
         walked = ((at, name) for at, folders, names in os.walk(root) for name in names)
         paths = [os.path.relpath(f"{at}/{name}", root) for at, name in walked]
-    made = re.compile(r"(^|/)out/|^(pauseless|build\.log)$")
+    made = re.compile(r"(^|/)out/|^target/|^(pauseless|build\.log)$")
     return sorted(path for path in paths if os.path.isfile(f"{root}/{path}") and not made.search(path))
 
 

@@ -15,6 +15,14 @@ kept_of() {
     find "$kept/found/$1" -name 'id*' | wc -l
 }
 
+# for_time SECONDS WHAT WORDS..: says what a part of these seconds does, and runs it; on a terminal its time is shown.
+for_time() {
+    limit=$1 what="fuzz: $2"
+    shift 2
+    echo "$what, $limit seconds" >&2
+    "${PYTHON:-python3}" tools/progress.py --say "$what" --seconds "$limit" "$@"
+}
+
 # afl: runs AFL++ for so many seconds.
 afl() {
     mkdir "$kept/seeds"
@@ -22,9 +30,9 @@ afl() {
         cp "$script" "$kept/seeds/$(basename "$(dirname "$script")")-$(basename "$script")"
     done
     cat "$kept"/seeds/* | tr -s ' \n' '\n\n' | grep -x '[a-z0-9.]*' | sort -u | sed 's/.*/"&"/' > "$kept/words"
-    AFL_SKIP_CPUFREQ=1 AFL_NO_AFFINITY=1 AFL_NO_UI=1 AFL_I_DONT_CARE_ABOUT_MISSING_CRASHES=1 AFL_CRASH_EXITCODE=1 \
-        afl-fuzz -n -V "$1" -t 20000 -m 2048 -x "$kept/words" -i "$kept/seeds" -o "$kept/found" \
-        -- "$program" run @@ > "$kept/log" 2>&1
+    export AFL_SKIP_CPUFREQ=1 AFL_NO_AFFINITY=1 AFL_NO_UI=1 AFL_I_DONT_CARE_ABOUT_MISSING_CRASHES=1 AFL_CRASH_EXITCODE=1
+    for_time "$1" '1 of 2: scripts changed by AFL++' --log "$kept/log" -- \
+        afl-fuzz -n -V "$1" -t 20000 -m 2048 -x "$kept/words" -i "$kept/seeds" -o "$kept/found" -- "$program" run @@
     if ! grep -q 'Time limit was reached' "$kept/log"; then
         echo 'failed: AFL++ did not run:'
         tail -n 5 "$kept/log"
@@ -43,11 +51,14 @@ afl() {
     fi
 }
 
+part='1 of 1'
 if command -v afl-fuzz > /dev/null; then
+    part='2 of 2'
     afl $((seconds / 2))
     seconds=$((seconds - seconds / 2))
 fi
-if "${PYTHON:-python3}" tests/fuzz.py "$program" "$seconds"; then
+if for_time "$seconds" "$part: scripts changed by tests/fuzz.py" -- \
+    "${PYTHON:-python3}" tests/fuzz.py "$program" "$seconds"; then
     passed=$((passed + 1))
 else
     failed=$((failed + 1))

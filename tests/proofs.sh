@@ -16,7 +16,8 @@ standing=$("$PYTHON" "$tools/edits.py" copy "$copy") || {
     exit 1
 }
 {
-    (cd "$copy" && exec "$PYTHON" "$tools/measured.py" "$copy.table" "$RT" ci)
+    (cd "$copy" && exec "$PYTHON" "$tools/../tools/progress.py" --all -- \
+        "$PYTHON" "$tools/measured.py" "$copy.table" "$RT" ci)
     echo $? > "$copy.status"
 } | tee "$copy.output"
 counts=$(sed -n '$s/^\([0-9]*\) passed, \([0-9]*\) failed$/\1 \2/p' "$copy.output")

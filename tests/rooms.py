@@ -1,12 +1,13 @@
 #!/usr/bin/env python3
-"""Draws the rooms of crates.txt, and holds what is said of them together: python3 tests/rooms.py draw|check.
+"""Draws the rooms of crates.txt and writes the tables of crates: python3 tests/rooms.py draw|check.
 
-A line '# NAME: WORDS' of crates.txt begins a room, and the crates behind it are in that room. 'draw' writes
-docs/rooms.svg. 'check' says whether that is what would be drawn, whether each crate stands on crates above it alone,
-and whether the tables of docs/ARCHITECTURE.md have the same crates in the same rooms and order; its last line is
-'N passed, M failed'.
+A line '# NAME: WORDS' of crates.txt begins a room, and the crates after it are in that room; those after another
+heading, as a user's own, are in none. 'draw' writes docs/rooms.svg, and in docs/ARCHITECTURE.md the table below each
+heading '### NAME': a row for each crate, with the first sentence of its root file. 'check' reports whether both are
+what would be written, and whether each crate depends on crates above it alone; its last line is 'N passed, M failed'.
 """
 
+import itertools
 import os
 import re
 import sys
@@ -41,10 +42,11 @@ def rooms():
         for line in lines:
             heading = re.fullmatch(r"# ([\w ]+): (.*)\n", line)
             crate = re.fullmatch(r"(\w+)(?: staticlib)?:(.*)\n", line)
-            if heading and heading[1] in PLACES:
-                room = heading[1]
-                found[room] = (heading[2], {})
-            elif crate:
+            if heading:
+                room = heading[1] if heading[1] in PLACES else None
+                if room:
+                    found[room] = (heading[2], {})
+            elif crate and room:
                 found[room][1][crate[1]] = crate[2].split()
     return found
 
@@ -136,16 +138,26 @@ def order_faults(found):
             above.add(crate)
 
 
-def tables(page):
-    """The rooms and crates of the tables of the page: a heading '### ROOM', and behind it lines '| `CRATE` | .. |'."""
-    told, room = {}, None
-    for line in page.splitlines():
-        heading, crate = re.fullmatch(r"### (.*)", line), re.match(r"\| `(\w+)` \| ", line)
-        if heading:
-            room = heading[1]
-        elif crate and room in PLACES:
-            told.setdefault(room, []).append(crate[1])
-    return told
+def sentence(crate):
+    """The first sentence of a crate's root file, without where its subject comes from, and without a full stop."""
+    folder = os.path.join("crates", crate, "src")
+    root = next(it for it in (os.path.join(folder, name) for name in ("lib.rt", "main.rt")) if os.path.exists(it))
+    with open(root, encoding="utf-8") as lines:
+        text = [line[3:].strip() for line in itertools.takewhile(lambda line: re.match(r"//! *\S", line), lines)]
+    text = re.sub(r" \((ours|the paper)[^)]*\)", "", " ".join(text))
+    return re.split(r"\.(?: |$)", text)[0]
+
+
+def table(crates):
+    return "".join(["| Crate | Description |\n|---|---|\n", *(f"| `{crate}` | {sentence(crate)} |\n" for crate in crates)])
+
+
+def page_of(found, page):
+    """The page with the table of each room as it has to be."""
+    for room, (_, crates) in found.items():
+        below_heading = rf"(### {room}\n(?:(?!#|\|).*\n)*)(?:\|.*\n)*"
+        page = re.sub(below_heading, lambda it, crates=crates: it[1] + table(crates), page)
+    return page
 
 
 def read(path):
@@ -157,11 +169,12 @@ def read(path):
 
 
 def check(found):
-    """Whether all that is told of the rooms is so."""
+    """Whether the picture and the page are up to date, and the crates in order."""
     tried = {
         f"{PICTURE} is what is drawn": read(PICTURE) == picture(found),
-        "each crate stands on crates above it alone": not list(order_faults(found)),
-        f"{PAGE} has these rooms and crates": tables(read(PAGE)) == {room: list(on) for room, (_, on) in found.items()},
+        "each crate depends on crates above it alone": not list(order_faults(found)),
+        f"{PAGE} has a heading for each room": all(f"\n### {room}\n" in read(PAGE) for room in found),
+        f"{PAGE} has the tables that are written": read(PAGE) == page_of(found, read(PAGE)),
     }
     for what, is_so in tried.items():
         print(f"{'passed' if is_so else 'failed'}: {what}")
@@ -174,8 +187,10 @@ def main():
     os.chdir(os.path.join(os.path.dirname(os.path.abspath(__file__)), ".."))
     found = rooms()
     if sys.argv[1:] == ["draw"]:
-        with open(PICTURE, "w", encoding="utf-8") as file:
-            file.write(picture(found))
+        page = page_of(found, read(PAGE))
+        for path, text in (PICTURE, picture(found)), (PAGE, page):
+            with open(path, "w", encoding="utf-8") as file:
+                file.write(text)
     elif sys.argv[1:] == ["check"]:
         sys.exit(0 if check(found) else 1)
     else:

@@ -5,7 +5,7 @@
 
 use crate::nodes::ME;
 use anyhow::Result;
-use pauseless::{Config, Heap, Holding, Layout, Layouts, Policy, Refusal};
+use pauseless::prelude::*;
 use std::alloc::Global;
 
 /// Registers: the table, an entry that is made, and one that is found.

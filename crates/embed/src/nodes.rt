@@ -4,7 +4,7 @@
 //! loops are short: one over a `Heap` itself carries along all that each call promises.
 
 use anyhow::Result;
-use pauseless::{Config, Heap, Holding, Layout, Layouts, Policy};
+use pauseless::prelude::*;
 use std::alloc::Global;
 
 /// The program's one thread.

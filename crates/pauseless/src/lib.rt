@@ -1,5 +1,6 @@
-//! The heap of Click, Tene and Wolf, "The Pauseless GC Algorithm" (VEE 2005), for a program that
-//! wants one: all names that such a program needs.
+//! All names that a program on the library needs: the heap with its configuration and collections, the
+//! heap that keeps a history, the verifier, and reports. The heap is that of Click, Tene and Wolf, "The
+//! Pauseless GC Algorithm" (VEE 2005).
 //!
 //! Make a `Config` by `Config::new`, and of it a `Heap`. What a mutator thread does is a call of the
 //! trait `Mutating` each, such as `heap.datum(thread, object, index)`, which gives a plain value or a
@@ -20,9 +21,13 @@
 //! and roots as plain data, and says `Sound` or the first fault. An image can be printed. Of a `Heap`
 //! `verify_held` says `Sound`, by its contract. `report_heap` writes how a heap stands, in lines of text.
 //!
+//! `use pauseless::prelude::*` brings the heap, its configuration and the traits that have its calls.
+//!
 //! There is no code here: each name stands in a crate of its own, with its contract. The heap is
 //! `managed::ManagedHeap` there.
 #![tactic(auto)]
+
+pub mod prelude;
 
 pub use choosing::choose;
 pub use collecting::{CallFault, Collected, Holding, Object, Parts, Policy};
