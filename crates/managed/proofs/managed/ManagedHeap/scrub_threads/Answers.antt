@@ -1,0 +1,36 @@
+use Rattle.std.proofs.Common.{◌∙◌, ◌<◌, ◌≤◌, ℕ, ap, arith, refl, sym}
+use Rattle.model.specs.Phases.{is_protect_crossing}
+use Rattle.managed.specs.Goings.{IsScrub}
+use Rattle.managed.proofs.Corrected.{all_scrubbed, threads_more}
+use Rattle.managed.proofs.Going.{goes_none, goes_then}
+use Rattle.managed.proofs.Scrubbed.{scrubs_phase}
+use Rattle.managed.proofs.managed.ManagedHeap.scrub_threads.Goals as goal
+
+pub loop-thread-init : goal.loop-thread-init
+loop-thread-init c = record {
+  goes = goes_none IsScrub c.args.self.now;
+  scrubbed = λ open_now t l r. absurd (omega (arith, l));
+}
+
+pub loop-thread-preserved : goal.loop-thread-preserved
+loop-thread-preserved c = record {
+  goes = goes_then IsScrub c.args.self.now c.loop-thread.self c.scrub_each.new.self c.loop-thread.invariant.goes
+      c.scrub_each.ensures.goes;
+  scrubbed = λ phase.
+      threads_more c.loop-thread.self c.scrub_each.new.self c.loop-thread.thread c.scrub_each.ensures.goes
+      (c.loop-thread.invariant.scrubbed phase)
+      (c.scrub_each.ensures.scrubbed
+      (ap is_protect_crossing (scrubs_phase c.args.self.now c.loop-thread.self c.loop-thread.invariant.goes)
+      ∙ phase));
+}
+
+pub returns-clause-goes : goal.returns-clause-goes
+returns-clause-goes c = c.loop-thread.invariant.goes
+
+pub returns-clause-scrubbed : goal.returns-clause-scrubbed
+returns-clause-scrubbed c = λ phase.
+    all_scrubbed c.args.self.now c.loop-thread.self _ _ c.args.self.now.config.threads
+    c.law.ensures.holds refl c.loop-thread.invariant.goes
+    (λ t l r. c.loop-thread.invariant.scrubbed phase t
+    (let past : c.args.self.now.config.threads ≤ c.loop-thread.thread = omega (arith, c.loop-thread-test.false)
+    in omega (arith, l, past)) r)
