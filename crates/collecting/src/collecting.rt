@@ -1,9 +1,10 @@
 //! Collections by one call.
 
-ghost use Rattle.std.specs.Prelude.{◌≡◌};
+ghost use Rattle.std.specs.Prelude.{◌≡◌, IfOk};
 ghost use Rattle.model.specs.declared.steps.Step.TheVariants as steps;
 ghost use Rattle.managed.specs.Collecting.{StandsUnseen};
 ghost use Rattle.managed.specs.Goings.{LoadsWhole, LoadStands};
+ghost use Rattle.managed.specs.Scrubbing.{AreScrubbed};
 ghost use Rattle.collecting.specs.Collections.{Collects, CollectsWhole, EndsCollecting, IsNotRoom};
 ghost use Rattle.collecting.specs.Objects.{seen};
 ghost use Rattle.collecting.specs.Parts.{EndsPart};
@@ -130,6 +131,7 @@ impl Holding for ManagedHeap {
         ensures stands { StandsUnseen self.old self.new }
         ensures ends { EndsCollecting percent self.old result self.new }
         ensures room { IsNotRoom result }
+        ensures scrubbed { IfOk result (λ collected. AreScrubbed self.new) }
     {
         collect_whole(self, alloc, percent)
     }
@@ -178,7 +180,8 @@ pub(crate) fn collect_whole(
     alloc: Global,
     percent: u32,
 ) -> Result<Collected, Refusal>
-    ensures { CollectsWhole percent heap.old result heap.new }
+    ensures ends { CollectsWhole percent heap.old result heap.new }
+    ensures scrubbed { IfOk result (λ collected. AreScrubbed heap.new) }
 {
     match settle(heap) {
         Ok(()) => run_cycle(heap, alloc, percent),

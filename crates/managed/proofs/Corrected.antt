@@ -283,6 +283,6 @@ pub crossed_calm : (h m : HeapState) (p p0 : PlainHeap) → Holds h p p0 → all
 crossed_calm h m p p0 k e same =
     ap is_protect_crossing same ∙ not_protecting h.phase (crossed_open h p p0 k e)
 
-pub phase_of : (m h : HeapState) (r : Result Unit Refusal) (u : Unit {0}) → r ≡ Ok u
-    → IfOk r (λ (x : Unit {0}). m.phase ≡ h.phase) → m.phase ≡ h.phase
-phase_of m h r u is k = subst (λ (q : Result Unit Refusal). IfOk q (λ (x : Unit {0}). m.phase ≡ h.phase)) is k
+-- what holds where a call was done
+pub if_ok : {A : Type 0} (P : Type 0) (r : Result A Refusal) (x : A) → r ≡ Ok x → IfOk r (λ (y : A). P) → P
+if_ok {A} P r x is k = subst (λ (q : Result A Refusal). IfOk q (λ (y : A). P)) is k

@@ -1,4 +1,5 @@
-use Rattle.managed.proofs.Corrected.{crossed_calm, phase_of}
+use Rattle.std.proofs.Common.{◌≡◌}
+use Rattle.managed.proofs.Corrected.{crossed_calm, if_ok}
 use Rattle.managed.proofs.Emptied.{pages_scrubbed}
 use Rattle.managed.proofs.managed.ManagedHeap.empty_crossed.Goals as goal
 
@@ -9,4 +10,5 @@ returns-in-Ok-clause-ends c = pages_scrubbed c.args.worker c.args.self.now c.emp
 pub returns-in-Ok-clause-scrubbed : goal.returns-in-Ok-clause-scrubbed
 returns-in-Ok-clause-scrubbed c = c.scrub_all.ensures.scrubbed
     (crossed_calm c.args.self.now c.empty_each.new.self _ _ c.law.ensures.holds c.requires
-    (phase_of c.empty_each.new.self c.args.self.now c.empty_each.result tt c.in-Ok.is c.empty_each.ensures.phase))
+    (if_ok (c.empty_each.new.self.phase ≡ c.args.self.now.phase) c.empty_each.result tt c.in-Ok.is
+    c.empty_each.ensures.phase))
