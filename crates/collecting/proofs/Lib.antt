@@ -1,4 +1,5 @@
 pub mod Collections
+pub mod Staying
 pub mod NotRoom
 pub mod Refilled
 pub mod Parted

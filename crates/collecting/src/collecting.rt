@@ -2,6 +2,7 @@
 
 ghost use Rattle.std.specs.Prelude.{◌≡◌, IfOk};
 ghost use Rattle.model.specs.declared.steps.Step.TheVariants as steps;
+ghost use Rattle.model.specs.Phases.{is_protect_crossing};
 ghost use Rattle.managed.specs.Collecting.{StandsUnseen};
 ghost use Rattle.managed.specs.Goings.{LoadsWhole, LoadStands};
 ghost use Rattle.managed.specs.Scrubbing.{AreScrubbed};
@@ -147,6 +148,7 @@ impl Holding for ManagedHeap {
         ensures stands { StandsUnseen self.old self.new }
         ensures ends { EndsPart self.old result self.new }
         ensures room { IsNotRoom result }
+        ensures scrubbed { IfOk result (λ ended. is_protect_crossing self.new.phase ≡ false → AreScrubbed self.new) }
     {
         parts::collect_some(self, alloc, parts, percent, budget)
     }

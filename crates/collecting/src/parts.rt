@@ -1,11 +1,14 @@
 //! Collections in parts, for a program that can't stop for a whole one.
 
-ghost use Rattle.std.specs.Prelude.{◌≡◌, true};
+ghost use Rattle.std.specs.Prelude.{◌≡◌, IfOk, false, true};
 ghost use Rattle.model.specs.declared.records.Page.{Page};
-ghost use Rattle.collecting.specs.Parts.{EndsPart, HasEnded, TellsAnew, has_from};
+ghost use Rattle.model.specs.Phases.{is_protect_crossing};
+ghost use Rattle.managed.specs.Goings.{Goes, IsScrub};
+ghost use Rattle.managed.specs.Scrubbing.{AreScrubbed};
+ghost use Rattle.collecting.specs.Collections.{has_from};
+ghost use Rattle.collecting.specs.Parts.{EndsPart, EndsPortion, EndsStage, HasEnded, TellsAnew, is_memory};
 
-use crate::portions::{cross_and_scrub, empty_one, mark_some, may_start_mark, protect};
-use crate::rooms::lacks_room;
+use crate::portions::{cross, empty_one, mark_some, may_start_mark, protect};
 use choosing::{first_packing, measured, packed_page, room};
 use heap::Heap;
 use managed::ManagedHeap;
@@ -120,17 +123,24 @@ fn has_ended(heap: &Heap) -> bool
     may_start_mark(heap.phase()) && heap.sides().uncopied() == 0 && !has_from(heap.memory().pages())
 }
 
-/// The next part begins another collection. True where nothing is left of this one.
-fn end_part(heap: &ManagedHeap, parts: &mut Parts) -> bool
-    ensures { result ≡ true → HasEnded heap.now }
+/// Registers that name protected pages are corrected, at the end of each part. True where it was the last one,
+/// and nothing is left of the collection.
+fn end_part(heap: &mut ManagedHeap, last: bool) -> bool
+    ensures goes { Goes IsScrub heap.old heap.new }
+    ensures scrubbed { is_protect_crossing heap.old.phase ≡ false → AreScrubbed heap.new }
+    ensures ended { result ≡ true → HasEnded heap.new }
 {
-    parts.begin(Stage::Mark);
-    has_ended(heap.heap())
+    heap.scrub_all();
+    if last {
+        has_ended(heap.heap())
+    } else {
+        false
+    }
 }
 
 /// A portion of the mark.
 fn mark_part(heap: &mut ManagedHeap, parts: &mut Parts, budget: u32) -> Result<bool, Refusal>
-    ensures { EndsPart heap.old result heap.new }
+    ensures { EndsStage heap.old result heap.new }
 {
     match mark_some(heap, u64::from(budget.max(1))) {
         Ok(ended) => {
@@ -143,31 +153,30 @@ fn mark_part(heap: &mut ManagedHeap, parts: &mut Parts, budget: u32) -> Result<b
     }
 }
 
-/// Whether a refusal to protect pages says that they aren't as they were when they were chosen.
-fn is_out_of_date(refusal: &Refusal) -> bool {
-    matches!(
-        *refusal,
-        Refusal::Phase | Refusal::Unripe { .. } | Refusal::Lent { .. }
-    )
-}
-
-/// What comes of a refusal to protect pages: where the choice is out of date, as a whole collection came
-/// between, the next part begins anew.
+/// What comes of a refusal to protect pages: where memory was refused, it is told so; else the choice is out of
+/// date, as a whole collection came between, and the next part begins anew.
 fn begin_anew(parts: &mut Parts, refusal: Refusal) -> Result<bool, Refusal>
     ensures { TellsAnew refusal result }
 {
-    if lacks_room(&refusal) || is_out_of_date(&refusal) {
-        parts.begin(Stage::Mark);
-        return Ok(false);
+    if is_memory(&refusal) {
+        return Err(refusal);
     }
-    Err(refusal)
+    parts.begin(Stage::Mark);
+    Ok(false)
+}
+
+/// Whether a refusal says that memory was refused.
+fn is_memory(refusal: &Refusal) -> bool
+    ensures { result ≡ is_memory refusal.now }
+{
+    matches!(*refusal, Refusal::Memory)
 }
 
 /// All threads cross behind the protection of pages.
 fn cross_part(heap: &mut ManagedHeap) -> Result<bool, Refusal>
-    ensures { EndsPart heap.old result heap.new }
+    ensures { EndsPortion heap.old result heap.new }
 {
-    match cross_and_scrub(heap) {
+    match cross(heap) {
         Ok(()) => Ok(false),
         Err(refusal) => Err(refusal),
     }
@@ -175,7 +184,7 @@ fn cross_part(heap: &mut ManagedHeap) -> Result<bool, Refusal>
 
 /// The chosen pages are protected, and all threads cross.
 fn protect_part(heap: &mut ManagedHeap, parts: &mut Parts, pages: Vec<u32>) -> Result<bool, Refusal>
-    ensures { EndsPart heap.old result heap.new }
+    ensures { EndsStage heap.old result heap.new }
 {
     match protect(heap, pages) {
         Ok(()) => {
@@ -193,12 +202,13 @@ fn choose_part(
     parts: &mut Parts,
     budget: u32,
 ) -> Result<bool, Refusal>
-    ensures { EndsPart heap.old result heap.new }
+    ensures { EndsStage heap.old result heap.new }
 {
     match parts.choose(alloc, heap.heap(), pages_in(budget)) {
         Ok(pages) => {
             if pages.is_empty() {
-                Ok(end_part(heap, parts))
+                parts.begin(Stage::Mark);
+                Ok(true)
             } else {
                 protect_part(heap, parts, pages)
             }
@@ -215,7 +225,7 @@ fn measure_part(
     percent: u32,
     budget: u32,
 ) -> Result<bool, Refusal>
-    ensures { EndsPart heap.old result heap.new }
+    ensures { EndsStage heap.old result heap.new }
 {
     match parts.measure(heap.heap(), percent, pages_in(budget)) {
         Ok(true) => choose_part(heap, alloc, parts, budget),
@@ -226,10 +236,13 @@ fn measure_part(
 
 /// A page is emptied; where none is left the collection has ended.
 fn empty_part(heap: &mut ManagedHeap, parts: &mut Parts) -> Result<bool, Refusal>
-    ensures { EndsPart heap.old result heap.new }
+    ensures { EndsStage heap.old result heap.new }
 {
     match parts.next_page() {
-        None => Ok(end_part(heap, parts)),
+        None => {
+            parts.begin(Stage::Mark);
+            Ok(true)
+        }
         Some(page) => match empty_one(heap, page) {
             Ok(()) => {
                 parts.pass();
@@ -237,6 +250,23 @@ fn empty_part(heap: &mut ManagedHeap, parts: &mut Parts) -> Result<bool, Refusal
             }
             Err(refusal) => Err(refusal),
         },
+    }
+}
+
+/// What the next part of a collection does. True where it is the last one.
+fn next_part(
+    heap: &mut ManagedHeap,
+    alloc: Global,
+    parts: &mut Parts,
+    percent: u32,
+    budget: u32,
+) -> Result<bool, Refusal>
+    ensures { EndsStage heap.old result heap.new }
+{
+    match parts.stage {
+        Stage::Mark => mark_part(heap, parts, budget),
+        Stage::Choose => measure_part(heap, alloc, parts, percent, budget),
+        Stage::Empty => empty_part(heap, parts),
     }
 }
 
@@ -248,11 +278,11 @@ pub(crate) fn collect_some(
     percent: u32,
     budget: u32,
 ) -> Result<bool, Refusal>
-    ensures { EndsPart heap.old result heap.new }
+    ensures ends { EndsPart heap.old result heap.new }
+    ensures scrubbed { IfOk result (λ ended. is_protect_crossing heap.new.phase ≡ false → AreScrubbed heap.new) }
 {
-    match parts.stage {
-        Stage::Mark => mark_part(heap, parts, budget),
-        Stage::Choose => measure_part(heap, alloc, parts, percent, budget),
-        Stage::Empty => empty_part(heap, parts),
+    match next_part(heap, alloc, parts, percent, budget) {
+        Ok(last) => Ok(end_part(heap, last)),
+        Err(refusal) => Err(refusal),
     }
 }

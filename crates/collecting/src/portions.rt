@@ -1,7 +1,9 @@
 //! Portions of a collection, each of bounded work.
 
-ghost use Rattle.std.specs.Prelude.{◌≡◌, true, None};
+ghost use Rattle.std.specs.Prelude.{◌≡◌, ◌≢◌, true, None, Ok, IfOk, MatchBool};
 ghost use Rattle.drains.specs.Drains.{IsReady};
+ghost use Rattle.model.specs.declared.records.Phase.TheVariants as phases;
+ghost use Rattle.model.specs.Checkpoints.{all_crossed};
 ghost use Rattle.model.specs.Phases.{may_start_mark};
 ghost use Rattle.model.specs.Scans.{next_drain};
 ghost use Rattle.collecting.specs.Collections.{WORKER};
@@ -20,8 +22,9 @@ pub(crate) fn may_start_mark(phase: Phase) -> bool
 }
 
 /// All threads cross the open checkpoint.
-fn cross(heap: &mut ManagedHeap) -> Result<(), Refusal>
-    ensures { EndsPortion heap.old result heap.new }
+pub(crate) fn cross(heap: &mut ManagedHeap) -> Result<(), Refusal>
+    ensures ends { EndsPortion heap.old result heap.new }
+    ensures crossed { IfOk result (λ done. all_crossed heap.new ≡ Ok tt) }
 {
     heap.cross_all(0)
 }
@@ -50,7 +53,8 @@ fn begin_or_cross(heap: &mut ManagedHeap) -> Result<(), Refusal>
 
 /// A mark ends. It is true.
 fn end_mark(heap: &mut ManagedHeap) -> Result<bool, Refusal>
-    requires { next_drain heap.old WORKER ≡ None }
+    requires nothing { next_drain heap.old WORKER ≡ None }
+    requires phase { heap.old.phase ≡ phases.Scanning }
     ensures { EndsPortion heap.old result heap.new }
 {
     match heap.step(Actor::Worker(0), &Step::EndMark) {
@@ -103,6 +107,7 @@ fn scan_some(heap: &mut ManagedHeap, budget: u64) -> Result<bool, Refusal>
 
 /// The same; where nothing is left the mark ends, and it is true.
 fn scan_or_end(heap: &mut ManagedHeap, budget: u64) -> Result<bool, Refusal>
+    requires { heap.old.phase ≡ phases.Scanning }
     ensures { EndsPortion heap.old result heap.new }
 {
     match scan_some(heap, budget) {
@@ -112,11 +117,18 @@ fn scan_or_end(heap: &mut ManagedHeap, budget: u64) -> Result<bool, Refusal>
     }
 }
 
+/// Whether a mark runs that all threads have crossed.
+fn is_scanning(phase: Phase) -> bool
+    ensures { MatchBool result (phase ≡ phases.Scanning) (phase ≢ phases.Scanning) }
+{
+    matches!(phase, Phase::Scanning)
+}
+
 /// A portion of a mark. True where the mark has ended.
 pub(crate) fn mark_some(heap: &mut ManagedHeap, budget: u64) -> Result<bool, Refusal>
     ensures { EndsPortion heap.old result heap.new }
 {
-    if matches!(heap.heap().phase(), Phase::Scanning) {
+    if is_scanning(heap.heap().phase()) {
         return scan_or_end(heap, budget);
     }
     match begin_or_cross(heap) {
@@ -135,25 +147,21 @@ pub(crate) fn protect(heap: &mut ManagedHeap, pages: Vec<u32>) -> Result<(), Ref
     }
 }
 
-/// All threads cross, and registers that name protected pages are corrected.
-pub(crate) fn cross_and_scrub(heap: &mut ManagedHeap) -> Result<(), Refusal>
+/// A page is emptied, where it is protected, when all threads have crossed.
+fn empty_crossed(heap: &mut ManagedHeap, page: u32) -> Result<(), Refusal>
+    requires { all_crossed heap.old ≡ Ok tt }
     ensures { EndsPortion heap.old result heap.new }
 {
-    match cross(heap) {
-        Ok(()) => {
-            heap.scrub_all();
-            Ok(())
-        }
-        Err(refusal) => Err(refusal),
-    }
+    heap.law();
+    settle_page(heap, page)
 }
 
-/// All threads have crossed, and a page is emptied, where it is protected.
+/// All threads cross, and a page is emptied, where it is protected.
 pub(crate) fn empty_one(heap: &mut ManagedHeap, page: u32) -> Result<(), Refusal>
     ensures { EndsPortion heap.old result heap.new }
 {
-    match cross_and_scrub(heap) {
-        Ok(()) => settle_page(heap, page),
+    match cross(heap) {
+        Ok(()) => empty_crossed(heap, page),
         Err(refusal) => Err(refusal),
     }
 }

@@ -13,7 +13,7 @@ use model::{Buffer, Refusal};
 use std::alloc::Global;
 
 /// Whether a refusal says that there are too few frames or pages.
-pub(crate) fn lacks_room(refusal: &Refusal) -> bool
+fn lacks_room(refusal: &Refusal) -> bool
     ensures { result ≡ lacks_room refusal.now }
 {
     matches!(*refusal, Refusal::NoFrames { .. } | Refusal::NoPages)

@@ -9,5 +9,6 @@ returns-in-Ok c = collect_step WORKER c.args.heap.now c.step.new.self steps.EndM
     c.step.ensures.does c.step.ensures.stands
 
 pub returns-in-Err : goal.returns-in-Err
-returns-in-Err c = ended_stops c.args.heap.now c.step.new.self c.step.result c.in-Err.refusal c.requires c.in-Err.is
+returns-in-Err c = ended_stops c.args.heap.now c.step.new.self c.step.result c.in-Err.refusal c.requires.phase
+    c.requires.nothing c.in-Err.is
     c.step.ensures.does
