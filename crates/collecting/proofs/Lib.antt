@@ -1,5 +1,6 @@
 pub mod Collections
 pub mod Staying
 pub mod NotRoom
+pub mod Given
 pub mod Refilled
 pub mod Parted

@@ -9,7 +9,7 @@ ghost use Rattle.managed.specs.Scrubbing.{AreScrubbed};
 ghost use Rattle.collecting.specs.Collections.{Collects, CollectsWhole, EndsCollecting, IsNotRoom};
 ghost use Rattle.collecting.specs.Objects.{seen};
 ghost use Rattle.collecting.specs.Parts.{EndsPart};
-ghost use Rattle.collecting.specs.Rooms.{EndsMaking, EndsRefill, MakingStands, Refills};
+ghost use Rattle.collecting.specs.Rooms.{EndsMaking, EndsRefill, IsNotHeld, MakingStands, Refills};
 
 use crate::cycles::run_cycle;
 use crate::leftovers::settle;
@@ -157,6 +157,7 @@ impl Holding for ManagedHeap {
         ensures goes { Refills thread self.old self.new }
         ensures stands { StandsUnseen self.old self.new }
         ensures ends { EndsRefill thread policy.words policy.percent self.old result self.new }
+        ensures buffer { IsNotHeld result }
     {
         rooms::refill(self, alloc, policy, thread)
     }
