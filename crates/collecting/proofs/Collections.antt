@@ -60,7 +60,7 @@ left_page h g n (Ok u) phase from k = record {
         → is_from (state_at g.store m) ≡ false
     by_place m e (inl same) = ap (λ (i : ℕ). is_from (state_at g.store i)) same ∙ ap is_from k.gone
     by_place m e (inr d) = ap is_from (k.others m d) ∙ e
-left_page h g n (Err e) phase from k = (k.0, record { phase = phase; from = from }, k.1)
+left_page h g n (Err e) phase from k = (k.0, (record { phase = phase; from = from }, k.1))
 
 pub left_none : (h : HeapState) (n : ℕ) → is_from (state_at h.store n) ≡ false → EndsLeft h n (Ok tt) h
 left_none h n e = record { goes = none h; page = e; others = λ m k. k; count = refl; phase = refl }

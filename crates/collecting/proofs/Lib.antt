@@ -4,3 +4,4 @@ pub mod NotRoom
 pub mod Given
 pub mod Refilled
 pub mod Parted
+pub mod Staged

@@ -1,6 +1,6 @@
 -- Parts of a collection, from one portion to the next.
-use Rattle.std.proofs.Common.{◌≡◌, ◌∙◌, ℕ, Bool, true, false, List, None, refl, sym, subst, ap, inl, inr, arith}
-use Rattle.std.specs.Prelude.{Result, Ok, Err, IfOk}
+use Rattle.std.proofs.Common.{◌≡◌, ◌∙◌, ℕ, Bool, true, false, List, None, refl, sym, subst, ap, inl, inr}
+use Rattle.std.specs.Prelude.{Result, Ok, Err}
 use Rattle.model.specs.declared.records.Phase.TheVariants as phases
 use Rattle.model.specs.declared.steps.Actor.TheVariants.{Worker}
 use Rattle.model.specs.declared.steps.Step.TheVariants as steps
@@ -10,7 +10,7 @@ use Rattle.model.specs.declared.steps.Refusal.TheVariants as refusals
 use Rattle.model.specs.Checkpoints.{all_crossed}
 use Rattle.model.specs.Outcome.{outcome}
 use Rattle.model.specs.Phases.{may_start_mark, is_protect_crossing}
-use Rattle.model.specs.Refusing.{Outcome, DoesStep}
+use Rattle.model.specs.Refusing.{DoesStep}
 use Rattle.model.specs.Scans.{next_drain}
 use Rattle.model.specs.States.{HeapState}
 use Rattle.refinement.specs.Standing.{KeepsStanding}
@@ -20,10 +20,11 @@ use Rattle.managed.specs.Scrubbing.{AreScrubbed}
 use Rattle.managed.proofs.Counting.{prepares_goes}
 use Rattle.managed.proofs.Gathering.{collect_step, crossings_collect, drains_collect, scans_collect, scrubs_collect}
 use Rattle.managed.proofs.Scrubbed.{scrubs_phase}
-use Rattle.collecting.specs.Collections.{WORKER, Collects, EndsLeft}
-use Rattle.collecting.specs.Parts.{HasEnded, StopsAt, Stops, EndsPortion, EndsPart, EndsStage, EndsScanning}
-use Rattle.collecting.specs.Parts.{EndsProtecting, TellsAnew}
-use Rattle.collecting.specs.Parts.{Beginning, Crossing, Scanning, Ending, Emptying}
+use Rattle.collecting.specs.Collections.{WORKER, Collects}
+use Rattle.collecting.specs.Parts.{HasEnded, StopsAt, Stops, EndsCrossing, EndsPortion, EndsPart, EndsStage}
+use Rattle.collecting.specs.Parts.{EndsProtecting, EndsScanning}
+use Rattle.collecting.specs.Parts.{Beginning, Scanning, Ending}
+use Rattle.collecting.specs.Stages.{EndsMarking}
 use Rattle.collecting.proofs.Collections.{none, and_then}
 use Rattle.collecting.proofs.Staying.{scans_phase}
 
@@ -47,16 +48,10 @@ pub portion_stops : {A : Type 0} (h g : HeapState) (r : Result A Refusal) (e : R
     → EndsPortion h r g → Stops h e g
 portion_stops {A} h g r e is k = subst (λ (x : Result A Refusal). EndsPortion h x g) is k
 
-pub all_cross : (g : HeapState) (r : Result Unit Refusal) → r ≡ all_crossed g
-    → IfOk r (λ (u : Unit {0}). all_crossed g ≡ Ok tt)
-all_cross g (Ok u) is = sym is
-all_cross g (Err e) is = tt
-
 pub crossed : (h g : HeapState) (r : Result Unit Refusal) → r ≡ all_crossed g → Goes (IsCrossing WORKER) h g
-    → AllTried WORKER r g → EndsPortion h r g
-crossed h g (Ok u) is a behind = crossings_collect WORKER h g a
-crossed h g (Err e) is a behind =
-    stops_here h g e (crossings_collect WORKER h g a) (Crossing (a, sym is, behind))
+    → AllTried WORKER r g → EndsCrossing h r g
+crossed h g (Ok u) is a behind = (a, sym is)
+crossed h g (Err e) is a behind = (a, sym is, behind)
 
 -- ---- a mark
 
@@ -75,6 +70,13 @@ begun_stops h g s e may is does =
     does in
     subst (λ (x : HeapState). Stops h e x) (sym d.1)
     (stops_here h h e (none h) (Beginning may d.0 refl))
+
+pub ended_on : (h g : HeapState) (s : Result Answer Refusal) (a : Answer) → s ≡ Ok a
+    → DoesStep h steps.EndMark s g (outcome h (Worker WORKER) steps.EndMark)
+    → KeepsStanding h (Worker WORKER) steps.EndMark s g → EndsMarking h (Ok true) g
+ended_on h g (Ok x) a is does keeps =
+    (collect_step WORKER h g steps.EndMark (Ok x) does keeps, (h, x, none h, does))
+ended_on h g (Err e) a is does keeps = absurd (cc)
 
 pub ended_stops : (h g : HeapState) (s : Result Answer Refusal) (e : Refusal)
     → h.phase ≡ phases.Scanning → next_drain h WORKER ≡ None → s ≡ Err e
@@ -111,10 +113,16 @@ scanned_behind h m g b r is k a ends =
     subst (λ (x : HeapState). EndsScanning x r g) (subst (λ (c : Bool). Prepares WORKER h c m) is k).0
     (scanned m g r a ends)
 
-pub scanned_all : (h m g : HeapState) (s r : Result Bool Refusal) → s ≡ Ok true → EndsScanning h s m
-    → EndsPortion m r g → EndsPortion h r g
-scanned_all h m g s r is a k =
-    portion_then h m g r (subst (λ (x : Result Bool Refusal). EndsScanning h x m) is a).0 k
+marking_then : (h m g : HeapState) (r : Result Bool Refusal) → Collects h m → EndsMarking m r g → EndsMarking h r g
+marking_then h m g (Ok true) a k =
+    (and_then h m g a k.0, (k.1.0, k.1.1, and_then h m k.1.0 a k.1.2, k.1.3))
+marking_then h m g (Ok false) a k = and_then h m g a k
+marking_then h m g (Err e) a k = (and_then h m g a k.0, (k.1.0, and_then h m k.1.0 a k.1.1, k.1.2))
+
+pub scanned_mark : (h m g : HeapState) (s r : Result Bool Refusal) → s ≡ Ok true → EndsScanning h s m
+    → EndsMarking m r g → EndsMarking h r g
+scanned_mark h m g s r is a k =
+    marking_then h m g r (subst (λ (x : Result Bool Refusal). EndsScanning h x m) is a).0 k
 
 pub scanned_none : (h g : HeapState) (s : Result Bool Refusal) → s ≡ Ok true → EndsScanning h s g
     → next_drain g WORKER ≡ None
@@ -135,11 +143,6 @@ scanned_stops h g s e phase is a =
 
 -- ---- pages
 
-pub protected : (h g : HeapState) (ns : List ℕ) (s : Result Answer Refusal) (a : Answer) → s ≡ Ok a
-    → DoesStep h (steps.Protect ns) s g (outcome h (Worker WORKER) (steps.Protect ns))
-    → KeepsStanding h (Worker WORKER) (steps.Protect ns) s g → EndsProtecting h ns (Ok tt) g
-protected h g ns s a is does keeps = collect_step WORKER h g (steps.Protect ns) s does keeps
-
 pub protected_stops : (h g : HeapState) (ns : List ℕ) (s : Result Answer Refusal) (e : Refusal) → s ≡ Err e
     → DoesStep h (steps.Protect ns) s g (outcome h (Worker WORKER) (steps.Protect ns))
     → KeepsStanding h (Worker WORKER) (steps.Protect ns) s g → EndsProtecting h ns (Err e) g
@@ -149,14 +152,6 @@ protected_stops h g ns s e is does keeps = (
       (outcome h (Worker WORKER) (steps.Protect ns))) is does,
 )
 
-pub protecting_goes : (h g : HeapState) (ns : List ℕ) (r : Result Unit Refusal) → EndsProtecting h ns r g → Collects h g
-protecting_goes h g ns (Ok u) k = k
-protecting_goes h g ns (Err e) k = k.0
-
-pub left_portion : (h g : HeapState) (n : ℕ) (r : Result Unit Refusal) → EndsLeft h n r g → EndsPortion h r g
-left_portion h g n (Ok u) k = k.goes
-left_portion h g n (Err e) k = stops_here h g e k.0 (Emptying n k.1)
-
 -- ---- parts
 
 pub part_goes : (h g : HeapState) (r : Result Bool Refusal) → EndsPart h r g → Collects h g
@@ -164,36 +159,6 @@ part_goes h g (Ok true) k = k.0
 part_goes h g (Ok false) k = k
 part_goes h g (Err e) (inl k) = k.0
 part_goes h g (Err e) (inr k) = subst (Collects h) (sym k.1) (none h)
-
-pub stage_then : (h m g : HeapState) (r : Result Bool Refusal) → Collects h m → EndsPortion m r g → EndsStage h r g
-stage_then h m g (Ok b) a k = and_then h m g a k
-stage_then h m g (Err e) a k = inl (and_then h m g a k.0, (k.1.0, and_then h m k.1.0 a k.1.1, k.1.2))
-
--- a portion of a part, behind which the collection goes on
-pub stage_of : {A : Type 0} (h g : HeapState) (r : Result A Refusal) (e : Refusal) → r ≡ Err e → EndsPortion h r g
-    → EndsStage h (Err e) g
-stage_of {A} h g r e is k = inl (subst (λ (x : Result A Refusal). EndsPortion h x g) is k)
-
-pub stage_lacks : (h : HeapState) → EndsStage h (Err refusals.Memory) h
-stage_lacks h = inr (refl, refl)
-
-same_heap : (h g : HeapState) (ns : List ℕ) (e : Refusal) (o : Outcome) → DoesStep h (steps.Protect ns) (Err e) g o
-    → g ≡ h
-same_heap h g ns e o does = grind arith
-
-pub stage_anew : (h g : HeapState) (ns : List ℕ) (s : Result Unit Refusal) (e : Refusal) (r : Result Bool Refusal)
-    → s ≡ Err e → EndsProtecting h ns s g → TellsAnew e r → EndsStage h r g
-stage_anew h g ns s e r is k told = by_result r told
-  where
-    d : EndsProtecting h ns (Err e) g
-    d = subst (λ (x : Result Unit Refusal). EndsProtecting h ns x g) is k
-
-    same : g ≡ h
-    same = same_heap h g ns e (outcome h (Worker WORKER) (steps.Protect ns)) d.1
-
-    by_result : (r : Result Bool Refusal) → TellsAnew e r → EndsStage h r g
-    by_result (Ok b) t = d.0
-    by_result (Err x) t = inr (t.0 ∙ t.1, same)
 
 -- registers are corrected behind it
 pub part_scrubbed : (h m g : HeapState) (r : Result Bool Refusal) (last b : Bool) → r ≡ Ok last → EndsStage h r m

@@ -12,7 +12,8 @@ use Rattle.model.specs.Refusing.{DoesStep}
 use Rattle.model.specs.Scans.{next_drain}
 use Rattle.model.specs.States.{HeapState}
 use Rattle.managed.specs.Goings.{Goes, IsScan, EndsScan}
-use Rattle.managed.specs.Collecting.{StopsCrossing}
+use Rattle.managed.specs.Collecting.{Crosses, StopsCrossing}
+use Rattle.managed.specs.Emptying.{Protects}
 use Rattle.collecting.specs.Collections.{WORKER, Collects, StopsLeft, has_from}
 
 -- a collection has ended: a mark may start, so none runs and no checkpoint is open; no page is being emptied; and
@@ -70,14 +71,14 @@ abbrev pub is_memory : Refusal → Bool
 is_memory refusals.Memory = true
 is_memory _ = false
 
--- what is told where Protect is refused: that memory was refused, or else that the next part begins anew
-abbrev pub TellsAnew : Refusal → Result Bool Refusal → Type 0
-TellsAnew e (Ok b) = (b ≡ false) × (is_memory e ≡ false)
-TellsAnew e (Err x) = (x ≡ e) × (e ≡ refusals.Memory)
+-- how crossings ended
+abbrev pub EndsCrossing : HeapState → Result Unit Refusal → HeapState → Type 0
+EndsCrossing h (Ok u) g = Crosses WORKER h g
+EndsCrossing h (Err e) g = StopsCrossing WORKER h e g
 
 -- how the protection of pages ended
 abbrev pub EndsProtecting : HeapState → List ℕ → Result Unit Refusal → HeapState → Type 0
-EndsProtecting h ns (Ok u) g = Collects h g
+EndsProtecting h ns (Ok u) g = Protects WORKER h ns g
 EndsProtecting h ns (Err e) g =
     Collects h g × DoesStep h (steps.Protect ns) (Err e) g (outcome h (Worker WORKER) (steps.Protect ns))
 

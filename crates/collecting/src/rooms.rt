@@ -23,7 +23,7 @@ fn lacks_room(refusal: &Refusal) -> bool
 fn take(heap: &mut ManagedHeap, policy: Policy, thread: u32) -> Result<Buffer, Refusal>
     ensures { RefillsBy IsAny thread policy.words policy.percent heap.old result heap.new }
 {
-    let _ = heap.give_back(thread);
+    let _given = heap.give_back(thread);
     heap.take(thread, policy.words)
 }
 

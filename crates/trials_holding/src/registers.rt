@@ -62,13 +62,18 @@ fn reads(rt: &impl Abort, heap: &impl Holding, thread: u32) {
     }
 }
 
-/// Behind each part each register can be read, until two collections have ended.
-fn by_parts(rt: &impl Abort, alloc: Global, mut heap: impl Holding + Drop) -> Result<(), Fail> {
+/// Behind each part with this budget each register can be read, until two collections have ended.
+fn by_parts(
+    rt: &impl Abort,
+    alloc: Global,
+    mut heap: impl Holding + Drop,
+    budget: u32,
+) -> Result<(), Fail> {
     fill_all(alloc, &mut heap)?;
     let mut parts = Parts::new(alloc);
     let mut ended = 0u32;
     for _ in 0..200 {
-        if heap.collect_some(alloc, &mut parts, 75, 1)? {
+        if heap.collect_some(alloc, &mut parts, 75, budget)? {
             ended = ended.wrapping_add(1);
         }
         reads(rt, &heap, 0);
@@ -94,7 +99,8 @@ fn whole(rt: &impl Abort, alloc: Global, mut heap: impl Holding + Drop) -> Resul
 
 #[test]
 fn registers_behind_parts(rt: HostRuntime) -> Result<(), Fail> {
-    by_parts(&rt, rt.alloc(), new_heap(rt.alloc())?)?;
+    by_parts(&rt, rt.alloc(), new_heap(rt.alloc())?, 1)?;
+    by_parts(&rt, rt.alloc(), new_heap(rt.alloc())?, 1000)?;
     whole(&rt, rt.alloc(), new_heap(rt.alloc())?)
 }
 
