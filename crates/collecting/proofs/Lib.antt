@@ -5,3 +5,4 @@ pub mod Given
 pub mod Refilled
 pub mod Parted
 pub mod Staged
+pub mod Fitted
