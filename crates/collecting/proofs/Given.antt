@@ -105,8 +105,8 @@ back_none h t = on_bind (thread_gate h t steps.GiveBack) _ _ (λ u f.
 none_back : (h : HeapState) (t n : ℕ) (e : Refusal) → outcome h (Thread t) steps.GiveBack ≡ Err e
     → thread_gate h t (steps.Take n) ≡ Ok tt → is_some (buffer_of_thread h t) ≡ false
 unfolding outcome give_back_outcome
-none_back h t n e no gate = by_buffer (is_some (buffer_of_thread h t))
-    (ap (λ (q : Result Unit Refusal). q >>= (λ u. give_back_outcome h t)) (sym (gate_back h t n gate)) ∙ no)
+none_back h t n e refused gate = by_buffer (is_some (buffer_of_thread h t))
+    (ap (λ (q : Result Unit Refusal). q >>= (λ u. give_back_outcome h t)) (sym (gate_back h t n gate)) ∙ refused)
   where
     new : Outcome
     new = Ok (with_buffer h t None, answers.Done)
@@ -117,9 +117,9 @@ none_back h t n e no gate = by_buffer (is_some (buffer_of_thread h t))
 
 pub never_held : (t n : ℕ) (h m : HeapState) (q : Result Unit Refusal) (e : Refusal)
     → DoesThread done h t steps.GiveBack q m → outcome m (Thread t) (steps.Take n) ≡ Err e → has_buffer e ≡ false
-never_held t n h m (Ok u) e back no = of_held (outcome m (Thread t) (steps.Take n)) e
+never_held t n h m (Ok u) e back refused = of_held (outcome m (Thread t) (steps.Take n)) e
     (take_held m t n (λ gate. of_accepted (λ (z : HeapState × Answer). is_some (buffer_of_thread z.0 t) ≡ false)
-    (outcome h (Thread t) steps.GiveBack) (m, answers.Done) (back_none h t) back)) no
-never_held t n h m (Err x) e back no = of_held (outcome h (Thread t) (steps.Take n)) e
+    (outcome h (Thread t) steps.GiveBack) (m, answers.Done) (back_none h t) back)) refused
+never_held t n h m (Err x) e back refused = of_held (outcome h (Thread t) (steps.Take n)) e
     (take_held h t n (λ gate. none_back h t n x back.0 gate))
-    (subst (λ (y : HeapState). outcome y (Thread t) (steps.Take n) ≡ Err e) back.1 no)
+    (subst (λ (y : HeapState). outcome y (Thread t) (steps.Take n) ≡ Err e) back.1 refused)

@@ -77,8 +77,8 @@ after_by : (Q : HeapState → HeapState → Type 0) (t n percent : ℕ) → Reac
     (r : Result Buffer Refusal) → Refills t h m → RefillsBy Q t n percent m r g → RefillsBy Q t n percent h r g
 after_by Q t n percent reach h m g (Ok b) a k =
     (refill_then t h m g a k.0, (k.1.0, (k.1.1.0, refill_then t h m k.1.1.0 a k.1.1.1, k.1.1.2)))
-after_by Q t n percent reach h m g (Err e) a (k, inl no) =
-    (refill_then t h m g a k, inl (no.0, no.1, λ l. reach h m g a (no.2 l)))
+after_by Q t n percent reach h m g (Err e) a (k, inl refused) =
+    (refill_then t h m g a k, inl (refused.0, refused.1, λ l. reach h m g a (refused.2 l)))
 after_by Q t n percent reach h m g (Err e) a (k, inr ends) =
     (refill_then t h m g a k, inr (ends.0, refill_then t h m ends.0 a ends.1, ends.2))
 
@@ -126,13 +126,13 @@ collected_then t n percent h m g c x r is a k = by_result r k
         → RefillsBy (HasTriedAll t percent) t n percent h r g
     by_result (Ok b) k =
         (refill_then t h m g goes k.0, (k.1.0, (k.1.1.0, refill_then t h m k.1.1.0 goes k.1.1.1, k.1.1.2)))
-    by_result (Err e) (k, inl no) = (refill_then t h m g goes k, inl (no.0, no.1, λ l. record {
+    by_result (Err e) (k, inl refused) = (refill_then t h m g goes k, inl (refused.0, refused.1, λ l. record {
       before = h;
       behind = m;
       found = x;
       goes = goes_none (IsRefill t) h;
       collects = subst (λ (y : Result Collected Refusal). EndsCollecting percent h y m) is a.1;
-      marks = no.2 l;
+      marks = refused.2 l;
     }))
     by_result (Err e) (k, inr ends) =
         (refill_then t h m g goes k, inr (ends.0, refill_then t h m ends.0 goes ends.1, ends.2))
@@ -165,7 +165,7 @@ marked_then t n percent h m g c live r is a k = by_result r k
         → RefillsBy (HasMarkedSince t) t n percent h r g
     by_result (Ok x) k =
         (refill_then t h m g goes k.0, (k.1.0, (k.1.1.0, refill_then t h m k.1.1.0 goes k.1.1.1, k.1.1.2)))
-    by_result (Err e) (k, inl no) = (refill_then t h m g goes k, inl (no.0, no.1, λ l. record {
+    by_result (Err e) (k, inl refused) = (refill_then t h m g goes k, inl (refused.0, refused.1, λ l. record {
       before = h;
       marked = m;
       live = live;
@@ -195,7 +195,7 @@ not_room Q t n percent h g q e is other a =
     by_case (subst (λ (x : Result Buffer Refusal). RefillsBy IsAny t n percent h x g) is a)
   where
     by_case : RefillsBy IsAny t n percent h (Err e) g → RefillsBy Q t n percent h (Err e) g
-    by_case (k, inl no) = (k, inl (no.0, no.1, λ l. absurd (true≢false (sym l ∙ other))))
+    by_case (k, inl refused) = (k, inl (refused.0, refused.1, λ l. absurd (true≢false (sym l ∙ other))))
     by_case (k, inr ends) = (k, inr ends)
 
 -- what was refused, and what comes then
@@ -218,7 +218,7 @@ of_rooms e k = (or_parts (lacks_room e) (has_buffer e) k).1
 pub refill_not : (t n percent : ℕ) (h : HeapState) (r : Result Buffer Refusal) (g : HeapState)
     → EndsRefill t n percent h r g → IsNotHeld r
 refill_not t n percent h (Ok b) g k = tt
-refill_not t n percent h (Err e) g (inl no) = no.1
+refill_not t n percent h (Err e) g (inl refused) = refused.1
 refill_not t n percent h (Err e) g (inr ends) = of_rooms e (collecting_not percent ends.0 (Err e) g ends.2)
 
 -- ---- objects
@@ -237,8 +237,8 @@ making_after : (t n percent target layout : ℕ) (h m g : HeapState) (r : Result
     → EndsMaking t n percent target layout m r g → EndsMaking t n percent target layout h r g
 making_after t n percent target layout h m g (Ok b) a k = (k.0, refill_then t h m k.0 a k.1, k.2)
 making_after t n percent target layout h m g (Err e) a (k, inl refused) = (refill_then t h m g a k, inl refused)
-making_after t n percent target layout h m g (Err e) a (k, inr (inl no)) =
-    (refill_then t h m g a k, inr (inl (no.0, no.1, λ l. tried_reaches t percent h m g a (no.2 l))))
+making_after t n percent target layout h m g (Err e) a (k, inr (inl refused)) =
+    (refill_then t h m g a k, inr (inl (refused.0, refused.1, λ l. tried_reaches t percent h m g a (refused.2 l))))
 making_after t n percent target layout h m g (Err e) a (k, inr (inr ends)) =
     (refill_then t h m g a k, inr (inr (ends.0, refill_then t h m ends.0 a ends.1, ends.2)))
 

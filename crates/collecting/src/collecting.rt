@@ -9,6 +9,7 @@ ghost use Rattle.managed.specs.Scrubbing.{AreScrubbed};
 ghost use Rattle.collecting.specs.Collections.{Collects, CollectsWhole, EndsCollecting, IsNotRoom};
 ghost use Rattle.collecting.specs.Objects.{seen};
 ghost use Rattle.collecting.specs.Parts.{EndsPart};
+ghost use Rattle.collecting.specs.Stages.{PartGoesOn};
 ghost use Rattle.collecting.specs.Rooms.{EndsMaking, EndsRefill, IsNotHeld, MakingStands, Refills};
 
 use crate::cycles::run_cycle;
@@ -56,7 +57,8 @@ pub trait Holding: Mutating {
     /// A whole collection. What an earlier one has left is ended first. Then a mark runs from its start,
     /// or to its end where one runs; pages of which at most `percent` words of a hundred are live are
     /// chosen, as many as there is room for; and these are emptied: all threads cross, live objects are
-    /// copied, the pages' frames are free, and registers that named them are corrected.
+    /// copied, the pages' frames are free, and registers that named them are corrected, but for those of
+    /// parked threads and of threads with an open barrier.
     ///
     /// Refused as `NotCrossed` or `Pending` for a thread with an open barrier, and as `Memory`; never as
     /// `NoFrames` or `NoPages`. What was done by then is done, and another call goes on from there once that
@@ -149,6 +151,7 @@ impl Holding for ManagedHeap {
         ensures ends { EndsPart self.old result self.new }
         ensures room { IsNotRoom result }
         ensures scrubbed { IfOk result (λ ended. is_protect_crossing self.new.phase ≡ false → AreScrubbed self.new) }
+        ensures parts { PartGoesOn percent budget parts.old self.old result parts.new self.new }
     {
         parts::collect_some(self, alloc, parts, percent, budget)
     }

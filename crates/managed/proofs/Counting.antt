@@ -77,7 +77,7 @@ pub record ScansSo (w n most : ℕ) (h g : HeapState) : Type 0 where
 
 pub scan_first : (w most : ℕ) (h : HeapState) → ScansSo w 0 most h h
 scan_first w most h = record {
-  by = record { goes = goes_none (IsScan w) h; many = refl };
+  by = record { goes = record { entries = []; each = tt; runs = runs_none h }; many = refl };
   few = omega arith;
 }
 
@@ -114,9 +114,9 @@ scan_some w n most h g k = (n, k.few, k.by)
 pub scan_stops : (w n most : ℕ) (h m g : HeapState) (step : Step) (r : Result Answer Refusal) (e : Refusal)
     → next_drain m w ≡ Some step → r ≡ Err e → DoesStep m step r g (outcome m (Worker w) step)
     → ScansSo w n most h m → ScansUpTo w most h g
-scan_stops w n most h m g step r e is no does k =
+scan_stops w n most h m g step r e is refused does k =
     subst (ScansUpTo w most h) (sym (scan_refused m g step e (outcome m (Worker w) step) (next_scans m w step is)
-    (subst (λ (q : Result Answer Refusal). DoesStep m step q g (outcome m (Worker w) step)) no does)).1)
+    (subst (λ (q : Result Answer Refusal). DoesStep m step q g (outcome m (Worker w) step)) refused does)).1)
     (scan_some w n most h m k)
 
 -- ---- what comes before objects

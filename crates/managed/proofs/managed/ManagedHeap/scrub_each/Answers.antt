@@ -1,5 +1,7 @@
-use Rattle.std.proofs.Common.{◌∙◌, ◌<◌, ◌≤◌, ℕ, ap, arith, refl, sym}
+use Rattle.std.proofs.Common.{◌∙◌, ap, arith}
+use Rattle.model.specs.declared.config.Config.{Config}
 use Rattle.model.specs.Phases.{is_protect_crossing}
+use Rattle.model.specs.States.{HeapState}
 use Rattle.managed.specs.Goings.{IsScrub}
 use Rattle.managed.proofs.Corrected.{each_scrubbed, registers_more}
 use Rattle.managed.proofs.Going.{goes_none, goes_then}
@@ -29,8 +31,9 @@ returns-clause-goes c = c.loop-register.invariant.goes
 
 pub returns-clause-scrubbed : goal.returns-clause-scrubbed
 returns-clause-scrubbed c = λ phase.
-    each_scrubbed c.args.self.now c.loop-register.self _ _ c.args.thread c.args.self.now.config.registers
-    c.law.ensures.holds refl c.loop-register.invariant.goes
+    each_scrubbed c.args.self.now c.loop-register.self _ _ c.args.thread c.config.result.now.registers
+    c.law.ensures.holds
+    (ap (λ (k : Config). k.registers) c.config.ensures ∙ ap (λ (h : HeapState). h.config.registers) c.heap.ensures)
+    c.loop-register.invariant.goes
     (λ r l. c.loop-register.invariant.scrubbed phase r
-    (let past : c.args.self.now.config.registers ≤ c.loop-register.register = omega (arith, c.loop-register-test.false)
-    in omega (arith, l, past)))
+    (omega (arith, l, c.loop-register-test.false)))

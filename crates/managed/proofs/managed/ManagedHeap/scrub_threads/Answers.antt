@@ -1,5 +1,7 @@
-use Rattle.std.proofs.Common.{◌∙◌, ◌<◌, ◌≤◌, ℕ, ap, arith, refl, sym}
+use Rattle.std.proofs.Common.{◌∙◌, ap, arith}
+use Rattle.model.specs.declared.config.Config.{Config}
 use Rattle.model.specs.Phases.{is_protect_crossing}
+use Rattle.model.specs.States.{HeapState}
 use Rattle.managed.specs.Goings.{IsScrub}
 use Rattle.managed.proofs.Corrected.{all_scrubbed, threads_more}
 use Rattle.managed.proofs.Going.{goes_none, goes_then}
@@ -29,8 +31,9 @@ returns-clause-goes c = c.loop-thread.invariant.goes
 
 pub returns-clause-scrubbed : goal.returns-clause-scrubbed
 returns-clause-scrubbed c = λ phase.
-    all_scrubbed c.args.self.now c.loop-thread.self _ _ c.args.self.now.config.threads
-    c.law.ensures.holds refl c.loop-thread.invariant.goes
+    all_scrubbed c.args.self.now c.loop-thread.self _ _ c.config.result.now.threads
+    c.law.ensures.holds
+    (ap (λ (k : Config). k.threads) c.config.ensures ∙ ap (λ (h : HeapState). h.config.threads) c.heap.ensures)
+    c.loop-thread.invariant.goes
     (λ t l r. c.loop-thread.invariant.scrubbed phase t
-    (let past : c.args.self.now.config.threads ≤ c.loop-thread.thread = omega (arith, c.loop-thread-test.false)
-    in omega (arith, l, past)) r)
+    (omega (arith, l, c.loop-thread-test.false)) r)
