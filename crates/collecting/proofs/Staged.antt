@@ -1,7 +1,7 @@
 -- Parts of a collection, from one to the next.
 use Rattle.std.proofs.Common.{◌≡◌, ◌⊎◌, ◌∙◌, ℕ, zero, suc, ◌+◌, ◌≤◌, ◌<◌, Bool, true, false, List, [], ◌∷◌, length, map}
-use Rattle.std.proofs.Common.{take, Option, Some, None, refl, sym, subst, ap, inl, inr, arith}
-use Rattle.std.specs.Prelude.{Result, Ok, Err, IsPermutation}
+use Rattle.std.proofs.Common.{take, Option, Some, None, refl, sym, subst, ap, inl, inr, arith, eq-eqb, eqb-true}
+use Rattle.std.specs.Prelude.{Result, Ok, Err, IsPermutation, ◌==◌}
 use Rattle.std.specs.List.{slice_get}
 use Rattle.std.proofs.lemmas.Bool.{true≢false}
 use Rattle.choosing.specs.Choices.{IsRising, page_of}
@@ -165,6 +165,15 @@ protected_not ns p q h g s e r is k same told = by_result r told
     by_result (Err x) t = inl (t.0 ∙ memory_is e t.1, stays)
 
 -- ---- choices
+
+pub listed_none : (n : ℕ) (ns : List ℕ) (b : Bool) → b ≡ (n == 0) → b ≡ true → n ≡ length ns → ns ≡ []
+listed_none n [] b told is same = refl
+listed_none n (x ∷ xs) b told is same =
+    let none_there : n ≡ 0 = eqb-true n 0 (sym told ∙ is) in absurd (omega (arith, none_there, same))
+
+pub listed_some : (n : ℕ) (ns : List ℕ) (b : Bool) → b ≡ (n == 0) → b ≡ false → n ≡ length ns → ns ≡ [] → ⊥
+listed_some n ns b told is same e =
+    true≢false (sym (eq-eqb n 0 (same ∙ ap length e)) ∙ sym told ∙ is)
 
 pub chooses_none : (most : ℕ) (p m q : PartsState) (h : HeapState) (ns : List ℕ) → IsChosen h most p.found ns
     → m.chosen ≡ ns → ns ≡ [] → q ≡ at_stage stages.Mark m.chosen → ChoosesAll most p h (Ok true) q h

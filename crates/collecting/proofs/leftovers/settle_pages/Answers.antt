@@ -2,6 +2,7 @@ use Rattle.std.proofs.Common.{◌+◌, ◌∙◌, arith, ap, sym, subst}
 use Rattle.model.specs.Owning.{IsStore}
 use Rattle.model.specs.Phases.{is_crossing}
 use Rattle.model.specs.States.{HeapState}
+use Rattle.model.specs.Stores.{StoreState}
 use Rattle.collecting.proofs.Collections.{left_all, left_first, left_more, left_stops}
 use Rattle.collecting.proofs.leftovers.settle_pages.Goals as goal
 
@@ -22,4 +23,6 @@ returns-in-Err c = left_stops c.args.heap.now c.loop-index.heap c.settle_page.ne
 pub returns : goal.returns
 returns c = left_all c.args.heap.now c.loop-index.heap c.loop-index.index
     (subst (λ (h : HeapState). IsStore h.store) c.heap-2.ensures c.law.ensures.store) c.requires
-    (omega (arith, c.loop-index-test.false)) c.loop-index.invariant
+    (omega (arith, c.loop-index-test.false, c.page_count-index-end.ensures,
+    ap (λ (s : StoreState). s.count) c.memory.ensures, ap (λ (h : HeapState). h.store.count) c.heap.ensures))
+    c.loop-index.invariant
