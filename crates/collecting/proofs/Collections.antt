@@ -1,6 +1,6 @@
 -- Collections, from one part to the next.
 use Rattle.std.proofs.Common.{◌≡◌, ◌≢◌, ◌⊎◌, ◌∙◌, ℕ, zero, suc, ◌+◌, ◌-◌, ◌<◌, ◌≤◌, Bool, true, false, cond, List, []}
-use Rattle.std.proofs.Common.{◌∷◌, ◌*◌, length, nat_eq, nat_le, Option, Some, None, refl, sym, subst, ap, inl, inr, arith, ne_eqb}
+use Rattle.std.proofs.Common.{◌∷◌, length, nat_eq, Option, Some, None, refl, sym, subst, ap, inl, inr, arith, ne_eqb}
 use Rattle.std.specs.Prelude.{Result, Ok, Err, ◌||◌}
 use Rattle.std.specs.List.{slice_get}
 use Rattle.std.proofs.lemmas.Bool.{cases_eq, cases_lt}

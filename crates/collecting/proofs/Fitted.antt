@@ -1,6 +1,6 @@
 -- Pages that are chosen, as many as there is room for.
-use Rattle.std.proofs.Common.{◌≡◌, ◌⊎◌, ◌∙◌, ℕ, zero, suc, ◌+◌, ◌*◌, ◌^◌, ◌<◌, ◌≤◌, Bool, true, false, not, cond, List, []}
-use Rattle.std.proofs.Common.{◌∷◌, ◌++◌, length, map, take, min, get_or, nat_le, nat_lt, nat_eq, Option, Some, None, refl, sym}
+use Rattle.std.proofs.Common.{◌≡◌, ◌∙◌, ℕ, zero, suc, ◌+◌, ◌*◌, ◌^◌, ◌<◌, ◌≤◌, Bool, true, false, not, cond, List, []}
+use Rattle.std.proofs.Common.{◌∷◌, ◌++◌, length, map, take, get_or, nat_le, nat_lt, nat_eq, Option, Some, None, refl, sym}
 use Rattle.std.proofs.Common.{subst, ap, inl, inr, arith}
 use Rattle.std.specs.Prelude.{◌&&◌, ◌||◌, IsPermutation}
 use Rattle.std.specs.List.{slice_get, list_all}
@@ -15,11 +15,11 @@ use Rattle.model.specs.Data.{layout_at, layout_in, header_layout}
 use Rattle.model.specs.Holding.{IsHeap}
 use Rattle.model.specs.Owning.{IsStore}
 use Rattle.model.specs.Plans.{live_offsets, object_words, words_of}
-use Rattle.model.specs.Protections.{free_count, unused_count, no_page_in}
+use Rattle.model.specs.Protections.{free_count, no_page_in}
 use Rattle.model.specs.States.{HeapState}
-use Rattle.model.specs.Stores.{StoreState, word_at}
+use Rattle.model.specs.Stores.{word_at}
 use Rattle.choosing.specs.declared.packing.Packing.{Packing}
-use Rattle.choosing.specs.Choices.{IsLongest, IsRising, has_room_for, page_of, size_on, sizes_on}
+use Rattle.choosing.specs.Choices.{IsRising, has_room_for, page_of, size_on, sizes_on}
 use Rattle.choosing.specs.Packings.{has_page_for, pack, pack_if, pack_one}
 use Rattle.choosing.proofs.Cuts.{IsBeginning, behind, goes_on, is_cut, is_whole, room_in}
 use Rattle.collecting.specs.Stages.{IsChosen, IsFitting}

@@ -1,6 +1,6 @@
 -- Who has given its buffer back isn't refused for having one.
-use Rattle.std.proofs.Common.{◌≡◌, ◌∙◌, ℕ, Bool, true, false, List, length, Option, Some, None, nat_le, cond, refl, sym}
-use Rattle.std.proofs.Common.{subst, ap, set}
+use Rattle.std.proofs.Common.{◌≡◌, ◌∙◌, ℕ, Bool, true, false, length, Option, Some, None, nat_le, cond, refl, sym}
+use Rattle.std.proofs.Common.{subst, ap}
 use Rattle.std.specs.Prelude.{Result, Ok, Err, is_some, if◌then◌else◌, ◌&&◌, ◌||◌}
 use Rattle.std.specs.List.{slice_get}
 use Rattle.std.proofs.lemmas.Bool.{true≢false}
@@ -17,7 +17,7 @@ use Rattle.model.specs.Buffers.{buffer_of_thread, give_back_outcome, take_outcom
 use Rattle.model.specs.Outcome.{outcome, thread_gate, is_loading_in}
 use Rattle.model.specs.Refusing.{◌>>=◌, Outcome}
 use Rattle.model.specs.Saying.{done}
-use Rattle.model.specs.States.{HeapState, ThreadState, change_at, change_found}
+use Rattle.model.specs.States.{HeapState, ThreadState, change_found}
 use Rattle.model.specs.Stores.{StoreState, take_buffer}
 use Rattle.model.specs.Threads.{buffer_in, is_parked_in, set_buffer_of}
 use Rattle.model.proofs.Lists.{get_set_same}

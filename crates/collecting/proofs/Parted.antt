@@ -6,7 +6,6 @@ use Rattle.model.specs.declared.steps.Actor.TheVariants.{Worker}
 use Rattle.model.specs.declared.steps.Step.TheVariants as steps
 use Rattle.model.specs.declared.steps.Answer.{Answer}
 use Rattle.model.specs.declared.steps.Refusal.{Refusal}
-use Rattle.model.specs.declared.steps.Refusal.TheVariants as refusals
 use Rattle.model.specs.Checkpoints.{all_crossed}
 use Rattle.model.specs.Outcome.{outcome}
 use Rattle.model.specs.Phases.{may_start_mark, is_protect_crossing}
@@ -18,7 +17,7 @@ use Rattle.managed.specs.Goings.{Goes, IsCrossing, IsScan, IsScrub, AllTried, En
 use Rattle.managed.specs.Preparing.{Prepares}
 use Rattle.managed.specs.Scrubbing.{AreScrubbed}
 use Rattle.managed.proofs.Counting.{prepares_goes}
-use Rattle.managed.proofs.Gathering.{collect_step, crossings_collect, drains_collect, scans_collect, scrubs_collect}
+use Rattle.managed.proofs.Gathering.{collect_step, drains_collect, scans_collect, scrubs_collect}
 use Rattle.managed.proofs.Scrubbed.{scrubs_phase}
 use Rattle.collecting.specs.Collections.{WORKER, Collects}
 use Rattle.collecting.specs.Parts.{HasEnded, StopsAt, Stops, EndsCrossing, EndsPortion, EndsPart, EndsStage}

@@ -1,5 +1,5 @@
 -- Buffers and objects, from one part to the next.
-use Rattle.std.proofs.Common.{◌≡◌, ◌∙◌, ℕ, Bool, true, false, length, List, [], ◌∷◌, refl, sym, subst, inl, inr, Some}
+use Rattle.std.proofs.Common.{◌≡◌, ◌∙◌, ℕ, false, length, List, [], ◌∷◌, refl, sym, subst, inl, inr, Some}
 use Rattle.std.specs.Prelude.{Result, Ok, Err, IfOk}
 use Rattle.std.proofs.lemmas.Bool.{or_parts, true≢false}
 use Rattle.layout.specs.declared.shape.Layout.{Layout}
@@ -126,14 +126,21 @@ collected_then t n percent h m g c x r is a k = by_result r k
         → RefillsBy (HasTriedAll t percent) t n percent h r g
     by_result (Ok b) k =
         (refill_then t h m g goes k.0, (k.1.0, (k.1.1.0, refill_then t h m k.1.1.0 goes k.1.1.1, k.1.1.2)))
-    by_result (Err e) (k, inl refused) = (refill_then t h m g goes k, inl (refused.0, refused.1, λ l. record {
-      before = h;
-      behind = m;
-      found = x;
-      goes = goes_none (IsRefill t) h;
-      collects = subst (λ (y : Result Collected Refusal). EndsCollecting percent h y m) is a.1;
-      marks = refused.2 l;
-    }))
+    by_result (Err e) (k, inl refused) = (
+      refill_then t h m g goes k,
+      inl (
+        refused.0,
+        refused.1,
+        λ l. record {
+          before = h;
+          behind = m;
+          found = x;
+          goes = goes_none (IsRefill t) h;
+          collects = subst (λ (y : Result Collected Refusal). EndsCollecting percent h y m) is a.1;
+          marks = refused.2 l;
+        },
+      ),
+    )
     by_result (Err e) (k, inr ends) =
         (refill_then t h m g goes k, inr (ends.0, refill_then t h m ends.0 goes ends.1, ends.2))
 
@@ -165,14 +172,21 @@ marked_then t n percent h m g c live r is a k = by_result r k
         → RefillsBy (HasMarkedSince t) t n percent h r g
     by_result (Ok x) k =
         (refill_then t h m g goes k.0, (k.1.0, (k.1.1.0, refill_then t h m k.1.1.0 goes k.1.1.1, k.1.1.2)))
-    by_result (Err e) (k, inl refused) = (refill_then t h m g goes k, inl (refused.0, refused.1, λ l. record {
-      before = h;
-      marked = m;
-      live = live;
-      goes = goes_none (IsRefill t) h;
-      marks = b.1;
-      to = k;
-    }))
+    by_result (Err e) (k, inl refused) = (
+      refill_then t h m g goes k,
+      inl (
+        refused.0,
+        refused.1,
+        λ l. record {
+          before = h;
+          marked = m;
+          live = live;
+          goes = goes_none (IsRefill t) h;
+          marks = b.1;
+          to = k;
+        },
+      ),
+    )
     by_result (Err e) (k, inr ends) =
         (refill_then t h m g goes k, inr (ends.0, refill_then t h m ends.0 goes ends.1, ends.2))
 

@@ -1,10 +1,9 @@
 -- Parts of a collection, from one to the next.
-use Rattle.std.proofs.Common.{◌≡◌, ◌⊎◌, ◌∙◌, ℕ, zero, suc, ◌+◌, ◌≤◌, ◌<◌, Bool, true, false, List, [], ◌∷◌, length, map}
-use Rattle.std.proofs.Common.{take, Option, Some, None, refl, sym, subst, ap, inl, inr, arith, eq-eqb, eqb-true}
-use Rattle.std.specs.Prelude.{Result, Ok, Err, IsPermutation, ◌==◌}
+use Rattle.std.proofs.Common.{◌≡◌, ◌∙◌, ℕ, suc, ◌+◌, ◌≤◌, ◌<◌, Bool, true, false, List, [], ◌∷◌, length}
+use Rattle.std.proofs.Common.{Option, Some, None, refl, sym, subst, ap, inl, inr, arith, eq-eqb, eqb-true}
+use Rattle.std.specs.Prelude.{Result, Ok, Err, ◌==◌}
 use Rattle.std.specs.List.{slice_get}
 use Rattle.std.proofs.lemmas.Bool.{true≢false}
-use Rattle.choosing.specs.Choices.{IsRising, page_of}
 use Rattle.model.specs.declared.steps.Actor.TheVariants.{Worker}
 use Rattle.model.specs.declared.steps.Step.{Step}
 use Rattle.model.specs.declared.steps.Step.TheVariants as steps
@@ -16,21 +15,21 @@ use Rattle.model.specs.Outcome.{outcome}
 use Rattle.model.specs.Refusing.{Outcome, DoesStep}
 use Rattle.model.specs.States.{HeapState}
 use Rattle.refinement.specs.Standing.{KeepsStanding}
-use Rattle.managed.specs.Collecting.{Crosses, IsCollecting, StopsCrossing}
+use Rattle.managed.specs.Collecting.{Crosses, StopsCrossing}
 use Rattle.managed.specs.Emptying.{Protects}
 use Rattle.managed.specs.Goings.{Goes, IsScrub, Steps}
-use Rattle.managed.proofs.Gathering.{collect_step, crossings_collect}
+use Rattle.managed.proofs.Gathering.{crossings_collect}
 use Rattle.managed.proofs.Running.{runs_one}
 use Rattle.collecting.specs.declared.parts.Stage.{Stage}
 use Rattle.collecting.specs.declared.parts.Stage.TheVariants as stages
-use Rattle.collecting.specs.Collections.{WORKER, Collects, EndsLeft, LeftPage}
-use Rattle.collecting.specs.Parts.{EndsCrossing, EndsPortion, EndsProtecting, EndsStage, LacksMemory, Stops, StopsAt}
+use Rattle.collecting.specs.Collections.{WORKER, Collects, EndsLeft}
+use Rattle.collecting.specs.Parts.{EndsCrossing, EndsPortion, EndsProtecting, EndsStage, Stops, StopsAt}
 use Rattle.collecting.specs.Parts.{is_memory}
 use Rattle.collecting.specs.Parts.{Crossing, Emptying}
 use Rattle.collecting.specs.Stages.{PartsState, at_stage, passed, EndsMarking, MarksOn, TellsAnew, EndsCrossed}
-use Rattle.collecting.specs.Stages.{IsProtected, BeginsAnew, ProtectsSome, ProtectsOn, ChoosesAll, ChoosesOn, IsChosen}
-use Rattle.collecting.specs.Stages.{EmptiesOne, EmptiesOn, EndsOne, GoesOnIn, GoesOn, PartGoesOn, HasEndedMark}
-use Rattle.collecting.specs.Stages.{IsFitting, Measures, measured_by, measured_one}
+use Rattle.collecting.specs.Stages.{ProtectsSome, ProtectsOn, ChoosesAll, ChoosesOn, IsChosen}
+use Rattle.collecting.specs.Stages.{EmptiesOn, EndsOne, GoesOnIn, GoesOn, PartGoesOn}
+use Rattle.collecting.specs.Stages.{Measures, measured_by, measured_one}
 use Rattle.collecting.proofs.Collections.{none, and_then}
 
 -- ---- marks
@@ -157,11 +156,14 @@ protected_not ns p q h g s e r is k same told = by_result r told
     stays = refused_same h g ns e (outcome h (Worker WORKER) (steps.Protect ns)) d.1
 
     by_result : (r : Result Bool Refusal) → TellsAnew e p r q → ProtectsSome ns h r q g
-    by_result (Ok b) t = (t.0, inr (
-      t.2 ∙ ap (at_stage stages.Mark) same,
-      stays,
-      (e, t.1, refused_so h g ns e (outcome h (Worker WORKER) (steps.Protect ns)) t.1 d.1),
-    ))
+    by_result (Ok b) t = (
+      t.0,
+      inr (
+        t.2 ∙ ap (at_stage stages.Mark) same,
+        stays,
+        (e, t.1, refused_so h g ns e (outcome h (Worker WORKER) (steps.Protect ns)) t.1 d.1),
+      ),
+    )
     by_result (Err x) t = inl (t.0 ∙ memory_is e t.1, stays)
 
 -- ---- choices

@@ -1,6 +1,6 @@
 -- Scans leave the phase.
-use Rattle.std.proofs.Common.{◌≡◌, ◌∙◌, ◌+◌, ◌*◌, ℕ, not, cond, List, [], ◌∷◌, Option, Some, None, nat_lt, refl, ap}
-use Rattle.std.specs.Prelude.{Ok, Err, is_some, ◌&&◌, ◌||◌}
+use Rattle.std.proofs.Common.{◌≡◌, ◌∙◌, ◌+◌, ◌*◌, ℕ, not, List, [], ◌∷◌, Option, Some, None, nat_lt, refl, ap}
+use Rattle.std.specs.Prelude.{is_some, ◌&&◌, ◌||◌}
 use Rattle.std.specs.List.{slice_get}
 use Rattle.model.specs.declared.records.Scan.{Scan}
 use Rattle.model.specs.declared.steps.Actor.{Actor}

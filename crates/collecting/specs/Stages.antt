@@ -1,5 +1,5 @@
 -- How a collection in parts goes on, from one part to the next.
-use Rattle.std.specs.Prelude.{◌≡◌, ◌⊎◌, ◌<◌, ◌≤◌, ℕ, zero, suc, ◌+◌, ◌-◌, ◌/◌, ◌^◌, min, Bool, true, false, List, [], ◌∷◌}
+use Rattle.std.specs.Prelude.{◌≡◌, ◌⊎◌, ◌≤◌, ℕ, zero, suc, ◌+◌, ◌-◌, ◌/◌, ◌^◌, min, Bool, true, false, List, [], ◌∷◌}
 use Rattle.std.specs.Prelude.{◌++◌, map, take, get_or, Option, Some, None, Result, Ok, Err, IsPermutation, slice_get}
 use Rattle.choosing.specs.Choices.{IsLongest, IsRising, has_room_for, measured_if, page_of}
 use Rattle.model.specs.declared.steps.Actor.TheVariants.{Worker}

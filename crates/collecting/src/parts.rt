@@ -46,8 +46,7 @@ impl Model for Parts {
 
     ghost Value = { PartsState };
 
-    ghost view =
-        { λ p. record { stage = p.stage; found = p.found.items; chosen = p.chosen.items; next = p.next } };
+    ghost view = { λ p. record { stage = p.stage; found = p.found.items; chosen = p.chosen.items; next = p.next } };
 }
 
 impl Parts {
@@ -206,11 +205,7 @@ fn end_part(heap: &mut ManagedHeap, last: bool) -> bool
     ensures last { result ≡ true → last ≡ true }
 {
     heap.scrub_all();
-    if last {
-        has_ended(heap.heap())
-    } else {
-        false
-    }
+    if last { has_ended(heap.heap()) } else { false }
 }
 
 /// A portion of the mark.

@@ -1,5 +1,5 @@
 -- Registers that are corrected, all of them.
-use Rattle.std.proofs.Common.{◌≡◌, ◌⊎◌, ◌∙◌, inl, inr, ℕ, ◌+◌, ◌/◌, ◌<◌, ◌≤◌, Bool, true, false, not, cond, List}
+use Rattle.std.proofs.Common.{◌≡◌, ◌⊎◌, ◌∙◌, inl, inr, ℕ, ◌+◌, ◌/◌, ◌<◌, ◌≤◌, Bool, true, false, not, cond}
 use Rattle.std.proofs.Common.{length, Option, Some, None, nat_le, refl, sym, subst, ap, arith}
 use Rattle.std.specs.Prelude.{Result, Ok, Err, IfOk, if◌then◌else◌, ◌&&◌, ◌||◌}
 use Rattle.std.specs.List.{slice_get}
@@ -38,7 +38,7 @@ use Rattle.refinement.proofs.Moving.{leads, held_protected}
 use Rattle.cycle.specs.Mutating.{DoesThread}
 use Rattle.managed.specs.Goings.{Goes, IsScrub}
 use Rattle.managed.specs.Scrubbing.{names_protected, needs_no_scrub, IsScrubbed, AreScrubbed}
-use Rattle.managed.proofs.Scrubbed.{Cleans, Moves, Scrubs, after_here, moves_keep, protected_same, scrubbed_stays, scrubs}
+use Rattle.managed.proofs.Scrubbed.{Cleans, Moves, after_here, moves_keep, protected_same, scrubbed_stays, scrubs}
 
 -- ---- one register
 

@@ -19,12 +19,11 @@ use Rattle.model.specs.Marks.{entry_at}
 use Rattle.model.specs.Moves.{with_copy, with_copied_words, copied_by, copied_first, moved_word}
 use Rattle.model.specs.Outcome.{outcome, thread_gate, is_loading_in}
 use Rattle.model.specs.Phases.{is_protect_crossing}
-use Rattle.model.specs.Refusing.{◌>>=◌, or_refuse, Outcome}
 use Rattle.model.specs.Registers.{register_of, with_register, let_through}
 use Rattle.model.specs.States.{HeapState, ThreadState, Reference, flat, change_at, change_found}
 use Rattle.model.specs.Stores.{page_at, state_at, state_in, is_protected, with_words}
 use Rattle.model.specs.Threads.{is_parked_in, register_in, set_register_of}
-use Rattle.model.specs.Traps.{scrub_word, scrub_outcome}
+use Rattle.model.specs.Traps.{scrub_outcome}
 use Rattle.model.proofs.Lists.{get_set_same, get_set_other}
 use Rattle.laws.proofs.Basics.{put_other}
 use Rattle.refinement.proofs.Accepted.{OnAccepted, of_accepted, on_bind, on_some}

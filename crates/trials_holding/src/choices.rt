@@ -85,10 +85,18 @@ fn empties(
     fill_all(&mut heap)?;
     same(rt, heap.free_frames(), 0);
     let mut parts = Parts::new(alloc);
-    same(rt, collect(alloc, &mut heap, &mut parts, budget, 300)?, true);
+    same(
+        rt,
+        collect(alloc, &mut heap, &mut parts, budget, 300)?,
+        true,
+    );
     same(rt, heap.free_frames(), 1);
     same(rt, heap.is_gone(PAGES), false);
-    same(rt, collect(alloc, &mut heap, &mut parts, budget, 300)?, true);
+    same(
+        rt,
+        collect(alloc, &mut heap, &mut parts, budget, 300)?,
+        true,
+    );
     same(rt, heap.free_frames(), 1);
     same(rt, heap.is_gone(PAGES), true);
     Ok(())

@@ -58,7 +58,11 @@ fn fill_all(alloc: Global, heap: &mut impl Holding) -> Result<(), Refusal> {
 /// Each register of a thread can be read.
 fn reads(rt: &impl Abort, heap: &impl Holding, thread: u32) {
     for register in 0..REGISTERS {
-        same(rt, heap.datum(thread, register, 0), Ok(datum(thread, register)));
+        same(
+            rt,
+            heap.datum(thread, register, 0),
+            Ok(datum(thread, register)),
+        );
     }
 }
 

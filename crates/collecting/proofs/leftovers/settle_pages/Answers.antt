@@ -1,4 +1,4 @@
-use Rattle.std.proofs.Common.{◌+◌, ◌∙◌, arith, ap, sym, subst}
+use Rattle.std.proofs.Common.{◌+◌, ◌∙◌, arith, ap, subst}
 use Rattle.model.specs.Owning.{IsStore}
 use Rattle.model.specs.Phases.{is_crossing}
 use Rattle.model.specs.States.{HeapState}
@@ -23,6 +23,11 @@ returns-in-Err c = left_stops c.args.heap.now c.loop-index.heap c.settle_page.ne
 pub returns : goal.returns
 returns c = left_all c.args.heap.now c.loop-index.heap c.loop-index.index
     (subst (λ (h : HeapState). IsStore h.store) c.heap-2.ensures c.law.ensures.store) c.requires
-    (omega (arith, c.loop-index-test.false, c.page_count-index-end.ensures,
-    ap (λ (s : StoreState). s.count) c.memory.ensures, ap (λ (h : HeapState). h.store.count) c.heap.ensures))
+    (omega (
+      arith,
+      c.loop-index-test.false,
+      c.page_count-index-end.ensures,
+      ap (λ (s : StoreState). s.count) c.memory.ensures,
+      ap (λ (h : HeapState). h.store.count) c.heap.ensures,
+    ))
     c.loop-index.invariant

@@ -1,4 +1,4 @@
-use Rattle.std.proofs.Common.{ℕ, List, subst}
+use Rattle.std.proofs.Common.{ℕ, subst}
 use Rattle.model.specs.States.{HeapState}
 use Rattle.collecting.specs.Stages.{IsChosen, pages_in}
 use Rattle.collecting.proofs.Staged.{chooses_lacks, chooses_none, chooses_some, listed_none, listed_some}

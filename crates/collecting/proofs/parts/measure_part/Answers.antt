@@ -1,5 +1,5 @@
 use Rattle.collecting.specs.Stages.{pages_in}
-use Rattle.collecting.proofs.Staged.{measures_lacks, measures_on, measures_then}
+use Rattle.collecting.proofs.Staged.{measures_lacks}
 use Rattle.collecting.proofs.parts.measure_part.Goals as goal
 
 pub returns-in-Err : goal.returns-in-Err

@@ -1,7 +1,6 @@
 use Rattle.std.proofs.Common.{◌∙◌, ap, arith, sym}
 use Rattle.model.specs.Scans.{next_drain}
 use Rattle.model.specs.States.{HeapState}
-use Rattle.managed.specs.Goings.{IsScan}
 use Rattle.managed.proofs.Counting.{scan_all, scan_first, scan_next, scan_some, scan_stops}
 use Rattle.managed.proofs.Going.{scan_goes, scan_ends}
 use Rattle.managed.proofs.managed.ManagedHeap.scan_steps.Goals as goal
