@@ -1,4 +1,8 @@
 pub mod Collections
+pub mod Staying
 pub mod NotRoom
+pub mod Given
 pub mod Refilled
 pub mod Parted
+pub mod Staged
+pub mod Fitted

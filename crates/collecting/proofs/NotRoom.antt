@@ -32,9 +32,9 @@ use Rattle.managed.specs.Emptying.{StopsPage, EndsEmptying}
 use Rattle.managed.proofs.Going.{next_scans}
 use Rattle.collecting.specs.declared.collecting.Collected.{Collected}
 use Rattle.collecting.specs.Collections.{WORKER, StopsSettling, EndsDue, StopsSparse, StopsCycle}
-use Rattle.collecting.specs.Collections.{EndsCollecting, lacks_room, IsNotRoom}
+use Rattle.collecting.specs.Collections.{EndsCollecting, is_of_rooms, IsNotRoom}
 use Rattle.collecting.specs.Parts.{EndsPart, StopsAt}
-use Rattle.collecting.specs.Parts.{Listing, Beginning, Crossing, Scanning, Ending, Protecting, Emptying}
+use Rattle.collecting.specs.Parts.{Beginning, Crossing, Scanning, Ending, Emptying}
 
 -- ---- rows, line by line
 
@@ -43,29 +43,29 @@ on_bind : {A B : Type 0} (r : Result A Refusal) (f : A → Result B Refusal) →
 on_bind (Ok x) f a b = b x
 on_bind (Err e) f a b = a
 
-on_some : {A B : Type 0} (o : Option A) (n : Refusal) (f : A → Result B Refusal) → lacks_room n ≡ false
+on_some : {A B : Type 0} (o : Option A) (n : Refusal) (f : A → Result B Refusal) → is_of_rooms n ≡ false
     → ((x : A) → IsNotRoom (f x)) → IsNotRoom (or_refuse o n >>= f)
 on_some (Some x) n f a b = b x
 on_some None n f a b = a
 
-on_unless : {B : Type 0} (c : Bool) (n : Refusal) (f : Unit {0} → Result B Refusal) → lacks_room n ≡ false
+on_unless : {B : Type 0} (c : Bool) (n : Refusal) (f : Unit {0} → Result B Refusal) → is_of_rooms n ≡ false
     → IsNotRoom (f tt) → IsNotRoom (refuse_if c n >>= f)
 on_unless true n f a b = a
 on_unless false n f a b = b
 
-on_test : {B : Type 0} (c : Bool) (n : Refusal) (r : Result B Refusal) → lacks_room n ≡ false → IsNotRoom r
+on_test : {B : Type 0} (c : Bool) (n : Refusal) (r : Result B Refusal) → is_of_rooms n ≡ false → IsNotRoom r
     → IsNotRoom (cond c (Err n) r)
 on_test true n r a b = a
 on_test false n r a b = b
 
-on_truth : {B : Type 0} (c : Bool) (r : Result B Refusal) (n : Refusal) → IsNotRoom r → lacks_room n ≡ false
+on_truth : {B : Type 0} (c : Bool) (r : Result B Refusal) (n : Refusal) → IsNotRoom r → is_of_rooms n ≡ false
     → IsNotRoom (cond c r (Err n))
 on_truth true r n a b = a
 on_truth false r n a b = b
 
-of_refused : {A : Type 0} (r : Result A Refusal) (e : Refusal) → IsNotRoom r → r ≡ Err e → lacks_room e ≡ false
+of_refused : {A : Type 0} (r : Result A Refusal) (e : Refusal) → IsNotRoom r → r ≡ Err e → is_of_rooms e ≡ false
 of_refused (Ok x) e a is = absurd (cc)
-of_refused {A} (Err n) e a is = ap lacks_room (same n e is) ∙ a
+of_refused {A} (Err n) e a is = ap is_of_rooms (same n e is) ∙ a
   where
     same : (n e : Refusal) → ◌≡◌ {A = Result A Refusal} (Err n) (Err e) → e ≡ n
     same n e is = cc
@@ -210,12 +210,12 @@ protect_not h w ns e = on_bind (worker_gate h w (steps.Protect ns)) _ (gate_not 
 -- ---- where a collection stops
 
 page_stops_not : (h : HeapState) (n : ℕ) (e : Refusal) (g : HeapState) → StopsPage WORKER h n e g
-    → lacks_room e ≡ false
+    → is_of_rooms e ≡ false
 page_stops_not h n e g (inl k) = of_refused (outcome h (Worker WORKER) (steps.CopyPage n)) e (copy_not h WORKER n) k.0
 page_stops_not h n e g (inr k) =
     of_refused (outcome k.0 (Worker WORKER) (steps.Release n)) e (release_not k.0 WORKER n) k.3
 
-crossing_stops_not : (h : HeapState) (e : Refusal) (g : HeapState) → StopsCrossing WORKER h e g → lacks_room e ≡ false
+crossing_stops_not : (h : HeapState) (e : Refusal) (g : HeapState) → StopsCrossing WORKER h e g → is_of_rooms e ≡ false
 crossing_stops_not h e g k = of_refused (all_crossed g) e (crossed_not g) k.1
 
 step_not : (g : HeapState) (step : Step) → Scans step → IsNotRoom (outcome g (Worker WORKER) step)
@@ -224,20 +224,20 @@ step_not g steps.ScanField k = field_not g WORKER
 step_not g (steps.ScanGlobal n) k = global_not g WORKER n
 step_not g _ k = absurd k
 
-drain_stops_not : (h : HeapState) (e : Refusal) (g : HeapState) → EndsDrain WORKER h (Err e) g → lacks_room e ≡ false
-drain_stops_not h e g (inl todo) = ap lacks_room todo.0
+drain_stops_not : (h : HeapState) (e : Refusal) (g : HeapState) → EndsDrain WORKER h (Err e) g → is_of_rooms e ≡ false
+drain_stops_not h e g (inl todo) = ap is_of_rooms todo.0
 drain_stops_not h e g (inr k) = of_refused (outcome g (Worker WORKER) k.0) e
     (step_not g k.0 (next_scans g WORKER k.0 k.1)) k.2
 
-scanning_stops_not : (h : HeapState) (e : Refusal) (g : HeapState) → StopsScanning WORKER h e g → lacks_room e ≡ false
+scanning_stops_not : (h : HeapState) (e : Refusal) (g : HeapState) → StopsScanning WORKER h e g → is_of_rooms e ≡ false
 scanning_stops_not h e g (a, inl k) = drain_stops_not h e g k
 scanning_stops_not h e g (a, inr k) = of_refused (outcome g (Worker WORKER) steps.EndMark) e (end_not g WORKER) k.1
 
-marking_stops_not : (h : HeapState) (e : Refusal) (g : HeapState) → StopsMarking WORKER h e g → lacks_room e ≡ false
+marking_stops_not : (h : HeapState) (e : Refusal) (g : HeapState) → StopsMarking WORKER h e g → is_of_rooms e ≡ false
 marking_stops_not h e g (inl k) = crossing_stops_not h e g k
 marking_stops_not h e g (inr k) = scanning_stops_not k.0 e g k.2
 
-due_not : (b : Bool) (h : HeapState) (e : Refusal) (g : HeapState) → EndsDue b h (Err e) g → lacks_room e ≡ false
+due_not : (b : Bool) (h : HeapState) (e : Refusal) (g : HeapState) → EndsDue b h (Err e) g → is_of_rooms e ≡ false
 due_not true h e g k = marking_stops_not h e g k
 due_not false h e g (inl k) = of_refused (outcome h (Worker WORKER) steps.StartMark) e (start_not h WORKER) k.0
 due_not false h e g (inr k) = marking_stops_not k.0 e g k.2
@@ -249,30 +249,30 @@ refused_or_lacks h g ns refusals.Memory o does = inl refl
 refused_or_lacks h g ns _ o does = inr does.0
 
 emptying_not : (h : HeapState) (ns : List ℕ) (e : Refusal) (g : HeapState) → has_room_for h ns ≡ true
-    → EndsEmptying WORKER h ns (Err e) g → lacks_room e ≡ false
+    → EndsEmptying WORKER h ns (Err e) g → is_of_rooms e ≡ false
 emptying_not h ns e g room (inl k) =
     by_refusal (refused_or_lacks h g ns e (outcome h (Worker WORKER) (steps.Protect ns)) k)
   where
-    by_refusal : (e ≡ refusals.Memory) ⊎ (outcome h (Worker WORKER) (steps.Protect ns) ≡ Err e) → lacks_room e ≡ false
-    by_refusal (inl memory) = ap lacks_room memory
+    by_refusal : (e ≡ refusals.Memory) ⊎ (outcome h (Worker WORKER) (steps.Protect ns) ≡ Err e) → is_of_rooms e ≡ false
+    by_refusal (inl memory) = ap is_of_rooms memory
     by_refusal (inr refused) = of_refused (outcome h (Worker WORKER) (steps.Protect ns)) e
         (protect_not h WORKER ns room) refused
 emptying_not h ns e g room (inr (m, first, inl k)) = crossing_stops_not m e g k
 emptying_not h ns e g room (inr (m, first, inr k)) = page_stops_not k.2.there k.2.page e g k.2.stops
 
 sparse_not : (percent : ℕ) (h : HeapState) (e : Refusal) (g : HeapState) → StopsSparse percent h e g
-    → lacks_room e ≡ false
-sparse_not percent h e g (inl k) = ap lacks_room k.0
+    → is_of_rooms e ≡ false
+sparse_not percent h e g (inl k) = ap is_of_rooms k.0
 sparse_not percent h e g (inr k) = emptying_not h k.0 e g k.1.3.2 k.2
 
 cycle_not : (percent : ℕ) (h : HeapState) (e : Refusal) (g : HeapState) → StopsCycle percent h e g
-    → lacks_room e ≡ false
+    → is_of_rooms e ≡ false
 cycle_not percent h e g (inl k) = due_not (is_marking h.phase) h e g k
 cycle_not percent h e g (inr k) = sparse_not percent k.0 e g k.3
 
-settling_not : (h : HeapState) (e : Refusal) (g : HeapState) → StopsSettling h e g → lacks_room e ≡ false
+settling_not : (h : HeapState) (e : Refusal) (g : HeapState) → StopsSettling h e g → is_of_rooms e ≡ false
 settling_not h e g (inl k) = crossing_stops_not h e g k
-settling_not h e g (inr k) = page_stops_not k.0 k.1 e g k.3
+settling_not h e g (inr k) = page_stops_not k.0 k.1 e g k.3.1
 
 -- a collection
 pub collecting_not : (percent : ℕ) (h : HeapState) (r : Result Collected Refusal) (g : HeapState)
@@ -283,17 +283,16 @@ collecting_not percent h (Err e) g (inr k) = cycle_not percent k.0 e g k.2
 
 -- ---- a part of one
 
-at_not : (h : HeapState) (e : Refusal) (g : HeapState) → StopsAt h e g → lacks_room e ≡ false
-at_not h e g (Listing memory same) = ap lacks_room memory
+at_not : (h : HeapState) (e : Refusal) (g : HeapState) → StopsAt h e g → is_of_rooms e ≡ false
 at_not h e g (Beginning may refused same) =
     of_refused (outcome h (Worker WORKER) steps.StartMark) e (start_not h WORKER) refused
 at_not h e g (Crossing k) = crossing_stops_not h e g k
-at_not h e g (Scanning a k) = drain_stops_not h e g (inr k)
-at_not h e g (Ending nothing refused same) =
+at_not h e g (Scanning phase a k) = drain_stops_not h e g (inr k)
+at_not h e g (Ending phase nothing refused same) =
     of_refused (outcome h (Worker WORKER) steps.EndMark) e (end_not h WORKER) refused
-at_not h e g (Protecting ns k room) = room
-at_not h e g (Emptying n k) = page_stops_not h n e g k
+at_not h e g (Emptying n k) = page_stops_not h n e g k.1
 
 pub part_not : (h : HeapState) (r : Result Bool Refusal) (g : HeapState) → EndsPart h r g → IsNotRoom r
 part_not h (Ok b) g k = tt
-part_not h (Err e) g k = at_not k.1.0 e g k.1.2
+part_not h (Err e) g (inl k) = at_not k.1.0 e g k.1.2
+part_not h (Err e) g (inr k) = ap is_of_rooms k.0

@@ -1,27 +1,31 @@
 -- Parts of a collection, from one portion to the next.
-use Rattle.std.proofs.Common.{◌≡◌, ℕ, Bool, true, false, List, None, refl, sym, subst}
+use Rattle.std.proofs.Common.{◌≡◌, ◌∙◌, ℕ, Bool, true, false, List, None, refl, sym, subst, ap, inl, inr}
 use Rattle.std.specs.Prelude.{Result, Ok, Err}
+use Rattle.model.specs.declared.records.Phase.TheVariants as phases
 use Rattle.model.specs.declared.steps.Actor.TheVariants.{Worker}
 use Rattle.model.specs.declared.steps.Step.TheVariants as steps
 use Rattle.model.specs.declared.steps.Answer.{Answer}
 use Rattle.model.specs.declared.steps.Refusal.{Refusal}
-use Rattle.model.specs.declared.steps.Refusal.TheVariants as refusals
 use Rattle.model.specs.Checkpoints.{all_crossed}
 use Rattle.model.specs.Outcome.{outcome}
-use Rattle.model.specs.Phases.{may_start_mark}
+use Rattle.model.specs.Phases.{may_start_mark, is_protect_crossing}
 use Rattle.model.specs.Refusing.{DoesStep}
 use Rattle.model.specs.Scans.{next_drain}
 use Rattle.model.specs.States.{HeapState}
 use Rattle.refinement.specs.Standing.{KeepsStanding}
 use Rattle.managed.specs.Goings.{Goes, IsCrossing, IsScan, IsScrub, AllTried, EndsScan, ScansObjects}
 use Rattle.managed.specs.Preparing.{Prepares}
+use Rattle.managed.specs.Scrubbing.{AreScrubbed}
 use Rattle.managed.proofs.Counting.{prepares_goes}
-use Rattle.managed.proofs.Gathering.{collect_step, crossings_collect, drains_collect, scans_collect, scrubs_collect}
-use Rattle.collecting.specs.Collections.{WORKER, Collects, EndsLeft}
-use Rattle.collecting.specs.Parts.{HasEnded, StopsAt, Stops, EndsPortion, EndsPart, EndsScanning, EndsProtecting}
-use Rattle.collecting.specs.Parts.{TellsAnew}
-use Rattle.collecting.specs.Parts.{Listing, Beginning, Crossing, Scanning, Ending, Protecting, Emptying}
+use Rattle.managed.proofs.Gathering.{collect_step, drains_collect, scans_collect, scrubs_collect}
+use Rattle.managed.proofs.Scrubbed.{scrubs_phase}
+use Rattle.collecting.specs.Collections.{WORKER, Collects}
+use Rattle.collecting.specs.Parts.{HasEnded, StopsAt, Stops, EndsCrossing, EndsPortion, EndsPart, EndsStage}
+use Rattle.collecting.specs.Parts.{EndsProtecting, EndsScanning}
+use Rattle.collecting.specs.Parts.{Beginning, Scanning, Ending}
+use Rattle.collecting.specs.Stages.{EndsMarking}
 use Rattle.collecting.proofs.Collections.{none, and_then}
+use Rattle.collecting.proofs.Staying.{scans_phase}
 
 -- ---- portions
 
@@ -44,10 +48,9 @@ pub portion_stops : {A : Type 0} (h g : HeapState) (r : Result A Refusal) (e : R
 portion_stops {A} h g r e is k = subst (λ (x : Result A Refusal). EndsPortion h x g) is k
 
 pub crossed : (h g : HeapState) (r : Result Unit Refusal) → r ≡ all_crossed g → Goes (IsCrossing WORKER) h g
-    → AllTried WORKER r g → EndsPortion h r g
-crossed h g (Ok u) is a behind = crossings_collect WORKER h g a
-crossed h g (Err e) is a behind =
-    stops_here h g e (crossings_collect WORKER h g a) (Crossing (a, sym is, behind))
+    → AllTried WORKER r g → EndsCrossing h r g
+crossed h g (Ok u) is a behind = (a, sym is)
+crossed h g (Err e) is a behind = (a, sym is, behind)
 
 -- ---- a mark
 
@@ -67,22 +70,34 @@ begun_stops h g s e may is does =
     subst (λ (x : HeapState). Stops h e x) (sym d.1)
     (stops_here h h e (none h) (Beginning may d.0 refl))
 
+pub ended_on : (h g : HeapState) (s : Result Answer Refusal) (a : Answer) → s ≡ Ok a
+    → DoesStep h steps.EndMark s g (outcome h (Worker WORKER) steps.EndMark)
+    → KeepsStanding h (Worker WORKER) steps.EndMark s g → EndsMarking h (Ok true) g
+ended_on h g (Ok x) a is does keeps =
+    (collect_step WORKER h g steps.EndMark (Ok x) does keeps, (h, x, none h, does))
+ended_on h g (Err e) a is does keeps = absurd (cc)
+
 pub ended_stops : (h g : HeapState) (s : Result Answer Refusal) (e : Refusal)
-    → next_drain h WORKER ≡ None → s ≡ Err e
+    → h.phase ≡ phases.Scanning → next_drain h WORKER ≡ None → s ≡ Err e
     → DoesStep h steps.EndMark s g (outcome h (Worker WORKER) steps.EndMark) → Stops h e g
-ended_stops h g s e nothing is does =
+ended_stops h g s e phase nothing is does =
     let d : DoesStep h steps.EndMark (Err e) g (outcome h (Worker WORKER) steps.EndMark) =
     subst (λ (r : Result Answer Refusal). DoesStep h steps.EndMark r g (outcome h (Worker WORKER) steps.EndMark)) is
     does in
     subst (λ (x : HeapState). Stops h e x) (sym d.1)
-    (stops_here h h e (none h) (Ending nothing d.0 refl))
+    (stops_here h h e (none h) (Ending phase nothing d.0 refl))
 
 pub scanned_ready : (h g : HeapState) (n : ℕ) → ScansObjects WORKER n h g → Collects h g
 scanned_ready h g n a = scans_collect WORKER h g a.goes
 
+-- objects, until nothing is left
+pub scanned_out : (h g : HeapState) (n : ℕ) → ScansObjects WORKER n h g → next_drain g WORKER ≡ None
+    → EndsScanning h (Ok true) g
+scanned_out h g n a k = (scans_collect WORKER h g a.goes, k, scans_phase WORKER h g a.goes)
+
 pub scanned : (h g : HeapState) (r : Result Bool Refusal) → Goes (IsScan WORKER) h g → EndsScan WORKER r g
     → EndsScanning h r g
-scanned h g (Ok true) a k = (scans_collect WORKER h g a, k)
+scanned h g (Ok true) a k = (scans_collect WORKER h g a, k, scans_phase WORKER h g a)
 scanned h g (Ok false) a k = scans_collect WORKER h g a
 scanned h g (Err e) a k = (a, k)
 
@@ -97,30 +112,35 @@ scanned_behind h m g b r is k a ends =
     subst (λ (x : HeapState). EndsScanning x r g) (subst (λ (c : Bool). Prepares WORKER h c m) is k).0
     (scanned m g r a ends)
 
-pub scanned_all : (h m g : HeapState) (s r : Result Bool Refusal) → s ≡ Ok true → EndsScanning h s m
-    → EndsPortion m r g → EndsPortion h r g
-scanned_all h m g s r is a k =
-    portion_then h m g r (subst (λ (x : Result Bool Refusal). EndsScanning h x m) is a).0 k
+marking_then : (h m g : HeapState) (r : Result Bool Refusal) → Collects h m → EndsMarking m r g → EndsMarking h r g
+marking_then h m g (Ok true) a k =
+    (and_then h m g a k.0, (k.1.0, k.1.1, and_then h m k.1.0 a k.1.2, k.1.3))
+marking_then h m g (Ok false) a k = and_then h m g a k
+marking_then h m g (Err e) a k = (and_then h m g a k.0, (k.1.0, and_then h m k.1.0 a k.1.1, k.1.2))
+
+pub scanned_mark : (h m g : HeapState) (s r : Result Bool Refusal) → s ≡ Ok true → EndsScanning h s m
+    → EndsMarking m r g → EndsMarking h r g
+scanned_mark h m g s r is a k =
+    marking_then h m g r (subst (λ (x : Result Bool Refusal). EndsScanning h x m) is a).0 k
 
 pub scanned_none : (h g : HeapState) (s : Result Bool Refusal) → s ≡ Ok true → EndsScanning h s g
     → next_drain g WORKER ≡ None
 scanned_none h g s is a = (subst (λ (x : Result Bool Refusal). EndsScanning h x g) is a).1
 
+pub scanned_phase : (h g : HeapState) (s : Result Bool Refusal) → s ≡ Ok true → EndsScanning h s g
+    → h.phase ≡ phases.Scanning → g.phase ≡ phases.Scanning
+scanned_phase h g s is a phase = (subst (λ (x : Result Bool Refusal). EndsScanning h x g) is a).2 ∙ phase
+
 pub scanned_some : (h g : HeapState) (s : Result Bool Refusal) → s ≡ Ok false → EndsScanning h s g → Collects h g
 scanned_some h g s is a = subst (λ (x : Result Bool Refusal). EndsScanning h x g) is a
 
-pub scanned_stops : (h g : HeapState) (s : Result Bool Refusal) (e : Refusal) → s ≡ Err e
+pub scanned_stops : (h g : HeapState) (s : Result Bool Refusal) (e : Refusal) → h.phase ≡ phases.Scanning → s ≡ Err e
     → EndsScanning h s g → Stops h e g
-scanned_stops h g s e is a =
+scanned_stops h g s e phase is a =
     let k : EndsScanning h (Err e) g = subst (λ (x : Result Bool Refusal). EndsScanning h x g) is a in
-    stops_here h g e (scans_collect WORKER h g k.0) (Scanning k.0 k.1)
+    stops_here h g e (scans_collect WORKER h g k.0) (Scanning phase k.0 k.1)
 
 -- ---- pages
-
-pub protected : (h g : HeapState) (ns : List ℕ) (s : Result Answer Refusal) (a : Answer) → s ≡ Ok a
-    → DoesStep h (steps.Protect ns) s g (outcome h (Worker WORKER) (steps.Protect ns))
-    → KeepsStanding h (Worker WORKER) (steps.Protect ns) s g → EndsProtecting h ns (Ok tt) g
-protected h g ns s a is does keeps = collect_step WORKER h g (steps.Protect ns) s does keeps
 
 pub protected_stops : (h g : HeapState) (ns : List ℕ) (s : Result Answer Refusal) (e : Refusal) → s ≡ Err e
     → DoesStep h (steps.Protect ns) s g (outcome h (Worker WORKER) (steps.Protect ns))
@@ -131,50 +151,30 @@ protected_stops h g ns s e is does keeps = (
       (outcome h (Worker WORKER) (steps.Protect ns))) is does,
 )
 
-pub protecting_goes : (h g : HeapState) (ns : List ℕ) (r : Result Unit Refusal) → EndsProtecting h ns r g → Collects h g
-protecting_goes h g ns (Ok u) k = k
-protecting_goes h g ns (Err e) k = k.0
-
-pub scrubbed : (h m g : HeapState) (r : Result Unit Refusal) → EndsPortion h r m → Goes IsScrub m g → Collects h g
-scrubbed h m g r k a = and_then h m g (portion_goes h m r k) (scrubs_collect WORKER m g a)
-
-pub left_portion : (h g : HeapState) (n : ℕ) (r : Result Unit Refusal) → EndsLeft h n r g → EndsPortion h r g
-left_portion h g n (Ok u) k = k
-left_portion h g n (Err e) k = stops_here h g e k.0 (Emptying n k.1)
-
 -- ---- parts
 
 pub part_goes : (h g : HeapState) (r : Result Bool Refusal) → EndsPart h r g → Collects h g
 part_goes h g (Ok true) k = k.0
 part_goes h g (Ok false) k = k
-part_goes h g (Err e) k = k.0
+part_goes h g (Err e) (inl k) = k.0
+part_goes h g (Err e) (inr k) = subst (Collects h) (sym k.1) (none h)
 
-pub part_then : (h m g : HeapState) (r : Result Bool Refusal) → Collects h m → EndsPart m r g → EndsPart h r g
-part_then h m g (Ok true) a k = (and_then h m g a k.0, k.1)
-part_then h m g (Ok false) a k = and_then h m g a k
-part_then h m g (Err e) a k = (and_then h m g a k.0, (k.1.0, and_then h m k.1.0 a k.1.1, k.1.2))
-
--- a portion of a part, behind which the collection goes on
-pub part_stops : {A : Type 0} (h g : HeapState) (r : Result A Refusal) (e : Refusal) → r ≡ Err e → EndsPortion h r g
-    → EndsPart h (Err e) g
-part_stops {A} h g r e is k = subst (λ (x : Result A Refusal). EndsPortion h x g) is k
-
-pub part_ends : (h : HeapState) (b : Bool) → (b ≡ true → HasEnded h) → EndsPart h (Ok b) h
-part_ends h true k = (none h, k refl)
-part_ends h false k = none h
-
-pub part_lacks : (h : HeapState) → EndsPart h (Err refusals.Memory) h
-part_lacks h = stops_here h h refusals.Memory (none h) (Listing refl refl)
-
-pub part_anew : (h g : HeapState) (ns : List ℕ) (s : Result Unit Refusal) (e : Refusal) (r : Result Bool Refusal)
-    → s ≡ Err e → EndsProtecting h ns s g → TellsAnew e r → EndsPart h r g
-part_anew h g ns s e r is k told = by_result r told
+-- registers are corrected behind it
+pub part_scrubbed : (h m g : HeapState) (r : Result Bool Refusal) (last b : Bool) → r ≡ Ok last → EndsStage h r m
+    → Goes IsScrub m g → (b ≡ true → HasEnded g) → EndsPart h (Ok b) g
+part_scrubbed h m g r last b is k a ends = by_end b ends
   where
-    d : EndsProtecting h ns (Err e) g
-    d = subst (λ (x : Result Unit Refusal). EndsProtecting h ns x g) is k
+    goes : Collects h g
+    goes = and_then h m g (subst (λ (x : Result Bool Refusal). EndsStage h x m) is k) (scrubs_collect WORKER m g a)
 
-    by_result : (r : Result Bool Refusal) → TellsAnew e r → EndsPart h r g
-    by_result (Ok true) t = absurd cc
-    by_result (Ok false) t = d.0
-    by_result (Err x) t = subst (λ (y : Refusal). Stops h y g) (sym t.0)
-        (stops_here h g e d.0 (Protecting ns d.1 t.1))
+    by_end : (b : Bool) → (b ≡ true → HasEnded g) → EndsPart h (Ok b) g
+    by_end true f = (goes, f refl)
+    by_end false f = goes
+
+pub part_stops : (h g : HeapState) (r : Result Bool Refusal) (e : Refusal) → r ≡ Err e → EndsStage h r g
+    → EndsPart h (Err e) g
+part_stops h g r e is k = subst (λ (x : Result Bool Refusal). EndsStage h x g) is k
+
+pub still_calm : (m g : HeapState) → Goes IsScrub m g → (is_protect_crossing m.phase ≡ false → AreScrubbed g)
+    → is_protect_crossing g.phase ≡ false → AreScrubbed g
+still_calm m g a k e = k (ap is_protect_crossing (sym (scrubs_phase m g a)) ∙ e)

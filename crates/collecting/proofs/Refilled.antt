@@ -1,6 +1,7 @@
 -- Buffers and objects, from one part to the next.
-use Rattle.std.proofs.Common.{◌≡◌, ◌∙◌, ℕ, length, List, [], ◌∷◌, refl, sym, subst, inl, inr, Some}
+use Rattle.std.proofs.Common.{◌≡◌, ◌∙◌, ℕ, false, length, List, [], ◌∷◌, refl, sym, subst, inl, inr, Some}
 use Rattle.std.specs.Prelude.{Result, Ok, Err, IfOk}
+use Rattle.std.proofs.lemmas.Bool.{or_parts, true≢false}
 use Rattle.layout.specs.declared.shape.Layout.{Layout}
 use Rattle.model.specs.declared.records.Buffer.{Buffer}
 use Rattle.model.specs.declared.steps.Actor.{Actor}
@@ -26,8 +27,11 @@ use Rattle.managed.proofs.Gathering.{goes_wider}
 use Rattle.managed.proofs.Running.{runs_one}
 use Rattle.collecting.specs.declared.collecting.Collected.{Collected}
 use Rattle.collecting.specs.Collections.{WORKER, Collects, CollectsWhole, EndsCollecting, MarksWhole}
-use Rattle.collecting.specs.Rooms.{IsRefill, Refills, EndsRefill, RefillsWhole}
-use Rattle.collecting.specs.Rooms.{EndsMaking, MakingStands}
+use Rattle.collecting.specs.Collections.{has_buffer, is_of_rooms, lacks_room}
+use Rattle.collecting.specs.Rooms.{IsRefill, Refills, EndsRefill, RefillsBy, HasMarkedSince, HasTriedAll, IsAny}
+use Rattle.collecting.specs.Rooms.{IsNotHeld, EndsMaking, MakingStands}
+use Rattle.collecting.proofs.NotRoom.{collecting_not}
+use Rattle.collecting.proofs.Given.{never_held}
 
 refill_then : (t : ℕ) (h m g : HeapState) → Refills t h m → Refills t m g → Refills t h g
 refill_then t h m g a b = goes_then (IsRefill t) h m g a b
@@ -41,27 +45,47 @@ wider t (Worker w) step is = is
 collects_refill : (t : ℕ) (h g : HeapState) → Collects h g → Refills t h g
 collects_refill t h g k = goes_wider (IsCollecting WORKER) (IsRefill t) (wider t) h g k
 
+-- what was done before stays known, and counts from an earlier heap on
+abbrev Reaches : ℕ → (HeapState → HeapState → Type 0) → Type 0
+Reaches t Q = (h m g : HeapState) → Refills t h m → Q m g → Q h g
+
+pub any_reaches : (t : ℕ) → Reaches t IsAny
+any_reaches t = λ h m g a k. tt
+
+marked_reaches : (t : ℕ) → Reaches t (HasMarkedSince t)
+marked_reaches t = λ h m g a k. record {
+  before = k.before;
+  marked = k.marked;
+  live = k.live;
+  goes = refill_then t h m k.before a k.goes;
+  marks = k.marks;
+  to = k.to;
+}
+
+tried_reaches : (t percent : ℕ) → Reaches t (HasTriedAll t percent)
+tried_reaches t percent = λ h m g a k. record {
+  before = k.before;
+  behind = k.behind;
+  found = k.found;
+  goes = refill_then t h m k.before a k.goes;
+  collects = k.collects;
+  marks = k.marks;
+}
+
 -- what comes before
-pub ends_after : (t n percent : ℕ) (h m g : HeapState) (r : Result Buffer Refusal) → Refills t h m
-    → RefillsWhole t n percent m r g → RefillsWhole t n percent h r g
-ends_after t n percent h m g (Ok b) a k =
+after_by : (Q : HeapState → HeapState → Type 0) (t n percent : ℕ) → Reaches t Q → (h m g : HeapState)
+    (r : Result Buffer Refusal) → Refills t h m → RefillsBy Q t n percent m r g → RefillsBy Q t n percent h r g
+after_by Q t n percent reach h m g (Ok b) a k =
     (refill_then t h m g a k.0, (k.1.0, (k.1.1.0, refill_then t h m k.1.1.0 a k.1.1.1, k.1.1.2)))
-ends_after t n percent h m g (Err e) a (k, inl refused) = (refill_then t h m g a k, inl refused)
-ends_after t n percent h m g (Err e) a (k, inr ends) =
+after_by Q t n percent reach h m g (Err e) a (k, inl refused) =
+    (refill_then t h m g a k, inl (refused.0, refused.1, λ l. reach h m g a (refused.2 l)))
+after_by Q t n percent reach h m g (Err e) a (k, inr ends) =
     (refill_then t h m g a k, inr (ends.0, refill_then t h m ends.0 a ends.1, ends.2))
 
--- a buffer is taken
-pub taken : (t n percent : ℕ) (h g : HeapState) (r : Result Buffer Refusal) → DoesThread lent h t (steps.Take n) r g
-    → ThreadStands lent h t (steps.Take n) r g → IfOk r (λ (b : Buffer). buffer_of_thread g t ≡ Some b)
-    → RefillsWhole t n percent h r g
-taken t n percent h g (Ok b) does keeps has = (
-  goes_thread (IsRefill t) lent h h g t (steps.Take n) (Ok b) refl does keeps (goes_none (IsRefill t) h),
-  (has, (h, goes_none (IsRefill t) h, runs_one h g (Thread t) (steps.Take n) (lent b) does keeps)),
-)
-taken t n percent h g (Err e) does keeps has = (
-  goes_thread (IsRefill t) lent h h g t (steps.Take n) (Err e) refl does keeps (goes_none (IsRefill t) h),
-  inl (subst (λ (x : HeapState). outcome x (Thread t) (steps.Take n) ≡ Err e) (sym does.1) does.0),
-)
+pub ends_after : (t n percent : ℕ) (h m g : HeapState) (r : Result Buffer Refusal) → Refills t h m
+    → RefillsBy (HasTriedAll t percent) t n percent m r g → RefillsBy (HasTriedAll t percent) t n percent h r g
+ends_after t n percent h m g r a k =
+    after_by (HasTriedAll t percent) t n percent (tried_reaches t percent) h m g r a k
 
 -- a buffer is given back, if there is one
 pub given : (t : ℕ) (h g : HeapState) (r : Result Unit Refusal) → DoesThread done h t steps.GiveBack r g
@@ -69,14 +93,60 @@ pub given : (t : ℕ) (h g : HeapState) (r : Result Unit Refusal) → DoesThread
 given t h g r does keeps = goes_thread (IsRefill t) done h h g t steps.GiveBack r refl does keeps
     (goes_none (IsRefill t) h)
 
+-- a buffer is given back, and one is taken
+pub taken : (t n percent : ℕ) (h m g : HeapState) (q : Result Unit Refusal) (r : Result Buffer Refusal)
+    → DoesThread done h t steps.GiveBack q m → ThreadStands done h t steps.GiveBack q m
+    → DoesThread lent m t (steps.Take n) r g
+    → ThreadStands lent m t (steps.Take n) r g → IfOk r (λ (b : Buffer). buffer_of_thread g t ≡ Some b)
+    → RefillsBy IsAny t n percent h r g
+taken t n percent h m g q (Ok b) back kept does keeps has =
+    let a : Refills t h m = given t h m q back kept in (
+      goes_thread (IsRefill t) lent h m g t (steps.Take n) (Ok b) refl does keeps a,
+      (has, (m, a, runs_one m g (Thread t) (steps.Take n) (lent b) does keeps)),
+    )
+taken t n percent h m g q (Err e) back kept does keeps has = (
+  goes_thread (IsRefill t) lent h m g t (steps.Take n) (Err e) refl does keeps (given t h m q back kept),
+  inl (
+    subst (λ (x : HeapState). outcome x (Thread t) (steps.Take n) ≡ Err e) (sym does.1) does.0,
+    never_held t n h m q e back does.0,
+    λ l. tt,
+  ),
+)
+
 -- a collection, and then a buffer
-pub collected_then : (t n percent : ℕ) (h m g : HeapState) (c : Result Collected Refusal) (r : Result Buffer Refusal)
-    → CollectsWhole percent h c m → RefillsWhole t n percent m r g → RefillsWhole t n percent h r g
-collected_then t n percent h m g c r a k = ends_after t n percent h m g r (collects_refill t h m a.0) k
+pub collected_then : (t n percent : ℕ) (h m g : HeapState) (c : Result Collected Refusal) (x : Collected)
+    (r : Result Buffer Refusal) → c ≡ Ok x → CollectsWhole percent h c m
+    → RefillsBy (HasMarkedSince t) t n percent m r g → RefillsBy (HasTriedAll t percent) t n percent h r g
+collected_then t n percent h m g c x r is a k = by_result r k
+  where
+    goes : Refills t h m
+    goes = collects_refill t h m a.0
+
+    by_result : (r : Result Buffer Refusal) → RefillsBy (HasMarkedSince t) t n percent m r g
+        → RefillsBy (HasTriedAll t percent) t n percent h r g
+    by_result (Ok b) k =
+        (refill_then t h m g goes k.0, (k.1.0, (k.1.1.0, refill_then t h m k.1.1.0 goes k.1.1.1, k.1.1.2)))
+    by_result (Err e) (k, inl refused) = (
+      refill_then t h m g goes k,
+      inl (
+        refused.0,
+        refused.1,
+        λ l. record {
+          before = h;
+          behind = m;
+          found = x;
+          goes = goes_none (IsRefill t) h;
+          collects = subst (λ (y : Result Collected Refusal). EndsCollecting percent h y m) is a.1;
+          marks = refused.2 l;
+        },
+      ),
+    )
+    by_result (Err e) (k, inr ends) =
+        (refill_then t h m g goes k, inr (ends.0, refill_then t h m ends.0 goes ends.1, ends.2))
 
 -- a collection that stopped
 pub collected_stops : (t n percent : ℕ) (h g : HeapState) (c : Result Collected Refusal) (e : Refusal) → c ≡ Err e
-    → CollectsWhole percent h c g → RefillsWhole t n percent h (Err e) g
+    → CollectsWhole percent h c g → RefillsBy (HasTriedAll t percent) t n percent h (Err e) g
 collected_stops t n percent h g c e is a = (
   collects_refill t h g a.0,
   inr (
@@ -88,21 +158,82 @@ collected_stops t n percent h g c e is a = (
 
 -- a mark, and then a buffer
 pub marked_then : (t n percent : ℕ) (h m g : HeapState) (c : Result ℕ Refusal) (live : ℕ) (r : Result Buffer Refusal)
-    → c ≡ Ok live → MarksWhole h c m → RefillsWhole t n percent m r g → RefillsWhole t n percent h r g
-marked_then t n percent h m g (Ok x) live r is a k = ends_after t n percent h m g r (collects_refill t h m a) k
-marked_then t n percent h m g (Err e) live r is a k = absurd (cc)
+    → c ≡ Ok live → MarksWhole h c m → RefillsBy IsAny t n percent m r g
+    → RefillsBy (HasMarkedSince t) t n percent h r g
+marked_then t n percent h m g c live r is a k = by_result r k
+  where
+    b : MarksWhole h (Ok live) m
+    b = subst (λ (x : Result ℕ Refusal). MarksWhole h x m) is a
+
+    goes : Refills t h m
+    goes = collects_refill t h m b.0
+
+    by_result : (r : Result Buffer Refusal) → RefillsBy IsAny t n percent m r g
+        → RefillsBy (HasMarkedSince t) t n percent h r g
+    by_result (Ok x) k =
+        (refill_then t h m g goes k.0, (k.1.0, (k.1.1.0, refill_then t h m k.1.1.0 goes k.1.1.1, k.1.1.2)))
+    by_result (Err e) (k, inl refused) = (
+      refill_then t h m g goes k,
+      inl (
+        refused.0,
+        refused.1,
+        λ l. record {
+          before = h;
+          marked = m;
+          live = live;
+          goes = goes_none (IsRefill t) h;
+          marks = b.1;
+          to = k;
+        },
+      ),
+    )
+    by_result (Err e) (k, inr ends) =
+        (refill_then t h m g goes k, inr (ends.0, refill_then t h m ends.0 goes ends.1, ends.2))
 
 -- a mark that stopped
 pub marked_stops : (t n percent : ℕ) (h g : HeapState) (c : Result ℕ Refusal) (e : Refusal) → c ≡ Err e
-    → MarksWhole h c g → RefillsWhole t n percent h (Err e) g
+    → MarksWhole h c g → RefillsBy (HasMarkedSince t) t n percent h (Err e) g
 marked_stops t n percent h g c e is a =
     let k : MarksWhole h (Err e) g = subst (λ (x : Result ℕ Refusal). MarksWhole h x g) is a in
     (collects_refill t h g k.0, inr (h, goes_none (IsRefill t) h, k.1 percent))
 
+-- what was taken at once, or refused for something else than room
+pub at_once : (Q : HeapState → HeapState → Type 0) (t n percent : ℕ) (h g : HeapState) (q : Result Buffer Refusal)
+    (b : Buffer) → q ≡ Ok b → RefillsBy IsAny t n percent h q g → RefillsBy Q t n percent h (Ok b) g
+at_once Q t n percent h g q b is a = subst (λ (x : Result Buffer Refusal). RefillsBy IsAny t n percent h x g) is a
+
+pub not_room : (Q : HeapState → HeapState → Type 0) (t n percent : ℕ) (h g : HeapState) (q : Result Buffer Refusal)
+    (e : Refusal) → q ≡ Err e → lacks_room e ≡ false → RefillsBy IsAny t n percent h q g
+    → RefillsBy Q t n percent h (Err e) g
+not_room Q t n percent h g q e is other a =
+    by_case (subst (λ (x : Result Buffer Refusal). RefillsBy IsAny t n percent h x g) is a)
+  where
+    by_case : RefillsBy IsAny t n percent h (Err e) g → RefillsBy Q t n percent h (Err e) g
+    by_case (k, inl refused) = (k, inl (refused.0, refused.1, λ l. absurd (true≢false (sym l ∙ other))))
+    by_case (k, inr ends) = (k, inr ends)
+
 -- what was refused, and what comes then
-pub refused_then : (t n percent : ℕ) (h m g : HeapState) (q r : Result Buffer Refusal) → RefillsWhole t n percent h q m
-    → RefillsWhole t n percent m r g → RefillsWhole t n percent h r g
+pub refused_mark : (t n percent : ℕ) (h m g : HeapState) (q r : Result Buffer Refusal)
+    → RefillsBy IsAny t n percent h q m → RefillsBy (HasMarkedSince t) t n percent m r g
+    → RefillsBy (HasMarkedSince t) t n percent h r g
+refused_mark t n percent h m g q r a k =
+    after_by (HasMarkedSince t) t n percent (marked_reaches t) h m g r a.0 k
+
+pub refused_then : (t n percent : ℕ) (h m g : HeapState) (q r : Result Buffer Refusal)
+    → RefillsBy IsAny t n percent h q m → RefillsBy (HasTriedAll t percent) t n percent m r g
+    → RefillsBy (HasTriedAll t percent) t n percent h r g
 refused_then t n percent h m g q r a k = ends_after t n percent h m g r a.0 k
+
+-- ---- refusals
+
+of_rooms : (e : Refusal) → is_of_rooms e ≡ false → has_buffer e ≡ false
+of_rooms e k = (or_parts (lacks_room e) (has_buffer e) k).1
+
+pub refill_not : (t n percent : ℕ) (h : HeapState) (r : Result Buffer Refusal) (g : HeapState)
+    → EndsRefill t n percent h r g → IsNotHeld r
+refill_not t n percent h (Ok b) g k = tt
+refill_not t n percent h (Err e) g (inl refused) = refused.1
+refill_not t n percent h (Err e) g (inr ends) = of_rooms e (collecting_not percent ends.0 (Err e) g ends.2)
 
 -- ---- objects
 
@@ -121,7 +252,7 @@ making_after : (t n percent target layout : ℕ) (h m g : HeapState) (r : Result
 making_after t n percent target layout h m g (Ok b) a k = (k.0, refill_then t h m k.0 a k.1, k.2)
 making_after t n percent target layout h m g (Err e) a (k, inl refused) = (refill_then t h m g a k, inl refused)
 making_after t n percent target layout h m g (Err e) a (k, inr (inl refused)) =
-    (refill_then t h m g a k, inr (inl refused))
+    (refill_then t h m g a k, inr (inl (refused.0, refused.1, λ l. tried_reaches t percent h m g a (refused.2 l))))
 making_after t n percent target layout h m g (Err e) a (k, inr (inr ends)) =
     (refill_then t h m g a k, inr (inr (ends.0, refill_then t h m ends.0 a ends.1, ends.2)))
 
@@ -140,7 +271,7 @@ made_ok t n percent target layout b h g r is does keeps =
 
 -- a buffer, and then an object
 pub refilled_then : (t n percent target layout : ℕ) (h m g : HeapState) (b : Result Buffer Refusal)
-    (r : Result ℕ Refusal) → RefillsWhole t n percent h b m
+    (r : Result ℕ Refusal) → RefillsBy (HasTriedAll t percent) t n percent h b m
     → DoesThread answers.Birth m t (steps.New target layout) r g
     → ThreadStands answers.Birth m t (steps.New target layout) r g → EndsMaking t n percent target layout h r g
 refilled_then t n percent target layout h m g b r a does keeps = making_after t n percent target layout h m g r a.0
@@ -148,7 +279,7 @@ refilled_then t n percent target layout h m g b r a does keeps = making_after t 
 
 -- no buffer
 pub refilled_stops : (t n percent target layout : ℕ) (h g : HeapState) (b : Result Buffer Refusal) (e : Refusal)
-    → b ≡ Err e → RefillsWhole t n percent h b g → EndsMaking t n percent target layout h (Err e) g
+    → b ≡ Err e → RefillsBy (HasTriedAll t percent) t n percent h b g → EndsMaking t n percent target layout h (Err e) g
 refilled_stops t n percent target layout h g b e is a =
     (a.0, inr (subst (λ (x : Result Buffer Refusal). EndsRefill t n percent h x g) is a.1))
 

@@ -1,10 +1,13 @@
 -- Whole collections.
-use Rattle.std.specs.Prelude.{◌≡◌, ◌⊎◌, ℕ, Bool, true, false, List, [], ◌∷◌, length, Result, Ok, Err}
+use Rattle.std.specs.Prelude.{◌≡◌, ◌⊎◌, ◌||◌, ℕ, Bool, true, false, List, [], ◌∷◌, length, Result, Ok, Err}
+use Rattle.std.specs.List.{list_any}
 use Rattle.choosing.specs.Choices.{IsChoice}
+use Rattle.model.specs.declared.records.Page.{Page}
 use Rattle.model.specs.declared.steps.Refusal.{Refusal}
 use Rattle.model.specs.declared.steps.Refusal.TheVariants as refusals
-use Rattle.model.specs.Phases.{is_marking}
+use Rattle.model.specs.Phases.{is_crossing, is_marking}
 use Rattle.model.specs.States.{HeapState}
+use Rattle.model.specs.Stores.{state_at, is_from}
 use Rattle.managed.specs.Goings.{Goes}
 use Rattle.managed.specs.Collecting.{IsCollecting, StopsCrossing, EndsMark, EndsRest}
 use Rattle.managed.specs.Emptying.{PagesFreed, StopsPage, Protects, EndsEmptying}
@@ -18,24 +21,54 @@ WORKER = 0
 abbrev pub Collects : HeapState → HeapState → Type 0
 Collects h g = Goes (IsCollecting WORKER) h g
 
+-- some page is being emptied, and has memory
+abbrev pub has_from : List Page → Bool
+has_from pages = list_any (λ (p : Page). is_from p.state) pages
+
+-- what an earlier collection had left has ended: no checkpoint is open, and no page is being emptied
+pub record IsSettled (h : HeapState) : Type 0 where
+  pub phase : is_crossing h.phase ≡ false
+  pub pages : has_from h.store.pages ≡ false
+
+-- steps of a collection have ended it
+abbrev pub Settles : HeapState → HeapState → Type 0
+Settles h g = Collects h g × IsSettled g
+
+-- page n isn't being emptied, no page is that wasn't, and the collector is in the phase that it was in
+pub record LeftPage (h : HeapState) (n : ℕ) (g : HeapState) : Type 0 where
+  pub goes : Collects h g
+  pub page : is_from (state_at g.store n) ≡ false
+  pub others : (m : ℕ) → is_from (state_at h.store m) ≡ false → is_from (state_at g.store m) ≡ false
+  pub count : g.store.count ≡ h.store.count
+  pub phase : g.phase ≡ h.phase
+
+-- page n is being emptied, and no checkpoint is open
+pub record IsLeft (h : HeapState) (n : ℕ) : Type 0 where
+  pub phase : is_crossing h.phase ≡ false
+  pub from : is_from (state_at h.store n) ≡ true
+
+-- the emptying of such a page stopped so
+abbrev pub StopsLeft : HeapState → ℕ → Refusal → HeapState → Type 0
+StopsLeft h n e g = IsLeft h n × StopsPage WORKER h n e g
+
 -- what came of a page that an earlier collection may have left
 abbrev pub EndsLeft : HeapState → ℕ → Result Unit Refusal → HeapState → Type 0
-EndsLeft h n (Ok u) g = Collects h g
-EndsLeft h n (Err e) g = Collects h g × StopsPage WORKER h n e g
+EndsLeft h n (Ok u) g = LeftPage h n g
+EndsLeft h n (Err e) g = Collects h g × StopsLeft h n e g
 
 -- what came of all such pages
 abbrev pub EndsLeftPages : HeapState → Result Unit Refusal → HeapState → Type 0
-EndsLeftPages h (Ok u) g = Collects h g
-EndsLeftPages h (Err e) g = Collects h g × ((m : HeapState) × (n : ℕ) × Collects h m × StopsPage WORKER m n e g)
+EndsLeftPages h (Ok u) g = Settles h g
+EndsLeftPages h (Err e) g = Collects h g × ((m : HeapState) × (n : ℕ) × Collects h m × StopsLeft m n e g)
 
 -- what an earlier collection has left stopped so: while threads cross, or at a page
 abbrev pub StopsSettling : HeapState → Refusal → HeapState → Type 0
 StopsSettling h e g =
-    StopsCrossing WORKER h e g ⊎ ((m : HeapState) × (n : ℕ) × Collects h m × StopsPage WORKER m n e g)
+    StopsCrossing WORKER h e g ⊎ ((m : HeapState) × (n : ℕ) × Collects h m × StopsLeft m n e g)
 
 -- what came of all that an earlier collection has left
 abbrev pub EndsSettling : HeapState → Result Unit Refusal → HeapState → Type 0
-EndsSettling h (Ok u) g = Collects h g
+EndsSettling h (Ok u) g = Settles h g
 EndsSettling h (Err e) g = Collects h g × StopsSettling h e g
 
 -- how the mark ended that is due: what is left of the one that runs, else a whole one
@@ -94,17 +127,21 @@ EndsCycle percent h (Err e) g = Collects h g × StopsCycle percent h e g
 -- how a collection ended. What an earlier one had left was ended first; then a mark, and pages were emptied; or one of
 -- these stopped so
 abbrev pub EndsCollecting : ℕ → HeapState → Result Collected Refusal → HeapState → Type 0
-EndsCollecting percent h (Ok r) g = (m : HeapState) × Collects h m × EndsWhole percent m r g
+EndsCollecting percent h (Ok r) g = (m : HeapState) × Settles h m × EndsWhole percent m r g
 EndsCollecting percent h (Err e) g =
-    StopsSettling h e g ⊎ ((m : HeapState) × Collects h m × StopsCycle percent m e g)
+    StopsSettling h e g ⊎ ((m : HeapState) × Settles h m × StopsCycle percent m e g)
 
 -- the steps of a collection, and how it ended
 abbrev pub CollectsWhole : ℕ → HeapState → Result Collected Refusal → HeapState → Type 0
 CollectsWhole percent h result g = Collects h g × EndsCollecting percent h result g
 
--- what an earlier collection had left was ended, and then a mark; or one of these stopped so
+-- what an earlier collection had left was ended, and then a mark has ended, which found so many objects
+abbrev pub HasMarked : HeapState → ℕ → HeapState → Type 0
+HasMarked h live g = (m : HeapState) × Settles h m × EndsDueMark m (Ok live) g
+
+-- the same; or one of these stopped so
 abbrev pub MarksWhole : HeapState → Result ℕ Refusal → HeapState → Type 0
-MarksWhole h (Ok live) g = Collects h g
+MarksWhole h (Ok live) g = Collects h g × HasMarked h live g
 MarksWhole h (Err e) g = Collects h g × ((percent : ℕ) → EndsCollecting percent h (Err e) g)
 
 -- it says that there are too few frames or pages
@@ -113,7 +150,16 @@ lacks_room (refusals.NoFrames need free) = true
 lacks_room refusals.NoPages = true
 lacks_room _ = false
 
+-- it says that the thread has a buffer already
+abbrev pub has_buffer : Refusal → Bool
+has_buffer refusals.HasBuffer = true
+has_buffer _ = false
+
+-- it says one of these
+abbrev pub is_of_rooms : Refusal → Bool
+is_of_rooms e = lacks_room e || has_buffer e
+
 -- a refusal that says something else
 abbrev pub IsNotRoom : {A : Type 0} → Result A Refusal → Type 0
 IsNotRoom (Ok x) = Unit {0}
-IsNotRoom (Err e) = lacks_room e ≡ false
+IsNotRoom (Err e) = is_of_rooms e ≡ false

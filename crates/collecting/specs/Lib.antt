@@ -3,3 +3,4 @@ pub mod Rooms
 pub mod Faults
 pub mod Objects
 pub mod Parts
+pub mod Stages

@@ -1,5 +1,5 @@
 -- Buffers and objects, for which the heap is collected where frames run low.
-use Rattle.std.specs.Prelude.{◌≡◌, ◌⊎◌, ℕ, length, Some, Result, Ok, Err}
+use Rattle.std.specs.Prelude.{◌≡◌, ◌⊎◌, ℕ, true, false, length, Some, Result, Ok, Err}
 use Rattle.model.specs.declared.records.Buffer.{Buffer}
 use Rattle.model.specs.declared.steps.Actor.{Actor}
 use Rattle.model.specs.declared.steps.Actor.TheVariants.{Thread}
@@ -15,7 +15,8 @@ use Rattle.model.specs.States.{HeapState}
 use Rattle.refinement.specs.Standing.{Holds}
 use Rattle.managed.specs.Goings.{Goes, Steps}
 use Rattle.managed.specs.Collecting.{IsCollecting}
-use Rattle.collecting.specs.Collections.{WORKER, EndsCollecting}
+use Rattle.collecting.specs.declared.collecting.Collected.{Collected}
+use Rattle.collecting.specs.Collections.{WORKER, EndsCollecting, HasMarked, has_buffer, lacks_room}
 
 -- thread t gives its buffer back, or takes one; or it is a step of a collection
 abbrev pub IsRefill : ℕ → Actor → Step → Type 0
@@ -27,18 +28,59 @@ IsRefill t actor step = IsCollecting WORKER actor step
 abbrev pub Refills : ℕ → HeapState → HeapState → Type 0
 Refills t h g = Goes (IsRefill t) h g
 
--- how it ended that thread t was to get n words. It has them, by a Take as the last step; or Take is refused so as the
--- heap stands, or a collection that was begun has ended so
-abbrev pub EndsRefill : ℕ → ℕ → ℕ → HeapState → Result Buffer Refusal → HeapState → Type 0
-EndsRefill t n percent h (Ok b) g =
+-- among such steps a mark has begun, and ended: what it found dead is free, and so are the numbers of emptied pages
+pub record HasMarkedSince (t : ℕ) (h g : HeapState) : Type 0 where
+  pub before : HeapState
+  pub marked : HeapState
+  pub live : ℕ
+  pub goes : Refills t h before
+  pub marks : HasMarked before live marked
+  pub to : Refills t marked g
+
+-- among such steps were a whole collection, and then a mark: nothing more can be freed
+pub record HasTriedAll (t percent : ℕ) (h g : HeapState) : Type 0 where
+  pub before : HeapState
+  pub behind : HeapState
+  pub found : Collected
+  pub goes : Refills t h before
+  pub collects : EndsCollecting percent before (Ok found) behind
+  pub marks : HasMarkedSince t behind g
+
+-- nothing is known of what was done before
+abbrev pub IsAny : HeapState → HeapState → Type 0
+IsAny h g = Unit {0}
+
+-- Take is refused so as the heap stands; never because the thread has a buffer, and for want of room only if Q holds of
+-- what was done before
+abbrev pub RefusesTake : (HeapState → HeapState → Type 0) → ℕ → ℕ → HeapState → Refusal → HeapState → Type 0
+RefusesTake Q t n h e g =
+    (outcome g (Thread t) (steps.Take n) ≡ Err e) × (has_buffer e ≡ false) × (lacks_room e ≡ true → Q h g)
+
+-- a collection that was begun for thread t has ended so
+abbrev pub StopsCollecting : ℕ → ℕ → HeapState → Refusal → HeapState → Type 0
+StopsCollecting t percent h e g = (m : HeapState) × Refills t h m × EndsCollecting percent m (Err e) g
+
+-- how it ended that thread t was to get n words. It has them, by a Take as the last step; or Take is refused, or a
+-- collection has stopped
+abbrev pub EndsTaking : (HeapState → HeapState → Type 0) → ℕ → ℕ → ℕ → HeapState → Result Buffer Refusal → HeapState
+    → Type 0
+EndsTaking Q t n percent h (Ok b) g =
     (buffer_of_thread g t ≡ Some b) × ((m : HeapState) × Refills t h m × Steps (Thread t) (steps.Take n) (lent b) m g)
-EndsRefill t n percent h (Err e) g =
-    (outcome g (Thread t) (steps.Take n) ≡ Err e)
-    ⊎ ((m : HeapState) × Refills t h m × EndsCollecting percent m (Err e) g)
+EndsTaking Q t n percent h (Err e) g = RefusesTake Q t n h e g ⊎ StopsCollecting t percent h e g
+
+-- the same, where there is no room for n words only if a collection and a mark were done in vain
+abbrev pub EndsRefill : ℕ → ℕ → ℕ → HeapState → Result Buffer Refusal → HeapState → Type 0
+EndsRefill t n percent h r g = EndsTaking (HasTriedAll t percent) t n percent h r g
 
 -- the steps of it, and how it ended
-abbrev pub RefillsWhole : ℕ → ℕ → ℕ → HeapState → Result Buffer Refusal → HeapState → Type 0
-RefillsWhole t n percent h result g = Refills t h g × EndsRefill t n percent h result g
+abbrev pub RefillsBy : (HeapState → HeapState → Type 0) → ℕ → ℕ → ℕ → HeapState → Result Buffer Refusal → HeapState
+    → Type 0
+RefillsBy Q t n percent h r g = Refills t h g × EndsTaking Q t n percent h r g
+
+-- a refusal that isn't for a buffer that the thread has
+abbrev pub IsNotHeld : {A : Type 0} → Result A Refusal → Type 0
+IsNotHeld (Ok x) = Unit {0}
+IsNotHeld (Err e) = has_buffer e ≡ false
 
 -- how it ended that thread t was to make an object. It is made, by a New as the last step; or New is refused so as the
 -- heap stands, or the thread got no words

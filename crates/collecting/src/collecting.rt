@@ -1,13 +1,16 @@
 //! Collections by one call.
 
-ghost use Rattle.std.specs.Prelude.{◌≡◌};
+ghost use Rattle.std.specs.Prelude.{◌≡◌, IfOk, false};
 ghost use Rattle.model.specs.declared.steps.Step.TheVariants as steps;
+ghost use Rattle.model.specs.Phases.{is_protect_crossing};
 ghost use Rattle.managed.specs.Collecting.{StandsUnseen};
 ghost use Rattle.managed.specs.Goings.{LoadsWhole, LoadStands};
+ghost use Rattle.managed.specs.Scrubbing.{AreScrubbed};
 ghost use Rattle.collecting.specs.Collections.{Collects, CollectsWhole, EndsCollecting, IsNotRoom};
 ghost use Rattle.collecting.specs.Objects.{seen};
 ghost use Rattle.collecting.specs.Parts.{EndsPart};
-ghost use Rattle.collecting.specs.Rooms.{EndsMaking, EndsRefill, MakingStands, Refills};
+ghost use Rattle.collecting.specs.Stages.{PartGoesOn};
+ghost use Rattle.collecting.specs.Rooms.{EndsMaking, EndsRefill, IsNotHeld, MakingStands, Refills};
 
 use crate::cycles::run_cycle;
 use crate::leftovers::settle;
@@ -54,7 +57,8 @@ pub trait Holding: Mutating {
     /// A whole collection. What an earlier one has left is ended first. Then a mark runs from its start,
     /// or to its end where one runs; pages of which at most `percent` words of a hundred are live are
     /// chosen, as many as there is room for; and these are emptied: all threads cross, live objects are
-    /// copied, the pages' frames are free, and registers that named them are corrected.
+    /// copied, the pages' frames are free, and registers that named them are corrected, but for those of
+    /// parked threads and of threads with an open barrier.
     ///
     /// Refused as `NotCrossed` or `Pending` for a thread with an open barrier, and as `Memory`; never as
     /// `NoFrames` or `NoPages`. What was done by then is done, and another call goes on from there once that
@@ -130,6 +134,7 @@ impl Holding for ManagedHeap {
         ensures stands { StandsUnseen self.old self.new }
         ensures ends { EndsCollecting percent self.old result self.new }
         ensures room { IsNotRoom result }
+        ensures scrubbed { IfOk result (λ collected. AreScrubbed self.new) }
     {
         collect_whole(self, alloc, percent)
     }
@@ -145,6 +150,8 @@ impl Holding for ManagedHeap {
         ensures stands { StandsUnseen self.old self.new }
         ensures ends { EndsPart self.old result self.new }
         ensures room { IsNotRoom result }
+        ensures scrubbed { IfOk result (λ ended. is_protect_crossing self.new.phase ≡ false → AreScrubbed self.new) }
+        ensures parts { PartGoesOn percent budget parts.old self.old result parts.new self.new }
     {
         parts::collect_some(self, alloc, parts, percent, budget)
     }
@@ -153,6 +160,7 @@ impl Holding for ManagedHeap {
         ensures goes { Refills thread self.old self.new }
         ensures stands { StandsUnseen self.old self.new }
         ensures ends { EndsRefill thread policy.words policy.percent self.old result self.new }
+        ensures buffer { IsNotHeld result }
     {
         rooms::refill(self, alloc, policy, thread)
     }
@@ -178,7 +186,8 @@ pub(crate) fn collect_whole(
     alloc: Global,
     percent: u32,
 ) -> Result<Collected, Refusal>
-    ensures { CollectsWhole percent heap.old result heap.new }
+    ensures ends { CollectsWhole percent heap.old result heap.new }
+    ensures scrubbed { IfOk result (λ collected. AreScrubbed heap.new) }
 {
     match settle(heap) {
         Ok(()) => run_cycle(heap, alloc, percent),

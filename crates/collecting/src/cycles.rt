@@ -1,5 +1,7 @@
 //! A mark, and the pages that are emptied behind it.
 
+ghost use Rattle.std.specs.Prelude.{◌≡◌, IfOk, true};
+ghost use Rattle.managed.specs.Scrubbing.{AreScrubbed, needs_no_scrub};
 ghost use Rattle.collecting.specs.Collections.{Collects, EndsBehind, EndsDueMark, EndsChosen, EndsSparse, EndsCycle};
 ghost use Rattle.collecting.specs.Collections.{MarksWhole};
 
@@ -35,8 +37,10 @@ pub(crate) fn mark_whole(heap: &mut ManagedHeap) -> Result<u64, Refusal>
 
 /// Empties chosen pages, and gives how many they are.
 fn empty_chosen(heap: &mut ManagedHeap, pages: Vec<u32>) -> Result<u64, Refusal>
-    ensures { EndsChosen heap.old pages.items result heap.new }
+    ensures ends { EndsChosen heap.old pages.items result heap.new }
+    ensures scrubbed { needs_no_scrub heap.old.phase ≡ true → IfOk result (λ count. AreScrubbed heap.new) }
 {
+    heap.law();
     let count = pages.len() as u64;
     if count == 0 {
         return Ok(0);
@@ -49,7 +53,8 @@ fn empty_chosen(heap: &mut ManagedHeap, pages: Vec<u32>) -> Result<u64, Refusal>
 
 /// Chooses pages and empties them, and gives how many they are.
 fn empty_sparse(heap: &mut ManagedHeap, alloc: Global, percent: u32) -> Result<u64, Refusal>
-    ensures { EndsSparse percent heap.old result heap.new }
+    ensures ends { EndsSparse percent heap.old result heap.new }
+    ensures scrubbed { needs_no_scrub heap.old.phase ≡ true → IfOk result (λ count. AreScrubbed heap.new) }
 {
     match choose(alloc, heap.heap(), percent) {
         Ok(pages) => empty_chosen(heap, pages),
@@ -64,7 +69,8 @@ fn empty_behind(
     percent: u32,
     live: u64,
 ) -> Result<Collected, Refusal>
-    ensures { EndsBehind percent live heap.old result heap.new }
+    ensures ends { EndsBehind percent live heap.old result heap.new }
+    ensures scrubbed { needs_no_scrub heap.old.phase ≡ true → IfOk result (λ collected. AreScrubbed heap.new) }
 {
     match empty_sparse(heap, alloc, percent) {
         Ok(emptied) => Ok(Collected { live, emptied }),
@@ -78,7 +84,8 @@ pub(crate) fn run_cycle(
     alloc: Global,
     percent: u32,
 ) -> Result<Collected, Refusal>
-    ensures { EndsCycle percent heap.old result heap.new }
+    ensures ends { EndsCycle percent heap.old result heap.new }
+    ensures scrubbed { IfOk result (λ collected. AreScrubbed heap.new) }
 {
     match mark_due(heap) {
         Ok(live) => empty_behind(heap, alloc, percent, live),

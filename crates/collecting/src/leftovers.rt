@@ -1,7 +1,12 @@
 //! What an earlier collection has left.
 
+ghost use Rattle.std.specs.Prelude.{◌≡◌, false, Ok};
+ghost use Rattle.model.specs.Checkpoints.{all_crossed};
+ghost use Rattle.model.specs.Phases.{is_crossing};
+ghost use Rattle.model.specs.Stores.{is_from, state_at};
 ghost use Rattle.collecting.specs.Collections.{EndsLeft, EndsLeftPages, EndsSettling};
 
+use heap::Heap;
 use managed::ManagedHeap;
 use model::{PageState, Refusal};
 
@@ -13,13 +18,23 @@ pub(crate) fn settle(heap: &mut ManagedHeap) -> Result<(), Refusal>
     ensures { EndsSettling heap.old result heap.new }
 {
     match heap.cross_all(0) {
-        Ok(()) => settle_pages(heap),
+        Ok(()) => settle_crossed(heap),
         Err(refusal) => Err(refusal),
     }
 }
 
+/// Pages that are protected are emptied, where all threads have crossed.
+fn settle_crossed(heap: &mut ManagedHeap) -> Result<(), Refusal>
+    requires { all_crossed heap.old ≡ Ok tt }
+    ensures { EndsLeftPages heap.old result heap.new }
+{
+    heap.law();
+    settle_pages(heap)
+}
+
 /// Pages that are protected are emptied.
-pub(crate) fn settle_pages(heap: &mut ManagedHeap) -> Result<(), Refusal>
+fn settle_pages(heap: &mut ManagedHeap) -> Result<(), Refusal>
+    requires { is_crossing heap.old.phase ≡ false }
     ensures { EndsLeftPages heap.old result heap.new }
 {
     for index in 0..heap.heap().memory().page_count() {
@@ -27,14 +42,23 @@ pub(crate) fn settle_pages(heap: &mut ManagedHeap) -> Result<(), Refusal>
             return Err(refusal);
         }
     }
+    heap.heap().law();
     Ok(())
+}
+
+/// Whether a page, by its number from 1, is being emptied, and has memory.
+fn is_from(heap: &Heap, page: u32) -> bool
+    ensures { result ≡ is_from (state_at heap.now.store page) }
+{
+    matches!(heap.memory().state(page), PageState::From)
 }
 
 /// A page, by its number from 1, is emptied where it is protected.
 pub(crate) fn settle_page(heap: &mut ManagedHeap, page: u32) -> Result<(), Refusal>
+    requires { is_crossing heap.old.phase ≡ false }
     ensures { EndsLeft heap.old page result heap.new }
 {
-    if matches!(heap.heap().memory().state(page), PageState::From) {
+    if is_from(heap.heap(), page) {
         heap.empty_page(0, page)
     } else {
         Ok(())

@@ -1,16 +1,24 @@
 //! Collections in parts, for a program that can't stop for a whole one.
 
-ghost use Rattle.std.specs.Prelude.{◌≡◌, true};
+ghost use Rattle.std.specs.Prelude.{◌≡◌, ◌<◌, IfOk, false, map, slice_get, take, true};
+ghost use Rattle.choosing.specs.Choices.{page_of};
 ghost use Rattle.model.specs.declared.records.Page.{Page};
-ghost use Rattle.collecting.specs.Parts.{EndsPart, HasEnded, TellsAnew, has_from};
+ghost use Rattle.model.specs.Phases.{is_protect_crossing};
+ghost use Rattle.managed.specs.Goings.{Goes, IsScrub};
+ghost use Rattle.managed.specs.Scrubbing.{AreScrubbed};
+ghost use Rattle.collecting.specs.Collections.{has_from};
+ghost use Rattle.collecting.specs.Parts.{EndsPart, HasEnded, is_memory};
+ghost use Rattle.collecting.specs.Stages.{ChoosesAll, ChoosesOn, EmptiesOn, EndsCrossed, GoesOn, IsChosen, IsFitting};
+ghost use Rattle.collecting.specs.Stages.{MarksOn, Measures, PartGoesOn, ProtectsSome, TellsAnew, at_stage, entered};
+ghost use Rattle.collecting.specs.Stages.{first_parts, measured_one, pages_in, passed};
 
-use crate::portions::{cross_and_scrub, empty_one, mark_some, may_start_mark, protect};
-use crate::rooms::lacks_room;
+use crate::portions::{cross, empty_one, mark_some, may_start_mark, protect};
 use choosing::{first_packing, measured, packed_page, room};
 use heap::Heap;
 use managed::ManagedHeap;
 use model::{Page, PageState, Refusal};
 use std::alloc::{AllocError, Global};
+use std::marker::Model;
 
 /// Which part comes next.
 #[derive(Clone, Copy, Debug, PartialEq, Eq)]
@@ -33,9 +41,19 @@ pub struct Parts {
     next: u32,
 }
 
+impl Model for Parts {
+    ghost use Rattle.collecting.specs.Stages.{PartsState};
+
+    ghost Value = { PartsState };
+
+    ghost view = { λ p. record { stage = p.stage; found = p.found.items; chosen = p.chosen.items; next = p.next } };
+}
+
 impl Parts {
     /// Before the first part of a collection.
-    pub fn new(alloc: Global) -> Parts {
+    pub fn new(alloc: Global) -> Parts
+        ensures { result ≡ first_parts }
+    {
         Parts {
             stage: Stage::Mark,
             found: Vec::new(alloc),
@@ -45,62 +63,120 @@ impl Parts {
     }
 
     /// Goes on with another part, from its beginning.
-    fn begin(&mut self, stage: Stage) {
+    fn begin(&mut self, stage: Stage)
+        ensures { self.new ≡ at_stage stage self.old.chosen }
+    {
         self.stage = stage;
         self.next = 0;
         self.found.clear();
     }
 
+    /// Enters a page that was found, and goes on with the next one.
+    fn enter(&mut self, page: (u64, u32), next: u32) -> Result<(), AllocError>
+        ensures { IfOk result (λ done. self.new ≡ entered page next self.old) }
+    {
+        self.found.push(page)?;
+        self.next = next;
+        Ok(())
+    }
+
+    /// Goes on with the next page.
+    fn skip(&mut self, next: u32)
+        ensures { self.new ≡ record self.old { next = next } }
+    {
+        self.next = next;
+    }
+
+    /// Measures the next page.
+    fn measure_next(&mut self, heap: &Heap, percent: u32) -> Result<(), AllocError>
+        requires { self.old.next < heap.now.store.count }
+        ensures { IfOk result (λ done. self.new ≡ measured_one heap.now percent self.old) }
+    {
+        let _count = heap.memory().page_count();
+        let page = self.next + 1;
+        match measured(heap, percent, page) {
+            Some(found) => self.enter(found, page),
+            None => {
+                self.skip(page);
+                Ok(())
+            }
+        }
+    }
+
     /// Measures at most so many pages. True where all are measured.
-    fn measure(&mut self, heap: &Heap, percent: u32, most: u32) -> Result<bool, AllocError> {
-        let count = heap.memory().page_count();
-        for _ in 0..most {
-            if self.next >= count {
+    fn measure(&mut self, heap: &Heap, percent: u32, most: u32) -> Result<bool, AllocError>
+        ensures { IfOk result (λ all. Measures heap.now percent most self.old all self.new) }
+    {
+        for _done in 0..most {
+            if self.next >= heap.memory().page_count() {
                 return Ok(true);
             }
-            self.next = self.next.saturating_add(1);
-            if let Some(page) = measured(heap, percent, self.next) {
-                self.found.push(page)?;
-            }
+            self.measure_next(heap, percent)?;
         }
         Ok(false)
     }
 
     /// Chooses of the pages that were found those with the fewest live words, at most so many, and as many
     /// as there is room for.
-    fn choose(&mut self, alloc: Global, heap: &Heap, most: u32) -> Result<Vec<u32>, AllocError> {
+    fn choose(&mut self, alloc: Global, heap: &Heap, most: u32) -> Result<Vec<u32>, AllocError>
+        ensures chosen { IfOk result (λ pages. IsChosen heap.now most self.old.found pages.items) }
+        ensures kept { IfOk result (λ pages. self.new.chosen ≡ pages.items) }
+    {
         self.found.sort()?;
-        self.chosen = Vec::new(alloc);
-        let mut pages = Vec::new(alloc);
-        let mut packing = first_packing();
-        let room = u64::from(room(heap));
-        for (_, page) in self.found.iter().take(most as usize) {
-            match packed_page(heap, *page, packing) {
-                Some(behind) => packing = behind,
-                None => break,
-            }
-            if packing.count > room {
-                break;
-            }
-            self.chosen.push(*page)?;
-            pages.push(*page)?;
-        }
+        let pages = fitting(alloc, heap, first_of(&self.found, most))?;
+        self.chosen = Vec::from_slice(alloc, &pages)?;
         Ok(pages)
     }
 
     /// The page that is emptied next, if one is left.
-    fn next_page(&self) -> Option<u32> {
+    fn next_page(&self) -> Option<u32>
+        ensures { result ≡ slice_get self.now.chosen self.now.next }
+    {
         Some(*self.chosen.get(self.next as usize)?)
     }
 
     /// That page was emptied.
-    fn pass(&mut self) {
+    fn pass(&mut self)
+        ensures { self.new ≡ passed self.old }
+    {
         self.next = self.next.saturating_add(1);
     }
 }
 
+/// The first pages, at most so many.
+fn first_of(pages: &[(u64, u32)], most: u32) -> &[(u64, u32)]
+    ensures { result.now ≡ take most pages.now }
+{
+    let count = pages.len().min(most as usize);
+    &pages[..count]
+}
+
+/// The longest beginning of pages for which there is room.
+fn fitting(alloc: Global, heap: &Heap, pages: &[(u64, u32)]) -> Result<Vec<u32>, AllocError>
+    ensures { IfOk result (λ chosen. IsFitting heap.now (map page_of pages.now) chosen.items) }
+{
+    heap.law();
+    let room = room(heap);
+    let mut chosen = Vec::new(alloc);
+    let mut packing = first_packing();
+    for index in 0..pages.len() {
+        let page = pages[index].1;
+        let Some(behind) = packed_page(heap, page, packing) else {
+            return Ok(chosen);
+        };
+        if behind.count > u64::from(room) {
+            return Ok(chosen);
+        }
+        packing = behind;
+        chosen.push(page)?;
+    }
+    Ok(chosen)
+}
+
 /// How many pages a part with a budget of so many objects measures or chooses.
-fn pages_in(budget: u32) -> u32 {
+fn pages_in(budget: u32) -> u32
+    ensures { result ≡ pages_in budget }
+{
     budget / 64 + 1
 }
 
@@ -120,54 +196,56 @@ fn has_ended(heap: &Heap) -> bool
     may_start_mark(heap.phase()) && heap.sides().uncopied() == 0 && !has_from(heap.memory().pages())
 }
 
-/// The next part begins another collection. True where nothing is left of this one.
-fn end_part(heap: &ManagedHeap, parts: &mut Parts) -> bool
-    ensures { result ≡ true → HasEnded heap.now }
+/// Registers that name protected pages are corrected, at the end of each part. True where it was the last one,
+/// and nothing is left of the collection.
+fn end_part(heap: &mut ManagedHeap, last: bool) -> bool
+    ensures goes { Goes IsScrub heap.old heap.new }
+    ensures scrubbed { is_protect_crossing heap.old.phase ≡ false → AreScrubbed heap.new }
+    ensures ended { result ≡ true → HasEnded heap.new }
+    ensures last { result ≡ true → last ≡ true }
 {
-    parts.begin(Stage::Mark);
-    has_ended(heap.heap())
+    heap.scrub_all();
+    if last { has_ended(heap.heap()) } else { false }
 }
 
 /// A portion of the mark.
 fn mark_part(heap: &mut ManagedHeap, parts: &mut Parts, budget: u32) -> Result<bool, Refusal>
-    ensures { EndsPart heap.old result heap.new }
+    ensures { MarksOn parts.old heap.old result parts.new heap.new }
 {
     match mark_some(heap, u64::from(budget.max(1))) {
-        Ok(ended) => {
-            if ended {
-                parts.begin(Stage::Choose);
-            }
+        Ok(true) => {
+            parts.begin(Stage::Choose);
             Ok(false)
         }
+        Ok(false) => Ok(false),
         Err(refusal) => Err(refusal),
     }
 }
 
-/// Whether a refusal to protect pages says that they aren't as they were when they were chosen.
-fn is_out_of_date(refusal: &Refusal) -> bool {
-    matches!(
-        *refusal,
-        Refusal::Phase | Refusal::Unripe { .. } | Refusal::Lent { .. }
-    )
+/// What comes of a refusal to protect pages: where memory was refused, it is told so; else the choice is out of
+/// date, as a whole collection came between, and the next part begins anew.
+fn begin_anew(parts: &mut Parts, refusal: Refusal) -> Result<bool, Refusal>
+    ensures { TellsAnew refusal parts.old result parts.new }
+{
+    if is_memory(&refusal) {
+        return Err(refusal);
+    }
+    parts.begin(Stage::Mark);
+    Ok(false)
 }
 
-/// What comes of a refusal to protect pages: where the choice is out of date, as a whole collection came
-/// between, the next part begins anew.
-fn begin_anew(parts: &mut Parts, refusal: Refusal) -> Result<bool, Refusal>
-    ensures { TellsAnew refusal result }
+/// Whether a refusal says that memory was refused.
+fn is_memory(refusal: &Refusal) -> bool
+    ensures { result ≡ is_memory refusal.now }
 {
-    if lacks_room(&refusal) || is_out_of_date(&refusal) {
-        parts.begin(Stage::Mark);
-        return Ok(false);
-    }
-    Err(refusal)
+    matches!(*refusal, Refusal::Memory)
 }
 
 /// All threads cross behind the protection of pages.
 fn cross_part(heap: &mut ManagedHeap) -> Result<bool, Refusal>
-    ensures { EndsPart heap.old result heap.new }
+    ensures { EndsCrossed heap.old result heap.new }
 {
-    match cross_and_scrub(heap) {
+    match cross(heap) {
         Ok(()) => Ok(false),
         Err(refusal) => Err(refusal),
     }
@@ -175,7 +253,8 @@ fn cross_part(heap: &mut ManagedHeap) -> Result<bool, Refusal>
 
 /// The chosen pages are protected, and all threads cross.
 fn protect_part(heap: &mut ManagedHeap, parts: &mut Parts, pages: Vec<u32>) -> Result<bool, Refusal>
-    ensures { EndsPart heap.old result heap.new }
+    requires { parts.old.chosen ≡ pages.items }
+    ensures { ProtectsSome pages.items heap.old result parts.new heap.new }
 {
     match protect(heap, pages) {
         Ok(()) => {
@@ -193,12 +272,13 @@ fn choose_part(
     parts: &mut Parts,
     budget: u32,
 ) -> Result<bool, Refusal>
-    ensures { EndsPart heap.old result heap.new }
+    ensures { ChoosesAll (pages_in budget) parts.old heap.old result parts.new heap.new }
 {
     match parts.choose(alloc, heap.heap(), pages_in(budget)) {
         Ok(pages) => {
             if pages.is_empty() {
-                Ok(end_part(heap, parts))
+                parts.begin(Stage::Mark);
+                Ok(true)
             } else {
                 protect_part(heap, parts, pages)
             }
@@ -215,7 +295,7 @@ fn measure_part(
     percent: u32,
     budget: u32,
 ) -> Result<bool, Refusal>
-    ensures { EndsPart heap.old result heap.new }
+    ensures { ChoosesOn percent (pages_in budget) parts.old heap.old result parts.new heap.new }
 {
     match parts.measure(heap.heap(), percent, pages_in(budget)) {
         Ok(true) => choose_part(heap, alloc, parts, budget),
@@ -226,10 +306,13 @@ fn measure_part(
 
 /// A page is emptied; where none is left the collection has ended.
 fn empty_part(heap: &mut ManagedHeap, parts: &mut Parts) -> Result<bool, Refusal>
-    ensures { EndsPart heap.old result heap.new }
+    ensures { EmptiesOn parts.old heap.old result parts.new heap.new }
 {
     match parts.next_page() {
-        None => Ok(end_part(heap, parts)),
+        None => {
+            parts.begin(Stage::Mark);
+            Ok(true)
+        }
         Some(page) => match empty_one(heap, page) {
             Ok(()) => {
                 parts.pass();
@@ -237,6 +320,23 @@ fn empty_part(heap: &mut ManagedHeap, parts: &mut Parts) -> Result<bool, Refusal
             }
             Err(refusal) => Err(refusal),
         },
+    }
+}
+
+/// What the next part of a collection does. True where it is the last one.
+fn next_part(
+    heap: &mut ManagedHeap,
+    alloc: Global,
+    parts: &mut Parts,
+    percent: u32,
+    budget: u32,
+) -> Result<bool, Refusal>
+    ensures { GoesOn percent budget parts.old heap.old result parts.new heap.new }
+{
+    match parts.stage {
+        Stage::Mark => mark_part(heap, parts, budget),
+        Stage::Choose => measure_part(heap, alloc, parts, percent, budget),
+        Stage::Empty => empty_part(heap, parts),
     }
 }
 
@@ -248,11 +348,12 @@ pub(crate) fn collect_some(
     percent: u32,
     budget: u32,
 ) -> Result<bool, Refusal>
-    ensures { EndsPart heap.old result heap.new }
+    ensures ends { EndsPart heap.old result heap.new }
+    ensures scrubbed { IfOk result (λ ended. is_protect_crossing heap.new.phase ≡ false → AreScrubbed heap.new) }
+    ensures parts { PartGoesOn percent budget parts.old heap.old result parts.new heap.new }
 {
-    match parts.stage {
-        Stage::Mark => mark_part(heap, parts, budget),
-        Stage::Choose => measure_part(heap, alloc, parts, percent, budget),
-        Stage::Empty => empty_part(heap, parts),
+    match next_part(heap, alloc, parts, percent, budget) {
+        Ok(last) => Ok(end_part(heap, last)),
+        Err(refusal) => Err(refusal),
     }
 }

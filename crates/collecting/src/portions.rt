@@ -1,11 +1,14 @@
 //! Portions of a collection, each of bounded work.
 
-ghost use Rattle.std.specs.Prelude.{◌≡◌, true, None};
+ghost use Rattle.std.specs.Prelude.{◌≡◌, ◌≢◌, true, None, Ok, MatchBool};
 ghost use Rattle.drains.specs.Drains.{IsReady};
+ghost use Rattle.model.specs.declared.records.Phase.TheVariants as phases;
+ghost use Rattle.model.specs.Checkpoints.{all_crossed};
 ghost use Rattle.model.specs.Phases.{may_start_mark};
 ghost use Rattle.model.specs.Scans.{next_drain};
-ghost use Rattle.collecting.specs.Collections.{WORKER};
-ghost use Rattle.collecting.specs.Parts.{EndsPortion, EndsProtecting, EndsScanning};
+ghost use Rattle.collecting.specs.Collections.{EndsLeft, WORKER};
+ghost use Rattle.collecting.specs.Parts.{EndsCrossing, EndsPortion, EndsProtecting, EndsScanning};
+ghost use Rattle.collecting.specs.Stages.{EndsMarking, EndsOne};
 
 use crate::leftovers::settle_page;
 use drains::is_ready;
@@ -20,10 +23,17 @@ pub(crate) fn may_start_mark(phase: Phase) -> bool
 }
 
 /// All threads cross the open checkpoint.
-fn cross(heap: &mut ManagedHeap) -> Result<(), Refusal>
-    ensures { EndsPortion heap.old result heap.new }
+pub(crate) fn cross(heap: &mut ManagedHeap) -> Result<(), Refusal>
+    ensures { EndsCrossing heap.old result heap.new }
 {
     heap.cross_all(0)
+}
+
+/// The same.
+fn cross_open(heap: &mut ManagedHeap) -> Result<(), Refusal>
+    ensures { EndsPortion heap.old result heap.new }
+{
+    cross(heap)
 }
 
 /// A mark begins, and all threads cross.
@@ -32,7 +42,7 @@ fn begin_mark(heap: &mut ManagedHeap) -> Result<(), Refusal>
     ensures { EndsPortion heap.old result heap.new }
 {
     match heap.step(Actor::Worker(0), &Step::StartMark) {
-        Ok(_) => cross(heap),
+        Ok(_) => cross_open(heap),
         Err(refusal) => Err(refusal),
     }
 }
@@ -44,14 +54,15 @@ fn begin_or_cross(heap: &mut ManagedHeap) -> Result<(), Refusal>
     if may_start_mark(heap.heap().phase()) {
         begin_mark(heap)
     } else {
-        cross(heap)
+        cross_open(heap)
     }
 }
 
 /// A mark ends. It is true.
 fn end_mark(heap: &mut ManagedHeap) -> Result<bool, Refusal>
-    requires { next_drain heap.old WORKER ≡ None }
-    ensures { EndsPortion heap.old result heap.new }
+    requires nothing { next_drain heap.old WORKER ≡ None }
+    requires phase { heap.old.phase ≡ phases.Scanning }
+    ensures { EndsMarking heap.old result heap.new }
 {
     match heap.step(Actor::Worker(0), &Step::EndMark) {
         Ok(_) => Ok(true),
@@ -103,7 +114,8 @@ fn scan_some(heap: &mut ManagedHeap, budget: u64) -> Result<bool, Refusal>
 
 /// The same; where nothing is left the mark ends, and it is true.
 fn scan_or_end(heap: &mut ManagedHeap, budget: u64) -> Result<bool, Refusal>
-    ensures { EndsPortion heap.old result heap.new }
+    requires { heap.old.phase ≡ phases.Scanning }
+    ensures { EndsMarking heap.old result heap.new }
 {
     match scan_some(heap, budget) {
         Ok(true) => end_mark(heap),
@@ -112,11 +124,18 @@ fn scan_or_end(heap: &mut ManagedHeap, budget: u64) -> Result<bool, Refusal>
     }
 }
 
+/// Whether a mark runs that all threads have crossed.
+fn is_scanning(phase: Phase) -> bool
+    ensures { MatchBool result (phase ≡ phases.Scanning) (phase ≢ phases.Scanning) }
+{
+    matches!(phase, Phase::Scanning)
+}
+
 /// A portion of a mark. True where the mark has ended.
 pub(crate) fn mark_some(heap: &mut ManagedHeap, budget: u64) -> Result<bool, Refusal>
-    ensures { EndsPortion heap.old result heap.new }
+    ensures { EndsMarking heap.old result heap.new }
 {
-    if matches!(heap.heap().phase(), Phase::Scanning) {
+    if is_scanning(heap.heap().phase()) {
         return scan_or_end(heap, budget);
     }
     match begin_or_cross(heap) {
@@ -135,25 +154,21 @@ pub(crate) fn protect(heap: &mut ManagedHeap, pages: Vec<u32>) -> Result<(), Ref
     }
 }
 
-/// All threads cross, and registers that name protected pages are corrected.
-pub(crate) fn cross_and_scrub(heap: &mut ManagedHeap) -> Result<(), Refusal>
-    ensures { EndsPortion heap.old result heap.new }
+/// A page is emptied, where it is protected, when all threads have crossed.
+fn empty_crossed(heap: &mut ManagedHeap, page: u32) -> Result<(), Refusal>
+    requires { all_crossed heap.old ≡ Ok tt }
+    ensures { EndsLeft heap.old page result heap.new }
 {
-    match cross(heap) {
-        Ok(()) => {
-            heap.scrub_all();
-            Ok(())
-        }
-        Err(refusal) => Err(refusal),
-    }
+    heap.law();
+    settle_page(heap, page)
 }
 
-/// All threads have crossed, and a page is emptied, where it is protected.
+/// All threads cross, and a page is emptied, where it is protected.
 pub(crate) fn empty_one(heap: &mut ManagedHeap, page: u32) -> Result<(), Refusal>
-    ensures { EndsPortion heap.old result heap.new }
+    ensures { EndsOne heap.old page result heap.new }
 {
-    match cross_and_scrub(heap) {
-        Ok(()) => settle_page(heap, page),
+    match cross(heap) {
+        Ok(()) => empty_crossed(heap, page),
         Err(refusal) => Err(refusal),
     }
 }

@@ -2,7 +2,7 @@
 
 ghost use Rattle.std.specs.Prelude.{◌≡◌};
 ghost use Rattle.collecting.specs.Collections.{lacks_room};
-ghost use Rattle.collecting.specs.Rooms.{EndsMaking, RefillsWhole};
+ghost use Rattle.collecting.specs.Rooms.{EndsMaking, HasMarkedSince, HasTriedAll, IsAny, RefillsBy};
 
 use crate::collecting::collect_whole;
 use crate::cycles::mark_whole;
@@ -13,23 +13,24 @@ use model::{Buffer, Refusal};
 use std::alloc::Global;
 
 /// Whether a refusal says that there are too few frames or pages.
-pub(crate) fn lacks_room(refusal: &Refusal) -> bool
+fn lacks_room(refusal: &Refusal) -> bool
     ensures { result ≡ lacks_room refusal.now }
 {
     matches!(*refusal, Refusal::NoFrames { .. } | Refusal::NoPages)
 }
 
-/// The buffer is taken.
+/// The buffer that the thread has is given back, if any, and one is taken.
 fn take(heap: &mut ManagedHeap, policy: Policy, thread: u32) -> Result<Buffer, Refusal>
-    ensures { RefillsWhole thread policy.words policy.percent heap.old result heap.new }
+    ensures { RefillsBy IsAny thread policy.words policy.percent heap.old result heap.new }
 {
+    let _given = heap.give_back(thread);
     heap.take(thread, policy.words)
 }
 
 /// A mark runs, and the buffer is taken: the numbers of pages that a collection has emptied are free at the
 /// end of the next mark alone.
 fn mark_and_take(heap: &mut ManagedHeap, policy: Policy, thread: u32) -> Result<Buffer, Refusal>
-    ensures { RefillsWhole thread policy.words policy.percent heap.old result heap.new }
+    ensures { RefillsBy (HasMarkedSince thread) thread policy.words policy.percent heap.old result heap.new }
 {
     match mark_whole(heap) {
         Ok(_) => take(heap, policy, thread),
@@ -39,7 +40,7 @@ fn mark_and_take(heap: &mut ManagedHeap, policy: Policy, thread: u32) -> Result<
 
 /// The buffer is taken; where there is no room for it a mark runs before.
 fn take_or_mark(heap: &mut ManagedHeap, policy: Policy, thread: u32) -> Result<Buffer, Refusal>
-    ensures { RefillsWhole thread policy.words policy.percent heap.old result heap.new }
+    ensures { RefillsBy (HasMarkedSince thread) thread policy.words policy.percent heap.old result heap.new }
 {
     match take(heap, policy, thread) {
         Ok(buffer) => Ok(buffer),
@@ -60,7 +61,7 @@ fn collect_and_take(
     policy: Policy,
     thread: u32,
 ) -> Result<Buffer, Refusal>
-    ensures { RefillsWhole thread policy.words policy.percent heap.old result heap.new }
+    ensures { RefillsBy (HasTriedAll thread policy.percent) thread policy.words policy.percent heap.old result heap.new }
 {
     match collect_whole(heap, alloc, policy.percent) {
         Ok(_) => take_or_mark(heap, policy, thread),
@@ -75,7 +76,7 @@ fn take_or_collect(
     policy: Policy,
     thread: u32,
 ) -> Result<Buffer, Refusal>
-    ensures { RefillsWhole thread policy.words policy.percent heap.old result heap.new }
+    ensures { RefillsBy (HasTriedAll thread policy.percent) thread policy.words policy.percent heap.old result heap.new }
 {
     match take(heap, policy, thread) {
         Ok(buffer) => Ok(buffer),
@@ -96,7 +97,7 @@ fn take_by_policy(
     policy: Policy,
     thread: u32,
 ) -> Result<Buffer, Refusal>
-    ensures { RefillsWhole thread policy.words policy.percent heap.old result heap.new }
+    ensures { RefillsBy (HasTriedAll thread policy.percent) thread policy.words policy.percent heap.old result heap.new }
 {
     if heap.heap().memory().free_frames() <= policy.free {
         collect_and_take(heap, alloc, policy, thread)
@@ -112,7 +113,7 @@ pub(crate) fn refill(
     policy: Policy,
     thread: u32,
 ) -> Result<Buffer, Refusal>
-    ensures { RefillsWhole thread policy.words policy.percent heap.old result heap.new }
+    ensures { RefillsBy (HasTriedAll thread policy.percent) thread policy.words policy.percent heap.old result heap.new }
 {
     let _ = heap.give_back(thread);
     take_by_policy(heap, alloc, policy, thread)

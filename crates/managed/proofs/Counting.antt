@@ -1,5 +1,5 @@
 -- How many steps were done.
-use Rattle.std.proofs.Common.{◌≡◌, ◌+◌, ◌≤◌, ℕ, Bool, true, false, [], ◌∷◌, ◌++◌, subst}
+use Rattle.std.proofs.Common.{◌≡◌, ◌+◌, ◌≤◌, ◌<◌, ℕ, Bool, true, false, [], ◌∷◌, ◌++◌, subst}
 use Rattle.std.proofs.Common.{refl, sym, arith, length-append, inl, inr}
 use Rattle.std.specs.Prelude.{Result, Ok, Err, Some}
 use Rattle.model.specs.declared.steps.Actor.{Actor}
@@ -14,10 +14,11 @@ use Rattle.model.specs.Scans.{next_drain}
 use Rattle.model.specs.States.{HeapState}
 use Rattle.refinement.specs.Standing.{KeepsStanding}
 use Rattle.cycle.proofs.Stepped.{step_accepted}
-use Rattle.managed.specs.Goings.{Goes, GoesFar, IsDrain, IsScan, ScansObjects, EndsDrain, EndsScan, MOST_OBJECTS, entry}
+use Rattle.managed.specs.Goings.{Goes, GoesFar, GoesBy, IsDrain, IsScan, ScansObjects, ScansUpTo, EndsDrain, EndsScan}
+use Rattle.managed.specs.Goings.{MOST_OBJECTS, entry}
 use Rattle.managed.specs.Preparing.{Prepares}
 use Rattle.managed.proofs.Gathering.{scans_drain}
-use Rattle.managed.proofs.Going.{each_append, goes_none, goes_then, next_scans}
+use Rattle.managed.proofs.Going.{each_append, goes_none, goes_then, next_scans, scan_refused}
 use Rattle.managed.proofs.Running.{runs_none, runs_one, runs_then}
 
 pub far_none : (P : Actor → Step → Type 0) (h : HeapState) → GoesFar P 0 h h
@@ -69,15 +70,54 @@ far_before P n h m g a b = far_fewer P n (n + 0) h g (omega arith) (far_then P n
 
 -- ---- scans, step by step
 
-pub scan_far : (w n : ℕ) (h m g : HeapState) (step : Step) (r : Result Answer Refusal) (a : Answer)
-    → next_drain m w ≡ Some step → r ≡ Ok a → DoesStep m step r g (outcome m (Worker w) step)
-    → KeepsStanding m (Worker w) step r g → GoesFar (IsScan w) n h m → GoesFar (IsScan w) (n + 1) h g
-scan_far w n h m g step r a is ok does keeps k =
-    far_step (IsScan w) n h m g (Worker w) step r a (refl, next_scans m w step is) ok does keeps k
+-- n scans, and n is at most so many
+pub record ScansSo (w n most : ℕ) (h g : HeapState) : Type 0 where
+  pub by : GoesBy (IsScan w) n h g
+  pub few : n ≤ most
+
+pub scan_first : (w most : ℕ) (h : HeapState) → ScansSo w 0 most h h
+scan_first w most h = record {
+  by = record { goes = record { entries = []; each = tt; runs = runs_none h }; many = refl };
+  few = omega arith;
+}
+
+pub scan_next : (w n most : ℕ) (h m g : HeapState) (step : Step) (r : Result Answer Refusal) (a : Answer)
+    → n < most → next_drain m w ≡ Some step → r ≡ Ok a → DoesStep m step r g (outcome m (Worker w) step)
+    → KeepsStanding m (Worker w) step r g → ScansSo w n most h m → ScansSo w (n + 1) most h g
+scan_next w n most h m g step r a low is ok does keeps k = record {
+  by = record {
+    goes = record {
+      entries = k.by.goes.entries ++ entry (Worker w) step a ∷ [];
+      each = each_append (IsScan w) k.by.goes.entries (entry (Worker w) step a ∷ []) k.by.goes.each
+          ((refl, next_scans m w step is), tt);
+      runs = runs_then h m g k.by.goes.entries (entry (Worker w) step a ∷ []) k.by.goes.runs
+          (runs_one m g (Worker w) step a (step_accepted m g step a (outcome m (Worker w) step)
+          (subst (λ (q : Result Answer Refusal). DoesStep m step q g (outcome m (Worker w) step)) ok does))
+          (subst (λ (q : Result Answer Refusal). KeepsStanding m (Worker w) step q g) ok keeps));
+    };
+    many = omega (arith, length-append k.by.goes.entries (entry (Worker w) step a ∷ []), k.by.many);
+  };
+  few = omega (arith, low);
+}
 
 -- all steps were done
-pub scan_all : (w n most : ℕ) (h g : HeapState) → most ≤ n → GoesFar (IsScan w) n h g → GoesFar (IsScan w) most h g
-scan_all w n most h g l k = far_fewer (IsScan w) most n h g l k
+pub scan_all : (w n most : ℕ) (h g : HeapState) → most ≤ n → ScansSo w n most h g → GoesBy (IsScan w) most h g
+scan_all w n most h g l k =
+    let few = k.few in
+    let same : n ≡ most = omega (arith, l, few) in subst (λ (i : ℕ). GoesBy (IsScan w) i h g) same k.by
+
+-- nothing is left
+pub scan_some : (w n most : ℕ) (h g : HeapState) → ScansSo w n most h g → ScansUpTo w most h g
+scan_some w n most h g k = (n, k.few, k.by)
+
+-- the next one is refused
+pub scan_stops : (w n most : ℕ) (h m g : HeapState) (step : Step) (r : Result Answer Refusal) (e : Refusal)
+    → next_drain m w ≡ Some step → r ≡ Err e → DoesStep m step r g (outcome m (Worker w) step)
+    → ScansSo w n most h m → ScansUpTo w most h g
+scan_stops w n most h m g step r e is refused does k =
+    subst (ScansUpTo w most h) (sym (scan_refused m g step e (outcome m (Worker w) step) (next_scans m w step is)
+    (subst (λ (q : Result Answer Refusal). DoesStep m step q g (outcome m (Worker w) step)) refused does)).1)
+    (scan_some w n most h m k)
 
 -- ---- what comes before objects
 

@@ -1,203 +1,50 @@
 -- Pages that are emptied, from one step to the next: which have a frame, and how many are free.
-use Rattle.std.proofs.Common.{◌≡◌, ◌≢◌, ◌⊎◌, ◌∙◌, ℕ, zero, suc, ◌+◌, ◌-◌, ◌*◌, ◌<◌, ◌≤◌, Bool, true, false, List, []}
+use Rattle.std.proofs.Common.{◌≡◌, ◌≢◌, ◌⊎◌, ◌∙◌, ℕ, ◌+◌, ◌-◌, ◌<◌, ◌≤◌, Bool, true, false, List, []}
 use Rattle.std.proofs.Common.{◌∷◌, length}
 use Rattle.std.proofs.Common.{cond, not, nat_eq, set, drop, get_or, is_none, count_by, refl, sym, subst, ap, inl, inr}
 use Rattle.std.proofs.Common.{arith, Option, Some, None}
 use Rattle.std.specs.Prelude.{Result, Ok, Err}
 use Rattle.std.specs.List.{AllByRecursion, list_any, slice_get}
+use Rattle.std.specs.Option.{option_map}
 use Rattle.std.proofs.lemmas.Bool.{cases_eq}
+use Rattle.std.proofs.lemmas.Bool.Decides.{nat_tests}
 use Rattle.std.proofs.lemmas.List.{drop_more, drop_all}
-use Rattle.model.specs.declared.records.Forwarding.{Forwarding}
 use Rattle.model.specs.declared.records.Page.{Page}
 use Rattle.model.specs.declared.records.PageState.{PageState}
 use Rattle.model.specs.declared.records.PageState.TheVariants.{Unused, Open, Closed, From, Gone}
-use Rattle.model.specs.declared.steps.Actor.{Actor}
-use Rattle.model.specs.declared.steps.Actor.TheVariants.{Thread, Worker}
-use Rattle.model.specs.declared.steps.Step.{Step}
+use Rattle.model.specs.declared.steps.Actor.TheVariants.{Worker}
 use Rattle.model.specs.declared.steps.Step.TheVariants as steps
 use Rattle.model.specs.declared.steps.Answer.{Answer}
-use Rattle.model.specs.declared.steps.Answer.TheVariants as answers
 use Rattle.model.specs.declared.steps.Refusal.{Refusal}
-use Rattle.model.specs.declared.steps.Refusal.TheVariants as refusals
 use Rattle.model.specs.Bits.{of_page}
-use Rattle.model.specs.Checkpoints.{all_crossed, with_crossed, with_marked_word, with_marked_register}
-use Rattle.model.specs.Checkpoints.{with_marked_registers, marked_at_crossing, cross_thread, may_cross, cross_outcome}
-use Rattle.model.specs.Checkpoints.{cross_for_outcome}
+use Rattle.model.specs.Checkpoints.{all_crossed}
 use Rattle.model.specs.Cycles.{is_uncopied}
-use Rattle.model.specs.Emptying.{crossed_if_protecting, entry_on, copy_outcome, heap_after, copies_from, copy_page}
-use Rattle.model.specs.Emptying.{copy_page_outcome, release_outcome}
-use Rattle.model.specs.Marks.{with_mark, entry_at}
-use Rattle.model.specs.Moves.{with_copy, with_copied_words, copied_by, copied_first, copied_for, with_released}
-use Rattle.model.specs.Moves.{moved_word}
+use Rattle.model.specs.Emptying.{crossed_if_protecting}
+use Rattle.model.specs.Emptying.{release_outcome}
+use Rattle.model.specs.Moves.{with_released}
 use Rattle.model.specs.Moves.{with_free, set_gone_of}
-use Rattle.model.specs.Outcome.{outcome, worker_gate, thread_gate}
+use Rattle.model.specs.Outcome.{outcome, worker_gate}
 use Rattle.model.specs.Owning.{IsStore}
-use Rattle.model.specs.Phases.{is_idle, is_protect_crossing}
+use Rattle.model.specs.Phases.{is_idle}
 use Rattle.model.specs.Protections.{free_count}
 use Rattle.model.specs.Refusing.{Outcome, DoesStep}
-use Rattle.model.specs.Loads.{is_refused}
-use Rattle.model.specs.Registers.{register_of, with_register, let_through}
-use Rattle.model.specs.States.{HeapState, Reference, change_at, change_found}
-use Rattle.model.specs.Stores.{StoreState, page_at, state_at, state_in, frame_in, is_from, with_words}
-use Rattle.model.specs.Threads.{is_parked_in}
-use Rattle.model.specs.Traps.{scrub_word, scrub_outcome}
+use Rattle.model.specs.States.{HeapState, change_at, change_found}
+use Rattle.model.specs.Stores.{StoreState, page_at, state_at, state_in, frame_in, is_from}
 use Rattle.model.proofs.Lists.{get_set_same, get_set_other, get_within, count_set}
+use Rattle.laws.proofs.Basics.{put_other}
 use Rattle.page.proofs.Relocated.{from_framed, used_there}
 use Rattle.refinement.specs.Standing.{KeepsStanding}
-use Rattle.refinement.proofs.Accepted.{OnAccepted, of_accepted, on_bind, on_some, on_test, on_unless}
-use Rattle.entries.specs.declared.entry.Entry.{Entry}
-use Rattle.managed.specs.Runs.{Leads}
-use Rattle.managed.specs.Goings.{EachIs, Goes, IsCrossing, IsScrub, AllTried}
+use Rattle.refinement.proofs.Changes.{get_changed}
+use Rattle.refinement.proofs.Accepted.{OnAccepted, of_accepted, on_bind, on_unless}
+use Rattle.managed.specs.Goings.{Goes, IsCrossing, IsScrub, AllTried}
 use Rattle.managed.specs.Collecting.{IsCollecting}
 use Rattle.managed.specs.Emptying.{IsBare, PageFreed, PagesFreed, EndsPage, EndsPages, StopsPages}
 use Rattle.managed.specs.Emptying.{EndsRelease, Empties, EmptiesProtected, whether_told}
 use Rattle.managed.proofs.Going.{goes_none, goes_then}
 use Rattle.managed.proofs.Gathering.{collect_step, crossings_collect, scrubs_collect}
 use Rattle.managed.proofs.Running.{runs_one}
-
--- ---- what owns frames stays
-
--- the pages' records and the frames' owners are the same
-pub record SameFrames (h g : HeapState) : Type 0 where
-  pub pages : g.store.pages ≡ h.store.pages
-  pub owners : g.store.owners ≡ h.store.owners
-
-same_none : (h : HeapState) → SameFrames h h
-same_none h = record { pages = refl; owners = refl }
-
-same_then : (h m g : HeapState) → SameFrames h m → SameFrames m g → SameFrames h g
-same_then h m g a b = record { pages = b.pages ∙ a.pages; owners = b.owners ∙ a.owners }
-
-copy_same : (h : HeapState) (a to : ℕ) → SameFrames h (with_copy h a to)
-unfolding with_copy with_copied_words with_words
-copy_same h a to = record { pages = refl; owners = refl }
-
-first_same : (h : HeapState) (a : ℕ) → SameFrames h (copied_first h a)
-unfolding copied_first
-first_same h a = by_entry (entry_at h a)
-  where
-    by_test : (b : Bool) (to : ℕ) → SameFrames h (cond b h (with_copy h a to))
-    by_test true to = same_none h
-    by_test false to = copy_same h a to
-
-    by_entry : (o : Option Forwarding) → SameFrames h (copied_by h a o)
-    by_entry None = same_none h
-    by_entry (Some f) = by_test f.copied f.to
-
-for_same : (h : HeapState) (v : Reference) → SameFrames h (copied_for h v)
-unfolding copied_for
-for_same h None = same_none h
-for_same h (Some w) = first_same h w.0
-
-register_same : (h : HeapState) (t r : ℕ) → SameFrames h (with_marked_register h t r)
-unfolding with_marked_register with_marked_word with_register with_mark
-register_same h t r = let k = for_same h (register_of h t r) in record { pages = k.pages; owners = k.owners }
-
-registers_same : (h : HeapState) (t n : ℕ) → SameFrames h (with_marked_registers h t n)
-registers_same h t zero = same_none h
-registers_same h t (suc n) = same_then h (with_marked_registers h t n) (with_marked_registers h t (suc n))
-    (registers_same h t n) (register_same (with_marked_registers h t n) t n)
-
-cross_same : (h : HeapState) (t : ℕ) → SameFrames h (cross_thread h t)
-unfolding cross_thread with_crossed
-cross_same h t =
-    let k = registers_same h t (marked_at_crossing h) in record { pages = k.pages; owners = k.owners }
-
--- after an accepted outcome they are the same
-abbrev IsSame : HeapState → Outcome → Type 0
-IsSame h o = OnAccepted (λ (z : HeapState × Answer). SameFrames h z.0) o
-
-crossing_row : (h : HeapState) (t : ℕ) → IsSame h (cross_outcome h t)
-unfolding cross_outcome
-crossing_row h t = on_bind (may_cross h t) _ _ (λ u f. cross_same h t)
-
-crossing_for_row : (h : HeapState) (t : ℕ) → IsSame h (cross_for_outcome h t)
-unfolding cross_for_outcome
-crossing_for_row h t = on_test (not (is_parked_in (slice_get h.threads t))) refusals.NotParked (cross_outcome h t)
-    (λ (z : HeapState × Answer). SameFrames h z.0) (λ e. crossing_row h t)
-
-crossing_same : (w : ℕ) (h : HeapState) (actor : Actor) (step : Step) → IsCrossing w actor step
-    → IsSame h (outcome h actor step)
-unfolding outcome
-crossing_same w h (Thread t) steps.Cross is = on_bind (thread_gate h t steps.Cross) _ _ (λ u f. crossing_row h t)
-crossing_same w h (Thread t) _ is = absurd is
-crossing_same w h (Worker v) (steps.CrossFor t) is =
-    on_bind (worker_gate h v (steps.CrossFor t)) _ _ (λ u f. crossing_for_row h t)
-crossing_same w h (Worker v) _ is = absurd is
-
-scrub_word_row : (h : HeapState) (t r : ℕ) (w : ℕ × Bool) → IsSame h (scrub_word h t r w)
-unfolding with_register
-scrub_word_row h t r w = by_tests (not (is_refused (let_through h t w.0))) (is_protect_crossing h.phase)
-  where
-    new : Outcome
-    new = Ok (with_register (copied_first h w.0) t r (Some (moved_word h w)), answers.Moved)
-
-    clean : Outcome
-    clean = Ok (h, answers.Clean)
-
-    by_tests : (a b : Bool) → IsSame h (cond a clean (cond b (Err refusals.Stall) new))
-    by_tests true b = same_none h
-    by_tests false true = tt
-    by_tests false false = let k = first_same h w.0 in record { pages = k.pages; owners = k.owners }
-
-scrub_row : (h : HeapState) (t r : ℕ) → IsSame h (scrub_outcome h t r)
-unfolding scrub_outcome
-scrub_row h t r = on_some (register_of h t r) _ _ _ (λ w at. scrub_word_row h t r w)
-
-scrub_same : (h : HeapState) (actor : Actor) (step : Step) → IsScrub actor step → IsSame h (outcome h actor step)
-unfolding outcome
-scrub_same h (Thread t) (steps.Scrub r) is = on_bind (thread_gate h t (steps.Scrub r)) _ _ (λ u f. scrub_row h t r)
-scrub_same h (Thread t) _ is = absurd is
-scrub_same h (Worker v) step is = absurd is
-
--- over steps
-leads_same : (P : Actor → Step → Type 0)
-    → ((h : HeapState) (actor : Actor) (step : Step) → P actor step → IsSame h (outcome h actor step))
-    → (h g : HeapState) (es : List Entry) → EachIs P es → Leads h es g → SameFrames h g
-leads_same P f h g [] each leads = subst (SameFrames h) (sym leads) (same_none h)
-leads_same P f h g (e ∷ es) each leads =
-    let one : SameFrames h leads.0 = of_accepted (λ (z : HeapState × Answer). SameFrames h z.0)
-    (outcome h e.actor e.step) (leads.0, e.answer) (f h e.actor e.step each.0) leads.1 in
-    same_then h leads.0 g one (leads_same P f leads.0 g es each.1 leads.2)
-
-pub crossings_same_frames : (w : ℕ) (h g : HeapState) → Goes (IsCrossing w) h g → SameFrames h g
-crossings_same_frames w h g k = leads_same (IsCrossing w) (crossing_same w) h g k.entries k.each k.runs.steps
-
-pub scrubs_same_frames : (h g : HeapState) → Goes IsScrub h g → SameFrames h g
-scrubs_same_frames h g k = leads_same IsScrub scrub_same h g k.entries k.each k.runs.steps
-
--- a page that is copied
-copy_row : (h : HeapState) (page e : ℕ) → IsSame h (copy_outcome h page e)
-unfolding copy_outcome
-copy_row h page e = on_unless (is_idle h.phase) _ _ _ (λ u. on_bind (crossed_if_protecting h) _ _ (λ v f.
-    on_some (entry_on h page e) _ _ _ (λ w g. on_unless w.copied _ _ _ (λ x.
-    copy_same h (page * h.store.words + w.offset) w.to))))
-
-after_same : (h : HeapState) (o : Outcome) → IsSame h o → SameFrames h (heap_after h o)
-after_same h (Ok x) k = k
-after_same h (Err e) k = same_none h
-
-copies_same : (h : HeapState) (page e k : ℕ) → SameFrames h (copies_from h page e k)
-copies_same h page e zero = same_none h
-copies_same h page e (suc k) = same_then h (heap_after h (copy_outcome h page e)) (copies_from h page e (suc k))
-    (after_same h (copy_outcome h page e) (copy_row h page e))
-    (copies_same (heap_after h (copy_outcome h page e)) page (e + 1) k)
-
-copy_page_row : (h : HeapState) (w page : ℕ) → IsSame h (outcome h (Worker w) (steps.CopyPage page))
-unfolding outcome copy_page_outcome copy_page
-copy_page_row h w page = on_bind (worker_gate h w (steps.CopyPage page)) _ _ (λ t f.
-    on_unless (is_idle h.phase) _ _ _ (λ u. on_bind (crossed_if_protecting h) _ _ (λ v g.
-    on_unless (not (is_from (state_at h.store page))) _ _ _ (λ x.
-    copies_same h page 0 (length (of_page h.sides page))))))
-
--- what is read of them
-bare_same : (h g : HeapState) (n : ℕ) → SameFrames h g → IsBare h n → IsBare g n
-unfolding page_at
-bare_same h g n k b = ap (λ (ps : List Page). frame_in (cond (nat_eq n 0) None (slice_get ps (n - 1)))) k.pages ∙ b
-
-free_same : (h g : HeapState) → SameFrames h g → free_count g.store ≡ free_count h.store
-unfolding free_count
-free_same h g k = ap (count_by is_none) k.owners
+use Rattle.managed.proofs.Frames.{SameFrames, bare_same, copy_page_phase, copy_page_row, crossings_same_frames, free_same}
+use Rattle.managed.proofs.Frames.{scrubs_same_frames, state_same}
 
 -- ---- a page gives its memory up
 
@@ -211,6 +58,7 @@ from_is Gone e = absurd (cc)
 record Releases (h : HeapState) (n : ℕ) (g : HeapState) : Type 0 where
   from : state_at h.store n ≡ From
   is : g.store ≡ with_released h.store n
+  phase : g.phase ≡ h.phase
 
 release_row : (h : HeapState) (w n : ℕ)
     → OnAccepted (λ (z : HeapState × Answer). Releases h n z.0) (outcome h (Worker w) (steps.Release n))
@@ -218,7 +66,7 @@ unfolding outcome release_outcome
 release_row h w n = on_bind (worker_gate h w (steps.Release n)) _ _ (λ t f. on_unless (is_idle h.phase) _ _ _ (λ u.
     on_bind (crossed_if_protecting h) _ _ (λ v g. on_unless (not (is_from (state_at h.store n))) _ _ _ (λ x.
     on_unless (list_any is_uncopied (of_page h.sides n)) _ _ _ (λ y.
-    record { from = from_is (state_at h.store n) x; is = refl })))))
+    record { from = from_is (state_at h.store n) x; is = refl; phase = refl })))))
 
 gone_at : (ps : List Page) (i : ℕ) → frame_in (slice_get (change_at ps i set_gone_of) i) ≡ None
 gone_at ps i = by_page (slice_get ps i) refl
@@ -263,6 +111,43 @@ released_stay s n m b = by_test (nat_eq m 0) b
 not_unused : From ≡ Unused → ⊥
 not_unused e = cc
 
+-- its state, and those of others
+released_gone : (s : StoreState) (n : ℕ) → state_at s n ≡ From → state_at (with_released s n) n ≡ Gone
+unfolding state_at page_at with_released
+released_gone s n from = by_test (nat_eq n 0) from
+  where
+    by_page : (o : Option Page) → slice_get s.pages (n - 1) ≡ o → state_in o ≡ From
+        → state_in (slice_get (change_found s.pages (n - 1) o set_gone_of) (n - 1)) ≡ Gone
+    by_page None e f = absurd (not_unused (sym f))
+    by_page (Some p) e f = ap state_in (get_set_same s.pages (n - 1) p (set_gone_of p) e)
+
+    by_test : (z : Bool) → state_in (cond z None (slice_get s.pages (n - 1))) ≡ From
+        → state_in (cond z None (slice_get (change_at s.pages (n - 1) set_gone_of) (n - 1))) ≡ Gone
+    by_test true f = absurd (not_unused (sym f))
+    by_test false f = by_page (slice_get s.pages (n - 1)) refl f
+
+before_same : (n m : ℕ) → nat_eq n 0 ≡ false → nat_eq m 0 ≡ false → m - 1 ≡ n - 1 → m ≡ n
+before_same n m a b e = grind (arith, nat_tests)
+
+released_others : (s : StoreState) (n m : ℕ) → state_at s n ≡ From → m ≢ n
+    → state_at (with_released s n) m ≡ state_at s m
+unfolding state_at page_at with_released
+released_others s n m from d = by_test (nat_eq m 0) refl (nat_eq n 0) refl from
+  where
+    by_test : (z : Bool) → nat_eq m 0 ≡ z → (y : Bool) → nat_eq n 0 ≡ y
+        → state_in (cond y None (slice_get s.pages (n - 1))) ≡ From
+        → state_in (cond z None (slice_get (change_at s.pages (n - 1) set_gone_of) (m - 1)))
+        ≡ state_in (cond z None (slice_get s.pages (m - 1)))
+    by_test true a y b f = refl
+    by_test false a true b f = absurd (not_unused (sym f))
+    by_test false a false b f = ap state_in (get_changed s.pages (n - 1) set_gone_of (m - 1)
+        ∙ put_other (slice_get s.pages) (n - 1) (option_map set_gone_of (slice_get s.pages (n - 1))) (m - 1)
+        (λ same. d (before_same n m b a same)))
+
+released_count : (s : StoreState) (n : ℕ) → (with_released s n).count ≡ s.count
+unfolding with_released
+released_count s n = refl
+
 released_more : (s : StoreState) (n : ℕ) → IsStore s → state_at s n ≡ From
     → free_count (with_released s n) ≡ free_count s + 1
 unfolding free_count with_released
@@ -300,6 +185,10 @@ released w h g n (Ok a) result told s does keeps =
       bare = ap (λ (t : StoreState). frame_in (page_at t n)) r.is ∙ released_bare h.store n;
       stay = λ m b. ap (λ (t : StoreState). frame_in (page_at t m)) r.is ∙ released_stay h.store n m b;
       more = ap free_count r.is ∙ released_more h.store n s r.from;
+      gone = ap (λ (t : StoreState). state_at t n) r.is ∙ released_gone h.store n r.from;
+      others = λ m d. ap (λ (t : StoreState). state_at t m) r.is ∙ released_others h.store n m r.from d;
+      count = ap (λ (t : StoreState). t.count) r.is ∙ released_count h.store n;
+      phase = r.phase;
     })
 
 -- ---- a page, and all of them
@@ -318,6 +207,11 @@ page_then w h m g n (Ok x) a (Ok u) is does keeps b =
       bare = b.bare;
       stay = λ k z. b.stay k (bare_same h m k same z);
       more = b.more ∙ ap (λ (c : ℕ). c + 1) (free_same h m same);
+      gone = b.gone;
+      others = λ k d. b.others k d ∙ state_same h m k same;
+      count = b.count ∙ same.count;
+      phase = b.phase ∙ of_accepted (λ (z : HeapState × Answer). z.0.phase ≡ h.phase)
+          (outcome h (Worker w) (steps.CopyPage n)) (m, x) (copy_page_phase h w n) does;
     }
 page_then w h m g n (Ok x) a (Err e) is does keeps b =
     subst (λ (z : HeapState). EndsPage w h n (Err e) z) (sym b.1) (
@@ -333,6 +227,12 @@ page_stops w h g n r e is does =
     subst (λ (r : Result Answer Refusal). DoesStep h (steps.CopyPage n) r g
     (outcome h (Worker w) (steps.CopyPage n))) is does in
     (subst (Goes (IsCollecting w) h) (sym d.1) (goes_none (IsCollecting w) h), inl d)
+
+-- the phase stays
+pub page_phase : (w : ℕ) (h m g : HeapState) (n : ℕ) (r : Result Unit Refusal) (u : Unit {0}) → r ≡ Ok u
+    → EndsPage w m n r g → m.phase ≡ h.phase → g.phase ≡ h.phase
+page_phase w h m g n r u is k before =
+    let f : PageFreed w m n g = subst (λ (x : Result Unit Refusal). EndsPage w m n x g) is k in f.phase ∙ before
 
 pages_none : (w : ℕ) (h : HeapState) → PagesFreed w h [] h
 pages_none w h = record {
@@ -382,6 +282,10 @@ stops_first w h g n ns e k = record {
 -- the rest of pages that are emptied ends as all of them do
 abbrev pub IsRest : ℕ → HeapState → List ℕ → HeapState → List ℕ → Type 0
 IsRest w h ns m ms = (r : Result Unit Refusal) (g : HeapState) → EndsPages w m ms r g → EndsPages w h ns r g
+
+pub rest_first : (w : ℕ) (h : HeapState) (ns : List ℕ) → IsRest w h ns h (drop 0 ns)
+rest_first w h [] = λ r g k. k
+rest_first w h (n ∷ ns) = λ r g k. k
 
 pub rest_more : (w : ℕ) (h m k : HeapState) (ns : List ℕ) (i : ℕ) (r : Result Unit Refusal) (u : Unit {0})
     → i < length ns → r ≡ Ok u → EndsPage w m (get_or ns i 0) r k → IsRest w h ns m (drop i ns)

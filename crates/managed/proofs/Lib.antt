@@ -8,5 +8,8 @@ pub mod Left
 pub mod Copying
 pub mod Prepared
 pub mod Crossed
+pub mod Frames
 pub mod Emptied
+pub mod Scrubbed
+pub mod Corrected
 pub mod Clearing

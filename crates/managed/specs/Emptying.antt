@@ -1,6 +1,7 @@
 -- Pages that are emptied.
-use Rattle.std.specs.Prelude.{◌≡◌, ◌⊎◌, ◌+◌, ℕ, List, [], ◌∷◌, ◌++◌, length, None, Result, Ok, Err}
+use Rattle.std.specs.Prelude.{◌≡◌, ◌≢◌, ◌⊎◌, ◌+◌, ℕ, List, [], ◌∷◌, ◌++◌, length, None, Result, Ok, Err}
 use Rattle.std.specs.List.{AllByRecursion}
+use Rattle.model.specs.declared.records.PageState.TheVariants.{Gone}
 use Rattle.model.specs.declared.steps.Actor.TheVariants.{Worker}
 use Rattle.model.specs.declared.steps.Step.{Step}
 use Rattle.model.specs.declared.steps.Step.TheVariants as steps
@@ -10,7 +11,7 @@ use Rattle.model.specs.Outcome.{outcome}
 use Rattle.model.specs.Protections.{free_count}
 use Rattle.model.specs.Refusing.{DoesStep}
 use Rattle.model.specs.States.{HeapState}
-use Rattle.model.specs.Stores.{page_at, frame_in}
+use Rattle.model.specs.Stores.{page_at, frame_in, state_at}
 use Rattle.managed.specs.Goings.{Goes, Steps}
 use Rattle.managed.specs.Collecting.{IsCollecting, Crosses, StopsCrossing}
 
@@ -18,12 +19,17 @@ use Rattle.managed.specs.Collecting.{IsCollecting, Crosses, StopsCrossing}
 abbrev pub IsBare : HeapState → ℕ → Type 0
 IsBare h n = frame_in (page_at h.store n) ≡ None
 
--- page n was emptied by worker w: it has no frame, no page that had none has got one, and one frame more is free
+-- page n was emptied by worker w: it has no frame, no page that had none has got one, and one frame more is free; the
+-- other pages are in the state that they were in, and so is the collector
 pub record PageFreed (w : ℕ) (h : HeapState) (n : ℕ) (g : HeapState) : Type 0 where
   pub goes : Goes (IsCollecting w) h g
   pub bare : IsBare g n
   pub stay : (m : ℕ) → IsBare h m → IsBare g m
   pub more : free_count g.store ≡ free_count h.store + 1
+  pub gone : state_at g.store n ≡ Gone
+  pub others : (m : ℕ) → m ≢ n → state_at g.store m ≡ state_at h.store m
+  pub count : g.store.count ≡ h.store.count
+  pub phase : g.phase ≡ h.phase
 
 -- pages were emptied: each has no frame, no page that had none has got one, and as many frames more are free
 pub record PagesFreed (w : ℕ) (h : HeapState) (ns : List ℕ) (g : HeapState) : Type 0 where

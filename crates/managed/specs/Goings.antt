@@ -41,6 +41,11 @@ pub record GoesFar (P : Actor → Step → Type 0) (n : ℕ) (h g : HeapState) :
   pub goes : Goes P h g
   pub many : n ≤ length goes.entries
 
+-- the same, by just n steps
+pub record GoesBy (P : Actor → Step → Type 0) (n : ℕ) (h g : HeapState) : Type 0 where
+  pub goes : Goes P h g
+  pub many : length goes.entries ≡ n
+
 -- one accepted step leads from heap h to g, and keeps what h stands for
 abbrev pub Steps : Actor → Step → Answer → HeapState → HeapState → Type 0
 Steps actor step answer h g = Runs h (entry actor step answer ∷ []) g
@@ -130,11 +135,15 @@ EndsScan w (Ok true) g = next_drain g w ≡ None
 EndsScan w (Ok false) g = Unit {0}
 EndsScan w (Err e) g = (step : Step) × (next_drain g w ≡ Some step) × (outcome g (Worker w) step ≡ Err e)
 
--- where a scan says that something is left, it has done so many steps
+-- at most n scans lead from heap h to g
+abbrev pub ScansUpTo : ℕ → ℕ → HeapState → HeapState → Type 0
+ScansUpTo w n h g = (k : ℕ) × (k ≤ n) × GoesBy (IsScan w) k h g
+
+-- if a scan of at most n steps says that something is left, it has done n; else it may have done fewer
 abbrev pub ScansFar : ℕ → ℕ → HeapState → Result Bool Refusal → HeapState → Type 0
-ScansFar w n h (Ok false) g = GoesFar (IsScan w) n h g
-ScansFar w n h (Ok true) g = Unit {0}
-ScansFar w n h (Err e) g = Unit {0}
+ScansFar w n h (Ok false) g = GoesBy (IsScan w) n h g
+ScansFar w n h (Ok true) g = ScansUpTo w n h g
+ScansFar w n h (Err e) g = ScansUpTo w n h g
 
 -- how many objects were taken
 abbrev pub objects_in : List Entry → ℕ

@@ -4,3 +4,4 @@ pub mod Preparing
 pub mod Collecting
 pub mod Emptying
 pub mod Managing
+pub mod Scrubbing

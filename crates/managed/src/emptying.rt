@@ -1,31 +1,36 @@
 //! Pages that one worker empties, whole.
 
-ghost use Rattle.std.specs.Prelude.{◌≡◌};
+ghost use Rattle.std.specs.Prelude.{◌≡◌, IfOk, Ok};
+ghost use Rattle.model.specs.Checkpoints.{all_crossed};
 ghost use Rattle.managed.specs.Collecting.{IsCollecting, StandsUnseen};
 ghost use Rattle.managed.specs.Emptying.{Empties, EmptiesProtected, EndsEmptying, EndsPage, EndsPages, EndsProtected};
 ghost use Rattle.managed.specs.Emptying.{EndsRelease, pages_in, whether_told};
-ghost use Rattle.managed.specs.Goings.{Goes, IsScrub};
+ghost use Rattle.managed.specs.Goings.{Goes};
+ghost use Rattle.managed.specs.Scrubbing.{AreScrubbed};
 
 use crate::managed::ManagedHeap;
 use cycle::Mutating;
 use model::{Actor, PageList, Refusal, Reply, Step};
 
 impl ManagedHeap {
-    /// Empties pages, by their numbers from 1, whole: they are protected, all threads cross, each page's
-    /// objects are copied and its frame is given up, and registers that named them are corrected.
+    /// Empties complete pages, given by their numbers from 1: protects them, has all threads cross, copies
+    /// each page's objects and releases its frame. After that no register names a page that was emptied, but
+    /// for those of parked threads and of threads with an open barrier.
     ///
-    /// Where `Protect` is refused, or lacks memory, nothing is done. Where a thread has an open barrier
-    /// it is `NotCrossed`, and `finish_emptying` goes on once that load is done.
+    /// If `Protect` fails, or is out of memory, nothing is done. If a thread has an open barrier the call
+    /// returns `NotCrossed`, and `finish_emptying` goes on once that load is done.
     pub fn empty(&mut self, worker: u32, pages: Vec<u32>) -> Result<(), Refusal>
         ensures goes { Goes (IsCollecting worker) self.old self.new }
         ensures stands { StandsUnseen self.old self.new }
         ensures ends { EndsEmptying worker self.old pages.items result self.new }
+        ensures scrubbed { IfOk result (λ done. AreScrubbed self.new) }
     {
         self.empty_steps(worker, pages)
     }
 
     fn empty_steps(&mut self, worker: u32, pages: Vec<u32>) -> Result<(), Refusal>
-        ensures { Empties worker self.old pages.items result self.new }
+        ensures ends { Empties worker self.old pages.items result self.new }
+        ensures scrubbed { IfOk result (λ done. AreScrubbed self.new) }
     {
         let step = Step::Protect(PageList::new(pages));
         match self.step(Actor::Worker(worker), &step) {
@@ -35,22 +40,25 @@ impl ManagedHeap {
     }
 
     fn empty_listed(&mut self, worker: u32, step: &Step) -> Result<(), Refusal>
-        ensures { EmptiesProtected worker self.old (pages_in step.now) result self.new }
+        ensures ends { EmptiesProtected worker self.old (pages_in step.now) result self.new }
+        ensures scrubbed { IfOk result (λ done. AreScrubbed self.new) }
     {
         self.empty_protected(worker, pages_of(step))
     }
 
-    /// What is left of emptying these pages, where they are protected.
+    /// Finishes the emptying of protected pages, as `empty` does after their protection.
     pub fn finish_emptying(&mut self, worker: u32, pages: &[u32]) -> Result<(), Refusal>
         ensures goes { Goes (IsCollecting worker) self.old self.new }
         ensures stands { StandsUnseen self.old self.new }
         ensures ends { EndsProtected worker self.old pages.now result self.new }
+        ensures scrubbed { IfOk result (λ done. AreScrubbed self.new) }
     {
         self.empty_protected(worker, pages)
     }
 
     fn empty_protected(&mut self, worker: u32, pages: &[u32]) -> Result<(), Refusal>
-        ensures { EmptiesProtected worker self.old pages.now result self.new }
+        ensures ends { EmptiesProtected worker self.old pages.now result self.new }
+        ensures scrubbed { IfOk result (λ done. AreScrubbed self.new) }
     {
         match self.cross_all(worker) {
             Ok(()) => self.empty_crossed(worker, pages),
@@ -59,8 +67,11 @@ impl ManagedHeap {
     }
 
     fn empty_crossed(&mut self, worker: u32, pages: &[u32]) -> Result<(), Refusal>
-        ensures { EndsPages worker self.old pages.now result self.new }
+        requires { all_crossed self.old ≡ Ok tt }
+        ensures ends { EndsPages worker self.old pages.now result self.new }
+        ensures scrubbed { IfOk result (λ done. AreScrubbed self.new) }
     {
+        self.law();
         match self.empty_each(worker, pages) {
             Ok(()) => {
                 self.scrub_all();
@@ -71,7 +82,8 @@ impl ManagedHeap {
     }
 
     fn empty_each(&mut self, worker: u32, pages: &[u32]) -> Result<(), Refusal>
-        ensures { EndsPages worker self.old pages.now result self.new }
+        ensures ends { EndsPages worker self.old pages.now result self.new }
+        ensures phase { IfOk result (λ done. self.new.phase ≡ self.old.phase) }
     {
         for index in 0..pages.len() {
             if let Err(refusal) = self.empty_page(worker, pages[index]) {
@@ -98,26 +110,6 @@ impl ManagedHeap {
         self.heap().law();
         let reply = self.step(Actor::Worker(worker), &Step::Release(page));
         whether(reply)
-    }
-
-    /// Registers that name a protected page are corrected, those of a parked thread and of one with an
-    /// open barrier but for.
-    pub fn scrub_all(&mut self)
-        ensures { Goes IsScrub self.old self.new }
-    {
-        let threads = self.heap().config().threads;
-        for thread in 0..threads {
-            self.scrub_each(thread);
-        }
-    }
-
-    fn scrub_each(&mut self, thread: u32)
-        ensures { Goes IsScrub self.old self.new }
-    {
-        let registers = self.heap().config().registers;
-        for register in 0..registers {
-            let _ = self.scrub(thread, register);
-        }
     }
 }
 

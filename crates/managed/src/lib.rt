@@ -15,6 +15,7 @@ mod managed;
 mod mutating;
 mod preparing;
 mod scanning;
+mod scrubbing;
 
 pub use cycle::{Mutating, Stepping};
 pub use heap::{Config, Heap, NewFault, Refusal};

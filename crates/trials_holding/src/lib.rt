@@ -4,6 +4,8 @@
 #[cfg(test)]
 mod between;
 #[cfg(test)]
+mod choices;
+#[cfg(test)]
 mod counting;
 #[cfg(test)]
 mod faults;
@@ -17,6 +19,8 @@ mod marks;
 mod parts;
 #[cfg(test)]
 mod policies;
+#[cfg(test)]
+mod registers;
 #[cfg(test)]
 mod reports;
 #[cfg(test)]

@@ -1,11 +1,15 @@
-use Rattle.collecting.proofs.Collections.{cycle_then, cycle_stops}
+use Rattle.collecting.proofs.Collections.{cycle_then, cycle_stops, due_calm}
 use Rattle.collecting.proofs.cycles.run_cycle.Goals as goal
 
-pub returns-in-Ok : goal.returns-in-Ok
-returns-in-Ok c = cycle_then c.args.percent c.in-Ok.live c.args.heap.now c.mark_due.new.heap c.empty_behind.new.heap
+pub returns-in-Ok-clause-ends : goal.returns-in-Ok-clause-ends
+returns-in-Ok-clause-ends c = cycle_then c.args.percent c.in-Ok.live c.args.heap.now c.mark_due.new.heap c.empty_behind.new.heap
     c.mark_due.result c.empty_behind.result c.in-Ok.is c.mark_due.ensures.goes c.mark_due.ensures.ends
-    c.empty_behind.ensures
+    c.empty_behind.ensures.ends
 
-pub returns-in-Err : goal.returns-in-Err
-returns-in-Err c = cycle_stops c.args.percent c.args.heap.now c.mark_due.new.heap c.mark_due.result
+pub returns-in-Err-clause-ends : goal.returns-in-Err-clause-ends
+returns-in-Err-clause-ends c = cycle_stops c.args.percent c.args.heap.now c.mark_due.new.heap c.mark_due.result
     c.in-Err.refusal c.in-Err.is c.mark_due.ensures.goes c.mark_due.ensures.ends
+
+pub returns-in-Ok-clause-scrubbed : goal.returns-in-Ok-clause-scrubbed
+returns-in-Ok-clause-scrubbed c = c.empty_behind.ensures.scrubbed
+    (due_calm c.args.heap.now c.mark_due.new.heap c.mark_due.result c.in-Ok.live c.in-Ok.is c.mark_due.ensures.ends)

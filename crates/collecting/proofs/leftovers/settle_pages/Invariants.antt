@@ -1,6 +1,6 @@
-use Rattle.collecting.specs.Collections.{Collects}
+use Rattle.collecting.proofs.Collections.{LeftPages}
 use Rattle.collecting.proofs.leftovers.settle_pages.Given as goal
 
--- steps of a collection have led here
+-- the pages so far aren't being emptied
 abbrev pub invariant-loop-index : goal.invariant-loop-index
-invariant-loop-index l = Collects l.fn.heap l.heap
+invariant-loop-index l = LeftPages l.fn.heap l.index l.heap

@@ -1,9 +1,7 @@
-use Rattle.collecting.proofs.Collections.{none}
-use Rattle.collecting.proofs.Parted.{part_lacks}
+use Rattle.collecting.specs.Stages.{pages_in}
+use Rattle.collecting.proofs.Staged.{measures_lacks}
 use Rattle.collecting.proofs.parts.measure_part.Goals as goal
 
-pub returns-in-Ok-false : goal.returns-in-Ok-false
-returns-in-Ok-false c = none c.args.heap.now
-
 pub returns-in-Err : goal.returns-in-Err
-returns-in-Err c = part_lacks c.args.heap.now
+returns-in-Err c = measures_lacks c.args.percent (pages_in c.args.budget) c.args.parts.now c.measure.new.self
+    c.args.heap.now

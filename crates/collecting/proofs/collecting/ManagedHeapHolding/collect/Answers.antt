@@ -3,8 +3,8 @@ use Rattle.collecting.proofs.NotRoom.{collecting_not}
 use Rattle.collecting.proofs.collecting.ManagedHeapHolding.collect.Goals as goal
 
 pub returns-clause-stands : goal.returns-clause-stands
-returns-clause-stands c = unseen c.args.self.now c.collect_whole.new.heap c.collect_whole.ensures.0
+returns-clause-stands c = unseen c.args.self.now c.collect_whole.new.heap c.collect_whole.ensures.ends.0
 
 pub returns-clause-room : goal.returns-clause-room
 returns-clause-room c = collecting_not c.args.percent c.args.self.now c.collect_whole.result c.collect_whole.new.heap
-    c.collect_whole.ensures.1
+    c.collect_whole.ensures.ends.1

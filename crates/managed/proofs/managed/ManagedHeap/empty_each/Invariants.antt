@@ -1,7 +1,10 @@
-use Rattle.std.proofs.Common.{drop}
+use Rattle.std.proofs.Common.{◌≡◌, drop}
 use Rattle.managed.proofs.Emptied.{IsRest}
 use Rattle.managed.proofs.managed.ManagedHeap.empty_each.Given as goal
 
--- what is left ends as all of it does
+-- what is left ends as all of it does, in the phase of all of it
 abbrev pub invariant-loop-index : goal.invariant-loop-index
-invariant-loop-index l = IsRest l.worker l.fn.self l.pages l.self (drop l.index l.pages)
+invariant-loop-index l = record {
+  rest : IsRest l.worker l.fn.self l.pages l.self (drop l.index l.pages);
+  phase : l.self.phase ≡ l.fn.self.phase;
+}

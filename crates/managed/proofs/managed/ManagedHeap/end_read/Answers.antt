@@ -1,4 +1,4 @@
-use Rattle.std.proofs.Common.{sym, subst}
+use Rattle.std.proofs.Common.{subst}
 use Rattle.model.specs.Saying.{done}
 use Rattle.model.specs.States.{HeapState}
 use Rattle.model.specs.declared.steps.Actor.TheVariants.{Thread}
