@@ -141,8 +141,20 @@ pub(crate) fn store_global(
 }
 
 #[inline(always)]
-#[tactic(auto, unfolding(model::specs::Outcome::outcome))]
 pub(crate) fn datum(heap: &Heap, thread: u32, object: u32, index: u32) -> Result<u64, Refusal>
+    ensures { DoesThread answers.Datum heap.now thread (steps.Datum object index) result heap.now }
+{
+    match heap.datum_at_once(thread, object, index) {
+        Some(value) => Ok(value),
+        None => datum_by_tests(heap, thread, object, index),
+    }
+}
+
+/// The same by all tests in their order, which tell why it is refused.
+#[cold]
+#[inline(never)]
+#[tactic(auto, unfolding(model::specs::Outcome::outcome))]
+fn datum_by_tests(heap: &Heap, thread: u32, object: u32, index: u32) -> Result<u64, Refusal>
     ensures { DoesThread answers.Datum heap.now thread (steps.Datum object index) result heap.now }
 {
     thread_gate(heap, thread, &Step::Datum { object, index })?;

@@ -1,4 +1,4 @@
--- Where no collection runs, a load is done at once.
+-- Where no trap is due, a load is done at once.
 use Rattle.std.proofs.Common.{◌≡◌, ℕ, ◌==◌, ◌<◌, Bool, true, false, Option, Some, None, List, length, refl, nat_le, sym, subst, arith, ap, ◌∙◌, set, zero, suc, [], ◌∷◌}
 use Rattle.std.specs.Prelude.{Result, Ok, Err, if◌then◌else◌, slice_get, ◌/◌, ◌%◌, ◌+◌, ◌^◌, ◌||◌, ◌&&◌, not, nat_lt}
 use Rattle.std.specs.Option.{option_and_then}
@@ -10,7 +10,7 @@ use Rattle.model.specs.declared.records.Counter.TheVariants as counters
 use Rattle.model.specs.declared.records.Place.TheVariants as places
 use Rattle.model.specs.declared.records.Phase.{Phase}
 use Rattle.model.specs.declared.records.Phase.TheVariants.{Idle, MarkCrossing, Scanning, ProtectCrossing, Relocating}
-use Rattle.model.specs.Phases.{is_marking, may_nmt_trap}
+use Rattle.model.specs.Phases.{is_marking, may_nmt_trap, same_bit}
 use Rattle.model.specs.declared.steps.Actor.TheVariants.{Thread}
 use Rattle.model.specs.declared.steps.Answer.TheVariants as answers
 use Rattle.model.specs.declared.steps.Refusal.{Refusal}
@@ -37,19 +37,25 @@ use Rattle.heap.specs.AtOnce.{begun, LoadsAtOnce, NamesAtOnce, ReadsAtOnce, Uses
 
 -- ---- no trap is due
 
-no_nmt : (p : Phase) (crossed : Bool) → is_marking p ≡ false → may_nmt_trap p crossed ≡ false
-no_nmt Idle crossed e = refl
-no_nmt MarkCrossing crossed e = absurd (cc)
-no_nmt Scanning crossed e = absurd (cc)
-no_nmt ProtectCrossing crossed e = refl
-no_nmt Relocating crossed e = refl
+either_false : (b : Bool) → (if b then false else false) ≡ false
+either_false true = refl
+either_false false = refl
 
--- where no mark runs, no trap is due for a word on no protected page
+no_nmt : (p : Phase) (crossed due : Bool) → (is_marking p && due) ≡ false
+    → (if may_nmt_trap p crossed then due else false) ≡ false
+no_nmt p crossed false e = either_false (may_nmt_trap p crossed)
+no_nmt Idle crossed true e = refl
+no_nmt MarkCrossing crossed true e = absurd (cc)
+no_nmt Scanning crossed true e = absurd (cc)
+no_nmt ProtectCrossing crossed true e = refl
+no_nmt Relocating crossed true e = refl
+
+-- no trap is due for a word that is neither to be marked nor on a protected page
 pub quiet_clear : (g : HeapState) (t : ℕ) (w : Reference) → IsQuiet g w → trap_due g t w ≡ false
 unfolding trap_due let_through
 quiet_clear g t None q = refl
 quiet_clear g t (Some w) q =
-    rw (q.free, no_nmt g.phase (has_crossed (slice_get g.threads t)) q.unmarked) refl
+    rw (q.free, no_nmt g.phase (has_crossed (slice_get g.threads t)) (not (same_bit w.1 g.nmt)) q.marked) refl
 
 -- ---- the tests before a step
 
@@ -116,7 +122,7 @@ begun_stored h t target address i w k = k
 begun_quiet : (h : HeapState) (t target address i : ℕ) (w : Reference) → IsQuiet h w
     → IsQuiet (begun h t target address i w) w
 unfolding with_barrier
-begun_quiet h t target address i w q = record { unmarked = q.unmarked; free = q.free }
+begun_quiet h t target address i w q = record { marked = q.marked; free = q.free }
 
 -- where nothing is due what a load of a field reads is what its register gets, by Load and Finish
 pub at_once : (h : HeapState) (t target object i address place bits : ℕ) → IsStore h.store → IsHeap h → IsQuiet h (read_reference bits)

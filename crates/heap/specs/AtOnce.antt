@@ -1,5 +1,6 @@
--- Loads that are done at once, where no collection runs.
-use Rattle.std.specs.Prelude.{◌≡◌, ◌/◌, ℕ, Ok, Some, None, Bool, true, false, IfSome}
+-- Loads that are done at once, where no trap is due.
+use Rattle.std.specs.Prelude.{◌≡◌, ◌/◌, ◌&&◌, not, ℕ, Ok, Some, None, Bool, true, false, IfSome}
+use Rattle.refword.specs.Words.{mark_in}
 use Rattle.model.specs.declared.records.Counter.TheVariants as counters
 use Rattle.model.specs.declared.records.Place.TheVariants as places
 use Rattle.model.specs.declared.steps.Actor.TheVariants.{Thread}
@@ -14,7 +15,7 @@ use Rattle.model.specs.References.{read_reference, field_at}
 use Rattle.model.specs.Registers.{usable}
 use Rattle.model.specs.States.{Reference, HeapState}
 use Rattle.model.specs.Stores.{word_at, state_at, is_protected}
-use Rattle.model.specs.Phases.{is_marking}
+use Rattle.model.specs.Phases.{is_marking, same_bit}
 
 -- the heap after a load of reference i of the object at an address has begun, which has read a word
 abbrev pub begun : HeapState → ℕ → ℕ → ℕ → ℕ → Reference → HeapState
@@ -24,9 +25,13 @@ begun h t target address i w = with_barrier h t (new_barrier target (places.Fiel
 abbrev pub IsOpenTo : HeapState → ℕ → Type 0
 IsOpenTo h address = is_protected (state_at h.store (address / h.store.words)) ≡ false
 
--- no mark runs, and a word is on no protected page
+-- a mark runs, and the word hasn't the collector's NMT value
+abbrev pub mark_is_due : HeapState → Reference → Bool
+mark_is_due h w = is_marking h.phase && not (same_bit (mark_in w) h.nmt)
+
+-- a word is neither to be marked nor on a protected page
 pub record IsQuiet (h : HeapState) (w : Reference) : Type 0 where
-  pub unmarked : is_marking h.phase ≡ false
+  pub marked : mark_is_due h w ≡ false
   pub free : IfSome w (λ v. IsOpenTo h v.0)
 
 -- thread t may load a reference of the object at an address, which register object names, for register target

@@ -1,11 +1,10 @@
-//! Loads that are done at once, where nothing is due (ours): the paper's read barrier, whose test finds
-//! nothing.
+//! Loads and reads of data that are done at once, when nothing is due: the read barrier's fast path.
 
 ghost use Rattle.std.specs.Prelude.{◌≡◌, true, false, None, IfSome};
 ghost use Rattle.model.specs.declared.records.Barrier.{Barrier};
 ghost use Rattle.model.specs.declared.records.Counter.TheVariants as counters;
 ghost use Rattle.model.specs.Loads.{barrier_of_thread, with_barrier, with_loaded};
-ghost use Rattle.heap.specs.AtOnce.{IsOpenTo, IsQuiet, MayLoadAtOnce, NamesAtOnce, ReadsAtOnce, UsesAtOnce};
+ghost use Rattle.heap.specs.AtOnce.{IsOpenTo, IsQuiet, mark_is_due, MayLoadAtOnce, NamesAtOnce, ReadsAtOnce, UsesAtOnce};
 ghost use Rattle.heap.specs.AtOnce.{GivesDatum};
 
 use crate::heap::Heap;
@@ -25,13 +24,24 @@ impl Heap {
         )
     }
 
-    /// Whether no trap is due for a word, whatever thread has loaded it: no mark runs, and it is on no
-    /// protected page.
+    /// Whether a mark runs and a word hasn't the collector's NMT value.
+    #[inline(always)]
+    fn mark_is_due(&self, word: Word) -> bool
+        ensures { result ≡ mark_is_due self.now word }
+    {
+        if !self.phase.is_marking() {
+            return false;
+        }
+        word.nmt() != self.nmt
+    }
+
+    /// Whether no trap is due for a word, whatever thread has loaded it: it is neither to be marked nor
+    /// on a protected page.
     #[inline(always)]
     fn is_quiet(&self, word: Word) -> bool
         ensures { result ≡ true → IsQuiet self.now word }
     {
-        if self.phase.is_marking() {
+        if self.mark_is_due(word) {
             return false;
         }
         match word.addr() {
@@ -83,9 +93,8 @@ impl Heap {
         Some(read_reference(*bits))
     }
 
-    /// A whole load of a reference field of an object into a register, where nothing refuses it, no mark
-    /// runs, and no trap is due: then it is done, by what `Load` and `Finish` do, and the result is true.
-    /// Else nothing is done.
+    /// Loads a reference field of an object into a register, completely, if no test refuses it and no
+    /// trap is due: it then does what `Load` and `Finish` do, and returns true. Else nothing is done.
     #[inline(always)]
     pub fn load_at_once(&mut self, thread: u32, target: u32, object: u32, field: u32) -> bool
         ensures { MayLoadAtOnce result self.old thread target object field self.new }
