@@ -75,7 +75,8 @@ def structs_in_header(text):
 def structs_in_code(text):
     """The structs of the code that C knows, in the same form."""
     structs = {}
-    for name, fields in re.findall(r"#\[repr\(C\)\]\n(?:#\[[^\n]*\]\n)*pub struct (\w+OfC) \{\n(.*?)^\}", text, re.M | re.S):
+    found = re.findall(r"#\[repr\(C\)\]\n(?:#\[[^\n]*\]\n)*pub struct (\w+OfC) \{\n(.*?)^\}", text, re.M | re.S)
+    for name, fields in found:
         structs[TYPES[name]] = [(TYPES[kind], each) for each, kind in re.findall(r"pub (\w+): (\w+),", fields)]
     return structs
 

@@ -7,7 +7,7 @@ enum { THREADS = 3, REGISTERS = 5, GLOBALS = 4, LAYOUTS = 3, REFS = 3, NUMS = 4,
 
 static const pauseless_sizes sizes = {.words = 64, .frames = 4, .pages = 4, .threads = THREADS, .workers = 1,
                                       .registers = REGISTERS, .globals = GLOBALS, .births = UINT64_C(1) << 32};
-static const pauseless_layout layouts[LAYOUTS] = {{.refs = 1, .nums = 1}, {.refs = 3, .nums = 2}, {.refs = 0, .nums = 4}};
+static const pauseless_layout layouts[LAYOUTS] = {{.refs = 1, .nums = 1}, {.refs = 3, .nums = 2}, {.nums = 4}};
 static const pauseless_policy policy = {.words = 64, .free = 1, .percent = 70};
 
 static pauseless_heap heap = PAUSELESS_NONE;
