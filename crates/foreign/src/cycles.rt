@@ -36,7 +36,7 @@ fn give_collected(answer: Result<Collected, Refusal>, done: &mut CollectedOfC) -
     }
 }
 
-/// A whole collection. Refused as `Holding::collect` is.
+/// Does a complete collection. Fails as `Holding::collect` does.
 #[tactic(auto, using(crate::proofs::Calling::given))]
 #[unsafe(no_mangle)]
 pub extern "C" fn pauseless_collect(
@@ -56,8 +56,21 @@ pub extern "C" fn pauseless_collect(
     give_collected(answer, done)
 }
 
-/// The next part of a collection, with a budget of so many objects. Refused as `Holding::collect_some` is.
-#[tactic(auto, using(crate::proofs::Calling::parted))]
+/// Does the next part of the collection of a heap.
+fn collect_part(
+    alloc: Global,
+    held: &mut Held,
+    percent: u32,
+    budget: u32,
+) -> Result<bool, Refusal>
+    ensures { PartOf held.old.heap result held.new.heap }
+{
+    held.heap
+        .collect_some(alloc, &mut held.parts, percent, budget)
+}
+
+/// Does the next part of a collection, with a budget of so many objects. Fails as `Holding::collect_some` does.
+#[tactic(auto, using(crate::proofs::Calling::given))]
 #[unsafe(no_mangle)]
 pub extern "C" fn pauseless_collect_some(
     alloc: Global,
@@ -72,11 +85,7 @@ pub extern "C" fn pauseless_collect_some(
     let Some(mut held) = heap.take(alloc) else {
         return NO_HEAP;
     };
-    let Held {
-        heap: inside,
-        parts,
-    } = &mut *held;
-    let answer = inside.collect_some(alloc, parts, percent, budget);
+    let answer = collect_part(alloc, &mut held, percent, budget);
     heap.put(held);
     give_truth(answer, has_ended)
 }
