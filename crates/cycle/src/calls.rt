@@ -107,8 +107,26 @@ pub(crate) fn finish(heap: &mut Heap, thread: u32) -> Result<(), Refusal>
 }
 
 #[inline(always)]
-#[tactic(auto, unfolding(model::specs::Outcome::outcome))]
 pub(crate) fn store(
+    heap: &mut Heap,
+    thread: u32,
+    object: u32,
+    field: u32,
+    source: u32,
+) -> Result<(), Refusal>
+    ensures { DoesThread done heap.old thread (steps.Store object field source) result heap.new }
+{
+    match heap.store_at_once(thread, object, field, source) {
+        true => Ok(()),
+        false => store_by_tests(heap, thread, object, field, source),
+    }
+}
+
+/// The same by all tests in their order, which tell why it is refused.
+#[cold]
+#[inline(never)]
+#[tactic(auto, unfolding(model::specs::Outcome::outcome))]
+fn store_by_tests(
     heap: &mut Heap,
     thread: u32,
     object: u32,
@@ -162,8 +180,26 @@ fn datum_by_tests(heap: &Heap, thread: u32, object: u32, index: u32) -> Result<u
 }
 
 #[inline(always)]
-#[tactic(auto, unfolding(model::specs::Outcome::outcome))]
 pub(crate) fn set_datum(
+    heap: &mut Heap,
+    thread: u32,
+    object: u32,
+    index: u32,
+    value: u64,
+) -> Result<(), Refusal>
+    ensures { DoesThread done heap.old thread (steps.SetDatum object index value) result heap.new }
+{
+    match heap.set_datum_at_once(thread, object, index, value) {
+        true => Ok(()),
+        false => set_datum_by_tests(heap, thread, object, index, value),
+    }
+}
+
+/// The same by all tests in their order, which tell why it is refused.
+#[cold]
+#[inline(never)]
+#[tactic(auto, unfolding(model::specs::Outcome::outcome))]
+fn set_datum_by_tests(
     heap: &mut Heap,
     thread: u32,
     object: u32,

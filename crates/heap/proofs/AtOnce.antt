@@ -1,6 +1,6 @@
 -- Where no trap is due, a load is done at once.
 use Rattle.std.proofs.Common.{◌≡◌, ℕ, ◌==◌, ◌<◌, Bool, true, false, Option, Some, None, List, length, refl, nat_le, sym, subst, arith, ap, ◌∙◌, set, zero, suc, [], ◌∷◌}
-use Rattle.std.specs.Prelude.{Result, Ok, Err, if◌then◌else◌, slice_get, ◌/◌, ◌%◌, ◌+◌, ◌^◌, ◌||◌, ◌&&◌, not, nat_lt}
+use Rattle.std.specs.Prelude.{Result, Ok, Err, IfSome, if◌then◌else◌, slice_get, ◌/◌, ◌%◌, ◌+◌, ◌^◌, ◌||◌, ◌&&◌, not, nat_lt}
 use Rattle.std.specs.Option.{option_and_then}
 use Rattle.std.proofs.lemmas.Bool.{or_parts, leb-false}
 use Rattle.std.proofs.lemmas.Option.{slice_get_within, same_Some}
@@ -21,19 +21,19 @@ use Rattle.model.specs.Loads.{with_barrier, with_loaded, new_barrier, trap_due, 
 use Rattle.model.specs.Outcome.{outcome, thread_gate, Passes, has_bad_index, is_for_workers, is_for_parked}
 use Rattle.model.specs.Outcome.{no_register}
 use Rattle.model.specs.Owning.{IsStore, Each}
-use Rattle.model.specs.References.{read_reference, field_at}
-use Rattle.model.specs.Registers.{let_through, usable, register_of, use_word}
+use Rattle.model.specs.References.{read_reference, field_at, store_outcome}
+use Rattle.model.specs.Registers.{let_through, usable, usable_or_null, register_of, use_word, use_or_null}
 use Rattle.model.specs.States.{Reference, HeapState, ThreadState, change_at, flat}
-use Rattle.model.specs.Data.{layout_at, datum_at, datum_outcome}
+use Rattle.model.specs.Data.{layout_at, datum_at, datum_outcome, set_datum_outcome}
 use Rattle.layout.specs.declared.shape.Layout.{Layout}
 use Rattle.page.proofs.Behind.{word_on_page}
-use Rattle.model.specs.Stores.{StoreState, page_at, word_at, words_at, word_in, at_offset}
+use Rattle.model.specs.Stores.{StoreState, page_at, word_at, words_at, word_in, at_offset, with_word}
 use Rattle.model.specs.Stores.{frame_in, spot_of}
 use Rattle.model.specs.Threads.{is_parked_in, set_barrier_of, set_loaded_of, barrier_of, has_crossed}
 use Rattle.heap.proofs.Keeping.{thread_keeps}
 use Rattle.model.proofs.Lists.{get_within, get_set_same}
 use Rattle.model.proofs.Tables.{length_changed}
-use Rattle.heap.specs.AtOnce.{begun, LoadsAtOnce, NamesAtOnce, ReadsAtOnce, UsesAtOnce, IsOpenTo, IsQuiet}
+use Rattle.heap.specs.AtOnce.{begun, LoadsAtOnce, NamesAtOnce, ReadsAtOnce, SourceAtOnce, UsesAtOnce, IsOpenTo, IsQuiet}
 
 -- ---- no trap is due
 
@@ -377,3 +377,37 @@ datum_read h t object a j ws o header value l k uses page is head named few read
   where
     less_true : (i n : ℕ) → i < n → nat_lt i n ≡ true
     less_true i n l = grind arith
+
+-- ---- writes
+
+null_or_free : (h : HeapState) (t : ℕ) (w : Reference) → IfSome w (λ v. IsOpenTo h v.0)
+    → (o : Option ℕ) × (use_or_null h t w ≡ Ok o)
+unfolding let_through
+null_or_free h t None k = (None, refl)
+null_or_free h t (Some v) k = (Some v.0, rw k refl)
+
+-- a register that is null, or whose word is on no protected page
+pub source_at_once : (h : HeapState) (t r : ℕ) (w : Reference) → nat_le h.config.registers r ≡ false
+    → w ≡ register_of h t r → IfSome w (λ v. IsOpenTo h v.0) → SourceAtOnce h t r w
+unfolding usable_or_null no_register
+source_at_once h t r w there is free =
+    let used = null_or_free h t w free in
+    record { there = there; named = sym is; address = used.0; usable = rw (sym is) used.1 }
+
+pub stored : (h g : HeapState) (t object i source a k : ℕ) (w : Reference) → UsesAtOnce h t object a
+    → SourceAtOnce h t source w → field_at h a i ≡ Some (a + k)
+    → g ≡ record h { store = with_word h.store (a + k) (bits_of w) }
+    → outcome h (Thread t) (steps.Store object i source) ≡ Ok (g, answers.Done)
+unfolding outcome store_outcome
+stored h g t object i source a k w u s f e =
+    let good : has_bad_index h (steps.Store object i source) ≡ false = rw (u.there, s.there) refl in
+    let gate : Passes h t (steps.Store object i source) = u.passes (steps.Store object i source) refl good in
+    rw (gate, u.usable, f, s.usable, s.named, e) refl
+
+pub datum_set : (h g : HeapState) (t object j value a k : ℕ) → UsesAtOnce h t object a → datum_at h a j ≡ Some (a + k)
+    → g ≡ record h { store = with_word h.store (a + k) value }
+    → outcome h (Thread t) (steps.SetDatum object j value) ≡ Ok (g, answers.Done)
+unfolding outcome set_datum_outcome
+datum_set h g t object j value a k u f e =
+    let gate : Passes h t (steps.SetDatum object j value) = u.passes (steps.SetDatum object j value) refl u.there in
+    rw (gate, u.usable, f, e) refl

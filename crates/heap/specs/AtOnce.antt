@@ -1,5 +1,5 @@
 -- Loads that are done at once, where no trap is due.
-use Rattle.std.specs.Prelude.{◌≡◌, ◌/◌, ◌&&◌, not, ℕ, Ok, Some, None, Bool, true, false, IfSome}
+use Rattle.std.specs.Prelude.{◌≡◌, ◌/◌, ◌&&◌, not, ℕ, Option, Ok, Some, None, Bool, true, false, IfSome}
 use Rattle.refword.specs.Words.{mark_in}
 use Rattle.model.specs.declared.records.Counter.TheVariants as counters
 use Rattle.model.specs.declared.records.Place.TheVariants as places
@@ -12,7 +12,7 @@ use Rattle.model.specs.Loads.{with_barrier, new_barrier, barrier_of_thread}
 use Rattle.model.specs.declared.steps.Step.{Step}
 use Rattle.model.specs.Outcome.{outcome, Passes, is_for_workers, has_bad_index, no_register}
 use Rattle.model.specs.References.{read_reference, field_at}
-use Rattle.model.specs.Registers.{usable}
+use Rattle.model.specs.Registers.{register_of, usable, usable_or_null}
 use Rattle.model.specs.States.{Reference, HeapState}
 use Rattle.model.specs.Stores.{word_at, state_at, is_protected}
 use Rattle.model.specs.Phases.{is_marking, same_bit}
@@ -67,6 +67,18 @@ pub record UsesAtOnce (h : HeapState) (t object address : ℕ) : Type 0 where
   pub passes : (s : Step) → is_for_workers s ≡ false → has_bad_index h s ≡ false → Passes h t s
   pub there : no_register h object ≡ false
   pub usable : usable h t object ≡ Ok address
+
+-- what register r of thread t holds: null, or a word that the thread may use
+pub record SourceAtOnce (h : HeapState) (t r : ℕ) (w : Reference) : Type 0 where
+  pub there : no_register h r ≡ false
+  pub named : register_of h t r ≡ w
+  pub address : Option ℕ
+  pub usable : usable_or_null h t r ≡ Ok address
+
+-- true if a step of thread t is done at once, and false if nothing is done
+abbrev pub MayDoAtOnce : Bool → HeapState → ℕ → Step → HeapState → Type 0
+MayDoAtOnce true h t s g = outcome h (Thread t) s ≡ Ok (g, answers.Done)
+MayDoAtOnce false h t s g = g ≡ h
 
 -- a datum is read
 abbrev pub GivesDatum : HeapState → ℕ → ℕ → ℕ → ℕ → Type 0

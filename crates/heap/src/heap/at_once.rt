@@ -5,9 +5,11 @@ ghost use Rattle.model.specs.declared.records.Barrier.{Barrier};
 ghost use Rattle.model.specs.declared.records.Counter.TheVariants as counters;
 ghost use Rattle.model.specs.Loads.{barrier_of_thread, with_barrier, with_loaded};
 ghost use Rattle.heap.specs.AtOnce.{IsOpenTo, IsQuiet, mark_is_due, MayLoadAtOnce, NamesAtOnce, ReadsAtOnce, UsesAtOnce};
-ghost use Rattle.heap.specs.AtOnce.{GivesDatum};
+ghost use Rattle.heap.specs.AtOnce.{GivesDatum, MayDoAtOnce, SourceAtOnce};
+ghost use Rattle.model.specs.declared.steps.Step.TheVariants as steps;
 
 use crate::heap::Heap;
+use crate::heap::edits::RawEdits;
 use crate::heap::references::read_reference;
 use model::PageState;
 use refword::{Addr, Word};
@@ -160,5 +162,66 @@ impl Heap {
         }
         let value = words.get(offset + 1 + layout.refs as usize + index as usize)?;
         Some(*value)
+    }
+
+    /// Whether a word is null or on no protected page.
+    #[inline(always)]
+    fn is_free(&self, word: Word) -> bool
+        ensures { result ≡ true → IfSome word (λ v. IsOpenTo self.now v.0) }
+    {
+        match word.addr() {
+            None => true,
+            Some(address) => self.is_open_to(address),
+        }
+    }
+
+    /// The word in a register of a thread, by their numbers from 0, if it is null or may be used.
+    #[inline(always)]
+    fn source_at_once(&self, thread: u32, register: u32) -> Option<Word>
+        ensures { IfSome result (SourceAtOnce self.now thread register) }
+    {
+        if register >= self.config.registers {
+            return None;
+        }
+        let word = self.register(thread, register);
+        if !self.is_free(word) {
+            return None;
+        }
+        Some(word)
+    }
+
+    /// Stores a register's word in a reference field of an object, if no test refuses it. Returns whether
+    /// it is done; else nothing is.
+    #[inline(always)]
+    pub fn store_at_once(&mut self, thread: u32, object: u32, field: u32, source: u32) -> bool
+        ensures { MayDoAtOnce result self.old thread (steps.Store object field source) self.new }
+    {
+        let Some(address) = self.object_at_once(thread, object) else {
+            return false;
+        };
+        let Some(word) = self.source_at_once(thread, source) else {
+            return false;
+        };
+        let Some(ahead) = self.field_behind(address, field) else {
+            return false;
+        };
+        self.raw_set_word_behind(address, ahead, word.bits());
+        true
+    }
+
+    /// Writes a data word of an object, if no test refuses it. Returns whether it is done; else nothing
+    /// is.
+    #[inline(always)]
+    pub fn set_datum_at_once(&mut self, thread: u32, object: u32, index: u32, value: u64) -> bool
+        ensures { MayDoAtOnce result self.old thread (steps.SetDatum object index value) self.new }
+    {
+        let Some(address) = self.object_at_once(thread, object) else {
+            return false;
+        };
+        let Some(ahead) = self.datum_behind(address, index) else {
+            return false;
+        };
+        self.raw_set_word_behind(address, ahead, value);
+        true
     }
 }

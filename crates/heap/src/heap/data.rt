@@ -30,7 +30,7 @@ impl Heap {
     /// How many words behind the address of an object a data word of it stands.
     #[inline(always)]
     #[tactic(auto, unfolding(model::specs::Data::datum_at))]
-    fn datum_behind(&self, address: Addr, index: u32) -> Option<u64>
+    pub(crate) fn datum_behind(&self, address: Addr, index: u32) -> Option<u64>
         ensures value { option_map (λ k. address + k) result ≡ datum_at self.now address index }
         ensures near { IfSome result (λ k. k < 2 ^ 17) }
     {
