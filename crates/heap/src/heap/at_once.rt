@@ -37,6 +37,17 @@ impl Heap {
         word.nmt() != self.nmt
     }
 
+    /// Whether a word is null or on no protected page.
+    #[inline(always)]
+    fn is_free(&self, word: Word) -> bool
+        ensures { result ≡ true → IfSome word (λ v. IsOpenTo self.now v.0) }
+    {
+        match word.addr() {
+            None => true,
+            Some(address) => self.is_open_to(address),
+        }
+    }
+
     /// Whether no trap is due for a word, whatever thread has loaded it: it is neither to be marked nor
     /// on a protected page.
     #[inline(always)]
@@ -46,10 +57,7 @@ impl Heap {
         if self.mark_is_due(word) {
             return false;
         }
-        match word.addr() {
-            None => true,
-            Some(address) => self.is_open_to(address),
-        }
+        self.is_free(word)
     }
 
     /// The address of the object that a register of a thread names, where the thread may load a reference
@@ -162,17 +170,6 @@ impl Heap {
         }
         let value = words.get(offset + 1 + layout.refs as usize + index as usize)?;
         Some(*value)
-    }
-
-    /// Whether a word is null or on no protected page.
-    #[inline(always)]
-    fn is_free(&self, word: Word) -> bool
-        ensures { result ≡ true → IfSome word (λ v. IsOpenTo self.now v.0) }
-    {
-        match word.addr() {
-            None => true,
-            Some(address) => self.is_open_to(address),
-        }
     }
 
     /// The word in a register of a thread, by their numbers from 0, if it is null or may be used.
