@@ -36,9 +36,9 @@ typedef struct pauseless_heap {
 /* A handle without a heap: pauseless_heap heap = PAUSELESS_NONE; */
 #define PAUSELESS_NONE {0, NULL}
 
-/* The codes, each with its text; the texts are those of pauseless_text. A program whose heap one caller uses by these
- * calls alone meets NO_ACTOR, BAD_INDEX, NULL, NO_ROOM, HAS_BUFFER, NO_FRAMES, NO_PAGES, BIRTHS and MEMORY, and when it
- * makes a heap those of ranges. */
+/* The codes, each with its text; the texts are those of pauseless_text. A program that uses a heap by these calls alone
+ * should expect NO_HEAP, HAS_HEAP, NO_ACTOR, BAD_INDEX, NULL, NO_ROOM, HAS_BUFFER, NO_FRAMES, NO_PAGES, BIRTHS and
+ * MEMORY, and RANGE_OF_.. when it makes a heap. Tests met no other code (docs/C.md). */
 #define PAUSELESS_CODES(CODE) \
     CODE(DONE, 0, "done") \
     CODE(NO_HEAP, 1, "the handle has no heap") \

@@ -1,12 +1,16 @@
 #!/bin/sh
-# The library for C: that the header's codes are those of the code, that the programs of examples/c print what stands
-# beside them, and that all memory is given back. The library is ./libpauseless.a, or what the first argument names.
-# Where valgrind isn't there, nothing looks for memory that is left.
+# Tests the library for C: that the header's codes, functions and structs are those of the code; that the programs of
+# examples/c print what their files NAME.expected have; that each function does what it should with its arguments, and
+# writes nothing if it fails (tests/c/calls.c); that random calls answer what a plain heap would (tests/c/random.c); and
+# that all memory is given back, that each request for memory may be refused, and that a verification looks at the heap
+# (tests/c/memory.c). With valgrind, that no program leaks memory or reads what it hasn't written. The library is
+# ./libpauseless.a, or the one that the first argument names.
 
 cd "$(dirname "$0")/.." || exit 1
 . tests/begin.sh
 library=${1:-./libpauseless.a}
 CC=${CC:-cc}
+PYTHON=${PYTHON:-python3}
 
 # told WHAT STATUS: counts a test.
 told() {
@@ -35,16 +39,52 @@ in_code > "$kept/code"
 [ -s "$kept/code" ] && cmp -s "$kept/header" "$kept/code"
 told 'the codes of the header' $?
 
-for source in examples/c/*.c; do
+"$PYTHON" tests/header.py
+told 'the functions and structs of the header' $?
+
+# The functions of the header, and those of the library.
+sed -nE 's/^(pauseless_code|void) (pauseless_[a-z_]+)\(.*/\2/p' include/pauseless.h | sort > "$kept/declared"
+nm -g "$library" 2> "$kept/errors" | sed -nE 's/^[0-9a-f]+ T (pauseless_[a-z_]+)$/\1/p' | sort > "$kept/exported"
+[ -s "$kept/declared" ] && cmp -s "$kept/declared" "$kept/exported"
+told 'the library has the functions of the header' $?
+
+while read -r name; do
+    grep -q "[ (]$name(" tests/c/calls.c || echo "calls.c has no $name" >> "$kept/missing"
+done < "$kept/declared"
+[ ! -e "$kept/missing" ]
+told 'calls.c has each function of the header' $?
+
+# build SOURCE FLAGS..: a program of the same name in $kept.
+build() {
+    source=$1
     name=$(basename "$source" .c)
-    $CC -std=c11 -O2 -Wall -Wextra -Werror -Iinclude "$source" "$library" -o "$kept/$name"
+    shift
+    $CC -std=c11 -O2 -Wall -Wextra -Werror -Iinclude "$source" "$library" "$@" -o "$kept/$name"
     told "$name is built" $?
-    "$kept/$name" > "$kept/output" && cmp -s "$kept/output" "examples/c/$name.expected"
-    told "$name prints what stands beside it" $?
+}
+
+# leaves NAME: that a program leaves no memory, where valgrind is there.
+leaves() {
     if command -v valgrind > /dev/null; then
-        valgrind -q --leak-check=full --error-exitcode=9 "$kept/$name" > /dev/null
-        told "$name leaves no memory" $?
+        valgrind -q --leak-check=full --error-exitcode=9 "$kept/$1" > /dev/null
+        told "$1 leaves no memory" $?
     fi
+}
+
+for source in examples/c/*.c; do
+    build "$source"
+    "$kept/$name" > "$kept/output" && cmp -s "$kept/output" "examples/c/$name.expected"
+    told "$name prints what it should" $?
+    leaves "$name"
+done
+
+build tests/c/calls.c
+build tests/c/random.c
+build tests/c/memory.c -Wl,--wrap=malloc -Wl,--wrap=realloc -Wl,--wrap=free
+for name in calls random memory; do
+    "$kept/$name"
+    told "$name finds no difference" $?
+    leaves "$name"
 done
 echo "$passed passed, $failed failed"
 [ "$failed" = 0 ]

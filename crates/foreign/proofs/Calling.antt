@@ -1,13 +1,14 @@
 -- What a call did, by what was held before it and behind it.
 use Rattle.std.proofs.Common.{◌≡◌, ℕ, Bool, Option, Some, subst}
-use Rattle.std.specs.Prelude.{Result, IfOk}
+use Rattle.std.specs.Prelude.{Result, MatchResult}
 use Rattle.model.specs.declared.steps.Refusal.{Refusal}
 use Rattle.model.specs.declared.steps.Step.{Step}
 use Rattle.model.specs.declared.steps.Answer.{Answer}
 use Rattle.cycle.specs.Mutating.{DoesThread, ThreadStands}
 use Rattle.managed.specs.Collecting.{StandsUnseen}
 use Rattle.managed.specs.Goings.{LoadsWhole, LoadStands}
-use Rattle.collecting.specs.Collections.{Collects}
+use Rattle.collecting.specs.Collections.{Collects, IsNotRoom}
+use Rattle.collecting.specs.Parts.{EndsPart}
 use Rattle.model.specs.States.{HeapState}
 use Rattle.foreign.specs.declared.held.Held.{Held}
 use Rattle.foreign.specs.Codes.{code_of}
@@ -18,19 +19,20 @@ pub called : {A : Type 0} (P : HeapState → Result A Refusal → HeapState → 
     → Some b ≡ old → P b.heap r g.heap → code ≡ code_of r → new ≡ Some g → Calls P old code new
 called P b old r code g new was did says is = subst (λ (o : Option Held). Calls P o code new) was (r, g, did, says, is)
 
-pub given : {A : Type 0} (P : HeapState → Result A Refusal → HeapState → Type 0) (Q : A → Type 0) (b : Held)
-    (old : Option Held) (r : Result A Refusal) (code : ℕ) (g : Held) (new : Option Held)
-    → Some b ≡ old → P b.heap r g.heap → IfOk r Q → code ≡ code_of r → new ≡ Some g → Gives P Q old code new
-given P Q b old r code g new was did gave says is =
-    subst (λ (o : Option Held). Gives P Q o code new) was (r, g, did, gave, says, is)
+pub given : {A : Type 0} (P : HeapState → Result A Refusal → HeapState → Type 0) (Q : A → Type 0) (S : Type 0)
+    (b : Held) (old : Option Held) (r : Result A Refusal) (code : ℕ) (g : Held) (new : Option Held)
+    → Some b ≡ old → P b.heap r g.heap → MatchResult r Q (λ _. S) → code ≡ code_of r → new ≡ Some g
+    → Gives P Q S old code new
+given P Q S b old r code g new was did gave says is =
+    subst (λ (o : Option Held). Gives P Q S o code new) was (r, g, did, gave, says, is)
 
 -- the same of a look by a step of thread t
-pub looked : {A : Type 0} (answer : A → Answer) (t : ℕ) (step : Step) (Q : A → Type 0) (b : Held) (old : Option Held)
-    (r : Result A Refusal) (code : ℕ) (new : Option Held)
+pub looked : {A : Type 0} (answer : A → Answer) (t : ℕ) (step : Step) (Q : A → Type 0) (S : Type 0) (b : Held)
+    (old : Option Held) (r : Result A Refusal) (code : ℕ) (new : Option Held)
     → Some b ≡ old → DoesThread answer b.heap t step r b.heap → ThreadStands answer b.heap t step r b.heap
-    → IfOk r Q → code ≡ code_of r → new ≡ Some b → Gives (Stepped answer t step) Q old code new
-looked answer t step Q b old r code new was does stands gave says is =
-    given (Stepped answer t step) Q b old r code b new was (does, stands) gave says is
+    → MatchResult r Q (λ _. S) → code ≡ code_of r → new ≡ Some b → Gives (Stepped answer t step) Q S old code new
+looked answer t step Q S b old r code new was does stands gave says is =
+    given (Stepped answer t step) Q S b old r code b new was (does, stands) gave says is
 
 -- the same of a whole load
 pub loaded : (t : ℕ) (begin : Step) (b : Held) (old : Option Held) (r : Result Unit Refusal) (code : ℕ) (g : Held)
@@ -41,9 +43,9 @@ loaded t begin b old r code g new was loads stands says is =
     called (Loaded t begin) b old r code g new was (loads, stands) says is
 
 -- the same of a part of a collection
-pub parted : (Q : Bool → Type 0) (b : Held) (old : Option Held) (r : Result Bool Refusal) (code : ℕ) (g : Held)
-    (new : Option Held)
-    → Some b ≡ old → Collects b.heap g.heap → StandsUnseen b.heap g.heap
-    → IfOk r Q → code ≡ code_of r → new ≡ Some g → Gives PartOf Q old code new
-parted Q b old r code g new was goes stands gave says is =
-    given PartOf Q b old r code g new was (goes, stands) gave says is
+pub parted : (Q : Bool → Type 0) (S : Type 0) (b : Held) (old : Option Held) (r : Result Bool Refusal) (code : ℕ)
+    (g : Held) (new : Option Held)
+    → Some b ≡ old → Collects b.heap g.heap → EndsPart b.heap r g.heap → StandsUnseen b.heap g.heap → IsNotRoom r
+    → MatchResult r Q (λ _. S) → code ≡ code_of r → new ≡ Some g → Gives PartOf Q S old code new
+parted Q S b old r code g new was goes ends stands room gave says is =
+    given PartOf Q S b old r code g new was (goes, ends, stands, room) gave says is

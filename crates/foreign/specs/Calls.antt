@@ -1,5 +1,5 @@
 -- What a call did to the heap that a handle holds.
-use Rattle.std.specs.Prelude.{◌≡◌, ℕ, Bool, Option, Some, None, Result, IfOk}
+use Rattle.std.specs.Prelude.{◌≡◌, ℕ, Bool, Option, Some, None, Result, MatchResult}
 use Rattle.model.specs.declared.records.Buffer.{Buffer}
 use Rattle.model.specs.declared.steps.Step.{Step}
 use Rattle.model.specs.declared.steps.Answer.{Answer}
@@ -8,9 +8,10 @@ use Rattle.model.specs.States.{HeapState}
 use Rattle.cycle.specs.Mutating.{DoesThread, ThreadStands}
 use Rattle.collecting.specs.declared.collecting.Collected.{Collected}
 use Rattle.collecting.specs.declared.seeing.Object.{Object}
-use Rattle.collecting.specs.Collections.{Collects, EndsCollecting}
+use Rattle.collecting.specs.Collections.{Collects, EndsCollecting, IsNotRoom}
 use Rattle.collecting.specs.Objects.{seen}
-use Rattle.collecting.specs.Rooms.{EndsMaking, EndsRefill, MakingStands}
+use Rattle.collecting.specs.Parts.{EndsPart}
+use Rattle.collecting.specs.Rooms.{EndsMaking, EndsRefill, MakingStands, Refills}
 use Rattle.managed.specs.Collecting.{StandsUnseen}
 use Rattle.managed.specs.Goings.{LoadsWhole, LoadStands}
 use Rattle.foreign.specs.declared.held.Held.{Held}
@@ -26,12 +27,14 @@ Calls P None code new = (code ≡ NO_HEAP) × (new ≡ None)
 Calls {A} P (Some h) code new =
     (r : Result A Refusal) × (g : Held) × P h.heap r g.heap × (code ≡ code_of r) × (new ≡ Some g)
 
--- the same; where it was done, what it gave is so
-abbrev pub Gives : {A : Type 0} → (HeapState → Result A Refusal → HeapState → Type 0) → (A → Type 0)
+-- the same for a call that writes its result through a pointer: Q says what stands there if the call was done, and S
+-- that nothing was written
+abbrev pub Gives : {A : Type 0} → (HeapState → Result A Refusal → HeapState → Type 0) → (A → Type 0) → Type 0
     → Option Held → ℕ → Option Held → Type 0
-Gives P Q None code new = (code ≡ NO_HEAP) × (new ≡ None)
-Gives {A} P Q (Some h) code new =
-    (r : Result A Refusal) × (g : Held) × P h.heap r g.heap × IfOk r Q × (code ≡ code_of r) × (new ≡ Some g)
+Gives P Q S None code new = (code ≡ NO_HEAP) × (new ≡ None) × S
+Gives {A} P Q S (Some h) code new =
+    (r : Result A Refusal) × (g : Held) × P h.heap r g.heap × MatchResult r Q (λ _. S) × (code ≡ code_of r)
+    × (new ≡ Some g)
 
 -- a step of thread t did what its outcome says; and where the heap stood for a plain heap, it does after the step
 abbrev pub Stepped : {A : Type 0} → (A → Answer) → ℕ → Step → HeapState → Result A Refusal → HeapState → Type 0
@@ -48,7 +51,7 @@ Made words percent t target layout h r g =
 
 -- thread t was to get a fresh buffer, for which the heap was collected where there was no room
 abbrev pub Refilled : ℕ → ℕ → ℕ → HeapState → Result Buffer Refusal → HeapState → Type 0
-Refilled words percent t h r g = EndsRefill t words percent h r g × StandsUnseen h g
+Refilled words percent t h r g = Refills t h g × EndsRefill t words percent h r g × StandsUnseen h g
 
 -- what register r of thread t names was looked at, and nothing changed
 abbrev pub Sees : ℕ → ℕ → HeapState → Result Object Refusal → HeapState → Type 0
@@ -56,11 +59,11 @@ Sees t register h r g = (r ≡ seen h t register) × (g ≡ h)
 
 -- a whole collection, which the plain heap doesn't see
 abbrev pub CollectedBy : ℕ → HeapState → Result Collected Refusal → HeapState → Type 0
-CollectedBy percent h r g = EndsCollecting percent h r g × StandsUnseen h g
+CollectedBy percent h r g = Collects h g × EndsCollecting percent h r g × StandsUnseen h g × IsNotRoom r
 
 -- a part of one
 abbrev pub PartOf : HeapState → Result Bool Refusal → HeapState → Type 0
-PartOf h r g = Collects h g × StandsUnseen h g
+PartOf h r g = Collects h g × EndsPart h r g × StandsUnseen h g × IsNotRoom r
 
 -- what C gets of an object, and of a collection
 abbrev pub IsSeen : ObjectOfC → Object → Type 0

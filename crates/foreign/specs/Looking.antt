@@ -1,5 +1,5 @@
 -- Looks at the heap that a handle holds.
-use Rattle.std.specs.Prelude.{◌≡◌, ◌⊎◌, ℕ, Option, Some, None}
+use Rattle.std.specs.Prelude.{◌≡◌, ◌⊎◌, ℕ, Option, Some, None, count_by, is_none}
 use Rattle.model.specs.States.{HeapState}
 use Rattle.foreign.specs.declared.held.Held.{Held}
 use Rattle.foreign.specs.declared.looking.CountsOfC.{CountsOfC}
@@ -7,12 +7,16 @@ use Rattle.foreign.specs.Codes.{NO_HEAP, NO_MEMORY}
 
 -- what there is of a heap
 abbrev pub IsCountOf : HeapState → CountsOfC → Type 0
-IsCountOf h c = (c.births ≡ h.births) × (c.words ≡ h.config.words) × (c.frames ≡ h.config.frames)
+IsCountOf h c =
+    (c.births ≡ h.births)
+    × (c.words ≡ h.config.words)
+    × (c.frames ≡ h.config.frames)
+    × (c.free ≡ count_by is_none h.store.owners)
 
--- C gets it, where there is a heap
-abbrev pub Counts : Option Held → ℕ → CountsOfC → Type 0
-Counts None code c = code ≡ NO_HEAP
-Counts (Some h) code c = (code ≡ 0) × IsCountOf h.heap c
+-- C gets it if there is a heap; else what was there stays
+abbrev pub Counts : Option Held → ℕ → CountsOfC → CountsOfC → Type 0
+Counts None code old new = (code ≡ NO_HEAP) × (new ≡ old)
+Counts (Some h) code old new = (code ≡ 0) × IsCountOf h.heap new
 
 -- the heap is sound, or memory was refused
 abbrev pub Verifies : ℕ → Type 0

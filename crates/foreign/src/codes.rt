@@ -1,6 +1,6 @@
 //! The codes that calls answer C: 0 where a call was done, else why it wasn't.
 
-ghost use Rattle.std.specs.Prelude.{◌≡◌, IfOk};
+ghost use Rattle.std.specs.Prelude.{◌≡◌, MatchResult};
 ghost use Rattle.foreign.specs.Codes.{code_of, config_code, refusal_code};
 
 use model::{ConfigFault, Refusal};
@@ -85,10 +85,10 @@ pub(crate) fn code(answer: Result<(), Refusal>) -> u32
     }
 }
 
-/// The code of a call that gives a number, which C gets.
+/// The code of a call that gives a number, which is written for C if the call was done.
 pub(crate) fn give_number(answer: Result<u64, Refusal>, number: &mut u64) -> u32
     ensures code { result ≡ code_of answer }
-    ensures number { IfOk answer (λ n. number.new ≡ n) }
+    ensures number { MatchResult answer (λ n. number.new ≡ n) (λ _. number.new ≡ number.old) }
 {
     match answer {
         Ok(n) => {
@@ -99,10 +99,10 @@ pub(crate) fn give_number(answer: Result<u64, Refusal>, number: &mut u64) -> u32
     }
 }
 
-/// The code of a call that gives a truth, which C gets.
+/// The code of a call that gives a truth, which is written for C if the call was done.
 pub(crate) fn give_truth(answer: Result<bool, Refusal>, truth: &mut bool) -> u32
     ensures code { result ≡ code_of answer }
-    ensures truth { IfOk answer (λ t. truth.new ≡ t) }
+    ensures truth { MatchResult answer (λ t. truth.new ≡ t) (λ _. truth.new ≡ truth.old) }
 {
     match answer {
         Ok(t) => {

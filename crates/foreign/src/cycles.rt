@@ -1,6 +1,6 @@
 //! Collections.
 
-ghost use Rattle.std.specs.Prelude.{◌≡◌, IfOk};
+ghost use Rattle.std.specs.Prelude.{◌≡◌, MatchResult};
 ghost use Rattle.foreign.specs.Codes.{code_of};
 ghost use Rattle.foreign.specs.Calls.{Gives, CollectedBy, PartOf, IsTold};
 
@@ -21,10 +21,10 @@ pub struct CollectedOfC {
     pub emptied: u64,
 }
 
-/// The code of a collection, and what it has done, which C gets.
+/// The code of a collection. What it has done is written for C if it was done.
 fn give_collected(answer: Result<Collected, Refusal>, done: &mut CollectedOfC) -> u32
     ensures code { result ≡ code_of answer }
-    ensures done { IfOk answer (IsTold done.new) }
+    ensures done { MatchResult answer (IsTold done.new) (λ _. done.new ≡ done.old) }
 {
     match answer {
         Ok(collected) => {
@@ -36,7 +36,7 @@ fn give_collected(answer: Result<Collected, Refusal>, done: &mut CollectedOfC) -
     }
 }
 
-/// A whole collection. Refused as `Holding::collect` is.
+/// Does a complete collection. Fails as `Holding::collect` does.
 #[tactic(auto, using(crate::proofs::Calling::given))]
 #[unsafe(no_mangle)]
 pub extern "C" fn pauseless_collect(
@@ -45,7 +45,8 @@ pub extern "C" fn pauseless_collect(
     percent: u32,
     done: &mut CollectedOfC,
 ) -> u32
-    ensures { Gives (CollectedBy percent) (IsTold done.new) heap.old.slot.held result heap.new.slot.held }
+    ensures { Gives (CollectedBy percent) (IsTold done.new) (done.new ≡ done.old) heap.old.slot.held result
+        heap.new.slot.held }
 {
     let Some(mut held) = heap.take(alloc) else {
         return NO_HEAP;
@@ -55,8 +56,21 @@ pub extern "C" fn pauseless_collect(
     give_collected(answer, done)
 }
 
-/// The next part of a collection, with a budget of so many objects. Refused as `Holding::collect_some` is.
-#[tactic(auto, using(crate::proofs::Calling::parted))]
+/// Does the next part of the collection of a heap.
+fn collect_part(
+    alloc: Global,
+    held: &mut Held,
+    percent: u32,
+    budget: u32,
+) -> Result<bool, Refusal>
+    ensures { PartOf held.old.heap result held.new.heap }
+{
+    held.heap
+        .collect_some(alloc, &mut held.parts, percent, budget)
+}
+
+/// Does the next part of a collection, with a budget of so many objects. Fails as `Holding::collect_some` does.
+#[tactic(auto, using(crate::proofs::Calling::given))]
 #[unsafe(no_mangle)]
 pub extern "C" fn pauseless_collect_some(
     alloc: Global,
@@ -65,16 +79,13 @@ pub extern "C" fn pauseless_collect_some(
     budget: u32,
     has_ended: &mut bool,
 ) -> u32
-    ensures { Gives PartOf (λ x. has_ended.new ≡ x) heap.old.slot.held result heap.new.slot.held }
+    ensures { Gives PartOf (λ x. has_ended.new ≡ x) (has_ended.new ≡ has_ended.old) heap.old.slot.held result
+        heap.new.slot.held }
 {
     let Some(mut held) = heap.take(alloc) else {
         return NO_HEAP;
     };
-    let Held {
-        heap: inside,
-        parts,
-    } = &mut *held;
-    let answer = inside.collect_some(alloc, parts, percent, budget);
+    let answer = collect_part(alloc, &mut held, percent, budget);
     heap.put(held);
     give_truth(answer, has_ended)
 }

@@ -22,8 +22,8 @@ pub extern "C" fn pauseless_get(
     index: u32,
     value: &mut u64,
 ) -> u32
-    ensures { Gives (Stepped answers.Datum thread (steps.Datum object index)) (λ x. value.new ≡ x) heap.old.slot.held
-        result heap.new.slot.held }
+    ensures { Gives (Stepped answers.Datum thread (steps.Datum object index)) (λ x. value.new ≡ x)
+        (value.new ≡ value.old) heap.old.slot.held result heap.new.slot.held }
 {
     let Some(held) = heap.take(alloc) else {
         return NO_HEAP;

@@ -40,7 +40,7 @@ fn count(heap: &ManagedHeap) -> CountsOfC
 /// Counts what there is of a heap.
 #[unsafe(no_mangle)]
 pub extern "C" fn pauseless_count(alloc: Global, heap: &mut Handle, counts: &mut CountsOfC) -> u32
-    ensures counts { Counts heap.old.slot.held result counts.new }
+    ensures counts { Counts heap.old.slot.held result counts.old counts.new }
     ensures same { heap.new.slot.held ≡ heap.old.slot.held }
 {
     let Some(held) = heap.take(alloc) else {

@@ -1,6 +1,6 @@
 //! Buffers and objects.
 
-ghost use Rattle.std.specs.Prelude.{◌≡◌, IfOk};
+ghost use Rattle.std.specs.Prelude.{◌≡◌, MatchResult};
 ghost use Rattle.model.specs.Saying.{done, lent};
 ghost use Rattle.model.specs.declared.steps.Step.TheVariants as steps;
 ghost use Rattle.model.specs.declared.steps.Answer.TheVariants as answers;
@@ -42,7 +42,9 @@ pub struct ObjectOfC {
 }
 
 fn policy_of(policy: &PolicyOfC) -> Policy
-    ensures { (result.words ≡ policy.now.words) × (result.percent ≡ policy.now.percent) }
+    ensures words { result.words ≡ policy.now.words }
+    ensures free { result.free ≡ policy.now.free }
+    ensures percent { result.percent ≡ policy.now.percent }
 {
     Policy {
         words: policy.words,
@@ -154,10 +156,10 @@ pub extern "C" fn pauseless_refill(
     code_of(answer)
 }
 
-/// The code of a look at an object, which C gets.
+/// The code of a look at an object, which is written for C if there is one.
 fn give_object(answer: Result<Object, Refusal>, object: &mut ObjectOfC) -> u32
     ensures code { result ≡ code_of answer }
-    ensures object { IfOk answer (IsSeen object.new) }
+    ensures object { MatchResult answer (IsSeen object.new) (λ _. object.new ≡ object.old) }
 {
     match answer {
         Ok(seen) => {
@@ -181,7 +183,8 @@ pub extern "C" fn pauseless_look(
     register: u32,
     object: &mut ObjectOfC,
 ) -> u32
-    ensures { Gives (Sees thread register) (IsSeen object.new) heap.old.slot.held result heap.new.slot.held }
+    ensures { Gives (Sees thread register) (IsSeen object.new) (object.new ≡ object.old) heap.old.slot.held result
+        heap.new.slot.held }
 {
     let Some(held) = heap.take(alloc) else {
         return NO_HEAP;

@@ -140,8 +140,8 @@ pub extern "C" fn pauseless_same(
     right: u32,
     is_so: &mut bool,
 ) -> u32
-    ensures { Gives (Stepped answers.Truth thread (steps.Same left right)) (λ x. is_so.new ≡ x) heap.old.slot.held
-        result heap.new.slot.held }
+    ensures { Gives (Stepped answers.Truth thread (steps.Same left right)) (λ x. is_so.new ≡ x)
+        (is_so.new ≡ is_so.old) heap.old.slot.held result heap.new.slot.held }
 {
     let Some(held) = heap.take(alloc) else {
         return NO_HEAP;
@@ -161,8 +161,8 @@ pub extern "C" fn pauseless_is_null(
     register: u32,
     is_so: &mut bool,
 ) -> u32
-    ensures { Gives (Stepped answers.Truth thread (steps.IsNull register)) (λ x. is_so.new ≡ x) heap.old.slot.held
-        result heap.new.slot.held }
+    ensures { Gives (Stepped answers.Truth thread (steps.IsNull register)) (λ x. is_so.new ≡ x)
+        (is_so.new ≡ is_so.old) heap.old.slot.held result heap.new.slot.held }
 {
     let Some(held) = heap.take(alloc) else {
         return NO_HEAP;

@@ -27,18 +27,17 @@ fn give_text(text: &[u8], room: &mut [u8])
     room[..n].copy_from_slice(&text[..n]);
 }
 
-/// Writes how a heap stands, in lines of ASCII text, the first bytes of it as far as there is room, and tells
-/// how many bytes the whole text has (ours). The code is that the handle has no heap, or that memory was
-/// refused.
+/// Writes the report of a heap, in lines of ASCII text, to `text` as far as there is room, and its length in
+/// bytes to `length`. Fails if the handle has no heap, or if memory is refused; then nothing is written.
 #[unsafe(no_mangle)]
 pub extern "C" fn pauseless_report(
     alloc: Global,
     heap: &mut Handle,
-    room: &mut [u8],
+    text: &mut [u8],
     length: &mut u64,
 ) -> u32
     ensures same { heap.new.slot.held ≡ heap.old.slot.held }
-    ensures told { Reports heap.old.slot.held result room.old room.new length.new }
+    ensures told { Reports heap.old.slot.held result text.old text.new length.old length.new }
 {
     let Some(held) = heap.take(alloc) else {
         return NO_HEAP;
@@ -46,9 +45,9 @@ pub extern "C" fn pauseless_report(
     let told = text_of(alloc, held.heap.heap());
     heap.put(held);
     match told {
-        Ok(text) => {
-            give_text(&text, room);
-            *length = text.len() as u64;
+        Ok(report) => {
+            give_text(&report, text);
+            *length = report.len() as u64;
             DONE
         }
         Err(_) => NO_MEMORY,

@@ -1,4 +1,4 @@
-//! Hints come out oldest first.
+//! Hints come out oldest first, and of the deque that a steal names.
 
 use crate::same::{same, same_at};
 use crate::taking::{pop, push, steal};
@@ -52,5 +52,38 @@ fn oldest_first(rt: HostRuntime) -> Result<(), Fail> {
         }
         _ => assert!(rt; false, "there are two seats"),
     }
+    Ok(())
+}
+
+/// Each of three seats pushes a number of its own.
+fn push_each(rt: &impl Abort, seats: &mut [HintSeat]) {
+    let mut number = 1;
+    for seat in seats {
+        same_at(rt, number, push(seat, number), true);
+        number = number.wrapping_add(1);
+    }
+}
+
+/// Each of three seats steals the number of the next one, and then, when all have pushed again, of the one before.
+fn steal_crosswise(rt: &impl Abort, seats: &mut [HintSeat]) {
+    push_each(rt, seats);
+    steal_each(rt, seats, [1, 2, 0]);
+    push_each(rt, seats);
+    steal_each(rt, seats, [2, 0, 1]);
+}
+
+/// Each of three seats steals from the seat of this number, which has pushed one more than that.
+fn steal_each(rt: &impl Abort, seats: &mut [HintSeat], from: [u32; 3]) {
+    for (seat, number) in seats.iter_mut().zip(from) {
+        same_at(rt, number, steal(seat, number), Some(u64::from(number) + 1));
+        same_at(rt, number, steal(seat, number), None);
+    }
+}
+
+#[test]
+fn from_whom_is_named(rt: HostRuntime) -> Result<(), Fail> {
+    let mut seats = Hints::new(rt.alloc(), 3)?;
+    same(&rt, seats.len(), 3);
+    steal_crosswise(&rt, seats.as_mut_slice());
     Ok(())
 }

@@ -1,0 +1,363 @@
+/* Each function of the header, with arguments of which no two can be exchanged unnoticed; and that a call which isn't
+ * done writes nothing. tests/c.sh looks that each name of the header is in this file. */
+#include "same.h"
+#include <string.h>
+
+/* Three threads of five registers, four globals, and eight frames of 64 words. */
+static const pauseless_sizes sizes = {.words = 64, .frames = 8, .pages = 24, .threads = 3, .workers = 2,
+                                      .registers = 5, .globals = 4, .births = 1000};
+
+/* Objects of 3, 6 and 5 words. */
+static const pauseless_layout layouts[] = {{.refs = 1, .nums = 1}, {.refs = 3, .nums = 2}, {.refs = 0, .nums = 4}};
+
+static pauseless_heap heap = PAUSELESS_NONE;
+
+static void makes_heap(void) { DONE(pauseless_new(&heap, &sizes, layouts, 3)); }
+
+static void usual_sizes(void) {
+    pauseless_sizes usual;
+    pauseless_usual(64, 8, &usual);
+    SAME(usual.words, 64);
+    SAME(usual.frames, 8);
+    SAME(usual.pages, 16);
+    SAME(usual.threads, 1);
+    SAME(usual.workers, 1);
+    SAME(usual.registers, 16);
+    SAME(usual.globals, 64);
+    SAME(usual.births, UINT64_C(1) << 32);
+}
+
+/* Each size has the code of its own range. */
+static void ranges(void) {
+    pauseless_sizes wrong[8];
+    for (int i = 0; i < 8; i++) wrong[i] = sizes;
+    wrong[0].words = 48;
+    wrong[1].frames = 0;
+    wrong[2].pages = 7;
+    wrong[3].threads = 65;
+    wrong[4].workers = 17;
+    wrong[5].registers = 17;
+    wrong[6].globals = 65;
+    wrong[7].births = 0;
+    for (int i = 0; i < 7; i++) SAME(pauseless_new(&heap, &wrong[i], layouts, 3), PAUSELESS_RANGE_OF_WORDS + i);
+    SAME(pauseless_new(&heap, &wrong[7], layouts, 3), PAUSELESS_RANGE_OF_BIRTHS);
+    SAME(pauseless_new(&heap, &sizes, layouts, 0), PAUSELESS_RANGE_OF_LAYOUTS);
+}
+
+static void counts_are(uint64_t births, uint32_t free) {
+    pauseless_counts counts;
+    DONE(pauseless_count(&heap, &counts));
+    SAME(counts.births, births);
+    SAME(counts.words, 64);
+    SAME(counts.frames, 8);
+    SAME(counts.free, free);
+}
+
+static uint32_t free_frames(void) {
+    pauseless_counts counts = {0};
+    DONE(pauseless_count(&heap, &counts));
+    return counts.free;
+}
+
+/* A buffer of 20 words has room for four objects of layout 2. */
+static void buffers(void) {
+    makes_heap();
+    SAME(pauseless_new(&heap, &sizes, layouts, 3), PAUSELESS_HAS_HEAP);
+    counts_are(0, 8);
+    SAME(pauseless_new_object(&heap, 1, 4, 2), PAUSELESS_NO_ROOM);
+    SAME(pauseless_take(&heap, 1, 65), PAUSELESS_BAD_INDEX);
+    DONE(pauseless_take(&heap, 1, 20));
+    SAME(pauseless_take(&heap, 1, 20), PAUSELESS_HAS_BUFFER);
+    for (int i = 0; i < 4; i++) DONE(pauseless_new_object(&heap, 1, 4, 2));
+    SAME(pauseless_new_object(&heap, 1, 4, 2), PAUSELESS_NO_ROOM);
+    counts_are(4, 7);
+    SAME(pauseless_give_back(&heap, 2), PAUSELESS_NO_ROOM);
+    DONE(pauseless_give_back(&heap, 1));
+    SAME(pauseless_give_back(&heap, 1), PAUSELESS_NO_ROOM);
+    pauseless_free(&heap);
+}
+
+static void object_is(uint32_t thread, uint32_t reg, pauseless_object wanted) {
+    pauseless_object object;
+    DONE(pauseless_look(&heap, thread, reg, &object));
+    SAME(object.birth, wanted.birth);
+    SAME(object.layout, wanted.layout);
+    SAME(object.refs, wanted.refs);
+    SAME(object.nums, wanted.nums);
+}
+
+static bool is_null(uint32_t thread, uint32_t reg) {
+    bool is_so = false;
+    DONE(pauseless_is_null(&heap, thread, reg, &is_so));
+    return is_so;
+}
+
+static bool is_same(uint32_t thread, uint32_t left, uint32_t right) {
+    bool is_so = false;
+    DONE(pauseless_same(&heap, thread, left, right, &is_so));
+    return is_so;
+}
+
+/* A fresh buffer of 32 words has room for six objects of layout 2; and make gets one by itself. */
+static void fresh_buffers(void) {
+    const pauseless_policy policy = {.words = 32, .free = 0, .percent = 75};
+    makes_heap();
+    DONE(pauseless_refill(&heap, &policy, 1));
+    for (int i = 0; i < 6; i++) DONE(pauseless_new_object(&heap, 1, 4, 2));
+    SAME(pauseless_new_object(&heap, 1, 4, 2), PAUSELESS_NO_ROOM);
+    DONE(pauseless_make(&heap, &policy, 2, 3, 1));
+    object_is(2, 3, (pauseless_object){.birth = 6, .layout = 1, .refs = 3, .nums = 2});
+    object_is(1, 4, (pauseless_object){.birth = 5, .layout = 2, .refs = 0, .nums = 4});
+    SAME(is_null(2, 4), true);
+    SAME(is_null(1, 3), true);
+    pauseless_free(&heap);
+}
+
+/* Pages without a live object are emptied for a fresh buffer if at most policy.free frames are free, and only then. */
+static void frames_that_are_low(void) {
+    const pauseless_policy never = {.words = 64, .free = 0, .percent = 50};
+    const pauseless_policy always = {.words = 64, .free = 8, .percent = 50};
+    makes_heap();
+    for (int i = 0; i < 4; i++) DONE(pauseless_refill(&heap, &never, 1));
+    counts_are(0, 4);
+    DONE(pauseless_make(&heap, &never, 1, 4, 2));
+    DONE(pauseless_clear(&heap, 1, 4));
+    DONE(pauseless_refill(&heap, &never, 1));
+    counts_are(1, 3);
+    DONE(pauseless_refill(&heap, &always, 1));
+    counts_are(1, 7);
+    pauseless_free(&heap);
+}
+
+/* Register 3 of thread 2 has an object of layout 1, register 0 one of layout 0, and the others are null. */
+static void makes_two(void) {
+    const pauseless_policy policy = {.words = 64, .free = 1, .percent = 75};
+    makes_heap();
+    DONE(pauseless_make(&heap, &policy, 2, 3, 1));
+    DONE(pauseless_make(&heap, &policy, 2, 0, 0));
+}
+
+static void references(void) {
+    makes_two();
+    DONE(pauseless_store(&heap, 2, 3, 1, 0));
+    DONE(pauseless_load(&heap, 2, 4, 3, 1));
+    SAME(is_same(2, 4, 0), true);
+    SAME(is_same(2, 4, 3), false);
+    DONE(pauseless_load(&heap, 2, 4, 3, 0));
+    SAME(is_null(2, 4), true);
+    DONE(pauseless_load(&heap, 2, 4, 3, 2));
+    SAME(is_null(2, 4), true);
+    SAME(pauseless_load(&heap, 2, 4, 3, 3), PAUSELESS_BAD_INDEX);
+    SAME(pauseless_load(&heap, 2, 4, 1, 0), PAUSELESS_NULL);
+    pauseless_free(&heap);
+}
+
+static void globals(void) {
+    makes_two();
+    DONE(pauseless_store_global(&heap, 2, 3, 0));
+    DONE(pauseless_load_global(&heap, 2, 1, 3));
+    SAME(is_same(2, 1, 0), true);
+    DONE(pauseless_load_global(&heap, 2, 1, 0));
+    SAME(is_null(2, 1), true);
+    DONE(pauseless_load_global(&heap, 1, 4, 3));
+    object_is(1, 4, (pauseless_object){.birth = 1, .layout = 0, .refs = 1, .nums = 1});
+    SAME(pauseless_load_global(&heap, 2, 1, 4), PAUSELESS_BAD_INDEX);
+    pauseless_free(&heap);
+}
+
+static void registers(void) {
+    makes_two();
+    DONE(pauseless_copy(&heap, 2, 1, 3));
+    SAME(is_same(2, 1, 3), true);
+    SAME(is_same(2, 1, 0), false);
+    DONE(pauseless_clear(&heap, 2, 1));
+    SAME(is_null(2, 1), true);
+    SAME(is_null(2, 3), false);
+    SAME(pauseless_clear(&heap, 3, 1), PAUSELESS_NO_ACTOR);
+    SAME(pauseless_clear(&heap, 2, 5), PAUSELESS_BAD_INDEX);
+    pauseless_free(&heap);
+}
+
+static uint64_t datum(uint32_t thread, uint32_t object, uint32_t index) {
+    uint64_t value = 0;
+    DONE(pauseless_get(&heap, thread, object, index, &value));
+    return value;
+}
+
+static void data(void) {
+    const uint64_t large = UINT64_C(0xfedcba9876543210);
+    makes_two();
+    DONE(pauseless_set(&heap, 2, 3, 1, large));
+    SAME(datum(2, 3, 1), large);
+    SAME(datum(2, 3, 0), 0);
+    SAME(datum(2, 0, 0), 0);
+    SAME(pauseless_set(&heap, 2, 3, 2, 1), PAUSELESS_BAD_INDEX);
+    pauseless_free(&heap);
+}
+
+/* Five pages, each with one live object of layout 0 in a list from global 3, and dead ones behind it. */
+static void makes_sparse(void) {
+    const pauseless_policy policy = {.words = 64, .free = 0, .percent = 0};
+    makes_heap();
+    for (int page = 0; page < 5; page++) {
+        DONE(pauseless_refill(&heap, &policy, 2));
+        DONE(pauseless_new_object(&heap, 2, 3, 0));
+        DONE(pauseless_load_global(&heap, 2, 0, 3));
+        DONE(pauseless_store(&heap, 2, 3, 0, 0));
+        DONE(pauseless_store_global(&heap, 2, 3, 3));
+        for (int i = 0; i < 12; i++) DONE(pauseless_new_object(&heap, 2, 4, 2));
+    }
+    DONE(pauseless_clear(&heap, 2, 0));
+    DONE(pauseless_clear(&heap, 2, 3));
+    DONE(pauseless_clear(&heap, 2, 4));
+    DONE(pauseless_give_back(&heap, 2));
+    SAME(free_frames(), 3);
+}
+
+/* The objects of the list, by their births from the newest on: one in 13. */
+static void list_is_whole(void) {
+    DONE(pauseless_load_global(&heap, 2, 1, 3));
+    for (uint32_t page = 5; page-- > 0;) {
+        object_is(2, 1, (pauseless_object){.birth = 13 * page, .layout = 0, .refs = 1, .nums = 1});
+        DONE(pauseless_load(&heap, 2, 1, 1, 0));
+    }
+    SAME(is_null(2, 1), true);
+    DONE(pauseless_verify(&heap));
+}
+
+/* Pages with more live words of a hundred than the percent stay; of five sparse ones the objects go to one page. */
+static void collections(void) {
+    pauseless_collected done;
+    makes_sparse();
+    DONE(pauseless_collect(&heap, 0, &done));
+    SAME(done.live, 5);
+    SAME(done.emptied, 0);
+    DONE(pauseless_collect(&heap, 100, &done));
+    SAME(done.live, 5);
+    SAME(done.emptied, 5);
+    SAME(free_frames(), 7);
+    list_is_whole();
+    pauseless_free(&heap);
+}
+
+/* How many parts a collection takes; 1,000 where it doesn't end before. */
+static unsigned parts_of(uint32_t percent, uint32_t budget) {
+    for (unsigned parts = 1; parts < 1000; parts++) {
+        bool has_ended = false;
+        DONE(pauseless_collect_some(&heap, percent, budget, &has_ended));
+        DONE(pauseless_verify(&heap));
+        if (has_ended) return parts;
+    }
+    return 1000;
+}
+
+/* The same in parts: scans take more of them with a budget of one object, and only a collection that may empty the
+ * pages does. */
+static void parts(void) {
+    makes_sparse();
+    const unsigned few = parts_of(0, 1000);
+    const unsigned more = parts_of(0, 1);
+    SAME(few < more && more < 1000, true);
+    SAME(free_frames(), 3);
+    SAME(parts_of(100, 1000) < 1000, true);
+    SAME(free_frames(), 7);
+    list_is_whole();
+    pauseless_free(&heap);
+}
+
+/* The first bytes of the text that there is room for, and no other. */
+static void reports(void) {
+    char text[8] = "-------";
+    uint64_t length = 0, whole = 0;
+    makes_two();
+    DONE(pauseless_report(&heap, text, 5, &length));
+    SAME(strcmp(text, "phase--"), 0);
+    DONE(pauseless_report(&heap, text, 0, &whole));
+    SAME(whole, length);
+    SAME(whole > 100, true);
+    pauseless_free(&heap);
+}
+
+/* Calls that fail at the heap's registers, and write nothing. */
+static void unwritten(void) {
+    pauseless_object object = {.birth = 11, .layout = 12, .refs = 13, .nums = 14};
+    bool is_so = true;
+    uint64_t value = 15;
+    makes_heap();
+    SAME(pauseless_look(&heap, 2, 3, &object), PAUSELESS_NULL);
+    SAME(object.birth == 11 && object.layout == 12 && object.refs == 13 && object.nums == 14, true);
+    SAME(pauseless_same(&heap, 2, 3, 5, &is_so), PAUSELESS_BAD_INDEX);
+    SAME(is_so, true);
+    SAME(pauseless_is_null(&heap, 2, 5, &is_so), PAUSELESS_BAD_INDEX);
+    SAME(is_so, true);
+    is_so = false;
+    SAME(pauseless_same(&heap, 3, 0, 0, &is_so), PAUSELESS_NO_ACTOR);
+    SAME(is_so, false);
+    SAME(pauseless_is_null(&heap, 3, 0, &is_so), PAUSELESS_NO_ACTOR);
+    SAME(is_so, false);
+    SAME(pauseless_get(&heap, 2, 3, 0, &value), PAUSELESS_NULL);
+    SAME(value, 15);
+    pauseless_free(&heap);
+}
+
+/* Calls that write something for C, of a handle without a heap. */
+static void unwritten_without_heap(void) {
+    pauseless_object object = {.birth = 11};
+    pauseless_collected done = {.live = 12, .emptied = 13};
+    pauseless_counts counts = {.births = 14, .words = 15, .frames = 16, .free = 17};
+    bool is_so = true;
+    uint64_t value = 18;
+    char text[] = "-";
+    SAME(pauseless_look(&heap, 0, 0, &object), PAUSELESS_NO_HEAP);
+    SAME(pauseless_same(&heap, 0, 0, 0, &is_so), PAUSELESS_NO_HEAP);
+    SAME(pauseless_is_null(&heap, 0, 0, &is_so), PAUSELESS_NO_HEAP);
+    SAME(pauseless_get(&heap, 0, 0, 0, &value), PAUSELESS_NO_HEAP);
+    SAME(pauseless_collect(&heap, 75, &done), PAUSELESS_NO_HEAP);
+    SAME(pauseless_collect_some(&heap, 75, 9, &is_so), PAUSELESS_NO_HEAP);
+    SAME(pauseless_count(&heap, &counts), PAUSELESS_NO_HEAP);
+    SAME(pauseless_report(&heap, text, 1, &value), PAUSELESS_NO_HEAP);
+    SAME(object.birth, 11);
+    SAME(done.live == 12 && done.emptied == 13, true);
+    SAME(counts.births == 14 && counts.words == 15 && counts.frames == 16 && counts.free == 17, true);
+    SAME(is_so, true);
+    SAME(value, 18);
+    SAME(text[0], '-');
+}
+
+/* The other calls, of a handle without a heap. */
+static void without_heap(void) {
+    const pauseless_policy policy = {.words = 32, .free = 1, .percent = 75};
+    SAME(pauseless_take(&heap, 0, 16), PAUSELESS_NO_HEAP);
+    SAME(pauseless_give_back(&heap, 0), PAUSELESS_NO_HEAP);
+    SAME(pauseless_new_object(&heap, 0, 0, 0), PAUSELESS_NO_HEAP);
+    SAME(pauseless_make(&heap, &policy, 0, 0, 0), PAUSELESS_NO_HEAP);
+    SAME(pauseless_refill(&heap, &policy, 0), PAUSELESS_NO_HEAP);
+    SAME(pauseless_load(&heap, 0, 0, 0, 0), PAUSELESS_NO_HEAP);
+    SAME(pauseless_store(&heap, 0, 0, 0, 0), PAUSELESS_NO_HEAP);
+    SAME(pauseless_load_global(&heap, 0, 0, 0), PAUSELESS_NO_HEAP);
+    SAME(pauseless_store_global(&heap, 0, 0, 0), PAUSELESS_NO_HEAP);
+    SAME(pauseless_copy(&heap, 0, 0, 0), PAUSELESS_NO_HEAP);
+    SAME(pauseless_clear(&heap, 0, 0), PAUSELESS_NO_HEAP);
+    SAME(pauseless_set(&heap, 0, 0, 0, 0), PAUSELESS_NO_HEAP);
+    SAME(pauseless_verify(&heap), PAUSELESS_NO_HEAP);
+    pauseless_free(&heap);
+}
+
+int main(void) {
+    usual_sizes();
+    ranges();
+    buffers();
+    fresh_buffers();
+    frames_that_are_low();
+    references();
+    globals();
+    registers();
+    data();
+    collections();
+    parts();
+    reports();
+    unwritten();
+    unwritten_without_heap();
+    without_heap();
+    return differences > 0;
+}
