@@ -1,6 +1,7 @@
 -- Pages that are chosen, as many as there is room for.
 use Rattle.std.proofs.Common.{◌≡◌, ◌∙◌, ℕ, zero, suc, ◌+◌, ◌*◌, ◌^◌, ◌<◌, ◌≤◌, Bool, true, false, not, cond, List, []}
-use Rattle.std.proofs.Common.{◌∷◌, ◌++◌, length, map, take, get_or, nat_le, nat_lt, nat_eq, Option, Some, None, refl, sym}
+use Rattle.std.proofs.Common.{◌∷◌, ◌++◌, length, map, take, get_or, nat_le, nat_lt, nat_eq, Option, Some, None}
+use Rattle.std.proofs.Common.{refl, sym}
 use Rattle.std.proofs.Common.{subst, ap, inl, inr, arith}
 use Rattle.std.specs.Prelude.{◌&&◌, ◌||◌, IsPermutation}
 use Rattle.std.specs.List.{slice_get, list_all}

@@ -77,6 +77,10 @@ abbrev pub RefillsBy : (HeapState → HeapState → Type 0) → ℕ → ℕ → 
     → Type 0
 RefillsBy Q t n percent h r g = Refills t h g × EndsTaking Q t n percent h r g
 
+-- the same of all of it
+abbrev pub RefillsWhole : ℕ → ℕ → ℕ → HeapState → Result Buffer Refusal → HeapState → Type 0
+RefillsWhole t n percent h r g = RefillsBy (HasTriedAll t percent) t n percent h r g
+
 -- a refusal that isn't for a buffer that the thread has
 abbrev pub IsNotHeld : {A : Type 0} → Result A Refusal → Type 0
 IsNotHeld (Ok x) = Unit {0}

@@ -2,7 +2,7 @@
 
 ghost use Rattle.std.specs.Prelude.{◌≡◌};
 ghost use Rattle.collecting.specs.Collections.{lacks_room};
-ghost use Rattle.collecting.specs.Rooms.{EndsMaking, HasMarkedSince, HasTriedAll, IsAny, RefillsBy};
+ghost use Rattle.collecting.specs.Rooms.{EndsMaking, HasMarkedSince, IsAny, RefillsBy, RefillsWhole};
 
 use crate::collecting::collect_whole;
 use crate::cycles::mark_whole;
@@ -61,7 +61,7 @@ fn collect_and_take(
     policy: Policy,
     thread: u32,
 ) -> Result<Buffer, Refusal>
-    ensures { RefillsBy (HasTriedAll thread policy.percent) thread policy.words policy.percent heap.old result heap.new }
+    ensures { RefillsWhole thread policy.words policy.percent heap.old result heap.new }
 {
     match collect_whole(heap, alloc, policy.percent) {
         Ok(_) => take_or_mark(heap, policy, thread),
@@ -76,7 +76,7 @@ fn take_or_collect(
     policy: Policy,
     thread: u32,
 ) -> Result<Buffer, Refusal>
-    ensures { RefillsBy (HasTriedAll thread policy.percent) thread policy.words policy.percent heap.old result heap.new }
+    ensures { RefillsWhole thread policy.words policy.percent heap.old result heap.new }
 {
     match take(heap, policy, thread) {
         Ok(buffer) => Ok(buffer),
@@ -97,7 +97,7 @@ fn take_by_policy(
     policy: Policy,
     thread: u32,
 ) -> Result<Buffer, Refusal>
-    ensures { RefillsBy (HasTriedAll thread policy.percent) thread policy.words policy.percent heap.old result heap.new }
+    ensures { RefillsWhole thread policy.words policy.percent heap.old result heap.new }
 {
     if heap.heap().memory().free_frames() <= policy.free {
         collect_and_take(heap, alloc, policy, thread)
@@ -113,7 +113,7 @@ pub(crate) fn refill(
     policy: Policy,
     thread: u32,
 ) -> Result<Buffer, Refusal>
-    ensures { RefillsBy (HasTriedAll thread policy.percent) thread policy.words policy.percent heap.old result heap.new }
+    ensures { RefillsWhole thread policy.words policy.percent heap.old result heap.new }
 {
     let _ = heap.give_back(thread);
     take_by_policy(heap, alloc, policy, thread)

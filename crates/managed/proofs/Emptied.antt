@@ -43,7 +43,8 @@ use Rattle.managed.specs.Emptying.{EndsRelease, Empties, EmptiesProtected, wheth
 use Rattle.managed.proofs.Going.{goes_none, goes_then}
 use Rattle.managed.proofs.Gathering.{collect_step, crossings_collect, scrubs_collect}
 use Rattle.managed.proofs.Running.{runs_one}
-use Rattle.managed.proofs.Frames.{SameFrames, bare_same, copy_page_phase, copy_page_row, crossings_same_frames, free_same}
+use Rattle.managed.proofs.Frames.{SameFrames, bare_same, copy_page_phase, copy_page_row, crossings_same_frames}
+use Rattle.managed.proofs.Frames.{free_same}
 use Rattle.managed.proofs.Frames.{scrubs_same_frames, state_same}
 
 -- ---- a page gives its memory up

@@ -180,7 +180,8 @@ scan_goes w h m g step result is does keeps k =
     goes_step (IsScan w) h m g (Worker w) step result (refl, next_scans m w step is) does keeps k
 
 -- a refused step that scans
-pub scan_refused : (m g : HeapState) (step : Step) (e : Refusal) (o : Outcome) → Scans step → DoesStep m step (Err e) g o
+pub scan_refused : (m g : HeapState) (step : Step) (e : Refusal) (o : Outcome) → Scans step
+    → DoesStep m step (Err e) g o
     → (o ≡ Err e) × (g ≡ m)
 scan_refused m g (steps.Pick page offset) e o is does = does
 scan_refused m g steps.ScanField e o is does = does

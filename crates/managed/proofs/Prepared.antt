@@ -380,7 +380,8 @@ nothing_far w h g none k = by_entries k.goes.entries k.many k.goes.each k.goes.r
 pub nothing_scanned : (w : ℕ) (h g : HeapState) (r : Result Bool Refusal) (b : Bool) → ScansNothing w h → r ≡ Ok b
     → b ≡ false → ScansFar w 1 h r g → ⊥
 nothing_scanned w h g r b none is no_more far =
-    let k : GoesBy (IsScan w) 1 h g = subst (λ (q : Result Bool Refusal). ScansFar w 1 h q g) (is ∙ ap Ok no_more) far in
+    let k : GoesBy (IsScan w) 1 h g =
+    subst (λ (q : Result Bool Refusal). ScansFar w 1 h q g) (is ∙ ap Ok no_more) far in
     let many = k.many in
     nothing_far w h g none (record { goes = k.goes; many = omega (arith, many) })
 

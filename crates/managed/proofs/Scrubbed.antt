@@ -98,7 +98,8 @@ scrub_row h t r = on_bind (thread_gate h t (steps.Scrub r)) _ _ (λ u f.
       does = inr (record { word = w; at = at; held = e; is = refl });
     }
 
-pub scrubs : (h g : HeapState) (t r : ℕ) (a : Answer) → outcome h (Thread t) (steps.Scrub r) ≡ Ok (g, a) → Scrubs h t r g
+pub scrubs : (h g : HeapState) (t r : ℕ) (a : Answer) → outcome h (Thread t) (steps.Scrub r) ≡ Ok (g, a)
+    → Scrubs h t r g
 scrubs h g t r a e = of_accepted (λ (z : HeapState × Answer). Scrubs h t r z.0) (outcome h (Thread t) (steps.Scrub r))
     (g, a) (scrub_row h t r) e
 

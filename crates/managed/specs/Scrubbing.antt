@@ -20,8 +20,8 @@ IsScrubbed h t r =
     is_parked_in (slice_get h.threads t) ≡ false → is_loading_in (slice_get h.threads t) ≡ false
     → names_protected h (register_of h t r) ≡ false
 
--- this holds of all registers. Nothing is said of a parked thread, nor of one with an open barrier: their registers stay
--- as they are, and a later call corrects them
+-- this holds of all registers. Nothing is said of a parked thread, nor of one with an open barrier: their registers
+-- stay as they are, and a later call corrects them
 abbrev pub AreScrubbed : HeapState → Type 0
 AreScrubbed h = (t r : ℕ) → IsScrubbed h t r
 

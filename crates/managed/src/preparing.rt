@@ -37,7 +37,8 @@ impl ManagedHeap {
     }
 
     /// A part of that: the object that the worker has is scanned to its end; where it has none, one page is
-    /// copied whole. True where something was done; false where nothing is left of it.
+    /// copied whole. True where something was done; false where nothing is left of it. How much a part does
+    /// is no clause, and tested (`trials_holding::marks`).
     pub fn prepare_some(&mut self, worker: u32) -> bool
         ensures { Prepares worker self.old result self.new }
     {

@@ -74,8 +74,8 @@ fn collect(
     Ok(false)
 }
 
-/// The first collection empties the first page, as there is no room for an object of another one; the second one empties
-/// the last page, into the one frame that is free.
+/// The first collection empties the first page, as there is no room for an object of another one; the second one
+/// empties the last page, into the one frame that is free.
 fn empties(
     rt: &impl Abort,
     alloc: Global,

@@ -4,7 +4,8 @@ use Rattle.collecting.proofs.Collections.{behind_ends, behind_stops}
 use Rattle.collecting.proofs.cycles.empty_behind.Goals as goal
 
 pub returns-in-Ok-clause-ends : goal.returns-in-Ok-clause-ends
-returns-in-Ok-clause-ends c = behind_ends c.args.percent c.args.live c.in-Ok.emptied c.args.heap.now c.empty_sparse.new.heap
+returns-in-Ok-clause-ends c = behind_ends c.args.percent c.args.live c.in-Ok.emptied c.args.heap.now
+    c.empty_sparse.new.heap
     c.empty_sparse.result c.in-Ok.is c.empty_sparse.ensures.ends
 
 pub returns-in-Err-clause-ends : goal.returns-in-Err-clause-ends

@@ -5,7 +5,8 @@ use Rattle.managed.proofs.Corrected.{calm_scrubbed, if_ok}
 use Rattle.collecting.proofs.cycles.empty_chosen.Goals as goal
 
 pub returns-in-Ok-clause-ends : goal.returns-in-Ok-clause-ends
-returns-in-Ok-clause-ends c = chosen_some c.args.heap.now c.empty.new.self c.args.pages.items c.len-count.result c.empty.result
+returns-in-Ok-clause-ends c = chosen_some c.args.heap.now c.empty.new.self c.args.pages.items c.len-count.result
+    c.empty.result
     c.in-Ok.field-0 c.in-Ok.is (c.len-count.ensures ∙ c.args.pages.ok.0) c.if-count-eq0.false c.empty.ensures.goes
     c.empty.ensures.ends
 

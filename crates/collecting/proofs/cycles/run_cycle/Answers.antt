@@ -2,7 +2,8 @@ use Rattle.collecting.proofs.Collections.{cycle_then, cycle_stops, due_calm}
 use Rattle.collecting.proofs.cycles.run_cycle.Goals as goal
 
 pub returns-in-Ok-clause-ends : goal.returns-in-Ok-clause-ends
-returns-in-Ok-clause-ends c = cycle_then c.args.percent c.in-Ok.live c.args.heap.now c.mark_due.new.heap c.empty_behind.new.heap
+returns-in-Ok-clause-ends c = cycle_then c.args.percent c.in-Ok.live c.args.heap.now c.mark_due.new.heap
+    c.empty_behind.new.heap
     c.mark_due.result c.empty_behind.result c.in-Ok.is c.mark_due.ensures.goes c.mark_due.ensures.ends
     c.empty_behind.ensures.ends
 

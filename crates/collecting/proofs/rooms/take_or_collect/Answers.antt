@@ -4,8 +4,9 @@ use Rattle.collecting.proofs.Refilled.{at_once, not_room, refused_then}
 use Rattle.collecting.proofs.rooms.take_or_collect.Goals as goal
 
 pub returns-in-Ok : goal.returns-in-Ok
-returns-in-Ok c = at_once (HasTriedAll c.args.thread c.args.policy.percent) c.args.thread c.args.policy.words c.args.policy.percent
-    c.args.heap.now c.take.new.heap c.take.result c.in-Ok.buffer c.in-Ok.is c.take.ensures
+returns-in-Ok c = at_once (HasTriedAll c.args.thread c.args.policy.percent) c.args.thread
+    c.args.policy.words c.args.policy.percent c.args.heap.now c.take.new.heap c.take.result c.in-Ok.buffer c.in-Ok.is
+    c.take.ensures
 
 pub returns-then-lacks_room : goal.returns-then-lacks_room
 returns-then-lacks_room c = refused_then c.args.thread c.args.policy.words c.args.policy.percent
