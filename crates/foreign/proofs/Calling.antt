@@ -1,18 +1,15 @@
 -- What a call did, by what was held before it and behind it.
-use Rattle.std.proofs.Common.{◌≡◌, ℕ, Bool, Option, Some, subst}
+use Rattle.std.proofs.Common.{◌≡◌, ℕ, Option, Some, subst}
 use Rattle.std.specs.Prelude.{Result, MatchResult}
 use Rattle.model.specs.declared.steps.Refusal.{Refusal}
 use Rattle.model.specs.declared.steps.Step.{Step}
 use Rattle.model.specs.declared.steps.Answer.{Answer}
 use Rattle.cycle.specs.Mutating.{DoesThread, ThreadStands}
-use Rattle.managed.specs.Collecting.{StandsUnseen}
 use Rattle.managed.specs.Goings.{LoadsWhole, LoadStands}
-use Rattle.collecting.specs.Collections.{Collects, IsNotRoom}
-use Rattle.collecting.specs.Parts.{EndsPart}
 use Rattle.model.specs.States.{HeapState}
 use Rattle.foreign.specs.declared.held.Held.{Held}
 use Rattle.foreign.specs.Codes.{code_of}
-use Rattle.foreign.specs.Calls.{Calls, Gives, Loaded, PartOf, Stepped}
+use Rattle.foreign.specs.Calls.{Calls, Gives, Loaded, Stepped}
 
 pub called : {A : Type 0} (P : HeapState → Result A Refusal → HeapState → Type 0) (b : Held) (old : Option Held)
     (r : Result A Refusal) (code : ℕ) (g : Held) (new : Option Held)
@@ -41,11 +38,3 @@ pub loaded : (t : ℕ) (begin : Step) (b : Held) (old : Option Held) (r : Result
     → code ≡ code_of r → new ≡ Some g → Calls (Loaded t begin) old code new
 loaded t begin b old r code g new was loads stands says is =
     called (Loaded t begin) b old r code g new was (loads, stands) says is
-
--- the same of a part of a collection
-pub parted : (Q : Bool → Type 0) (S : Type 0) (b : Held) (old : Option Held) (r : Result Bool Refusal) (code : ℕ)
-    (g : Held) (new : Option Held)
-    → Some b ≡ old → Collects b.heap g.heap → EndsPart b.heap r g.heap → StandsUnseen b.heap g.heap → IsNotRoom r
-    → MatchResult r Q (λ _. S) → code ≡ code_of r → new ≡ Some g → Gives PartOf Q S old code new
-parted Q S b old r code g new was goes ends stands room gave says is =
-    given PartOf Q S b old r code g new was (goes, ends, stands, room) gave says is

@@ -57,12 +57,7 @@ pub extern "C" fn pauseless_collect(
 }
 
 /// Does the next part of the collection of a heap.
-fn collect_part(
-    alloc: Global,
-    held: &mut Held,
-    percent: u32,
-    budget: u32,
-) -> Result<bool, Refusal>
+fn collect_part(alloc: Global, held: &mut Held, percent: u32, budget: u32) -> Result<bool, Refusal>
     ensures { PartOf held.old.heap result held.new.heap }
 {
     held.heap
