@@ -41,6 +41,6 @@ pub use heap_images::{image_of, verify};
 pub use layout::{Layout, Layouts};
 pub use managed::ManagedHeap as Heap;
 pub use reporting::{ReportFault, report_heap};
-pub use sharing::{Seat, Settled, Shared, Stray, settle};
+pub use sharing::{Seat, Settled, Shared, Steps, Stray, settle};
 pub use verify::{Fault, Image, PageImage, Root, Verdict, Words, verify_image};
 pub use verifying::verify_held;
