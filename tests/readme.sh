@@ -118,9 +118,12 @@ run_programs docs/LIBRARY.md 3
 rm -r "$copy/crates/mine"
 cp "$kept/crates.txt" "$copy/crates.txt"
 
+# What 'make' is given beside its words, in place of what this test was given by one.
+flags="--no-print-directory RT=$RT PYTHON=$PYTHON"
+
 # does COMMAND: runs a command in the copy. Its output stands in $kept/output then.
 does() {
-    (cd "$copy" && RT="$RT" sh -c "$1") > "$kept/output" 2> "$kept/errors" < /dev/null && return
+    (cd "$copy" && MAKEFLAGS=$flags sh -c "$1") > "$kept/output" 2> "$kept/errors" < /dev/null && return
     fails "$1:"
     sed 's/^/  /' "$kept/output" "$kept/errors"
     false
@@ -151,7 +154,8 @@ while read -r command; do
 done < "$kept/commands"
 
 # A script with a fault, by a build that is there: it is rejected, and nothing is left behind.
-if (cd "$copy" && "${MAKE:-make}" film TRY=1 SCRIPT=examples/fault.script FILM=faulty.html) > "$kept/output" 2>&1; then
+faulty='make film TRY=1 SCRIPT=examples/fault.script FILM=faulty.html'
+if (cd "$copy" && MAKEFLAGS=$flags sh -c "$faulty") > "$kept/output" 2>&1 < /dev/null; then
     fails 'a film of a script with a fault'
 elif grep -q 'line .* column ' "$kept/output" && [ -z "$(find "$copy" -name 'faulty*')" ]; then
     passes 'a film of a script with a fault'

@@ -20,7 +20,7 @@ USES = "pauseless anyhow"
 NEXT = """crates/{name} has a program that runs; its code is crates/{name}/src/main.rt. Next:
 
     make app NAME={name} TRY=1      runs it; proves nothing, and takes a minute or two after a change
-    make check CRATE={name}         proves it; the first time all that it depends on is proved, in about 25 minutes
+    make check CRATE={name}         proves it; the first time with all that it depends on, in about half an hour
     make app NAME={name}            builds it as proved, optimized, and runs it
 
 What it must print is in crates/{name}/stdout. docs/LIBRARY.md describes the library."""
