@@ -9,7 +9,7 @@ use Rattle.managed.specs.Goings.{LoadsWhole, LoadStands}
 use Rattle.model.specs.States.{HeapState}
 use Rattle.foreign.specs.declared.held.Held.{Held}
 use Rattle.foreign.specs.Codes.{code_of}
-use Rattle.foreign.specs.Calls.{Calls, Gives, Loaded, Stepped}
+use Rattle.foreign.specs.Calls.{Calls, Gives, GivesHeld, Loaded, Stepped}
 
 pub called : {A : Type 0} (P : HeapState → Result A Refusal → HeapState → Type 0) (b : Held) (old : Option Held)
     (r : Result A Refusal) (code : ℕ) (g : Held) (new : Option Held)
@@ -22,6 +22,14 @@ pub given : {A : Type 0} (P : HeapState → Result A Refusal → HeapState → T
     → Gives P Q S old code new
 given P Q S b old r code g new was did gave says is =
     subst (λ (o : Option Held). Gives P Q S o code new) was (r, g, did, gave, says, is)
+
+-- the same of a call that also changes how far a collection in parts has come
+pub given_held : {A : Type 0} (P : Held → Result A Refusal → Held → Type 0) (Q : A → Type 0) (S : Type 0)
+    (b : Held) (old : Option Held) (r : Result A Refusal) (code : ℕ) (g : Held) (new : Option Held)
+    → Some b ≡ old → P b r g → MatchResult r Q (λ _. S) → code ≡ code_of r → new ≡ Some g
+    → GivesHeld P Q S old code new
+given_held P Q S b old r code g new was did gave says is =
+    subst (λ (o : Option Held). GivesHeld P Q S o code new) was (r, g, did, gave, says, is)
 
 -- the same of a look by a step of thread t
 pub looked : {A : Type 0} (answer : A → Answer) (t : ℕ) (step : Step) (Q : A → Type 0) (S : Type 0) (b : Held)

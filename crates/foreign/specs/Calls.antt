@@ -1,9 +1,10 @@
 -- What a call did to the heap that a handle holds.
-use Rattle.std.specs.Prelude.{◌≡◌, ℕ, Bool, Option, Some, None, Result, MatchResult}
+use Rattle.std.specs.Prelude.{◌≡◌, ℕ, Bool, false, Option, Some, None, Result, IfOk, MatchResult}
 use Rattle.model.specs.declared.records.Buffer.{Buffer}
 use Rattle.model.specs.declared.steps.Step.{Step}
 use Rattle.model.specs.declared.steps.Answer.{Answer}
 use Rattle.model.specs.declared.steps.Refusal.{Refusal}
+use Rattle.model.specs.Phases.{is_protect_crossing}
 use Rattle.model.specs.States.{HeapState}
 use Rattle.cycle.specs.Mutating.{DoesThread, ThreadStands}
 use Rattle.collecting.specs.declared.collecting.Collected.{Collected}
@@ -11,9 +12,11 @@ use Rattle.collecting.specs.declared.seeing.Object.{Object}
 use Rattle.collecting.specs.Collections.{Collects, EndsCollecting, IsNotRoom}
 use Rattle.collecting.specs.Objects.{seen}
 use Rattle.collecting.specs.Parts.{EndsPart}
-use Rattle.collecting.specs.Rooms.{EndsMaking, EndsRefill, MakingStands, Refills}
+use Rattle.collecting.specs.Rooms.{EndsMaking, EndsRefill, IsNotHeld, MakingStands, Refills}
+use Rattle.collecting.specs.Stages.{PartGoesOn}
 use Rattle.managed.specs.Collecting.{StandsUnseen}
 use Rattle.managed.specs.Goings.{LoadsWhole, LoadStands}
+use Rattle.managed.specs.Scrubbing.{AreScrubbed}
 use Rattle.foreign.specs.declared.held.Held.{Held}
 use Rattle.foreign.specs.declared.cycles.CollectedOfC.{CollectedOfC}
 use Rattle.foreign.specs.declared.objects.ObjectOfC.{ObjectOfC}
@@ -36,6 +39,13 @@ Gives {A} P Q S (Some h) code new =
     (r : Result A Refusal) × (g : Held) × P h.heap r g.heap × MatchResult r Q (λ _. S) × (code ≡ code_of r)
     × (new ≡ Some g)
 
+-- the same for a call that also changes how far a collection in parts has come
+abbrev pub GivesHeld : {A : Type 0} → (Held → Result A Refusal → Held → Type 0) → (A → Type 0) → Type 0
+    → Option Held → ℕ → Option Held → Type 0
+GivesHeld P Q S None code new = (code ≡ NO_HEAP) × (new ≡ None) × S
+GivesHeld {A} P Q S (Some h) code new =
+    (r : Result A Refusal) × (g : Held) × P h r g × MatchResult r Q (λ _. S) × (code ≡ code_of r) × (new ≡ Some g)
+
 -- a step of thread t did what its outcome says; and where the heap stood for a plain heap, it does after the step
 abbrev pub Stepped : {A : Type 0} → (A → Answer) → ℕ → Step → HeapState → Result A Refusal → HeapState → Type 0
 Stepped answer t step h r g = DoesThread answer h t step r g × ThreadStands answer h t step r g
@@ -51,7 +61,7 @@ Made words percent t target layout h r g =
 
 -- thread t was to get a fresh buffer, for which the heap was collected where there was no room
 abbrev pub Refilled : ℕ → ℕ → ℕ → HeapState → Result Buffer Refusal → HeapState → Type 0
-Refilled words percent t h r g = Refills t h g × EndsRefill t words percent h r g × StandsUnseen h g
+Refilled words percent t h r g = Refills t h g × EndsRefill t words percent h r g × StandsUnseen h g × IsNotHeld r
 
 -- what register r of thread t names was looked at, and nothing changed
 abbrev pub Sees : ℕ → ℕ → HeapState → Result Object Refusal → HeapState → Type 0
@@ -59,11 +69,18 @@ Sees t register h r g = (r ≡ seen h t register) × (g ≡ h)
 
 -- a whole collection, which the plain heap doesn't see
 abbrev pub CollectedBy : ℕ → HeapState → Result Collected Refusal → HeapState → Type 0
-CollectedBy percent h r g = Collects h g × EndsCollecting percent h r g × StandsUnseen h g × IsNotRoom r
+CollectedBy percent h r g =
+    Collects h g × EndsCollecting percent h r g × StandsUnseen h g × IsNotRoom r × IfOk r (λ _. AreScrubbed g)
 
--- a part of one
-abbrev pub PartOf : HeapState → Result Bool Refusal → HeapState → Type 0
-PartOf h r g = Collects h g × EndsPart h r g × StandsUnseen h g × IsNotRoom r
+-- a part of one, as the collection has come so far
+abbrev pub PartOf : ℕ → ℕ → Held → Result Bool Refusal → Held → Type 0
+PartOf percent budget h r g =
+    Collects h.heap g.heap
+    × EndsPart h.heap r g.heap
+    × StandsUnseen h.heap g.heap
+    × IsNotRoom r
+    × IfOk r (λ _. is_protect_crossing g.heap.phase ≡ false → AreScrubbed g.heap)
+    × PartGoesOn percent budget h.parts h.heap r g.parts g.heap
 
 -- what C gets of an object, and of a collection
 abbrev pub IsSeen : ObjectOfC → Object → Type 0

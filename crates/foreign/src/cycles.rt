@@ -2,7 +2,7 @@
 
 ghost use Rattle.std.specs.Prelude.{◌≡◌, MatchResult};
 ghost use Rattle.foreign.specs.Codes.{code_of};
-ghost use Rattle.foreign.specs.Calls.{Gives, CollectedBy, PartOf, IsTold};
+ghost use Rattle.foreign.specs.Calls.{Gives, GivesHeld, CollectedBy, PartOf, IsTold};
 
 use crate::codes::{DONE, NO_HEAP, give_truth, refusal_code};
 use crate::handle::Handle;
@@ -58,14 +58,14 @@ pub extern "C" fn pauseless_collect(
 
 /// Does the next part of the collection of a heap.
 fn collect_part(alloc: Global, held: &mut Held, percent: u32, budget: u32) -> Result<bool, Refusal>
-    ensures { PartOf held.old.heap result held.new.heap }
+    ensures { PartOf percent budget held.old result held.new }
 {
     held.heap
         .collect_some(alloc, &mut held.parts, percent, budget)
 }
 
 /// Does the next part of a collection, with a budget of so many objects. Fails as `Holding::collect_some` does.
-#[tactic(auto, using(crate::proofs::Calling::given))]
+#[tactic(auto, using(crate::proofs::Calling::given_held))]
 #[unsafe(no_mangle)]
 pub extern "C" fn pauseless_collect_some(
     alloc: Global,
@@ -74,8 +74,8 @@ pub extern "C" fn pauseless_collect_some(
     budget: u32,
     has_ended: &mut bool,
 ) -> u32
-    ensures { Gives PartOf (λ x. has_ended.new ≡ x) (has_ended.new ≡ has_ended.old) heap.old.slot.held result
-        heap.new.slot.held }
+    ensures { GivesHeld (PartOf percent budget) (λ x. has_ended.new ≡ x) (has_ended.new ≡ has_ended.old)
+        heap.old.slot.held result heap.new.slot.held }
 {
     let Some(mut held) = heap.take(alloc) else {
         return NO_HEAP;

@@ -11,4 +11,5 @@ returns c = given (CollectedBy c.args.percent) _ _ c.deref_mut.result.now _ c.co
       c.collect-answer.ensures.ends,
       c.collect-answer.ensures.stands,
       c.collect-answer.ensures.room,
+      c.collect-answer.ensures.scrubbed,
     ) c.give_collected.ensures.done c.give_collected.ensures.code c.put.ensures
