@@ -150,7 +150,8 @@ impl Holding for ManagedHeap {
         ensures stands { StandsUnseen self.old self.new }
         ensures ends { EndsPart self.old result self.new }
         ensures room { IsNotRoom result }
-        ensures scrubbed { IfOk result (λ ended. is_protect_crossing self.new.phase ≡ false → AreScrubbed self.new) }
+        ensures scrubbed { IfOk result
+            (λ ended. is_protect_crossing self.new.phase ≡ false → AreScrubbed self.new) }
         ensures parts { PartGoesOn percent budget parts.old self.old result parts.new self.new }
     {
         parts::collect_some(self, alloc, parts, percent, budget)

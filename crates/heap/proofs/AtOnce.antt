@@ -1,6 +1,8 @@
 -- Where no trap is due, a load is done at once.
-use Rattle.std.proofs.Common.{◌≡◌, ℕ, ◌==◌, ◌<◌, Bool, true, false, Option, Some, None, List, length, refl, nat_le, sym, subst, arith, ap, ◌∙◌, set, zero, suc, [], ◌∷◌}
-use Rattle.std.specs.Prelude.{Result, Ok, Err, IfSome, if◌then◌else◌, slice_get, ◌/◌, ◌%◌, ◌+◌, ◌^◌, ◌||◌, ◌&&◌, not, nat_lt}
+use Rattle.std.proofs.Common.{◌≡◌, ℕ, ◌==◌, ◌<◌, Bool, true, false, Option, Some, None, List, length, refl, nat_le, sym}
+use Rattle.std.proofs.Common.{subst, arith, ap, ◌∙◌, set, zero, suc, [], ◌∷◌}
+use Rattle.std.specs.Prelude.{Result, Ok, Err, IfSome, if◌then◌else◌, slice_get, ◌/◌, ◌%◌, ◌+◌, ◌^◌, ◌||◌, ◌&&◌, not}
+use Rattle.std.specs.Prelude.{nat_lt}
 use Rattle.std.specs.Option.{option_and_then}
 use Rattle.std.proofs.lemmas.Bool.{or_parts, leb-false}
 use Rattle.std.proofs.lemmas.Option.{slice_get_within, same_Some}
@@ -93,7 +95,8 @@ or_right b e = e
 -- ---- a load that has begun may end
 
 ends_at_once : (h : HeapState) (t target address i : ℕ) (w : Reference) (x : ThreadState)
-    → IsQuiet (begun h t target address i w) w → nat_le (length h.threads) t ≡ false → slice_get h.threads t ≡ Some x → x.parked ≡ false
+    → IsQuiet (begun h t target address i w) w → nat_le (length h.threads) t ≡ false → slice_get h.threads t ≡ Some x
+    → x.parked ≡ false
     → outcome (begun h t target address i w) (Thread t) steps.Finish
     ≡ Ok (with_loaded (begun h t target address i w) t target w, answers.Done)
 unfolding outcome thread_gate finish_outcome end_load with_barrier
@@ -108,7 +111,8 @@ ends_at_once h t target address i w x q le there runs =
     let same : (bits_of w == bits_of w) ≡ true = same_number (bits_of w) in
     rw (many, found, runs, clear, same) refl
 
-begun_keeps : (h : HeapState) (t target address i : ℕ) (w : Reference) → IsHeap h → IsHeap (begun h t target address i w)
+begun_keeps : (h : HeapState) (t target address i : ℕ) (w : Reference) → IsHeap h
+    → IsHeap (begun h t target address i w)
 unfolding with_barrier
 begun_keeps h t target address i w k =
     let change = set_barrier_of (new_barrier target (places.Field address i) w) counters.Loads in
@@ -125,7 +129,8 @@ unfolding with_barrier
 begun_quiet h t target address i w q = record { marked = q.marked; free = q.free }
 
 -- where nothing is due what a load of a field reads is what its register gets, by Load and Finish
-pub at_once : (h : HeapState) (t target object i address place bits : ℕ) → IsStore h.store → IsHeap h → IsQuiet h (read_reference bits)
+pub at_once : (h : HeapState) (t target object i address place bits : ℕ) → IsStore h.store → IsHeap h
+    → IsQuiet h (read_reference bits)
     → Passes h t (steps.Load target object i) → usable h t object ≡ Ok address → field_at h address i ≡ Some place
     → word_at h.store place ≡ Some bits
     → LoadsAtOnce h t target object i
@@ -146,7 +151,8 @@ at_once h t target object i address place bits st k e g u f w =
 
 -- the same of the edits by which it is done
 pub at_once_by : (h g1 g2 : HeapState) (t target object i address place bits : ℕ) (w : Reference) → IsStore h.store
-    → IsHeap h → IsQuiet h (read_reference bits) → Passes h t (steps.Load target object i) → usable h t object ≡ Ok address
+    → IsHeap h → IsQuiet h (read_reference bits) → Passes h t (steps.Load target object i) → usable h t object
+    ≡ Ok address
     → field_at h address i ≡ Some place → word_at h.store place ≡ Some bits → w ≡ read_reference bits
     → g1 ≡ begun h t target address i w → g2 ≡ with_loaded g1 t target w → LoadsAtOnce h t target object i g2
 at_once_by h g1 g2 t target object i address place bits w st k e g u f r is one two =
@@ -198,7 +204,8 @@ named_at_once h t target object address x w free there runs closed to from is na
 
 pub read_of : (h g : HeapState) (t target object i address : ℕ) (w : Reference) → IsStore h.store → IsHeap h
     → IsQuiet h w → NamesAtOnce h t target object address → ReadsAtOnce h address i w
-    → ((b : Barrier) → g ≡ with_loaded (with_barrier h t b counters.Loads) t target w) → LoadsAtOnce h t target object i g
+    → ((b : Barrier) → g ≡ with_loaded (with_barrier h t b counters.Loads) t target w)
+    → LoadsAtOnce h t target object i g
 read_of h g t target object i address w st k e names reads is =
     let b = new_barrier target (places.Field address i) w in
     at_once_by h (begun h t target address i w) g t target object i address reads.place reads.bits w st k
@@ -215,7 +222,8 @@ page_long : (s : StoreState) (n : ℕ) (ws : List ℕ) → IsStore s → words_a
 unfolding words_at
 page_long s n ws k h = words_long s.frames s.words (frame_in (page_at s n)) ws k.sized.frames h
 
-in_frame : (frames : List (List ℕ)) (f : Option ℕ) (k : ℕ) (ws : List ℕ) → option_and_then (slice_get frames) f ≡ Some ws
+in_frame : (frames : List (List ℕ)) (f : Option ℕ) (k : ℕ) (ws : List ℕ) → option_and_then (slice_get frames) f
+    ≡ Some ws
     → word_in frames (at_offset f k) ≡ slice_get ws k
 in_frame frames None k ws h = absurd (cc)
 in_frame frames (Some f) k ws h = rw h refl
@@ -302,7 +310,8 @@ read_twice h t r w b threads e =
 pub read_keeps : (h : HeapState) (t r : ℕ) (w : Reference) (threads : List ThreadState) → IsHeap h
     → ((b : Barrier) → threads ≡ change_at h.threads t (λ x. set_loaded_of r w (set_barrier_of b counters.Loads x)))
     → IsHeap (record h { threads = threads })
-read_keeps h t r w threads k is = thread_keeps h t (λ x. set_loaded_of r w (set_barrier_of some counters.Loads x)) threads k
+read_keeps h t r w threads k is = thread_keeps h t (λ x. set_loaded_of r w (set_barrier_of some counters.Loads x))
+    threads k
     (is some) (λ x f. f)
   where
     some : Barrier

@@ -22,7 +22,8 @@ load_stands : (h g : HeapState) (t target object i : ℕ) → IsStore h.store �
     → KeepsStanding h (Thread t) (steps.Load target object i) (Ok answers.Loaded) k.between
     × KeepsStanding k.between (Thread t) steps.Finish (Ok answers.Done) g
 load_stands h g t target object i s d hold find move count k = (
-  keeps_standing h k.between (Thread t) (steps.Load target object i) (Ok answers.Loaded) k.loads s d hold find move count,
+  keeps_standing h k.between (Thread t) (steps.Load target object i) (Ok answers.Loaded) k.loads s d hold find move
+      count,
   keeps_standing k.between g (Thread t) steps.Finish (Ok answers.Done) k.ends k.store k.heap hold find move count,
 )
 

@@ -168,7 +168,8 @@ impl Thread {
     #[tactic(auto, using(crate::proofs::AtOnce::read_at_once))]
     pub(crate) fn set_read(&mut self, number: u32, word: Word)
         requires { self.old.barrier ≡ None }
-        ensures value { (b : Barrier) → self.new ≡ set_loaded_of number word (set_barrier_of b counters.Loads self.old) }
+        ensures value { (b : Barrier) → self.new
+            ≡ set_loaded_of number word (set_barrier_of b counters.Loads self.old) }
         ensures crossed { self.new.crossed ≡ self.old.crossed }
     {
         self.set_register(number, word);

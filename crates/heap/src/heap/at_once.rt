@@ -4,8 +4,8 @@ ghost use Rattle.std.specs.Prelude.{◌≡◌, true, false, None, IfSome};
 ghost use Rattle.model.specs.declared.records.Barrier.{Barrier};
 ghost use Rattle.model.specs.declared.records.Counter.TheVariants as counters;
 ghost use Rattle.model.specs.Loads.{barrier_of_thread, with_barrier, with_loaded};
-ghost use Rattle.heap.specs.AtOnce.{IsOpenTo, IsQuiet, mark_is_due, MayLoadAtOnce, NamesAtOnce, ReadsAtOnce, UsesAtOnce};
-ghost use Rattle.heap.specs.AtOnce.{GivesDatum, MayDoAtOnce, SourceAtOnce};
+ghost use Rattle.heap.specs.AtOnce.{IsOpenTo, IsQuiet, mark_is_due, MayLoadAtOnce, NamesAtOnce, ReadsAtOnce};
+ghost use Rattle.heap.specs.AtOnce.{GivesDatum, MayDoAtOnce, SourceAtOnce, UsesAtOnce};
 ghost use Rattle.model.specs.declared.steps.Step.TheVariants as steps;
 
 use crate::heap::Heap;
@@ -127,7 +127,8 @@ impl Heap {
     #[inline(always)]
     fn read_into(&mut self, thread: u32, target: u32, word: Word)
         requires { barrier_of_thread self.old thread ≡ None }
-        ensures { (b : Barrier) → self.new ≡ with_loaded (with_barrier self.old thread b counters.Loads) thread target word }
+        ensures { (b : Barrier) → self.new
+            ≡ with_loaded (with_barrier self.old thread b counters.Loads) thread target word }
     {
         self.threads.set_read(thread, target, word);
     }

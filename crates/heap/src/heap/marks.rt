@@ -47,8 +47,8 @@ pub(crate) fn clear_indexed_bit(rows: &mut IndexedRows, store: &Store, address: 
 }
 
 impl Heap {
-    /// The entry of the side array for the object of an address, if it has one (the paper's Relocate
-    /// phase): found in as many steps as the number of its page's entries has binary digits.
+    /// The entry of the forwarding table for the object of an address, if it has one: found by one bit
+    /// and one rank of its page's row.
     #[tactic(auto, unfolding(model::specs::Marks::entry_at))]
     pub fn entry_at(&self, address: Addr) -> Option<Forwarding>
         ensures { result ≡ entry_at self.now address }

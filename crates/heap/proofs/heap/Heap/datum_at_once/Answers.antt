@@ -11,7 +11,8 @@ pub returns : goal.returns
 returns c =
     let ws = c.in_ok-words.words.now in
     let place = c.in_ok-words.offset + 1 + c.in_ok-layout.layout.refs + c.args.index in
-    subst (λ (g : HeapState). GivesDatum g c.args.thread c.args.object c.args.index c.in_ok-value.value.now) c.self.view_is
+    subst (λ (g : HeapState). GivesDatum g c.args.thread c.args.object c.args.index c.in_ok-value.value.now)
+    c.self.view_is
     (datum_read (heap_of c.self.inside) c.args.thread c.args.object c.in_ok-address.address c.args.index ws
     c.in_ok-words.offset c.in_ok-header.header.now c.in_ok-value.value.now c.in_ok-layout.layout
     (subst (λ (g : HeapState). IsStore g.store) (sym c.self.view_is) c.law.ensures.store)

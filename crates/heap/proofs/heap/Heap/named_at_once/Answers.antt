@@ -7,7 +7,8 @@ use Rattle.heap.proofs.heap.Heap.named_at_once.Goals as goal
 
 pub returns : goal.returns
 returns c =
-    named_at_once c.args.self.now c.args.thread c.args.target c.args.object c.in_ok-address.address c.in_ok-record.record.now
+    named_at_once c.args.self.now c.args.thread c.args.target c.args.object c.in_ok-address.address
+    c.in_ok-record.record.now
     c.register.result (c.is_open_to.ensures c.if-not-is_open_to.false)
     (ap (λ (ts : List ThreadState). slice_get ts c.args.thread) (sym c.threads.ensures) ∙ get_read c.threads.result.now
     c.args.thread c.in_ok-record.record.now

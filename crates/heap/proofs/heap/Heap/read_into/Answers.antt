@@ -11,6 +11,7 @@ invariant_of-self c = read_keeps (heap_of c.self.inside) c.args.thread c.args.ta
 
 pub returns : goal.returns
 returns c = λ b.
-    read_twice (heap_of c.self.inside) c.args.thread c.args.target c.args.word b c.set_read.new.self (c.set_read.ensures b)
+    read_twice (heap_of c.self.inside) c.args.thread c.args.target c.args.word b c.set_read.new.self
+    (c.set_read.ensures b)
     ∙ ap (λ g. with_loaded (with_barrier g c.args.thread b counters.Loads) c.args.thread c.args.target c.args.word)
     c.self.view_is

@@ -7,7 +7,8 @@ use Rattle.thread_records.proofs.threads.Threads.set_read.Goals as goal
 
 pub returns-then-thread-len : goal.returns-then-thread-len
 returns-then-thread-len c = λ b.
-    let f : ThreadState → ThreadState = λ x. set_loaded_of c.args.register c.args.word (set_barrier_of b counters.Loads x) in
+    let f : ThreadState → ThreadState = λ x. set_loaded_of c.args.register c.args.word
+    (set_barrier_of b counters.Loads x) in
     subst (λ ts. set c.self.inside.list.items c.args.thread c.set_read.new.self ≡ change_at ts c.args.thread f)
     c.self.view_is
     (changed_there c.self.inside.list.items c.args.thread c.index_mut-record.result.now c.set_read.new.self f
