@@ -1,5 +1,5 @@
 //! Images with faults: some that are planted, each alone, into images of a book's heap, and some at random,
-//! beside a slow verdict.
+//! compared with a slow verdict.
 #![tactic(auto)]
 
 #[cfg(test)]

@@ -1,4 +1,4 @@
-//! The tests of shared books, beside books of one thread, and of the choice of pages.
+//! The tests of shared books, compared with books of one thread, and of the choice of pages.
 #![tactic(auto)]
 
 #[cfg(test)]

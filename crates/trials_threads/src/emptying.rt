@@ -65,7 +65,7 @@ fn moved(
     Ok(())
 }
 
-/// A cycle that empties pages of which at most so many words of a hundred live.
+/// A cycle that empties pages of which at most `percent` words of a hundred live.
 fn cycle<R: Abort + Threads + Wait + Sync>(
     rt: &R,
     alloc: Global,

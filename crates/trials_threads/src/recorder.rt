@@ -20,7 +20,7 @@ pub fn reaches(count: &AtomicU64, wanted: u64) -> bool {
     false
 }
 
-/// A gate that records each call. It holds worker 0 before a mark until so many threads have parked.
+/// A gate that records each call. It holds worker 0 before a mark until `threads` threads have parked.
 #[derive(Drop)]
 pub struct Recorder {
     calls: Vec<AtomicU64>,
@@ -93,7 +93,7 @@ fn call(actor: Actor, step: &Step, is_after: bool) -> u64 {
 }
 
 impl Recorder {
-    /// One that holds worker 0 until so many threads have parked.
+    /// One that holds worker 0 until `threads` threads have parked.
     pub fn new(alloc: Global, threads: u64) -> Result<Recorder, AllocError> {
         let mut calls = Vec::new(alloc);
         for _ in 0..MOST {

@@ -50,7 +50,7 @@ fn count_of(steps: &[u64], step: &Step) -> usize {
     count
 }
 
-/// The gate's steps of an actor are the history's, so many.
+/// The gate's steps of an actor are the history's, `count` steps.
 fn watched(
     rt: &impl Abort,
     alloc: Global,
