@@ -2,13 +2,14 @@
 """Times the Lisp of examples/lisp on this heap and on the collector of Boehm, Demers and Weiser:
 lisp.py LIBRARY [--instructions [PROGRAM ..]].
 
-LIBRARY is libpauseless.a. Each program runs in 64 MiB, in 4 MiB, and on bdwgc as that likes, three times; what is told
-is the shortest time of a processor, and the memory for objects as the Lisp tells it. Where libgc isn't there, a line
-says so.
+LIBRARY is libpauseless.a. Each program runs in 64 MiB, in 4 MiB, and on bdwgc as that likes, three times. It prints the
+shortest time of a processor and the memory for objects as the Lisp reports it, and how many times as long it takes in
+4 MiB as on bdwgc. If libgc isn't there, a line says so.
 
 With --instructions nothing is timed: callgrind counts where the instructions of a program go that runs in 4 MiB (of all
 five programs, if none is named, which takes minutes). For each call of the library it prints how often it is made, what
-one takes on average, and its share of all.
+one takes on average, and its share of all; then what all calls take, new buffers, collections, and the Lisp itself; and
+how many instructions the program takes on bdwgc.
 """
 
 import argparse
@@ -44,36 +45,53 @@ def run(command):
 
 
 def best(command):
-    """The shortest time and the most memory of some runs, as text."""
+    """The shortest time and the most memory of some runs."""
     runs = [run(command) for _ in range(RUNS)]
-    return f"{min(time for time, _ in runs):6.2f} s {max(size for _, size in runs) / 2 ** 20:6.1f} MiB"
+    return min(time for time, _ in runs), max(size for _, size in runs)
 
 
-# What a call of the library does beside its own work: it takes a new buffer, for which it may collect.
+def shown(found):
+    """A time and a size as text."""
+    return f"{found[0]:6.2f} s {found[1] / 2 ** 20:6.1f} MiB"
+
+
+# What a call of the library does besides its own work: it takes a new buffer, for which it may collect.
 REFILL, COLLECT = "collecting::rooms::refill", "collecting::collecting::collect_whole"
 
 
-def print_instructions(name, program, path):
+def refills_of(found, call):
+    """What new buffers take that a call of the library makes."""
+    return sum(cost for (caller, called), cost in found.by_caller.items()
+               if caller == call and called.startswith(REFILL))
+
+
+def print_instructions(ours, other, name, path):
     """Where the instructions of a program go."""
-    found = profile([program, "-s", "-w", "512", "-f", "1024", path])
-    refills = sum(cost for (_, called), cost in found.by_caller.items() if called.startswith(REFILL))
-    collections = found.taken[COLLECT]
-    own = {call: found.taken[call] - (refills if call == "pauseless_make" else 0)
-           for call in found.calls if call.startswith("pauseless_")}
+    found = profile([ours, "-s", "-w", "512", "-f", "1024", path])
+    calls = [call for call in found.calls if call.startswith("pauseless_")]
+    refills, collections = sum(refills_of(found, call) for call in calls), found.taken[COLLECT]
+    own = {call: found.taken[call] - refills_of(found, call) for call in calls}
     print(f"{name}: {found.total:,} instructions")
     rows = [(cost, f"{call[10:]:12} {found.calls[call]:>12,} calls, {cost / found.calls[call]:>12,.1f} each")
             for call, cost in own.items()]
-    rows += [(refills - collections, "new buffers"), (collections, "collections"),
-             (found.total - sum(own.values()) - refills, "the Lisp")]
-    for cost, row in sorted(rows, reverse=True):
+    rows = sorted(rows, reverse=True) + [
+        (sum(own.values()), "all calls"), (refills - collections, "new buffers"), (collections, "collections"),
+        (found.total - sum(own.values()) - refills, "the Lisp")]
+    for cost, row in rows:
         print(f"  {row:45} {cost / found.total:6.1%}")
+    if other:
+        total = profile([other, "-s", path]).total
+        print(f"  on bdwgc: {total:,} instructions, {found.total / total:.1f} times fewer")
 
 
 def times(ours, other, name, path):
     """The times of a program, and its memory, on both heaps."""
     large, small = best([ours, "-s", path]), best([ours, "-s", "-w", "512", "-f", "1024", path])
-    line = f"{name:8} pauseless {large}  {small}"
-    return f"{line}   bdwgc {best([other, '-s', path])}" if other else line
+    line = f"{name:8} pauseless {shown(large)}  {shown(small)}"
+    if not other:
+        return line
+    there = best([other, "-s", path])
+    return f"{line}   bdwgc {shown(there)}  {small[0] / there[0]:4.1f} times"
 
 
 def main():
@@ -89,7 +107,7 @@ def main():
         ours, other = os.path.join(kept, "lisp"), os.path.join(kept, "lisp_gc")
         if not build(ours, "memory.c", [words.library]):
             sys.exit("the Lisp can't be built")
-        if words.instructions is None and not build(other, "memory_gc.c", ["-lgc"]):
+        if not build(other, "memory_gc.c", ["-lgc"]):
             print("bdwgc: libgc isn't there")
             other = None
         for name in programs:
@@ -97,7 +115,7 @@ def main():
             if words.instructions is None:
                 print(times(ours, other, name, path), flush=True)
             else:
-                print_instructions(name, ours, path)
+                print_instructions(ours, other, name, path)
 
 
 if __name__ == "__main__":

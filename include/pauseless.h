@@ -12,12 +12,12 @@
  * Threads, registers, globals, layouts, references and data are numbers from 0. Objects have no address here: a
  * register names one, and registers and globals are all the roots. An object's references come first, then its data,
  * each counted from 0. Each call answers a code; where that isn't PAUSELESS_DONE, what was asked for wasn't done, and
- * what a pointer leads to isn't written. No call ends the program. */
+ * what a pointer leads to isn't written; of pauseless_loads alone a part may be done. No call ends the program. */
 #ifndef PAUSELESS_H
 #define PAUSELESS_H
 
 /* The version of the library, by https://semver.org. */
-#define PAUSELESS_VERSION "1.1.0"
+#define PAUSELESS_VERSION "1.2.0"
 
 #include <stdbool.h>
 #include <stddef.h>
@@ -122,6 +122,12 @@ typedef struct pauseless_policy {
     uint32_t percent; /* pages of which at most so many words of a hundred are live are emptied */
 } pauseless_policy;
 
+/* One of several loads: a register that gets a reference of an object. */
+typedef struct pauseless_field_load {
+    uint32_t target; /* the register */
+    uint32_t field;  /* the reference's number */
+} pauseless_field_load;
+
 /* What a register names. */
 typedef struct pauseless_object {
     uint32_t birth;  /* how many objects were born before it; it stays when the object moves */
@@ -166,6 +172,13 @@ void pauseless_free(pauseless_heap *heap);
 pauseless_code pauseless_make(pauseless_heap *heap, const pauseless_policy *policy, uint32_t thread, uint32_t target,
                               uint32_t layout);
 
+/* Makes an object as pauseless_make does, stores in its first references what count registers name, and writes size
+ * words to its first data; the other references are null, and the other data 0. If target is one of the registers, it
+ * names the new object there. BAD_INDEX also if the layout has fewer references or data; else as pauseless_make. */
+pauseless_code pauseless_make_with(pauseless_heap *heap, const pauseless_policy *policy, uint32_t thread,
+                                   uint32_t target, uint32_t layout, const uint32_t *sources, size_t count,
+                                   const uint64_t *nums, size_t size);
+
 /* Makes an object in the buffer that the thread has. NO_ROOM: there is none, or it is too small; BIRTHS. */
 pauseless_code pauseless_new_object(pauseless_heap *heap, uint32_t thread, uint32_t target, uint32_t layout);
 
@@ -186,6 +199,12 @@ pauseless_code pauseless_look(pauseless_heap *heap, uint32_t thread, uint32_t re
 
 /* A register gets what an object's reference leads to: the read barrier, whole. */
 pauseless_code pauseless_load(pauseless_heap *heap, uint32_t thread, uint32_t target, uint32_t object, uint32_t field);
+
+/* Several of these loads of one object, in order. A load into the object's own register comes last, as loads after it
+ * are of what the register names then. Stops at the first load that isn't done, and answers as that one does; *done is
+ * how many are done, and is always written. */
+pauseless_code pauseless_loads(pauseless_heap *heap, uint32_t thread, uint32_t object,
+                               const pauseless_field_load *fields, size_t count, uint64_t *done);
 
 /* An object's reference leads to what a register names, or nowhere. */
 pauseless_code pauseless_store(pauseless_heap *heap, uint32_t thread, uint32_t object, uint32_t field, uint32_t source);

@@ -5,7 +5,7 @@
 
 A function of include/pauseless.h and the export of its name in crates/foreign/src have the same parameters in the same
 order: names, types, and what a pointer may write. A struct has the same fields in the same order. A list is a pointer
-with a count behind it in C, and one slice in the code.
+with a count after it in C, and one slice in the code.
 """
 
 import glob
@@ -13,13 +13,16 @@ import re
 import sys
 
 HEADER = "include/pauseless.h"
-CODE = "crates/foreign/src/*.rt"
+CODE = ["crates/foreign/src/*.rt", "crates/managed/src/batches.rt"]
+
+# What C calls how many elements of these types a list has: text and data words; others have a count.
+SIZES = {"u8": "size", "u64": "size"}
 
 # The types of the code, as C has them; and a name that C can't have.
 TYPES = {"u16": "uint16_t", "u32": "uint32_t", "u64": "uint64_t", "bool": "bool", "u8": "char",
          "Handle": "pauseless_heap", "SizesOfC": "pauseless_sizes", "LayoutOfC": "pauseless_layout",
          "PolicyOfC": "pauseless_policy", "ObjectOfC": "pauseless_object", "CollectedOfC": "pauseless_collected",
-         "CountsOfC": "pauseless_counts"}
+         "CountsOfC": "pauseless_counts", "FieldLoad": "pauseless_field_load"}
 NAMES = {"register": "reg"}
 RESULTS = {"u32": "pauseless_code", None: "void"}
 
@@ -44,7 +47,7 @@ def of_code(name, kind):
     slice_of = re.fullmatch(r"&(mut )?\[(\w+)\]", kind)
     if slice_of:
         const = "" if slice_of[1] else "const "
-        return [(const + TYPES[slice_of[2]] + "*", name), ("size_t", "size" if slice_of[2] == "u8" else "count")]
+        return [(const + TYPES[slice_of[2]] + "*", name), ("size_t", SIZES.get(slice_of[2], "count"))]
     pointer = re.fullmatch(r"&(mut )?(\w+)", kind)
     if pointer:
         return [(("" if pointer[1] else "const ") + TYPES[pointer[2]] + "*", name)]
@@ -75,7 +78,8 @@ def structs_in_header(text):
 def structs_in_code(text):
     """The structs of the code that C knows, in the same form."""
     structs = {}
-    found = re.findall(r"#\[repr\(C\)\]\n(?:#\[[^\n]*\]\n)*pub struct (\w+OfC) \{\n(.*?)^\}", text, re.M | re.S)
+    found = re.findall(r"#\[repr\(C\)\]\n(?:#\[[^\n]*\]\n)*pub struct (\w+OfC|FieldLoad) \{\n(.*?)^\}", text,
+                       re.M | re.S)
     for name, fields in found:
         structs[TYPES[name]] = [(TYPES[kind], each) for each, kind in re.findall(r"pub (\w+): (\w+),", fields)]
     return structs
@@ -90,7 +94,7 @@ def differences(what, header, code):
 
 def main():
     header = open(HEADER).read()
-    code = "".join(open(path).read() for path in sorted(glob.glob(CODE)))
+    code = "".join(open(path).read() for where in CODE for path in sorted(glob.glob(where)))
     known = structs_in_header(header)
     del known["pauseless_heap"]
     if len(in_header(header)) < 20 or len(known) < 6:

@@ -41,10 +41,10 @@ $CC -std=c11 -O2 -Wall -Wextra -Werror -Iinclude examples/lisp/main.c examples/l
     examples/lisp/text.c examples/lisp/memory.c "$library" -o "$lisp"
 told 'the Lisp is built' $?
 
-tries words 195
-tries queens 7
+tries words 239
+tries queens 8
 tries loop 3
-tries tree 33
-tries sort 587
+tries tree 43
+tries sort 664
 echo "$passed passed, $failed failed"
 [ "$failed" = 0 ]

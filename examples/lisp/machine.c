@@ -16,61 +16,53 @@ const char *const special_names[] = {"quote", "if", "define", "lambda", "let", "
 
 /* Pushes a frame, with what is left to do in a register. */
 static void push(enum work work, unsigned rest) {
-    memory_make(SPARE, FRAME);
-    memory_set_number(SPARE, 0, work);
-    memory_put(SPARE, NEXT, FRAMES);
-    memory_put(SPARE, REST, rest);
-    memory_put(SPARE, WHERE, ENVIRONMENT);
+    const uint32_t sources[] = {FRAMES, rest, ENVIRONMENT};
+    const uint64_t data = work;
+    memory_make(SPARE, FRAME, sources, 3, &data, 1);
     memory_copy(FRAMES, SPARE);
 }
 
 /* Takes the innermost frame away. */
 static void pop(unsigned rest) {
-    memory_get(rest, FRAMES, REST);
-    memory_get(ENVIRONMENT, FRAMES, WHERE);
-    memory_get(FRAMES, FRAMES, NEXT);
+    const struct get gets[] = {{rest, REST}, {ENVIRONMENT, WHERE}, {FRAMES, NEXT}};
+    memory_gets(FRAMES, gets, 3);
 }
 static enum step look_up(void) {
+    const uint64_t spelled = memory_word(EXPRESSION, SPELLED);
     for (memory_copy(LEFT, ENVIRONMENT); !memory_is_nil(LEFT); memory_get(LEFT, LEFT, OUTER)) {
-        memory_get(RIGHT, LEFT, NAME);
-        if (memory_same(RIGHT, EXPRESSION)) {
-            memory_get(VALUE, LEFT, BOUND);
+        if (memory_word(LEFT, SPELLED) == spelled) {
+            memory_value(VALUE, LEFT);
             return RETURN;
         }
     }
-    if (!memory_number(EXPRESSION, HAS_VALUE)) fail(spelling(EXPRESSION));
-    memory_get(VALUE, EXPRESSION, 0);
+    memory_value(VALUE, EXPRESSION);
+    if (immediates[VALUE] == UNBOUND) fail(spelling(spelled));
     return RETURN;
 }
 void set_value(unsigned symbol, unsigned value) {
     if (memory_kind(symbol) != SYMBOL) fail("no name is defined");
-    memory_put(symbol, 0, value);
-    memory_set_number(symbol, HAS_VALUE, 1);
+    memory_set_value(symbol, value);
 }
 
 /* A name in LEFT is bound to VALUE, in front of an environment in a register. */
 static void bind(unsigned environment) {
-    memory_make(SPARE, BINDING);
-    memory_put(SPARE, NAME, LEFT);
-    memory_put(SPARE, BOUND, VALUE);
-    memory_put(SPARE, OUTER, environment);
+    const uint32_t sources[] = {VALUE, environment};
+    const uint64_t data[] = {immediates[VALUE], memory_word(LEFT, SPELLED)};
+    memory_make(SPARE, BINDING, sources, 2, data, 2);
     memory_copy(environment, SPARE);
 }
 
 /* The expressions of the list in EXPRESSION, one after another; the last one is in tail position. */
 static enum step sequence(void) {
-    memory_get(LEFT, EXPRESSION, CDR);
+    memory_gets(EXPRESSION, (const struct get[]){{LEFT, CDR}, {EXPRESSION, CAR}}, 2);
     if (!memory_is_nil(LEFT)) push(GO_ON, LEFT);
-    memory_get(EXPRESSION, EXPRESSION, CAR);
     return EVALUATE;
 }
 
 /* A closure in VALUE, of the parameters in LEFT and the body in RIGHT. */
 static enum step close_over(void) {
-    memory_make(VALUE, CLOSURE);
-    memory_put(VALUE, PARAMETERS, LEFT);
-    memory_put(VALUE, BODY, RIGHT);
-    memory_put(VALUE, SCOPE, ENVIRONMENT);
+    static const uint32_t sources[] = {LEFT, RIGHT, ENVIRONMENT};
+    memory_make(VALUE, CLOSURE, sources, 3, &no_data, 0);
     return RETURN;
 }
 
@@ -81,8 +73,7 @@ static enum step define(void) {
         memory_get(EXPRESSION, RIGHT, CAR);
         return EVALUATE;
     }
-    memory_get(ITEM, LEFT, CAR);
-    memory_get(LEFT, LEFT, CDR);
+    memory_gets(LEFT, (const struct get[]){{ITEM, CAR}, {LEFT, CDR}}, 2);
     close_over();
     set_value(ITEM, VALUE);
     return RETURN;
@@ -91,10 +82,7 @@ static enum step define(void) {
 /* The value of the first binding of a let, in LEFT, whose frame is the innermost; where none is left, its body. */
 static enum step next_binding(void) {
     if (memory_is_nil(LEFT)) {
-        memory_get(EXPRESSION, FRAMES, LAST);
-        memory_get(LEFT, FRAMES, FIRST);
-        memory_get(FRAMES, FRAMES, NEXT);
-        memory_copy(ENVIRONMENT, LEFT);
+        memory_gets(FRAMES, (const struct get[]){{EXPRESSION, LAST}, {ENVIRONMENT, FIRST}, {FRAMES, NEXT}}, 3);
         return sequence();
     }
     memory_get(ENVIRONMENT, FRAMES, WHERE);
@@ -112,10 +100,9 @@ static enum step let(void) {
     return next_binding();
 }
 static enum step let_in(void) {
-    memory_get(RIGHT, FRAMES, REST);
+    memory_gets(FRAMES, (const struct get[]){{RIGHT, REST}, {ENVIRONMENT, FIRST}}, 2);
     memory_get(LEFT, RIGHT, CAR);
     memory_get(LEFT, LEFT, CAR);
-    memory_get(ENVIRONMENT, FRAMES, FIRST);
     bind(ENVIRONMENT);
     memory_put(FRAMES, FIRST, ENVIRONMENT);
     memory_get(LEFT, RIGHT, CDR);
@@ -124,8 +111,7 @@ static enum step let_in(void) {
 }
 static enum step special(enum special which) {
     memory_get(ITEM, EXPRESSION, CDR);
-    memory_get(LEFT, ITEM, CAR);
-    memory_get(RIGHT, ITEM, CDR);
+    memory_gets(ITEM, (const struct get[]){{LEFT, CAR}, {RIGHT, CDR}}, 2);
     switch (which) {
     case QUOTE: memory_copy(VALUE, LEFT); return RETURN;
     case IF: push(CHOOSE, RIGHT); memory_copy(EXPRESSION, LEFT); return EVALUATE;
@@ -138,10 +124,11 @@ static enum step special(enum special which) {
 
 /* A special form, or else a call, whose procedure and arguments are collected. */
 static enum step form(void) {
-    memory_get(ITEM, EXPRESSION, CAR);
-    if (memory_kind(ITEM) == SYMBOL && memory_number(ITEM, SPELLED) < SPECIALS)
-        return special((enum special)memory_number(ITEM, SPELLED));
-    memory_get(LEFT, EXPRESSION, CDR);
+    memory_gets(EXPRESSION, (const struct get[]){{ITEM, CAR}, {LEFT, CDR}}, 2);
+    if (memory_kind(ITEM) == SYMBOL) {
+        const uint64_t spelled = memory_word(ITEM, SPELLED);
+        if (spelled < SPECIALS) return special((enum special)spelled);
+    }
     push(CALL, LEFT);
     memory_copy(EXPRESSION, ITEM);
     return EVALUATE;
@@ -150,7 +137,8 @@ static enum step evaluated(void) {
     enum kind kind = memory_kind(EXPRESSION);
     if (kind == SYMBOL) return look_up();
     if (kind == PAIR) return form();
-    memory_copy(VALUE, EXPRESSION);
+    if (kind == NUMBER) make_number(VALUE, number_in(EXPRESSION));
+    else memory_copy(VALUE, EXPRESSION);
     return RETURN;
 }
 
@@ -159,21 +147,18 @@ static enum step call(void) {
     append(VALUE, FRAMES);
     memory_get(EXPRESSION, FRAMES, REST);
     if (memory_is_nil(EXPRESSION)) {
-        memory_get(ARGUMENTS, FRAMES, FIRST);
-        memory_get(FRAMES, FRAMES, NEXT);
-        memory_get(VALUE, ARGUMENTS, CAR);
-        memory_get(ARGUMENTS, ARGUMENTS, CDR);
+        memory_gets(FRAMES, (const struct get[]){{ARGUMENTS, FIRST}, {FRAMES, NEXT}}, 2);
+        memory_next(VALUE, ARGUMENTS, ARGUMENTS);
         return APPLY;
     }
-    memory_get(LEFT, EXPRESSION, CDR);
+    memory_gets(EXPRESSION, (const struct get[]){{LEFT, CDR}, {EXPRESSION, CAR}}, 2);
     memory_put(FRAMES, REST, LEFT);
     memory_get(ENVIRONMENT, FRAMES, WHERE);
-    memory_get(EXPRESSION, EXPRESSION, CAR);
     return EVALUATE;
 }
 static enum step returned(void) {
     if (memory_is_nil(FRAMES)) return DONE;
-    switch ((enum work)memory_number(FRAMES, 0)) {
+    switch ((enum work)memory_word(FRAMES, WORK)) {
     case LET_IN: return let_in();
     case CALL: return call();
     case GO_ON: pop(EXPRESSION); return sequence();
@@ -195,8 +180,7 @@ const char *const primitive_names[] = {"+", "-", "*", "quotient", "remainder", "
 /* The next argument, which has a kind, or any where that is NIL. */
 static void argument(unsigned target, enum kind kind) {
     if (memory_is_nil(ARGUMENTS)) fail("too few arguments");
-    memory_get(target, ARGUMENTS, CAR);
-    memory_get(ARGUMENTS, ARGUMENTS, CDR);
+    memory_next(target, ARGUMENTS, ARGUMENTS);
     if (kind != NIL && memory_kind(target) != kind) fail("an argument of another kind");
 }
 static void truth(bool is_so) {
@@ -205,10 +189,10 @@ static void truth(bool is_so) {
 }
 
 /* Sums, differences and products wrap. */
-static void calculate(int64_t which) {
+static void calculate(uint64_t which) {
     argument(LEFT, NUMBER);
     argument(RIGHT, NUMBER);
-    int64_t left = memory_number(LEFT, 0), right = memory_number(RIGHT, 0);
+    int64_t left = number_in(LEFT), right = number_in(RIGHT);
     if ((which == DIVIDE || which == REMAINDER) && right <= 0) fail("a divisor below 1");
     switch (which) {
     case ADD: make_number(VALUE, (int64_t)((uint64_t)left + (uint64_t)right)); break;
@@ -219,7 +203,7 @@ static void calculate(int64_t which) {
     default: truth(which == EQUAL ? left == right : left < right); break;
     }
 }
-static void primitive(int64_t which) {
+static void primitive(uint64_t which) {
     if (which <= LESS) {
         calculate(which);
         return;
@@ -228,9 +212,9 @@ static void primitive(int64_t which) {
     if (which == CONS || which == SET_TAIL || which == IS_SAME) argument(RIGHT, NIL);
     switch (which) {
     case CONS: make_pair(VALUE, LEFT, RIGHT); break;
-    case HEAD: memory_get(VALUE, LEFT, CAR); break;
+    case HEAD: memory_value(VALUE, LEFT); break;
     case TAIL: memory_get(VALUE, LEFT, CDR); break;
-    case SET_TAIL: memory_put(LEFT, CDR, RIGHT); memory_copy(VALUE, RIGHT); break;
+    case SET_TAIL: make_object(RIGHT); memory_put(LEFT, CDR, RIGHT); memory_copy(VALUE, RIGHT); break;
     case IS_NULL: truth(memory_is_nil(LEFT)); break;
     case IS_PAIR: truth(memory_kind(LEFT) == PAIR); break;
     case IS_SAME: truth(memory_same(LEFT, RIGHT)); break;
@@ -240,17 +224,15 @@ static void primitive(int64_t which) {
 }
 static enum step applied(void) {
     if (memory_kind(VALUE) == PRIMITIVE) {
-        primitive(memory_number(VALUE, 0));
+        primitive(memory_word(VALUE, WHICH));
         return RETURN;
     }
     if (memory_kind(VALUE) != CLOSURE) fail("no procedure is called");
-    memory_get(ENVIRONMENT, VALUE, SCOPE);
-    memory_get(EXPRESSION, VALUE, BODY);
-    for (memory_get(ITEM, VALUE, PARAMETERS); !memory_is_nil(ITEM); memory_get(ITEM, ITEM, CDR)) {
+    memory_gets(VALUE, (const struct get[]){{ENVIRONMENT, SCOPE}, {EXPRESSION, BODY}, {ITEM, PARAMETERS}}, 3);
+    while (!memory_is_nil(ITEM)) {
         if (memory_is_nil(ARGUMENTS)) fail("too few arguments");
-        memory_get(LEFT, ITEM, CAR);
-        memory_get(VALUE, ARGUMENTS, CAR);
-        memory_get(ARGUMENTS, ARGUMENTS, CDR);
+        memory_gets(ITEM, (const struct get[]){{LEFT, CAR}, {ITEM, CDR}}, 2);
+        memory_next(VALUE, ARGUMENTS, ARGUMENTS);
         bind(ENVIRONMENT);
     }
     return sequence();

@@ -8,11 +8,12 @@ struct object {
     uint64_t kind;
     union word {
         struct object *reference;
-        int64_t number;
+        uint64_t data;
     } words[];
 };
 
 static struct object *registers[REGISTERS];
+uint64_t immediates[REGISTERS];
 
 void memory_open(const struct memory_options *options) {
     (void)options;
@@ -26,40 +27,74 @@ void memory_close(bool tells_what_it_did) {
 }
 
 enum kind memory_kind(unsigned object) {
+    if (immediates[object]) return NUMBER;
     return registers[object] ? (enum kind)registers[object]->kind : NIL;
 }
 
-void memory_make(unsigned target, enum kind kind) {
+void memory_make(unsigned target, enum kind kind, const uint32_t *sources, unsigned count, const uint64_t *data,
+                 unsigned size) {
     struct shape shape = shapes[kind];
-    size_t size = sizeof(struct object) + sizeof(union word) * (size_t)(shape.references + shape.numbers);
-    struct object *made = shape.references ? GC_MALLOC(size) : GC_MALLOC_ATOMIC(size);
+    size_t bytes = sizeof(struct object) + sizeof(union word) * (size_t)(shape.references + shape.data);
+    struct object *made = shape.references ? GC_MALLOC(bytes) : GC_MALLOC_ATOMIC(bytes);
     if (!made) fail("out of memory");
     made->kind = kind;
+    for (unsigned i = 0; i < count; i++) made->words[i].reference = registers[sources[i]];
+    for (unsigned j = 0; j < size; j++) made->words[shape.references + j].data = data[j];
     registers[target] = made;
+    immediates[target] = EMPTY;
 }
 
-static union word *word_of(unsigned object, unsigned number) { return &registers[object]->words[number]; }
-
 void memory_get(unsigned target, unsigned object, unsigned field) {
-    registers[target] = word_of(object, field)->reference;
+    registers[target] = registers[object]->words[field].reference;
+    immediates[target] = EMPTY;
+}
+
+void memory_gets(unsigned object, const struct get *gets, unsigned count) {
+    for (unsigned i = 0; i < count; i++) memory_get(gets[i].target, object, gets[i].field);
 }
 
 void memory_put(unsigned object, unsigned field, unsigned source) {
-    word_of(object, field)->reference = registers[source];
+    registers[object]->words[field].reference = registers[source];
 }
 
-int64_t memory_number(unsigned object, unsigned index) {
-    return word_of(object, shapes[memory_kind(object)].references + index)->number;
+static uint64_t *data_of(unsigned object, unsigned index) {
+    struct object *found = registers[object];
+    return &found->words[shapes[found->kind].references + index].data;
 }
 
-void memory_set_number(unsigned object, unsigned index, int64_t number) {
-    word_of(object, shapes[memory_kind(object)].references + index)->number = number;
+uint64_t memory_word(unsigned object, unsigned index) { return *data_of(object, index); }
+
+void memory_value(unsigned target, unsigned object) {
+    const uint64_t word = memory_word(object, BESIDE);
+    memory_get(target, object, 0);
+    immediates[target] = word;
 }
 
-void memory_copy(unsigned target, unsigned source) { registers[target] = registers[source]; }
+void memory_set_value(unsigned object, unsigned source) {
+    memory_put(object, 0, source);
+    *data_of(object, BESIDE) = immediates[source];
+}
 
-void memory_clear(unsigned target) { registers[target] = NULL; }
+void memory_next(unsigned first, unsigned rest, unsigned list) {
+    struct object *found = registers[list];
+    registers[first] = found->words[CAR].reference;
+    registers[rest] = found->words[CDR].reference;
+    immediates[rest] = EMPTY;
+    immediates[first] = found->words[shapes[PAIR].references + BESIDE].data;
+}
 
-bool memory_is_nil(unsigned object) { return !registers[object]; }
+void memory_copy(unsigned target, unsigned source) {
+    registers[target] = registers[source];
+    immediates[target] = immediates[source];
+}
 
-bool memory_same(unsigned left, unsigned right) { return registers[left] == registers[right]; }
+void memory_clear(unsigned target) {
+    registers[target] = NULL;
+    immediates[target] = EMPTY;
+}
+
+bool memory_is_nil(unsigned object) { return !immediates[object] && !registers[object]; }
+
+bool memory_same(unsigned left, unsigned right) {
+    return immediates[left] == immediates[right] && registers[left] == registers[right];
+}

@@ -14,42 +14,55 @@ void fail(const char *what) {
     fprintf(stderr, "lisp: %s\n", what);
     exit(1);
 }
-const char *spelling(unsigned symbol) { return names[memory_number(symbol, SPELLED)]; }
+const uint32_t no_source = 0;
+const uint64_t no_data = 0;
 
-static int64_t name_number(const char *name) {
-    int64_t number = 0;
+const char *spelling(uint64_t number) { return names[number]; }
+
+static uint64_t name_number(const char *name) {
+    uint64_t number = 0;
     while (number < NAMES && names[number][0] && strcmp(names[number], name) != 0) number++;
     if (number == NAMES) fail("too many names");
     strcpy(names[number], name);
     return number;
 }
 void make_pair(unsigned target, unsigned car, unsigned cdr) {
-    memory_make(SPARE, PAIR);
-    memory_put(SPARE, CAR, car);
-    memory_put(SPARE, CDR, cdr);
+    const uint32_t sources[] = {car, cdr};
+    make_object(cdr);
+    memory_make(SPARE, PAIR, sources, 2, &immediates[car], 1);
     memory_copy(target, SPARE);
 }
+
+/* A number has 63 bits; what is more is lost. */
 void make_number(unsigned target, int64_t value) {
-    memory_make(target, NUMBER);
-    memory_set_number(target, 0, value);
+    memory_clear(target);
+    immediates[target] = (uint64_t)value << 1 | 1;
+}
+
+/* A number in a register becomes an object. */
+void make_object(unsigned number) {
+    if (immediates[number]) memory_make(number, NUMBER, &no_source, 0, &immediates[number], 1);
+}
+int64_t number_in(unsigned number) {
+    const uint64_t word = immediates[number] ? immediates[number] : memory_word(number, BESIDE);
+    return (int64_t)word >> 1;
 }
 
 /* The symbol of a name, which is made where there is none; LEFT is used. */
 void make_symbol(unsigned target, const char *name) {
-    int64_t spelled = name_number(name);
+    const uint64_t data[] = {UNBOUND, name_number(name)};
     for (memory_copy(LEFT, SYMBOLS); !memory_is_nil(LEFT); memory_get(LEFT, LEFT, CDR)) {
         memory_get(target, LEFT, CAR);
-        if (memory_number(target, SPELLED) == spelled) return;
+        if (memory_word(target, SPELLED) == data[SPELLED]) return;
     }
-    memory_make(target, SYMBOL);
-    memory_set_number(target, SPELLED, spelled);
+    memory_make(target, SYMBOL, &no_source, 0, data, 2);
     make_pair(SYMBOLS, target, SYMBOLS);
 }
 
-/* Puts an item behind the last one of a frame's list; LEFT and RIGHT are used. */
+/* Puts an item after the last one of a frame's list; LEFT and RIGHT are used. */
 void append(unsigned item, unsigned frame) {
-    memory_clear(LEFT);
-    make_pair(RIGHT, item, LEFT);
+    const uint32_t source = item;
+    memory_make(RIGHT, PAIR, &source, 1, &immediates[item], 1);
     memory_get(LEFT, frame, LAST);
     if (memory_is_nil(LEFT)) memory_put(frame, FIRST, RIGHT);
     else memory_put(LEFT, CDR, RIGHT);
@@ -63,15 +76,17 @@ static void read_word(const char **text) {
     if (length >= LENGTH) fail("a name is too long");
     memcpy(word, *text, length);
     *text += length;
-    if (isdigit((unsigned char)word[word[0] == '-'])) make_number(ITEM, strtoll(word, NULL, 10));
-    else make_symbol(ITEM, word);
+    if (isdigit((unsigned char)word[word[0] == '-'])) {
+        make_number(ITEM, strtoll(word, NULL, 10));
+        make_object(ITEM);
+    } else make_symbol(ITEM, word);
 }
 
 /* A list is open; or, where its number is 1, a quotation, which ends with its second item. */
 static void open_list(bool is_quotation) {
-    memory_make(SPARE, FRAME);
-    memory_put(SPARE, NEXT, STACK);
-    memory_set_number(SPARE, 0, is_quotation);
+    static const uint32_t next = STACK;
+    const uint64_t work = is_quotation;
+    memory_make(SPARE, FRAME, &next, 1, &work, 1);
     memory_copy(STACK, SPARE);
     if (!is_quotation) return;
     make_symbol(ITEM, "quote");
@@ -79,15 +94,14 @@ static void open_list(bool is_quotation) {
 }
 static void close_list(void) {
     if (memory_is_nil(STACK)) fail("a bracket too many");
-    memory_get(ITEM, STACK, FIRST);
-    memory_get(STACK, STACK, NEXT);
+    memory_gets(STACK, (const struct get[]){{ITEM, FIRST}, {STACK, NEXT}}, 2);
 }
 
 /* ITEM is read, and stands in the innermost list. True where none is open. */
 static bool place_item(void) {
     for (; !memory_is_nil(STACK); close_list()) {
         append(ITEM, STACK);
-        if (!memory_number(STACK, 0)) return false;
+        if (!memory_word(STACK, WORK)) return false;
     }
     return true;
 }
@@ -117,19 +131,18 @@ bool read_item(const char **text) {
 }
 static void print_atom(unsigned item) {
     if (memory_is_nil(item)) printf("()");
-    else if (memory_kind(item) == NUMBER) printf("%lld", (long long)memory_number(item, 0));
-    else if (memory_kind(item) == SYMBOL) printf("%s", spelling(item));
+    else if (memory_kind(item) == NUMBER) printf("%lld", (long long)number_in(item));
+    else if (memory_kind(item) == SYMBOL) printf("%s", spelling(memory_word(item, SPELLED)));
     else printf("#procedure");
 }
 
 /* Prints brackets up to the next item, which is then in LEFT; false at the end. STACK has the rest of each list. */
 static bool print_rest(void) {
     for (; !memory_is_nil(STACK); memory_get(STACK, STACK, CDR)) {
-        memory_get(RIGHT, STACK, CAR);
+        memory_value(RIGHT, STACK);
         if (memory_kind(RIGHT) == PAIR) {
-            memory_get(LEFT, RIGHT, CAR);
-            memory_get(RIGHT, RIGHT, CDR);
-            memory_put(STACK, CAR, RIGHT);
+            memory_next(LEFT, RIGHT, RIGHT);
+            memory_set_value(STACK, RIGHT);
             putchar(' ');
             return true;
         }
@@ -143,7 +156,7 @@ void print_value(void) {
     memory_clear(STACK);
     memory_copy(LEFT, VALUE);
     do {
-        for (; memory_kind(LEFT) == PAIR; memory_get(LEFT, LEFT, CAR)) {
+        for (; memory_kind(LEFT) == PAIR; memory_value(LEFT, LEFT)) {
             putchar('(');
             memory_get(RIGHT, LEFT, CDR);
             make_pair(STACK, RIGHT, STACK);

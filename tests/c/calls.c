@@ -152,6 +152,47 @@ static void references(void) {
     pauseless_free(&heap);
 }
 
+/* Loads of an object, each into its register, in order; they stop at the first that fails, and tell how many are
+ * done. */
+static void several_loads(void) {
+    const pauseless_field_load loads[] = {{.target = 4, .field = 1}, {.target = 1, .field = 2},
+                                          {.target = 3, .field = 0}};
+    const pauseless_field_load wrong[] = {{.target = 1, .field = 1}, {.target = 4, .field = 3},
+                                          {.target = 0, .field = 1}};
+    uint64_t done = 9;
+    makes_two();
+    DONE(pauseless_store(&heap, 2, 3, 1, 0));
+    DONE(pauseless_store(&heap, 2, 3, 0, 3));
+    DONE(pauseless_copy(&heap, 2, 1, 3));
+    SAME(pauseless_loads(&heap, 2, 3, wrong, 3, &done), PAUSELESS_BAD_INDEX);
+    SAME(done, 1);
+    SAME(is_same(2, 1, 0), true);
+    SAME(is_null(2, 4), true);
+    DONE(pauseless_loads(&heap, 2, 3, loads, 3, &done));
+    SAME(done, 3);
+    SAME(is_same(2, 4, 0), true);
+    SAME(is_null(2, 1), true);
+    DONE(pauseless_loads(&heap, 2, 3, loads, 0, &done));
+    SAME(done, 0);
+    SAME(pauseless_loads(&heap, 2, 1, loads, 3, &done), PAUSELESS_NULL);
+    SAME(done, 0);
+    pauseless_free(&heap);
+}
+
+/* Loads after one into the object's own register are of the object that it names then. */
+static void loads_on_the_way(void) {
+    const pauseless_field_load loads[] = {{.target = 3, .field = 1}, {.target = 4, .field = 0}};
+    uint64_t done = 9;
+    makes_two();
+    DONE(pauseless_store(&heap, 2, 3, 1, 0));
+    DONE(pauseless_store(&heap, 2, 0, 0, 0));
+    DONE(pauseless_loads(&heap, 2, 3, loads, 2, &done));
+    SAME(done, 2);
+    SAME(is_same(2, 3, 0), true);
+    SAME(is_same(2, 4, 0), true);
+    pauseless_free(&heap);
+}
+
 static void globals(void) {
     makes_two();
     DONE(pauseless_store_global(&heap, 2, 3, 0));
@@ -192,6 +233,49 @@ static void data(void) {
     SAME(datum(2, 3, 0), 0);
     SAME(datum(2, 0, 0), 0);
     SAME(pauseless_set(&heap, 2, 3, 2, 1), PAUSELESS_BAD_INDEX);
+    pauseless_free(&heap);
+}
+
+/* An object with its references and data: the register that gets it may be a source. */
+static void filled(void) {
+    const pauseless_policy policy = {.words = 64, .free = 1, .percent = 75};
+    const uint32_t sources[] = {0, 4, 1};
+    const uint64_t numbers[] = {17, UINT64_C(0xfedcba9876543210)};
+    makes_two();
+    DONE(pauseless_make_with(&heap, &policy, 2, 4, 1, sources, 3, numbers, 2));
+    object_is(2, 4, (pauseless_object){.birth = 2, .layout = 1, .refs = 3, .nums = 2});
+    SAME(datum(2, 4, 0), 17);
+    SAME(datum(2, 4, 1), numbers[1]);
+    DONE(pauseless_load(&heap, 2, 1, 4, 0));
+    SAME(is_same(2, 1, 0), true);
+    DONE(pauseless_load(&heap, 2, 1, 4, 1));
+    SAME(is_same(2, 1, 4), true);
+    DONE(pauseless_load(&heap, 2, 1, 4, 2));
+    SAME(is_null(2, 1), true);
+    DONE(pauseless_make_with(&heap, &policy, 2, 1, 1, sources, 1, numbers, 1));
+    SAME(datum(2, 1, 0), 17);
+    SAME(datum(2, 1, 1), 0);
+    DONE(pauseless_load(&heap, 2, 4, 1, 1));
+    SAME(is_null(2, 4), true);
+    pauseless_free(&heap);
+}
+
+/* An object that can't be filled isn't made. */
+static void not_filled(void) {
+    const pauseless_policy policy = {.words = 64, .free = 1, .percent = 75};
+    const uint32_t sources[] = {0, 0, 5, 0};
+    const uint64_t numbers[] = {1, 2, 3};
+    makes_two();
+    SAME(pauseless_make_with(&heap, &policy, 2, 4, 1, sources, 4, numbers, 0), PAUSELESS_BAD_INDEX);
+    SAME(pauseless_make_with(&heap, &policy, 2, 4, 1, sources, 3, numbers, 0), PAUSELESS_BAD_INDEX);
+    SAME(pauseless_make_with(&heap, &policy, 2, 4, 1, sources, 2, numbers, 3), PAUSELESS_BAD_INDEX);
+    SAME(pauseless_make_with(&heap, &policy, 2, 4, 3, sources, 0, numbers, 0), PAUSELESS_BAD_INDEX);
+    SAME(pauseless_make_with(&heap, &policy, 2, 5, 1, sources, 2, numbers, 2), PAUSELESS_BAD_INDEX);
+    SAME(pauseless_make_with(&heap, &policy, 3, 4, 1, sources, 2, numbers, 2), PAUSELESS_NO_ACTOR);
+    SAME(is_null(2, 4), true);
+    counts_are(2, 7);
+    DONE(pauseless_make_with(&heap, &policy, 2, 4, 1, sources, 2, numbers, 2));
+    counts_are(3, 7);
     pauseless_free(&heap);
 }
 
@@ -306,7 +390,7 @@ static void unwritten_without_heap(void) {
     pauseless_collected done = {.live = 12, .emptied = 13};
     pauseless_counts counts = {.births = 14, .words = 15, .frames = 16, .free = 17};
     bool is_so = true;
-    uint64_t value = 18;
+    uint64_t value = 18, loaded = 19;
     char text[] = "-";
     SAME(pauseless_look(&heap, 0, 0, &object), PAUSELESS_NO_HEAP);
     SAME(pauseless_same(&heap, 0, 0, 0, &is_so), PAUSELESS_NO_HEAP);
@@ -316,6 +400,8 @@ static void unwritten_without_heap(void) {
     SAME(pauseless_collect_some(&heap, 75, 9, &is_so), PAUSELESS_NO_HEAP);
     SAME(pauseless_count(&heap, &counts), PAUSELESS_NO_HEAP);
     SAME(pauseless_report(&heap, text, 1, &value), PAUSELESS_NO_HEAP);
+    SAME(pauseless_loads(&heap, 0, 0, &(pauseless_field_load){.target = 0}, 1, &loaded), PAUSELESS_NO_HEAP);
+    SAME(loaded, 0);
     SAME(object.birth, 11);
     SAME(done.live == 12 && done.emptied == 13, true);
     SAME(counts.births == 14 && counts.words == 15 && counts.frames == 16 && counts.free == 17, true);
@@ -331,6 +417,7 @@ static void without_heap(void) {
     SAME(pauseless_give_back(&heap, 0), PAUSELESS_NO_HEAP);
     SAME(pauseless_new_object(&heap, 0, 0, 0), PAUSELESS_NO_HEAP);
     SAME(pauseless_make(&heap, &policy, 0, 0, 0), PAUSELESS_NO_HEAP);
+    SAME(pauseless_make_with(&heap, &policy, 0, 0, 0, &(uint32_t){0}, 1, &(uint64_t){0}, 1), PAUSELESS_NO_HEAP);
     SAME(pauseless_refill(&heap, &policy, 0), PAUSELESS_NO_HEAP);
     SAME(pauseless_load(&heap, 0, 0, 0, 0), PAUSELESS_NO_HEAP);
     SAME(pauseless_store(&heap, 0, 0, 0, 0), PAUSELESS_NO_HEAP);
@@ -350,9 +437,13 @@ int main(void) {
     fresh_buffers();
     frames_that_are_low();
     references();
+    several_loads();
+    loads_on_the_way();
     globals();
     registers();
     data();
+    filled();
+    not_filled();
     collections();
     parts();
     reports();

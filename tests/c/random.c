@@ -76,6 +76,41 @@ static void makes(uint32_t t, uint32_t r) {
     }
 }
 
+/* An object with up to two references and one datum, where its layout has as many. */
+static void makes_filled(uint32_t t, uint32_t r) {
+    const uint32_t layout = below(LAYOUTS), sources[] = {below(REGISTERS), below(REGISTERS)};
+    const uint32_t count = below(3), size = below(2);
+    const uint64_t value = (uint64_t)below(UINT32_MAX) << 20;
+    const pauseless_code code = pauseless_make_with(&heap, &policy, t, r, layout, sources, count, &value, size);
+    met[code]++;
+    if (count > layouts[layout].refs || size > layouts[layout].nums) {
+        SAME(code, PAUSELESS_BAD_INDEX);
+    } else if (code == PAUSELESS_DONE) {
+        born(t, r, layout);
+        for (uint32_t i = 0; i < count; i++) objects[registers[t][r]].refs[i] = registers[t][sources[i]];
+        if (size > 0) objects[registers[t][r]].nums[0] = value;
+    } else {
+        SAME(code == PAUSELESS_NO_FRAMES || code == PAUSELESS_NO_PAGES, true);
+        lets_go(t);
+    }
+}
+
+/* Two loads of one object, one after the other. */
+static void loads(uint32_t t, uint32_t r) {
+    const pauseless_field_load fields[] = {{.target = below(REGISTERS), .field = below(REFS + 1)},
+                                           {.target = below(REGISTERS), .field = below(REFS + 1)}};
+    int *own = registers[t];
+    uint64_t done = 9, wanted = 0;
+    pauseless_code code = PAUSELESS_DONE;
+    for (; wanted < 2; wanted++) {
+        code = use_of(own[r], fields[wanted].field, true);
+        if (code != PAUSELESS_DONE) break;
+        own[fields[wanted].target] = objects[own[r]].refs[fields[wanted].field];
+    }
+    MEETS(pauseless_loads(&heap, t, r, fields, 2, &done), code);
+    SAME(done, wanted);
+}
+
 /* A step of a thread at its registers. */
 static void steps(uint32_t t, uint32_t r, uint32_t q) {
     const uint32_t i = below(REFS + 1), g = below(GLOBALS);
@@ -83,8 +118,10 @@ static void steps(uint32_t t, uint32_t r, uint32_t q) {
     int *own = registers[t];
     uint64_t found = 0;
     bool is_so = false;
-    switch (below(9)) {
+    switch (below(11)) {
     case 0: makes(t, r); break;
+    case 9: makes_filled(t, r); break;
+    case 10: loads(t, r); break;
     case 1:
         if (MEETS(pauseless_load(&heap, t, q, r, i), use_of(own[r], i, true))) own[q] = objects[own[r]].refs[i];
         break;

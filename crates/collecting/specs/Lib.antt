@@ -1,5 +1,6 @@
 pub mod Collections
 pub mod Rooms
+pub mod Filling
 pub mod Faults
 pub mod Objects
 pub mod Parts

@@ -3,10 +3,12 @@
 ghost use Rattle.std.specs.Prelude.{◌≡◌, IfOk, false};
 ghost use Rattle.model.specs.declared.steps.Step.TheVariants as steps;
 ghost use Rattle.model.specs.Phases.{is_protect_crossing};
+ghost use Rattle.managed.specs.Batches.{EndsLoads};
 ghost use Rattle.managed.specs.Collecting.{StandsUnseen};
 ghost use Rattle.managed.specs.Goings.{LoadsWhole, LoadStands};
 ghost use Rattle.managed.specs.Scrubbing.{AreScrubbed};
 ghost use Rattle.collecting.specs.Collections.{Collects, CollectsWhole, EndsCollecting, IsNotRoom};
+ghost use Rattle.collecting.specs.Filling.{EndsMakingWith};
 ghost use Rattle.collecting.specs.Objects.{seen};
 ghost use Rattle.collecting.specs.Parts.{EndsPart};
 ghost use Rattle.collecting.specs.Stages.{PartGoesOn};
@@ -17,9 +19,9 @@ use crate::leftovers::settle;
 use crate::parts::Parts;
 use crate::policy::Policy;
 use crate::seeing::Object;
-use crate::{parts, rooms, seeing};
+use crate::{filling, parts, rooms, seeing};
 use cycle::Mutating;
-use managed::ManagedHeap;
+use managed::{FieldLoad, LoadsFault, ManagedHeap};
 use model::{Buffer, Refusal};
 use std::alloc::Global;
 
@@ -43,6 +45,13 @@ pub trait Holding: Mutating {
     ///
     /// Refused as `Mutating::load` is, and nothing was done then.
     fn read(&mut self, thread: u32, target: u32, object: u32, field: u32) -> Result<(), Refusal>;
+
+    /// Loads several reference fields of the object in a register, each as `read` does, in their order. A
+    /// load whose `target` is that register comes last: loads after it would be of the object that the
+    /// register names then.
+    ///
+    /// Stops at the first load that fails, and returns how many are done. Fails as `read` does.
+    fn loads(&mut self, thread: u32, object: u32, fields: &[FieldLoad]) -> Result<(), LoadsFault>;
 
     /// Loads a global into a register, whole, through the read barrier. Refused as
     /// `Mutating::load_global` is, and nothing was done then.
@@ -104,6 +113,24 @@ pub trait Holding: Mutating {
         target: u32,
         layout: u32,
     ) -> Result<u32, Refusal>;
+
+    /// Makes an object as `make` does, then stores in its first references what the registers `sources`
+    /// name, as `store` does, and then writes its first data words, as `set_datum` does. Where `target` is a
+    /// source, it names the new object. Returns the object's birth number.
+    ///
+    /// Before the object is made the rest is tested: it fails with `BadIndex` if a register or the layout
+    /// isn't there, or if the layout has fewer references or data; with `Stall` or `Stale` if a source may
+    /// not be used; and as `make` does. No object is made then.
+    fn make_with(
+        &mut self,
+        alloc: Global,
+        policy: Policy,
+        thread: u32,
+        target: u32,
+        layout: u32,
+        sources: &[u32],
+        nums: &[u64],
+    ) -> Result<u32, Refusal>;
 }
 
 impl Holding for ManagedHeap {
@@ -113,6 +140,13 @@ impl Holding for ManagedHeap {
         ensures stands { LoadStands self.old thread (steps.Load target object field) result self.new }
     {
         ManagedHeap::read(self, thread, target, object, field)
+    }
+
+    #[inline(always)]
+    fn loads(&mut self, thread: u32, object: u32, fields: &[FieldLoad]) -> Result<(), LoadsFault>
+        ensures { EndsLoads thread object 0 fields.now self.old result self.new }
+    {
+        ManagedHeap::loads(self, thread, object, fields)
     }
 
     #[inline(always)]
@@ -179,6 +213,23 @@ impl Holding for ManagedHeap {
         ensures ends { EndsMaking thread policy.words policy.percent target layout self.old result self.new }
     {
         rooms::make(self, alloc, policy, thread, target, layout)
+    }
+
+    #[inline(always)]
+    fn make_with(
+        &mut self,
+        alloc: Global,
+        policy: Policy,
+        thread: u32,
+        target: u32,
+        layout: u32,
+        sources: &[u32],
+        nums: &[u64],
+    ) -> Result<u32, Refusal>
+        ensures { EndsMakingWith thread policy.words policy.percent target layout sources.now nums.now self.old result
+            self.new }
+    {
+        filling::make_with(self, alloc, policy, thread, target, layout, sources, nums)
     }
 }
 

@@ -7,6 +7,7 @@
 mod collecting;
 mod cycles;
 mod faults;
+mod filling;
 mod leftovers;
 mod parts;
 mod policy;

@@ -120,6 +120,8 @@ pub(crate) fn refill(
 }
 
 /// An object is made, behind a fresh buffer.
+#[cold]
+#[inline(never)]
 fn refill_and_make(
     heap: &mut ManagedHeap,
     alloc: Global,

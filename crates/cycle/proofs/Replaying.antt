@@ -107,19 +107,25 @@ promises b k = record {
   tallies = k.tallies;
 }
 
+-- an accepted step
+pub accepted_stands : (old new : HeapState) (actor : Actor) (step : Step) (a : Answer)
+    → outcome old actor step ≡ Ok (new, a) → IsStore old.store → IsHeap old → StepsHold → MarksFind
+    → PhasesMove → StepsCount → KeepsStanding old actor step (Ok a) new
+accepted_stands old new actor step a is s d holds find move count p p0 k = record {
+  stands = holds old p p0 actor step new a s d k is;
+  finds = (find old p p0 actor step new a s d k is).0;
+  leaves = (find old p p0 actor step new a s d k is).1;
+  phase = move old p p0 actor step new a s d k is;
+  tallies = count old actor step new a is;
+}
+
 -- a call that did what its outcome says
 pub keeps_standing : (old new : HeapState) (actor : Actor) (step : Step) (result : Result Answer Refusal)
     → DoesStep old step result new (outcome old actor step) → IsStore old.store → IsHeap old → StepsHold → MarksFind
     → PhasesMove → StepsCount → KeepsStanding old actor step result new
 keeps_standing old new actor step (Ok a) does s d holds find move count p p0 k =
     let is = step_accepted old new step a (outcome old actor step) does in
-    record {
-      stands = holds old p p0 actor step new a s d k is;
-      finds = (find old p p0 actor step new a s d k is).0;
-      leaves = (find old p p0 actor step new a s d k is).1;
-      phase = move old p p0 actor step new a s d k is;
-      tallies = count old actor step new a is;
-    }
+    accepted_stands old new actor step a is s d holds find move count p p0 k
 keeps_standing old new actor step (Err e) does s d holds find move count p p0 k = tt
 
 -- the parts of a new book

@@ -1,19 +1,26 @@
 //! The tests that come before those of a step's own row.
 
-ghost use Rattle.std.specs.Prelude.{◌≡◌, length, nat_le, slice_get};
+ghost use Rattle.std.specs.Prelude.{◌≡◌, ◌||◌, length, nat_le, slice_get};
 ghost use Rattle.model.specs.Outcome.{no_register, no_global, has_bad_index, is_for_workers, is_for_parked};
 ghost use Rattle.model.specs.Outcome.{is_for_loading, is_loading_in, thread_gate, worker_gate};
+ghost use Rattle.model.specs.Threads.{is_parked_in};
 
 use crate::pages::{are_bad_pages, no_page};
 use heap::Heap;
 use model::{Refusal, Step};
 
+/// Whether there is no such register. It is asked of the list of the thread that does the step, if the thread is there,
+/// so that the step's row needn't test it again.
 #[inline(always)]
 #[tactic(auto, unfolding(model::specs::Outcome::no_register))]
-fn no_register(heap: &Heap, register: u32) -> bool
+fn no_register(heap: &Heap, thread: u32, register: u32) -> bool
     ensures { result ≡ no_register heap.now register }
 {
-    register >= heap.config().registers
+    heap.law();
+    match heap.threads().get(thread as usize) {
+        None => register >= heap.config().registers,
+        Some(record) => record.find_register(register).is_none(),
+    }
 }
 
 #[inline(always)]
@@ -38,42 +45,45 @@ fn no_thread(heap: &Heap, thread: u32) -> bool
     thread as usize >= heap.threads().len()
 }
 
-/// Whether a number in a step names nothing.
+/// Whether a number in a step names nothing. The step is a thread's or a worker's, by a number from 0; for a worker's
+/// that doesn't matter.
 #[inline(always)]
-fn has_bad_index(heap: &Heap, step: &Step) -> bool
+fn has_bad_index(heap: &Heap, thread: u32, step: &Step) -> bool
     ensures { result ≡ has_bad_index heap.now step.now }
 {
     match step {
         Step::Take(n) => *n == 0 || *n > heap.memory().page_words(),
-        Step::New { target, layout } => no_register(heap, *target) || no_layout(heap, *layout),
+        Step::New { target, layout } => no_register(heap, thread, *target)
+            || no_layout(heap, *layout),
         Step::Load { target, object, .. } => {
-            no_register(heap, *target) || no_register(heap, *object)
+            no_register(heap, thread, *target) || no_register(heap, thread, *object)
         }
         Step::LoadGlobal { target, global } => {
-            no_register(heap, *target) || no_global(heap, *global)
+            no_register(heap, thread, *target) || no_global(heap, *global)
         }
         Step::Store { object, source, .. } => {
-            no_register(heap, *object) || no_register(heap, *source)
+            no_register(heap, thread, *object) || no_register(heap, thread, *source)
         }
         Step::StoreGlobal { global, source } => {
-            no_global(heap, *global) || no_register(heap, *source)
+            no_global(heap, *global) || no_register(heap, thread, *source)
         }
-        Step::Datum { object, .. } => no_register(heap, *object),
-        Step::SetDatum { object, .. } => no_register(heap, *object),
-        Step::Same { left, right } => no_register(heap, *left) || no_register(heap, *right),
-        Step::IsNull(register) => no_register(heap, *register),
+        Step::Datum { object, .. } => no_register(heap, thread, *object),
+        Step::SetDatum { object, .. } => no_register(heap, thread, *object),
+        Step::Same { left, right } => no_register(heap, thread, *left)
+            || no_register(heap, thread, *right),
+        Step::IsNull(register) => no_register(heap, thread, *register),
         Step::CopyReg { target, source } => {
-            no_register(heap, *target) || no_register(heap, *source)
+            no_register(heap, thread, *target) || no_register(heap, thread, *source)
         }
-        Step::ClearReg(register) => no_register(heap, *register),
-        Step::Scrub(register) => no_register(heap, *register),
+        Step::ClearReg(register) => no_register(heap, thread, *register),
+        Step::Scrub(register) => no_register(heap, thread, *register),
         Step::Pick { page, .. } => no_page(heap, *page),
         Step::ScanGlobal(global) => no_global(heap, *global),
         Step::Protect(pages) => are_bad_pages(heap, pages.as_slice()),
         Step::Copy { page, .. } => no_page(heap, *page),
         Step::CopyPage(page) => no_page(heap, *page),
         Step::Release(page) => no_page(heap, *page),
-        Step::CrossFor(thread) => no_thread(heap, *thread),
+        Step::CrossFor(other) => no_thread(heap, *other),
         _ => false,
     }
 }
@@ -121,6 +131,18 @@ fn is_loading(heap: &Heap, thread: u32) -> bool
     heap.barrier(thread).is_some()
 }
 
+/// Whether a thread is parked or has an open barrier; false where there is no such thread.
+#[inline(always)]
+fn is_held(heap: &Heap, thread: u32) -> bool
+    ensures { result ≡ (is_parked_in (slice_get heap.now.threads thread)
+        || is_loading_in (slice_get heap.now.threads thread)) }
+{
+    match heap.threads().get(thread as usize) {
+        None => false,
+        Some(record) => record.is_held(),
+    }
+}
+
 /// The tests of every step of a thread, in their order: no such thread, or no step of a thread;
 /// a number that names nothing; a parked thread, unless it is to run again; an open barrier, unless
 /// the step is one of its own. Its Ok is what a call asks that does the step's row.
@@ -132,8 +154,11 @@ pub fn thread_gate(heap: &Heap, thread: u32, step: &Step) -> Result<(), Refusal>
     if no_thread(heap, thread) || is_for_workers(step) {
         return Err(Refusal::NoActor);
     }
-    if has_bad_index(heap, step) {
+    if has_bad_index(heap, thread, step) {
         return Err(Refusal::BadIndex);
+    }
+    if !is_held(heap, thread) {
+        return Ok(());
     }
     if heap.is_parked(thread) && !is_for_parked(step) {
         return Err(Refusal::Parked);
@@ -153,7 +178,7 @@ pub fn worker_gate(heap: &Heap, worker: u32, step: &Step) -> Result<(), Refusal>
     if worker as usize >= heap.workers().len() || !is_for_workers(step) {
         return Err(Refusal::NoActor);
     }
-    if has_bad_index(heap, step) {
+    if has_bad_index(heap, 0, step) {
         return Err(Refusal::BadIndex);
     }
     Ok(())

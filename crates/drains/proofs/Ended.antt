@@ -102,6 +102,7 @@ global_heap h n v i =
       sides = k.sides;
       births = k.births;
       buffers = k.buffers;
+      registers = k.registers;
       idle = k.idle;
     }
 
@@ -222,7 +223,11 @@ whole_drained h g k w n a b = subst (λ m. IsDrained h w m k) (omega arith) (dra
 pub whole_stands : (h g k : HeapState) (w n : ℕ) → StepsHold → HasDrained h w 0 g → IsDrained g w n k → KeepsPlain h k
 whole_stands h g k w n law a b = drained_stands h k w n law (whole_drained h g k w n a b)
 
+pub none_still : (g k : HeapState) → NoneTodo g (length g.globals) → k.globals ≡ g.globals
+    → NoneTodo k (length k.globals)
+none_still g k none same =
+    subst (λ (gs : List Global). (i : ℕ) → i < length gs → is_todo_in (slice_get gs i) ≡ false) (sym same) none
+
 pub whole_end : (g k : HeapState) (w : ℕ) → NoneTodo g (length g.globals) → IsReady k w → k.globals ≡ g.globals
     → next_todo k ≡ None → next_drain k w ≡ None
-whole_end g k w none r same e = all_done k w r
-    (subst (λ (gs : List Global). (i : ℕ) → i < length gs → is_todo_in (slice_get gs i) ≡ false) (sym same) none) e
+whole_end g k w none r same e = all_done k w r (none_still g k none same) e

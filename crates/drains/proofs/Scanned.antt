@@ -143,6 +143,7 @@ scan_heap h w s i = record {
   sides = i.sides;
   births = i.births;
   buffers = i.buffers;
+  registers = i.registers;
   idle = i.idle;
 }
 

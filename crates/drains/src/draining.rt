@@ -2,10 +2,10 @@
 //! order, is ours).
 
 ghost use Rattle.std.specs.Prelude.{◌≡◌, ◌≢◌, ◌<◌, ◌≤◌, ◌∷◌, Ok, Some, None, MatchBool, slice_get};
-ghost use Rattle.std.specs.Prelude.{reverse, not, is_some, true, false, IfSome};
+ghost use Rattle.std.specs.Prelude.{reverse, not, is_some, true, false, IfSome, length};
 ghost use Rattle.std.specs.List.{list_any};
 ghost use Rattle.model.specs.Scans.{is_scan_of, is_taken, may_scan, next_todo, next_drain};
-ghost use Rattle.drains.specs.Drains.{IsDrained, IsReady, ObjectsDone, KeepsPlain};
+ghost use Rattle.drains.specs.Drains.{IsDrained, IsReady, NoneTodo, ObjectsDone, KeepsPlain};
 ghost use Rattle.drains.specs.Waiting.{AreWaiting, IsAlone, IsNext};
 
 use crate::backlog::{Waiting, note_all};
@@ -149,6 +149,7 @@ pub fn drain(heap: &mut Heap, worker: u32, most: u64) -> u64
     requires { IsReady heap.old worker }
     ensures drained { IsDrained heap.old worker result heap.new }
     ensures stands { KeepsPlain heap.old heap.new }
+    ensures globals { NoneTodo heap.new (length heap.new.globals) }
     ensures few { result ≤ most }
     ensures end { result < most → next_drain heap.new worker ≡ None }
 {
@@ -174,6 +175,7 @@ pub fn drain_some(heap: &mut Heap, worker: u32, most: u64, references: u64) -> P
     requires { IsReady heap.old worker }
     ensures drained { IsDrained heap.old worker result.objects heap.new }
     ensures stands { KeepsPlain heap.old heap.new }
+    ensures globals { NoneTodo heap.new (length heap.new.globals) }
     ensures few { result.objects ≤ most }
     ensures end { result.has_ended ≡ true → next_drain heap.new worker ≡ None }
     ensures goes { 0 < most → 0 < references → result.has_ended ≡ false → 0 < result.objects }

@@ -1,5 +1,5 @@
 -- What a call did to the heap that a handle holds.
-use Rattle.std.specs.Prelude.{◌≡◌, ℕ, Bool, false, Option, Some, None, Result, IfOk, MatchResult}
+use Rattle.std.specs.Prelude.{◌≡◌, ℕ, Bool, false, List, Option, Some, None, Result, IfOk, MatchResult}
 use Rattle.model.specs.declared.records.Buffer.{Buffer}
 use Rattle.model.specs.declared.steps.Step.{Step}
 use Rattle.model.specs.declared.steps.Answer.{Answer}
@@ -10,6 +10,7 @@ use Rattle.cycle.specs.Mutating.{DoesThread, ThreadStands}
 use Rattle.collecting.specs.declared.collecting.Collected.{Collected}
 use Rattle.collecting.specs.declared.seeing.Object.{Object}
 use Rattle.collecting.specs.Collections.{Collects, EndsCollecting, IsNotRoom}
+use Rattle.collecting.specs.Filling.{EndsMakingWith}
 use Rattle.collecting.specs.Objects.{seen}
 use Rattle.collecting.specs.Parts.{EndsPart}
 use Rattle.collecting.specs.Rooms.{EndsMaking, EndsRefill, IsNotHeld, MakingStands, Refills}
@@ -58,6 +59,11 @@ Loaded t begin h r g = LoadsWhole h t begin r g × LoadStands h t begin r g
 abbrev pub Made : ℕ → ℕ → ℕ → ℕ → ℕ → HeapState → Result ℕ Refusal → HeapState → Type 0
 Made words percent t target layout h r g =
     EndsMaking t words percent target layout h r g × MakingStands t target layout h r g
+
+-- thread t was to make an object, and to fill it
+abbrev pub MadeWith : ℕ → ℕ → ℕ → ℕ → ℕ → List ℕ → List ℕ → HeapState → Result ℕ Refusal → HeapState → Type 0
+MadeWith words percent t target layout sources nums h r g =
+    EndsMakingWith t words percent target layout sources nums h r g
 
 -- thread t was to get a fresh buffer, for which the heap was collected where there was no room
 abbrev pub Refilled : ℕ → ℕ → ℕ → HeapState → Result Buffer Refusal → HeapState → Type 0

@@ -48,11 +48,10 @@ pub extern "C" fn pauseless_collect(
     ensures { Gives (CollectedBy percent) (IsTold done.new) (done.new ≡ done.old) heap.old.slot.held result
         heap.new.slot.held }
 {
-    let Some(mut held) = heap.take(alloc) else {
+    let Some(held) = heap.lend() else {
         return NO_HEAP;
     };
     let answer = held.heap.collect(alloc, percent);
-    heap.put(held);
     give_collected(answer, done)
 }
 
@@ -77,10 +76,9 @@ pub extern "C" fn pauseless_collect_some(
     ensures { GivesHeld (PartOf percent budget) (λ x. has_ended.new ≡ x) (has_ended.new ≡ has_ended.old)
         heap.old.slot.held result heap.new.slot.held }
 {
-    let Some(mut held) = heap.take(alloc) else {
+    let Some(held) = heap.lend() else {
         return NO_HEAP;
     };
-    let answer = collect_part(alloc, &mut held, percent, budget);
-    heap.put(held);
+    let answer = collect_part(alloc, held, percent, budget);
     give_truth(answer, has_ended)
 }

@@ -9,13 +9,11 @@ ghost use Rattle.foreign.specs.Calls.{Calls, Gives, Stepped};
 use crate::codes::{NO_HEAP, code, give_number};
 use crate::handle::Handle;
 use cycle::Mutating;
-use std::alloc::Global;
 
 /// Reads a datum of an object. Refused as `Mutating::datum` is.
 #[tactic(auto, using(crate::proofs::Calling::looked))]
 #[unsafe(no_mangle)]
 pub extern "C" fn pauseless_get(
-    alloc: Global,
     heap: &mut Handle,
     thread: u32,
     object: u32,
@@ -25,11 +23,10 @@ pub extern "C" fn pauseless_get(
     ensures { Gives (Stepped answers.Datum thread (steps.Datum object index)) (λ x. value.new ≡ x)
         (value.new ≡ value.old) heap.old.slot.held result heap.new.slot.held }
 {
-    let Some(held) = heap.take(alloc) else {
+    let Some(held) = heap.lend() else {
         return NO_HEAP;
     };
     let answer = held.heap.datum(thread, object, index);
-    heap.put(held);
     give_number(answer, value)
 }
 
@@ -37,7 +34,6 @@ pub extern "C" fn pauseless_get(
 #[tactic(auto, using(crate::proofs::Calling::called))]
 #[unsafe(no_mangle)]
 pub extern "C" fn pauseless_set(
-    alloc: Global,
     heap: &mut Handle,
     thread: u32,
     object: u32,
@@ -47,10 +43,9 @@ pub extern "C" fn pauseless_set(
     ensures { Calls (Stepped done thread (steps.SetDatum object index value)) heap.old.slot.held result
         heap.new.slot.held }
 {
-    let Some(mut held) = heap.take(alloc) else {
+    let Some(held) = heap.lend() else {
         return NO_HEAP;
     };
     let answer = held.heap.set_datum(thread, object, index, value);
-    heap.put(held);
     code(answer)
 }

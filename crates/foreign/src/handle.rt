@@ -9,14 +9,14 @@ use crate::slot::Slot;
 use std::alloc::Global;
 
 /// The mark of a handle that has a heap: the letters `pauseles` in a word, the first one lowest.
-const MARK: u64 = 8_315_171_469_994_058_096;
+pub(crate) const MARK: u64 = 8_315_171_469_994_058_096;
 
 /// What C holds: `pauseless_heap`. It has a heap where it is marked, and else none.
 #[repr(C)]
 #[derive(Drop)]
 pub struct Handle {
-    mark: u64,
-    slot: Slot,
+    pub(crate) mark: u64,
+    pub(crate) slot: Slot,
     ghost marked: { is_held slot.held ≡ (mark == 8315171469994058096) },
 }
 

@@ -39,15 +39,14 @@ fn count(heap: &ManagedHeap) -> CountsOfC
 
 /// Counts what there is of a heap.
 #[unsafe(no_mangle)]
-pub extern "C" fn pauseless_count(alloc: Global, heap: &mut Handle, counts: &mut CountsOfC) -> u32
+pub extern "C" fn pauseless_count(heap: &mut Handle, counts: &mut CountsOfC) -> u32
     ensures counts { Counts heap.old.slot.held result counts.old counts.new }
     ensures same { heap.new.slot.held ≡ heap.old.slot.held }
 {
-    let Some(held) = heap.take(alloc) else {
+    let Some(held) = heap.lend() else {
         return NO_HEAP;
     };
     *counts = count(&held.heap);
-    heap.put(held);
     DONE
 }
 
@@ -68,10 +67,8 @@ pub extern "C" fn pauseless_verify(alloc: Global, heap: &mut Handle) -> u32
     ensures same { heap.new.slot.held ≡ heap.old.slot.held }
     ensures sound { VerifiesHeld heap.old.slot.held result }
 {
-    let Some(held) = heap.take(alloc) else {
+    let Some(held) = heap.lend() else {
         return NO_HEAP;
     };
-    let code = verify_code(alloc, &held.heap);
-    heap.put(held);
-    code
+    verify_code(alloc, &held.heap)
 }

@@ -6,7 +6,7 @@ ghost use Rattle.model.specs.declared.steps.Step.TheVariants as steps;
 ghost use Rattle.model.specs.declared.steps.Answer.TheVariants as answers;
 ghost use Rattle.collecting.specs.Objects.{seen};
 ghost use Rattle.foreign.specs.Codes.{code_of};
-ghost use Rattle.foreign.specs.Calls.{Calls, Gives, Made, Refilled, Stepped, Sees, IsSeen};
+ghost use Rattle.foreign.specs.Calls.{Calls, Gives, Made, MadeWith, Refilled, Stepped, Sees, IsSeen};
 
 use crate::codes::{DONE, NO_HEAP, code, refusal_code};
 use crate::handle::Handle;
@@ -66,28 +66,26 @@ fn code_of<T: Copy>(answer: Result<T, Refusal>) -> u32
 /// Takes a buffer of `words` for a thread. Refused as `Mutating::take` is.
 #[tactic(auto, using(crate::proofs::Calling::called))]
 #[unsafe(no_mangle)]
-pub extern "C" fn pauseless_take(alloc: Global, heap: &mut Handle, thread: u32, words: u32) -> u32
+pub extern "C" fn pauseless_take(heap: &mut Handle, thread: u32, words: u32) -> u32
     ensures { Calls (Stepped lent thread (steps.Take words)) heap.old.slot.held result heap.new.slot.held }
 {
-    let Some(mut held) = heap.take(alloc) else {
+    let Some(held) = heap.lend() else {
         return NO_HEAP;
     };
     let answer = held.heap.take(thread, words);
-    heap.put(held);
     code_of(answer)
 }
 
 /// Gives a thread's buffer back. Refused as `Mutating::give_back` is.
 #[tactic(auto, using(crate::proofs::Calling::called))]
 #[unsafe(no_mangle)]
-pub extern "C" fn pauseless_give_back(alloc: Global, heap: &mut Handle, thread: u32) -> u32
+pub extern "C" fn pauseless_give_back(heap: &mut Handle, thread: u32) -> u32
     ensures { Calls (Stepped done thread (steps.GiveBack)) heap.old.slot.held result heap.new.slot.held }
 {
-    let Some(mut held) = heap.take(alloc) else {
+    let Some(held) = heap.lend() else {
         return NO_HEAP;
     };
     let answer = held.heap.give_back(thread);
-    heap.put(held);
     code(answer)
 }
 
@@ -95,7 +93,6 @@ pub extern "C" fn pauseless_give_back(alloc: Global, heap: &mut Handle, thread: 
 #[tactic(auto, using(crate::proofs::Calling::called))]
 #[unsafe(no_mangle)]
 pub extern "C" fn pauseless_new_object(
-    alloc: Global,
     heap: &mut Handle,
     thread: u32,
     target: u32,
@@ -104,11 +101,10 @@ pub extern "C" fn pauseless_new_object(
     ensures { Calls (Stepped answers.Birth thread (steps.New target layout)) heap.old.slot.held result
         heap.new.slot.held }
 {
-    let Some(mut held) = heap.take(alloc) else {
+    let Some(held) = heap.lend() else {
         return NO_HEAP;
     };
     let answer = held.heap.new_object(thread, target, layout);
-    heap.put(held);
     code_of(answer)
 }
 
@@ -127,13 +123,44 @@ pub extern "C" fn pauseless_make(
     ensures { Calls (Made policy.now.words policy.now.percent thread target layout) heap.old.slot.held result
         heap.new.slot.held }
 {
-    let Some(mut held) = heap.take(alloc) else {
+    let Some(held) = heap.lend() else {
         return NO_HEAP;
     };
     let answer = held
         .heap
         .make(alloc, policy_of(policy), thread, target, layout);
-    heap.put(held);
+    code_of(answer)
+}
+
+/// Makes an object, for which `pauseless_refill` gets a buffer if the thread's has no room, and fills it: its first
+/// references are those of registers, and its first data words are given. Fails as `Holding::make_with` does.
+#[tactic(auto, using(crate::proofs::Calling::called))]
+#[unsafe(no_mangle)]
+pub extern "C" fn pauseless_make_with(
+    alloc: Global,
+    heap: &mut Handle,
+    policy: &PolicyOfC,
+    thread: u32,
+    target: u32,
+    layout: u32,
+    sources: &[u32],
+    nums: &[u64],
+) -> u32
+    ensures { Calls (MadeWith policy.now.words policy.now.percent thread target layout sources.now nums.now)
+        heap.old.slot.held result heap.new.slot.held }
+{
+    let Some(held) = heap.lend() else {
+        return NO_HEAP;
+    };
+    let answer = held.heap.make_with(
+        alloc,
+        policy_of(policy),
+        thread,
+        target,
+        layout,
+        sources,
+        nums,
+    );
     code_of(answer)
 }
 
@@ -148,11 +175,10 @@ pub extern "C" fn pauseless_refill(
 ) -> u32
     ensures { Calls (Refilled policy.now.words policy.now.percent thread) heap.old.slot.held result heap.new.slot.held }
 {
-    let Some(mut held) = heap.take(alloc) else {
+    let Some(held) = heap.lend() else {
         return NO_HEAP;
     };
     let answer = held.heap.refill(alloc, policy_of(policy), thread);
-    heap.put(held);
     code_of(answer)
 }
 
@@ -177,7 +203,6 @@ fn give_object(answer: Result<Object, Refusal>, object: &mut ObjectOfC) -> u32
 #[tactic(auto, using(crate::proofs::Calling::given))]
 #[unsafe(no_mangle)]
 pub extern "C" fn pauseless_look(
-    alloc: Global,
     heap: &mut Handle,
     thread: u32,
     register: u32,
@@ -186,10 +211,9 @@ pub extern "C" fn pauseless_look(
     ensures { Gives (Sees thread register) (IsSeen object.new) (object.new ≡ object.old) heap.old.slot.held result
         heap.new.slot.held }
 {
-    let Some(held) = heap.take(alloc) else {
+    let Some(held) = heap.lend() else {
         return NO_HEAP;
     };
     let answer = held.heap.object(thread, register);
-    heap.put(held);
     give_object(answer, object)
 }

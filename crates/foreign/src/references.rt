@@ -5,17 +5,35 @@ ghost use Rattle.model.specs.Saying.{done};
 ghost use Rattle.model.specs.declared.steps.Step.TheVariants as steps;
 ghost use Rattle.model.specs.declared.steps.Answer.TheVariants as answers;
 ghost use Rattle.foreign.specs.Calls.{Calls, Gives, Loaded, Stepped};
+ghost use Rattle.foreign.specs.Batches.{LoadsEach, code_of_loads, done_of_loads};
 
-use crate::codes::{NO_HEAP, code, give_truth};
+use crate::codes::{DONE, NO_HEAP, code, give_truth, refusal_code};
 use crate::handle::Handle;
 use cycle::Mutating;
+use managed::{FieldLoad, LoadsFault};
 use std::alloc::Global;
+
+/// The code of several loads; and how many are done, which is written for C.
+fn give_loads(fields: &[FieldLoad], answer: Result<(), LoadsFault>, done: &mut u64) -> u32
+    ensures code { result ≡ code_of_loads answer }
+    ensures done { done.new ≡ done_of_loads fields.now answer }
+{
+    match answer {
+        Ok(()) => {
+            *done = fields.len() as u64;
+            DONE
+        }
+        Err(fault) => {
+            *done = fault.done as u64;
+            refusal_code(fault.refusal)
+        }
+    }
+}
 
 /// Loads a reference field of an object into a register, whole. Refused as `Holding::read` is.
 #[tactic(auto, using(crate::proofs::Calling::loaded))]
 #[unsafe(no_mangle)]
 pub extern "C" fn pauseless_load(
-    alloc: Global,
     heap: &mut Handle,
     thread: u32,
     target: u32,
@@ -24,19 +42,38 @@ pub extern "C" fn pauseless_load(
 ) -> u32
     ensures { Calls (Loaded thread (steps.Load target object field)) heap.old.slot.held result heap.new.slot.held }
 {
-    let Some(mut held) = heap.take(alloc) else {
+    let Some(held) = heap.lend() else {
         return NO_HEAP;
     };
     let answer = held.heap.read(thread, target, object, field);
-    heap.put(held);
     code(answer)
+}
+
+/// Loads several reference fields of an object into registers, each completely, in their order; and writes for C how many
+/// are done. Stops at the first load that fails, and fails as `Holding::read` does.
+#[tactic(auto, using(crate::proofs::Calling::loaded_each))]
+#[unsafe(no_mangle)]
+pub extern "C" fn pauseless_loads(
+    heap: &mut Handle,
+    thread: u32,
+    object: u32,
+    fields: &[FieldLoad],
+    done: &mut u64,
+) -> u32
+    ensures { LoadsEach thread object fields.now heap.old.slot.held result done.new heap.new.slot.held }
+{
+    let Some(held) = heap.lend() else {
+        *done = 0;
+        return NO_HEAP;
+    };
+    let answer = held.heap.loads(thread, object, fields);
+    give_loads(fields, answer, done)
 }
 
 /// Writes a register's reference to a field of an object. Refused as `Mutating::store` is.
 #[tactic(auto, using(crate::proofs::Calling::called))]
 #[unsafe(no_mangle)]
 pub extern "C" fn pauseless_store(
-    alloc: Global,
     heap: &mut Handle,
     thread: u32,
     object: u32,
@@ -46,11 +83,10 @@ pub extern "C" fn pauseless_store(
     ensures { Calls (Stepped done thread (steps.Store object field source)) heap.old.slot.held result
         heap.new.slot.held }
 {
-    let Some(mut held) = heap.take(alloc) else {
+    let Some(held) = heap.lend() else {
         return NO_HEAP;
     };
     let answer = held.heap.store(thread, object, field, source);
-    heap.put(held);
     code(answer)
 }
 
@@ -58,7 +94,6 @@ pub extern "C" fn pauseless_store(
 #[tactic(auto, using(crate::proofs::Calling::loaded))]
 #[unsafe(no_mangle)]
 pub extern "C" fn pauseless_load_global(
-    alloc: Global,
     heap: &mut Handle,
     thread: u32,
     target: u32,
@@ -66,11 +101,10 @@ pub extern "C" fn pauseless_load_global(
 ) -> u32
     ensures { Calls (Loaded thread (steps.LoadGlobal target global)) heap.old.slot.held result heap.new.slot.held }
 {
-    let Some(mut held) = heap.take(alloc) else {
+    let Some(held) = heap.lend() else {
         return NO_HEAP;
     };
     let answer = held.heap.read_global(thread, target, global);
-    heap.put(held);
     code(answer)
 }
 
@@ -78,7 +112,6 @@ pub extern "C" fn pauseless_load_global(
 #[tactic(auto, using(crate::proofs::Calling::called))]
 #[unsafe(no_mangle)]
 pub extern "C" fn pauseless_store_global(
-    alloc: Global,
     heap: &mut Handle,
     thread: u32,
     global: u32,
@@ -87,45 +120,36 @@ pub extern "C" fn pauseless_store_global(
     ensures { Calls (Stepped done thread (steps.StoreGlobal global source)) heap.old.slot.held result
         heap.new.slot.held }
 {
-    let Some(mut held) = heap.take(alloc) else {
+    let Some(held) = heap.lend() else {
         return NO_HEAP;
     };
     let answer = held.heap.store_global(thread, global, source);
-    heap.put(held);
     code(answer)
 }
 
 /// Writes a register's reference to another one. Refused as `Mutating::copy_register` is.
 #[tactic(auto, using(crate::proofs::Calling::called))]
 #[unsafe(no_mangle)]
-pub extern "C" fn pauseless_copy(
-    alloc: Global,
-    heap: &mut Handle,
-    thread: u32,
-    target: u32,
-    source: u32,
-) -> u32
+pub extern "C" fn pauseless_copy(heap: &mut Handle, thread: u32, target: u32, source: u32) -> u32
     ensures { Calls (Stepped done thread (steps.CopyReg target source)) heap.old.slot.held result heap.new.slot.held }
 {
-    let Some(mut held) = heap.take(alloc) else {
+    let Some(held) = heap.lend() else {
         return NO_HEAP;
     };
     let answer = held.heap.copy_register(thread, target, source);
-    heap.put(held);
     code(answer)
 }
 
 /// Makes a register null. Refused as `Mutating::clear_register` is.
 #[tactic(auto, using(crate::proofs::Calling::called))]
 #[unsafe(no_mangle)]
-pub extern "C" fn pauseless_clear(alloc: Global, heap: &mut Handle, thread: u32, target: u32) -> u32
+pub extern "C" fn pauseless_clear(heap: &mut Handle, thread: u32, target: u32) -> u32
     ensures { Calls (Stepped done thread (steps.ClearReg target)) heap.old.slot.held result heap.new.slot.held }
 {
-    let Some(mut held) = heap.take(alloc) else {
+    let Some(held) = heap.lend() else {
         return NO_HEAP;
     };
     let answer = held.heap.clear_register(thread, target);
-    heap.put(held);
     code(answer)
 }
 
@@ -133,7 +157,6 @@ pub extern "C" fn pauseless_clear(alloc: Global, heap: &mut Handle, thread: u32,
 #[tactic(auto, using(crate::proofs::Calling::looked))]
 #[unsafe(no_mangle)]
 pub extern "C" fn pauseless_same(
-    alloc: Global,
     heap: &mut Handle,
     thread: u32,
     left: u32,
@@ -143,11 +166,10 @@ pub extern "C" fn pauseless_same(
     ensures { Gives (Stepped answers.Truth thread (steps.Same left right)) (λ x. is_so.new ≡ x)
         (is_so.new ≡ is_so.old) heap.old.slot.held result heap.new.slot.held }
 {
-    let Some(held) = heap.take(alloc) else {
+    let Some(held) = heap.lend() else {
         return NO_HEAP;
     };
     let answer = held.heap.same(thread, left, right);
-    heap.put(held);
     give_truth(answer, is_so)
 }
 
@@ -155,7 +177,6 @@ pub extern "C" fn pauseless_same(
 #[tactic(auto, using(crate::proofs::Calling::looked))]
 #[unsafe(no_mangle)]
 pub extern "C" fn pauseless_is_null(
-    alloc: Global,
     heap: &mut Handle,
     thread: u32,
     register: u32,
@@ -164,10 +185,9 @@ pub extern "C" fn pauseless_is_null(
     ensures { Gives (Stepped answers.Truth thread (steps.IsNull register)) (λ x. is_so.new ≡ x)
         (is_so.new ≡ is_so.old) heap.old.slot.held result heap.new.slot.held }
 {
-    let Some(held) = heap.take(alloc) else {
+    let Some(held) = heap.lend() else {
         return NO_HEAP;
     };
     let answer = held.heap.is_null(thread, register);
-    heap.put(held);
     give_truth(answer, is_so)
 }

@@ -20,7 +20,7 @@ pub struct Opaque {
 #[repr(C)]
 #[derive(Drop)]
 pub struct Slot {
-    at: *mut Opaque,
+    pub(crate) at: *mut Opaque,
     pub ghost held: { Option Held },
 }
 

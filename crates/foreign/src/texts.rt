@@ -39,11 +39,10 @@ pub extern "C" fn pauseless_report(
     ensures same { heap.new.slot.held ≡ heap.old.slot.held }
     ensures told { Reports heap.old.slot.held result text.old text.new length.old length.new }
 {
-    let Some(held) = heap.take(alloc) else {
+    let Some(held) = heap.lend() else {
         return NO_HEAP;
     };
     let told = text_of(alloc, held.heap.heap());
-    heap.put(held);
     match told {
         Ok(report) => {
             give_text(&report, text);

@@ -197,7 +197,8 @@ impl Side {
     /// The number, from 0, of the entry of an offset, if there is one: found as `find` does.
     #[tactic(auto, using(crate::proofs::Ranked::rank_few))]
     pub fn number_of(&self, offset: u32) -> Option<u32>
-        ensures { entry_of self.now offset ≡ found_at self.now result }
+        ensures entry { entry_of self.now offset ≡ found_at self.now result }
+        ensures there { IfSome result (λ i. i < length self.now) }
     {
         if !self.live.test(offset as usize) {
             return None;

@@ -1,6 +1,6 @@
 //! The side arrays of all pages.
 
-ghost use Rattle.std.specs.Prelude.{◌≡◌, ◌≤◌, length, replicate, map, slice_get, slice_set, [], IfOk, not};
+ghost use Rattle.std.specs.Prelude.{◌≡◌, ◌<◌, ◌≤◌, length, replicate, map, slice_get, slice_set, [], IfOk, IfSome, not};
 ghost use Rattle.std.specs.List.{list_any};
 ghost use Rattle.std.specs.Option.{option_copied};
 ghost use Rattle.model.specs.States.{change_at};
@@ -112,7 +112,8 @@ impl Sides {
     /// The number, from 0, of the entry of an offset of a page, by the page's number from 1; `None`
     /// where there is no such entry (ours).
     pub fn number_at(&self, page: u64, offset: u32) -> Option<u32>
-        ensures { entry_of (of_page self.now page) offset ≡ found_at (of_page self.now page) result }
+        ensures entry { entry_of (of_page self.now page) offset ≡ found_at (of_page self.now page) result }
+        ensures there { IfSome result (λ i. i < length (of_page self.now page)) }
     {
         if page == 0 {
             return None;

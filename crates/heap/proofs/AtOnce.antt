@@ -1,14 +1,16 @@
 -- Where no trap is due, a load is done at once.
 use Rattle.std.proofs.Common.{◌≡◌, ℕ, ◌==◌, ◌<◌, Bool, true, false, Option, Some, None, List, length, refl, nat_le, sym}
-use Rattle.std.proofs.Common.{subst, arith, ap, ◌∙◌, set, zero, suc, [], ◌∷◌}
+use Rattle.std.proofs.Common.{subst, arith, ap, ◌∙◌, set, zero, suc, [], ◌∷◌, length-set}
 use Rattle.std.specs.Prelude.{Result, Ok, Err, IfSome, if◌then◌else◌, slice_get, ◌/◌, ◌%◌, ◌+◌, ◌^◌, ◌||◌, ◌&&◌, not}
 use Rattle.std.specs.Prelude.{nat_lt}
-use Rattle.std.specs.Option.{option_and_then}
+use Rattle.std.specs.Option.{is_some}
 use Rattle.std.proofs.lemmas.Bool.{or_parts, leb-false}
 use Rattle.std.proofs.lemmas.Option.{slice_get_within, same_Some}
-use Rattle.refword.specs.Words.{bits_of, address_in}
+use Rattle.refword.specs.Words.{IsAddress, IsBits, bits_of, address_in, number_in, read_word}
+use Rattle.refword.proofs.Reading.{bits_of-read_word, read_word-is_word}
 use Rattle.model.specs.declared.records.Barrier.{Barrier}
 use Rattle.model.specs.declared.records.Counter.TheVariants as counters
+use Rattle.model.specs.declared.records.Place.{Place}
 use Rattle.model.specs.declared.records.Place.TheVariants as places
 use Rattle.model.specs.declared.records.Phase.{Phase}
 use Rattle.model.specs.declared.records.Phase.TheVariants.{Idle, MarkCrossing, Scanning, ProtectCrossing, Relocating}
@@ -22,20 +24,22 @@ use Rattle.model.specs.Holding.{IsHeap}
 use Rattle.model.specs.Loads.{with_barrier, with_loaded, new_barrier, trap_due, load_outcome, finish_outcome, end_load}
 use Rattle.model.specs.Outcome.{outcome, thread_gate, Passes, has_bad_index, is_for_workers, is_for_parked}
 use Rattle.model.specs.Outcome.{no_register}
-use Rattle.model.specs.Owning.{IsStore, Each}
+use Rattle.model.specs.Owning.{AreSized, IsStore, LiesIn, NoneProtected}
+use Rattle.page.proofs.Lying.{word_lies, word_sized_alike, word_unprotected}
 use Rattle.model.specs.References.{read_reference, field_at, store_outcome}
 use Rattle.model.specs.Registers.{let_through, usable, usable_or_null, register_of, use_word, use_or_null}
 use Rattle.model.specs.States.{Reference, HeapState, ThreadState, change_at, flat}
 use Rattle.model.specs.Data.{layout_at, datum_at, datum_outcome, set_datum_outcome}
 use Rattle.layout.specs.declared.shape.Layout.{Layout}
-use Rattle.page.proofs.Behind.{word_on_page}
-use Rattle.model.specs.Stores.{StoreState, page_at, word_at, words_at, word_in, at_offset, with_word}
-use Rattle.model.specs.Stores.{frame_in, spot_of}
+use Rattle.page.specs.Usable.{usable_frame}
+use Rattle.page.proofs.Usable.{usable_unprotected}
+use Rattle.model.specs.Stores.{StoreState, word_at, with_word}
 use Rattle.model.specs.Threads.{is_parked_in, set_barrier_of, set_loaded_of, barrier_of, has_crossed}
-use Rattle.heap.proofs.Keeping.{thread_keeps}
+use Rattle.heap.proofs.Keeping.{store_keeps, thread_keeps}
 use Rattle.model.proofs.Lists.{get_within, get_set_same}
 use Rattle.model.proofs.Tables.{length_changed}
-use Rattle.heap.specs.AtOnce.{begun, LoadsAtOnce, NamesAtOnce, ReadsAtOnce, SourceAtOnce, UsesAtOnce, IsOpenTo, IsQuiet}
+use Rattle.heap.specs.AtOnce.{begun, LoadsAtOnce, NamesAtOnce, ReadsAtOnce, SourceAtOnce, UsesAtOnce, IsOpenTo, IsQuiet, mark_is_due, GivesDatum, MayDoAtOnce}
+use Rattle.heap.specs.AtOnce.{HoldsAtOnce}
 
 -- ---- no trap is due
 
@@ -57,7 +61,62 @@ pub quiet_clear : (g : HeapState) (t : ℕ) (w : Reference) → IsQuiet g w → 
 unfolding trap_due let_through
 quiet_clear g t None q = refl
 quiet_clear g t (Some w) q =
-    rw (q.free, no_nmt g.phase (has_crossed (slice_get g.threads t)) (not (same_bit w.1 g.nmt)) q.marked) refl
+    rw (q.1, no_nmt g.phase (has_crossed (slice_get g.threads t)) (not (same_bit w.1 g.nmt)) q.0) refl
+
+pub quiet_where : (h : HeapState) (w : Reference) → mark_is_due h w ≡ false → IfSome w (λ v. IsOpenTo h v.0) → IsQuiet h w
+quiet_where h None m f = tt
+quiet_where h (Some v) m f = (m, f)
+
+-- an address on no protected page may be used
+pub let_at_once : (h : HeapState) (t a : ℕ) (o : Option ℕ) → IfSome o (λ _. IsOpenTo h a) → true ≡ is_some o
+    → Ok tt ≡ let_through h t a
+unfolding let_through
+let_at_once h t a None f there = absurd (cc)
+let_at_once h t a (Some x) f there = rw f refl
+
+-- ---- bits and numbers
+
+-- bits with an address in them are a word's
+pub bits_where : (n k : ℕ) → k ≡ n % 2 ^ 63 → IsAddress k → n < 2 ^ 64 → IsBits n
+bits_where n k is a fits = record {
+  above = λ z. omega (arith, is, a.above);
+  below = omega (arith, is, a.below);
+  fits = fits;
+}
+
+pub null_bits : (n : ℕ) → n ≡ 0 → None ≡ read_reference n
+null_bits n e = rw e refl
+
+pub read_bits : (n : ℕ) (w : Reference) → read_word n ≡ Some w → w ≡ read_reference n
+read_bits n w e = sym (ap flat e)
+
+number_read : (n : ℕ) (v : ℕ × Bool) → read_word n ≡ Some (Some v) → v.0 ≡ n % 2 ^ 63
+number_read n (a, false) e =
+    let k = bits_of-read_word n (Some (a, false)) e in
+    let l = (read_word-is_word n (Some (a, false)) e).below in
+    omega (arith, k, l)
+number_read n (a, true) e =
+    let k = bits_of-read_word n (Some (a, true)) e in
+    let l = (read_word-is_word n (Some (a, true)) e).below in
+    omega (arith, k, l)
+
+-- no trap is due for the word of bits, whose address is on no protected page
+pub quiet_bits : (h : HeapState) (n k : ℕ) (w : Reference) → k ≡ n % 2 ^ 63 → IsOpenTo h k → read_word n ≡ Some w
+    → mark_is_due h w ≡ false → IsQuiet h w
+quiet_bits h n k None is free e m = tt
+quiet_bits h n k (Some v) is free e m = (m, subst (IsOpenTo h) (is ∙ sym (number_read n v e)) free)
+
+-- a word with this number has this address
+pub numbered : (w : Reference) (a : ℕ) → a ≡ number_in w → IsAddress a → address_in w ≡ Some a
+numbered None a e is = absurd (omega (arith, is.above, e))
+numbered (Some v) a e is = ap Some (sym e)
+
+-- a word whose number is on no protected page
+pub free_where : (h : HeapState) (w : Reference) (a : ℕ) (o : Option ℕ) → a ≡ number_in w
+    → IfSome o (λ _. IsOpenTo h a) → is_some o ≡ true → IfSome w (λ v. IsOpenTo h v.0)
+free_where h None a o e f there = tt
+free_where h (Some v) a None e f there = absurd (cc)
+free_where h (Some v) a (Some x) e f there = subst (IsOpenTo h) e f
 
 -- ---- the tests before a step
 
@@ -70,16 +129,16 @@ and_true : (b : Bool) → (b && true) ≡ false → b ≡ false
 and_true false e = refl
 and_true true e = absurd (cc)
 
-gated : (h : HeapState) (t target object i : ℕ) → Passes h t (steps.Load target object i)
+pub gated : (h : HeapState) (t : ℕ) (s : Step) → is_for_parked s ≡ false → Passes h t s
     → (nat_le (length h.threads) t ≡ false) × (is_parked_in (slice_get h.threads t) ≡ false)
 unfolding thread_gate
-gated h t target object i g =
-    let s = steps.Load target object i in
+gated h t s never g =
     let a = past (nat_le (length h.threads) t || is_for_workers s) _ _ g in
     let b = past (has_bad_index h s) _ _ a.1 in
     let c = past (is_parked_in (slice_get h.threads t) && not (is_for_parked s)) _ _ b.1 in (
       (or_parts (nat_le (length h.threads) t) (is_for_workers s) a.0).0,
-      and_true (is_parked_in (slice_get h.threads t)) c.0,
+      and_true (is_parked_in (slice_get h.threads t))
+          (subst (λ (b : Bool). (is_parked_in (slice_get h.threads t) && not b) ≡ false) never c.0),
     )
 
 changed_there : {X : Type 0} (xs : List X) (i : ℕ) (f : X → X) (x : X) → slice_get xs i ≡ Some x
@@ -94,15 +153,15 @@ or_right b e = e
 
 -- ---- a load that has begun may end
 
-ends_at_once : (h : HeapState) (t target address i : ℕ) (w : Reference) (x : ThreadState)
-    → IsQuiet (begun h t target address i w) w → nat_le (length h.threads) t ≡ false → slice_get h.threads t ≡ Some x
+ends_at_once : (h : HeapState) (t target : ℕ) (place : Place) (w : Reference) (x : ThreadState)
+    → IsQuiet (begun h t target place w) w → nat_le (length h.threads) t ≡ false → slice_get h.threads t ≡ Some x
     → x.parked ≡ false
-    → outcome (begun h t target address i w) (Thread t) steps.Finish
-    ≡ Ok (with_loaded (begun h t target address i w) t target w, answers.Done)
+    → outcome (begun h t target place w) (Thread t) steps.Finish
+    ≡ Ok (with_loaded (begun h t target place w) t target w, answers.Done)
 unfolding outcome thread_gate finish_outcome end_load with_barrier
-ends_at_once h t target address i w x q le there runs =
-    let b = new_barrier target (places.Field address i) w in
-    let g = begun h t target address i w in
+ends_at_once h t target place w x q le there runs =
+    let b = new_barrier target place w in
+    let g = begun h t target place w in
     let found : slice_get g.threads t ≡ Some (set_barrier_of b counters.Loads x) =
     changed_there h.threads t (set_barrier_of b counters.Loads) x there in
     let many : nat_le (length g.threads) t ≡ false =
@@ -111,50 +170,60 @@ ends_at_once h t target address i w x q le there runs =
     let same : (bits_of w == bits_of w) ≡ true = same_number (bits_of w) in
     rw (many, found, runs, clear, same) refl
 
-begun_keeps : (h : HeapState) (t target address i : ℕ) (w : Reference) → IsHeap h
-    → IsHeap (begun h t target address i w)
+begun_keeps : (h : HeapState) (t target : ℕ) (place : Place) (w : Reference) → IsHeap h
+    → IsHeap (begun h t target place w)
 unfolding with_barrier
-begun_keeps h t target address i w k =
-    let change = set_barrier_of (new_barrier target (places.Field address i) w) counters.Loads in
-    thread_keeps h t change (change_at h.threads t change) k refl (λ x f. f)
+begun_keeps h t target place w k =
+    let change = set_barrier_of (new_barrier target place w) counters.Loads in
+    thread_keeps h t change (change_at h.threads t change) k refl (λ x f. f) (λ x. refl)
 
-begun_stored : (h : HeapState) (t target address i : ℕ) (w : Reference) → IsStore h.store
-    → IsStore (begun h t target address i w).store
+begun_stored : (h : HeapState) (t target : ℕ) (place : Place) (w : Reference) → IsStore h.store
+    → IsStore (begun h t target place w).store
 unfolding with_barrier
-begun_stored h t target address i w k = k
+begun_stored h t target place w k = k
 
-begun_quiet : (h : HeapState) (t target address i : ℕ) (w : Reference) → IsQuiet h w
-    → IsQuiet (begun h t target address i w) w
+begun_quiet : (h : HeapState) (t target : ℕ) (place : Place) (w : Reference) → IsQuiet h w
+    → IsQuiet (begun h t target place w) w
 unfolding with_barrier
-begun_quiet h t target address i w q = record { marked = q.marked; free = q.free }
+begun_quiet h t target place None q = tt
+begun_quiet h t target place (Some v) q = (q.0, q.1)
+
+-- where nothing is due, a load that begins with a word gives its register that word
+pub loads_at_once : (h : HeapState) (t target : ℕ) (begin : Step) (place : Place) (w : Reference) → IsStore h.store
+    → IsHeap h → IsQuiet h w → nat_le (length h.threads) t ≡ false → is_parked_in (slice_get h.threads t) ≡ false
+    → outcome h (Thread t) begin ≡ Ok (begun h t target place w, answers.Loaded)
+    → LoadsAtOnce h t begin (with_loaded (begun h t target place w) t target w)
+loads_at_once h t target begin place w st k e there runs loads =
+    let x = get_within h.threads t (leb-false (length h.threads) t there) in
+    record {
+      between = begun h t target place w;
+      heap = begun_keeps h t target place w k;
+      store = begun_stored h t target place w st;
+      loads = loads;
+      ends = ends_at_once h t target place w x.0 (begun_quiet h t target place w e) there x.1
+          (subst (λ (o : Option ThreadState). is_parked_in o ≡ false) x.1 runs);
+    }
 
 -- where nothing is due what a load of a field reads is what its register gets, by Load and Finish
 pub at_once : (h : HeapState) (t target object i address place bits : ℕ) → IsStore h.store → IsHeap h
     → IsQuiet h (read_reference bits)
     → Passes h t (steps.Load target object i) → usable h t object ≡ Ok address → field_at h address i ≡ Some place
     → word_at h.store place ≡ Some bits
-    → LoadsAtOnce h t target object i
-    (with_loaded (begun h t target address i (read_reference bits)) t target (read_reference bits))
+    → LoadsAtOnce h t (steps.Load target object i)
+    (with_loaded (begun h t target (places.Field address i) (read_reference bits)) t target (read_reference bits))
 unfolding outcome load_outcome
 at_once h t target object i address place bits st k e g u f w =
-    let p = gated h t target object i g in
-    let x = get_within h.threads t (leb-false (length h.threads) t p.0) in
-    record {
-      between = begun h t target address i (read_reference bits);
-      heap = begun_keeps h t target address i (read_reference bits) k;
-      store = begun_stored h t target address i (read_reference bits) st;
-      loads = rw (g, u, f, w) refl;
-      ends = ends_at_once h t target address i (read_reference bits) x.0
-          (begun_quiet h t target address i (read_reference bits) e) p.0 x.1
-          (subst (λ (o : Option ThreadState). is_parked_in o ≡ false) x.1 p.1);
-    }
+    let p = gated h t (steps.Load target object i) refl g in
+    loads_at_once h t target (steps.Load target object i) (places.Field address i) (read_reference bits) st k e p.0 p.1
+    (rw (g, u, f, w) refl)
 
 -- the same of the edits by which it is done
 pub at_once_by : (h g1 g2 : HeapState) (t target object i address place bits : ℕ) (w : Reference) → IsStore h.store
     → IsHeap h → IsQuiet h (read_reference bits) → Passes h t (steps.Load target object i) → usable h t object
     ≡ Ok address
     → field_at h address i ≡ Some place → word_at h.store place ≡ Some bits → w ≡ read_reference bits
-    → g1 ≡ begun h t target address i w → g2 ≡ with_loaded g1 t target w → LoadsAtOnce h t target object i g2
+    → g1 ≡ begun h t target (places.Field address i) w → g2 ≡ with_loaded g1 t target w
+    → LoadsAtOnce h t (steps.Load target object i) g2
 at_once_by h g1 g2 t target object i address place bits w st k e g u f r is one two =
     rw (two, one, is) (at_once h t target object i address place bits st k e g u f r)
 
@@ -163,13 +232,15 @@ at_once_by h g1 g2 t target object i address place bits w st k e g u f r is one 
 not_beyond : (xs : List ThreadState) (i : ℕ) (x : ThreadState) → slice_get xs i ≡ Some x → nat_le (length xs) i ≡ false
 not_beyond xs i x e = let l = slice_get_within xs i x e in grind arith
 
-passes_where : (h : HeapState) (t target object i : ℕ) (x : ThreadState) → slice_get h.threads t ≡ Some x
-    → x.parked ≡ false → x.barrier ≡ None → nat_le h.config.registers target ≡ false
-    → nat_le h.config.registers object ≡ false → Passes h t (steps.Load target object i)
-unfolding thread_gate no_register
-passes_where h t target object i x there runs closed to from =
-    let many : nat_le (length h.threads) t ≡ false = not_beyond h.threads t x there in
-    rw (many, to, from, there, runs, closed) refl
+-- a thread has as many registers as the heap was made with
+register_there : (h : HeapState) (t r : ℕ) (x : ThreadState) → IsHeap h → slice_get h.threads t ≡ Some x
+    → r < length x.registers → no_register h r ≡ false
+unfolding no_register
+register_there h t r x k there low =
+    let many : length x.registers ≡ h.config.registers = k.registers t x there in below low many
+  where
+    below : {n m : ℕ} → r < n → n ≡ m → nat_le m r ≡ false
+    below l e = grind arith
 
 register_where : (h : HeapState) (t r : ℕ) (x : ThreadState) → slice_get h.threads t ≡ Some x
     → register_of h t r ≡ flat (slice_get x.registers r)
@@ -186,18 +257,32 @@ used_where h t address (Some v) k e =
     let there : IsOpenTo h v.0 = subst (IsOpenTo h) (sym same) k in
     rw there (ap Ok same)
 
--- a thread that runs, and whose barrier is closed, may load a reference of an object that a register of it names
-pub named_at_once : (h : HeapState) (t target object address : ℕ) (x : ThreadState) (w : Reference)
-    → IsOpenTo h address → slice_get h.threads t ≡ Some x → x.parked ≡ false → x.barrier ≡ None
-    → nat_le h.config.registers target ≡ false → nat_le h.config.registers object ≡ false
-    → w ≡ flat (slice_get x.registers object) → address_in w ≡ Some address
+ready_passes : (h : HeapState) (t : ℕ) (s : Step) (x : ThreadState) → slice_get h.threads t ≡ Some x
+    → x.parked ≡ false → x.barrier ≡ None → is_for_workers s ≡ false → has_bad_index h s ≡ false → Passes h t s
+unfolding thread_gate
+ready_passes h t s x there runs closed mine good =
+    let many : nat_le (length h.threads) t ≡ false = not_beyond h.threads t x there in
+    rw (many, mine, good, there, runs, closed) refl
+
+pub held_at_once : (h : HeapState) (t r : ℕ) (x : ThreadState) (w : Reference) → IsHeap h
+    → slice_get h.threads t ≡ Some x → x.parked ≡ false → x.barrier ≡ None → slice_get x.registers r ≡ Some w
+    → HoldsAtOnce h t r w
+held_at_once h t r x w k there runs closed is = record {
+  passes = λ s mine good. ready_passes h t s x there runs closed mine good;
+  closed = ap barrier_of there ∙ closed;
+  there = register_there h t r x k there (slice_get_within x.registers r w is);
+  word = register_where h t r x there ∙ ap flat is;
+}
+
+-- a thread may load a reference of an object that a register of it names
+pub named_at_once : (h : HeapState) (t target object address : ℕ) (v w : Reference) → IsOpenTo h address
+    → HoldsAtOnce h t target v → HoldsAtOnce h t object w → address_in w ≡ Some address
     → NamesAtOnce h t target object address
 unfolding usable
-named_at_once h t target object address x w free there runs closed to from is names = record {
-  passes = λ i. passes_where h t target object i x there runs closed to from;
-  usable = ap (use_word h t) (register_where h t object x there ∙ sym is)
-      ∙ used_where h t address w free names;
-  closed = ap barrier_of there ∙ closed;
+named_at_once h t target object address v w free to from names = record {
+  passes = λ i. from.passes (steps.Load target object i) refl (rw (to.there, from.there) refl);
+  usable = ap (use_word h t) from.word ∙ used_where h t address w free names;
+  closed = from.closed;
 }
 
 -- ---- a load
@@ -205,44 +290,18 @@ named_at_once h t target object address x w free there runs closed to from is na
 pub read_of : (h g : HeapState) (t target object i address : ℕ) (w : Reference) → IsStore h.store → IsHeap h
     → IsQuiet h w → NamesAtOnce h t target object address → ReadsAtOnce h address i w
     → ((b : Barrier) → g ≡ with_loaded (with_barrier h t b counters.Loads) t target w)
-    → LoadsAtOnce h t target object i g
+    → LoadsAtOnce h t (steps.Load target object i) g
 read_of h g t target object i address w st k e names reads is =
     let b = new_barrier target (places.Field address i) w in
-    at_once_by h (begun h t target address i w) g t target object i address reads.place reads.bits w st k
+    at_once_by h (begun h t target (places.Field address i) w) g t target object i address reads.place reads.bits w st k
     (subst (IsQuiet h) reads.word e)
     (names.passes i) names.usable reads.stands reads.read reads.word refl (is b)
 
-words_long : (frames : List (List ℕ)) (size : ℕ) (f : Option ℕ) (ws : List ℕ)
-    → Each frames (λ us. length us ≡ size) → option_and_then (slice_get frames) f ≡ Some ws → length ws ≡ size
-words_long frames size None ws k h = absurd (cc)
-words_long frames size (Some f) ws k h = k f ws h
-
--- a page's words are as many as a page has
-page_long : (s : StoreState) (n : ℕ) (ws : List ℕ) → IsStore s → words_at s n ≡ Some ws → length ws ≡ s.words
-unfolding words_at
-page_long s n ws k h = words_long s.frames s.words (frame_in (page_at s n)) ws k.sized.frames h
-
-in_frame : (frames : List (List ℕ)) (f : Option ℕ) (k : ℕ) (ws : List ℕ) → option_and_then (slice_get frames) f
-    ≡ Some ws
-    → word_in frames (at_offset f k) ≡ slice_get ws k
-in_frame frames None k ws h = absurd (cc)
-in_frame frames (Some f) k ws h = rw h refl
-
--- the word at an address is that of its page
-word_here : (s : StoreState) (a : ℕ) (ws : List ℕ) → words_at s (a / s.words) ≡ Some ws
-    → word_at s a ≡ slice_get ws (a % s.words)
-unfolding word_at words_at spot_of
-word_here s a ws h = in_frame s.frames (frame_in (page_at s (a / s.words))) (a % s.words) ws h
-
--- the word of a reference of an object on whose page it stands
-word_behind : (s : StoreState) (a i : ℕ) (ws : List ℕ) → words_at s (a / s.words) ≡ Some ws
-    → a % s.words + 1 + i < s.words → word_at s (a + 1 + i) ≡ slice_get ws (a % s.words + 1 + i)
-word_behind s a i ws h near =
-    let place : a + (1 + i) ≡ a + 1 + i = omega arith in
-    let offset : a % s.words + (1 + i) ≡ a % s.words + 1 + i = omega arith in
-    sym (ap (word_at s) place)
-    ∙ word_on_page s a (1 + i) ws h (omega (arith, near))
-    ∙ ap (slice_get ws) offset
+-- an address on a usable page is on no protected one
+pub open_where : (h : HeapState) (a : ℕ) (o : Option ℕ) → o ≡ usable_frame h.store (a / h.store.words)
+    → IfSome o (λ _. IsOpenTo h a)
+open_where h a None e = tt
+open_where h a (Some f) e = usable_unprotected h.store (a / h.store.words) f (sym e)
 
 layout_where : (h : HeapState) (a header : ℕ) (l : Layout) → word_at h.store a ≡ Some header
     → slice_get h.config.layouts (header / 2 ^ 32) ≡ Some l → layout_at h a ≡ Some l
@@ -254,30 +313,29 @@ field_where : (h : HeapState) (a i : ℕ) (l : Layout) → layout_at h a ≡ Som
 unfolding field_at
 field_where h a i l e few = rw (e, few) refl
 
--- a reference on the page of its object
-pub reads_where : (h : HeapState) (a i : ℕ) (ws : List ℕ) (o header bits : ℕ) (l : Layout) (w : Reference)
-    → IsStore h.store → words_at h.store (a / h.store.words) ≡ Some ws → o ≡ a % h.store.words
-    → slice_get ws o ≡ Some header → slice_get h.config.layouts (header / 2 ^ 32) ≡ Some l → i < l.refs
-    → slice_get ws (o + 1 + i) ≡ Some bits → w ≡ read_reference bits → ReadsAtOnce h a i w
-reads_where h a i ws o header bits l w k page is head named few read word =
-    let s = h.store in
-    let long : length ws ≡ s.words = page_long s (a / s.words) ws k page in
-    let read_there : slice_get ws (a % s.words + 1 + i) ≡ Some bits =
-    subst (λ (x : ℕ). slice_get ws (x + 1 + i) ≡ Some bits) is read in
-    let near : a % s.words + 1 + i < s.words =
-    subst (λ (n : ℕ). a % s.words + 1 + i < n) long (slice_get_within ws (a % s.words + 1 + i) bits read_there) in
-    let header_there : word_at s a ≡ Some header =
-    word_here s a ws page ∙ ap (slice_get ws) (sym is) ∙ head in
-    record {
-      place = a + 1 + i;
-      bits = bits;
-      stands = field_where h a i l (layout_where h a header l header_there named) (lt_true i l.refs few);
-      read = word_behind s a i ws page near ∙ read_there;
-      word = word;
-    }
-  where
-    lt_true : (i n : ℕ) → i < n → nat_lt i n ≡ true
-    lt_true i n l = grind arith
+less : (i n : ℕ) → i < n → nat_lt i n ≡ true
+less i n l = grind arith
+
+-- the header's number names the object's layout
+pub layout_named : (h : HeapState) (a header : ℕ) (o : Option Layout) → word_at h.store (a + 0) ≡ Some header
+    → o ≡ slice_get h.config.layouts (header / 2 ^ 32) → IfSome o (λ l. layout_at h a ≡ Some l)
+layout_named h a header None read e = tt
+layout_named h a header (Some l) read e =
+    let here : a + 0 ≡ a = omega arith in
+    layout_where h a header l (sym (ap (word_at h.store) here) ∙ read) (sym e)
+
+-- a reference of an object of this layout
+pub field_there : (h : HeapState) (a i k : ℕ) (l : Layout) → layout_at h a ≡ Some l → i < l.refs → k ≡ i
+    → field_at h a i ≡ Some (a + (1 + k))
+field_there h a i k l e few is =
+    let place : a + 1 + i ≡ a + (1 + k) = omega (arith, is) in
+    field_where h a i l e (less i l.refs few) ∙ ap Some place
+
+-- a reference that was read
+pub reads_where : (h : HeapState) (a i k bits : ℕ) (w : Reference) → field_at h a i ≡ Some (a + k)
+    → word_at h.store (a + k) ≡ Some bits → w ≡ read_reference bits → ReadsAtOnce h a i w
+reads_where h a i k bits w stands read word =
+    record { place = a + k; bits = bits; stands = stands; read = read; word = word }
 
 -- ---- two edits of a thread, one behind the other
 
@@ -312,38 +370,25 @@ pub read_keeps : (h : HeapState) (t r : ℕ) (w : Reference) (threads : List Thr
     → IsHeap (record h { threads = threads })
 read_keeps h t r w threads k is = thread_keeps h t (λ x. set_loaded_of r w (set_barrier_of some counters.Loads x))
     threads k
-    (is some) (λ x f. f)
+    (is some) (λ x f. f) (λ x. length-set x.registers r w)
   where
     some : Barrier
     some = record { target = 0; place = places.Global 0; raw = None; now = None; healed = false }
 
 -- ---- as the code has it
 
-pub below : (n m r : ℕ) → n ≡ m → r < n → nat_le m r ≡ false
-below n m r e l = grind arith
-
 pub found : (i n : ℕ) → true ≡ nat_lt i n → i < n
 found i n e = grind arith
 
 -- ---- a datum
 
-uses_passes : (h : HeapState) (t : ℕ) (s : Step) (x : ThreadState) → slice_get h.threads t ≡ Some x
-    → x.parked ≡ false → x.barrier ≡ None → is_for_workers s ≡ false → has_bad_index h s ≡ false → Passes h t s
-unfolding thread_gate
-uses_passes h t s x there runs closed mine good =
-    let many : nat_le (length h.threads) t ≡ false = not_beyond h.threads t x there in
-    rw (many, mine, good, there, runs, closed) refl
-
-pub uses_at_once : (h : HeapState) (t object address : ℕ) (x : ThreadState) (w : Reference)
-    → IsOpenTo h address → slice_get h.threads t ≡ Some x → x.parked ≡ false → x.barrier ≡ None
-    → nat_le h.config.registers object ≡ false → w ≡ flat (slice_get x.registers object)
-    → address_in w ≡ Some address → UsesAtOnce h t object address
-unfolding usable no_register
-uses_at_once h t object address x w free there runs closed from is names = record {
-  passes = λ s mine good. uses_passes h t s x there runs closed mine good;
-  there = from;
-  usable = ap (use_word h t) (register_where h t object x there ∙ sym is)
-      ∙ used_where h t address w free names;
+pub uses_at_once : (h : HeapState) (t object address : ℕ) (w : Reference) → IsOpenTo h address
+    → HoldsAtOnce h t object w → address_in w ≡ Some address → UsesAtOnce h t object address
+unfolding usable
+uses_at_once h t object address w free from names = record {
+  passes = from.passes;
+  there = from.there;
+  usable = ap (use_word h t) from.word ∙ used_where h t address w free names;
 }
 
 datum_where : (h : HeapState) (a j : ℕ) (l : Layout) → layout_at h a ≡ Some l → nat_lt j l.nums ≡ true
@@ -351,57 +396,42 @@ datum_where : (h : HeapState) (a j : ℕ) (l : Layout) → layout_at h a ≡ Som
 unfolding datum_at
 datum_where h a j l e few = rw (e, few) refl
 
--- the word of a datum of an object on whose page it stands
-datum_behind : (s : StoreState) (a r j : ℕ) (ws : List ℕ) → words_at s (a / s.words) ≡ Some ws
-    → a % s.words + 1 + r + j < s.words → word_at s (a + 1 + r + j) ≡ slice_get ws (a % s.words + 1 + r + j)
-datum_behind s a r j ws h near =
-    let place : a + (1 + r + j) ≡ a + 1 + r + j = omega arith in
-    let offset : a % s.words + (1 + r + j) ≡ a % s.words + 1 + r + j = omega arith in
-    sym (ap (word_at s) place)
-    ∙ word_on_page s a (1 + r + j) ws h (omega (arith, near))
-    ∙ ap (slice_get ws) offset
+-- a data word of an object of this layout
+pub datum_there : (h : HeapState) (a j r k : ℕ) (l : Layout) → layout_at h a ≡ Some l → j < l.nums → r ≡ l.refs → k ≡ j
+    → datum_at h a j ≡ Some (a + (1 + r + k))
+datum_there h a j r k l e few refs is =
+    let place : a + 1 + l.refs + j ≡ a + (1 + r + k) = omega (arith, refs, is) in
+    datum_where h a j l e (less j l.nums few) ∙ ap Some place
 
-pub datum_read : (h : HeapState) (t object a j : ℕ) (ws : List ℕ) (o header value : ℕ) (l : Layout)
-    → IsStore h.store → UsesAtOnce h t object a → words_at h.store (a / h.store.words) ≡ Some ws
-    → o ≡ a % h.store.words → slice_get ws o ≡ Some header
-    → slice_get h.config.layouts (header / 2 ^ 32) ≡ Some l → j < l.nums
-    → slice_get ws (o + 1 + l.refs + j) ≡ Some value
-    → outcome h (Thread t) (steps.Datum object j) ≡ Ok (h, answers.Datum value)
+-- a datum that was read
+pub datum_read : (h : HeapState) (t object a j k value : ℕ) → UsesAtOnce h t object a → datum_at h a j ≡ Some (a + k)
+    → word_at h.store (a + k) ≡ Some value → GivesDatum h t object j value
 unfolding outcome datum_outcome
-datum_read h t object a j ws o header value l k uses page is head named few read =
-    let s = h.store in
-    let long : length ws ≡ s.words = page_long s (a / s.words) ws k page in
-    let read_there : slice_get ws (a % s.words + 1 + l.refs + j) ≡ Some value =
-    subst (λ (x : ℕ). slice_get ws (x + 1 + l.refs + j) ≡ Some value) is read in
-    let near : a % s.words + 1 + l.refs + j < s.words =
-    subst (λ (n : ℕ). a % s.words + 1 + l.refs + j < n) long
-    (slice_get_within ws (a % s.words + 1 + l.refs + j) value read_there) in
-    let header_there : word_at s a ≡ Some header =
-    word_here s a ws page ∙ ap (slice_get ws) (sym is) ∙ head in
-    let place : datum_at h a j ≡ Some (a + 1 + l.refs + j) =
-    datum_where h a j l (layout_where h a header l header_there named) (less_true j l.nums few) in
-    let word : word_at s (a + 1 + l.refs + j) ≡ Some value = datum_behind s a l.refs j ws page near ∙ read_there in
+datum_read h t object a j k value uses place word =
     let gate : Passes h t (steps.Datum object j) = uses.passes (steps.Datum object j) refl uses.there in
     rw (gate, uses.usable, place, word) refl
-  where
-    less_true : (i n : ℕ) → i < n → nat_lt i n ≡ true
-    less_true i n l = grind arith
 
 -- ---- writes
 
+-- a word that is null, or on no protected page, may be used
 null_or_free : (h : HeapState) (t : ℕ) (w : Reference) → IfSome w (λ v. IsOpenTo h v.0)
-    → (o : Option ℕ) × (use_or_null h t w ≡ Ok o)
+    → use_or_null h t w ≡ Ok (address_in w)
 unfolding let_through
-null_or_free h t None k = (None, refl)
-null_or_free h t (Some v) k = (Some v.0, rw k refl)
+null_or_free h t None k = refl
+null_or_free h t (Some v) k = rw k refl
 
 -- a register that is null, or whose word is on no protected page
-pub source_at_once : (h : HeapState) (t r : ℕ) (w : Reference) → nat_le h.config.registers r ≡ false
-    → w ≡ register_of h t r → IfSome w (λ v. IsOpenTo h v.0) → SourceAtOnce h t r w
-unfolding usable_or_null no_register
-source_at_once h t r w there is free =
-    let used = null_or_free h t w free in
-    record { there = there; named = sym is; address = used.0; usable = rw (sym is) used.1 }
+pub source_at_once : (h : HeapState) (t r : ℕ) (x : ThreadState) (w : Reference) → IsHeap h
+    → slice_get h.threads t ≡ Some x → slice_get x.registers r ≡ Some w → IfSome w (λ v. IsOpenTo h v.0)
+    → SourceAtOnce h t r w
+unfolding usable_or_null
+source_at_once h t r x w k there is free =
+    let named : register_of h t r ≡ w = register_where h t r x there ∙ ap flat is in
+    record {
+      there = register_there h t r x k there (slice_get_within x.registers r w is);
+      named = named;
+      usable = ap (use_or_null h t) named ∙ null_or_free h t w free;
+    }
 
 pub stored : (h g : HeapState) (t object i source a k : ℕ) (w : Reference) → UsesAtOnce h t object a
     → SourceAtOnce h t source w → field_at h a i ≡ Some (a + k)
@@ -420,3 +450,27 @@ unfolding outcome set_datum_outcome
 datum_set h g t object j value a k u f e =
     let gate : Passes h t (steps.SetDatum object j value) = u.passes (steps.SetDatum object j value) refl u.there in
     rw (gate, u.usable, f, e) refl
+
+-- the heap keeps what all heaps have, where a word was written or nothing was
+pub written_keeps : (h : HeapState) (s : StoreState) (a v : ℕ) (done : Bool) → IsHeap h
+    → s ≡ (if done then with_word h.store a v else h.store) → IsHeap (record h { store = s })
+written_keeps h s a v true k e = store_keeps h s k (subst (AreSized h.store) (sym e) (word_sized_alike h.store a v))
+    (λ b lies. subst (λ t. LiesIn t b) (sym e) (word_lies h.store a v b lies))
+    (λ n. subst NoneProtected (sym e) (word_unprotected h.store a v n))
+written_keeps h s a v false k e = subst (λ (t : StoreState). IsHeap (record h { store = t })) (sym e) k
+
+-- a reference is stored, or nothing is
+pub may_store : (h g : HeapState) (t object i source a k v : ℕ) (w : Reference) (done : Bool) → UsesAtOnce h t object a
+    → SourceAtOnce h t source w → field_at h a i ≡ Some (a + k) → v ≡ bits_of w
+    → g ≡ (if done then record h { store = with_word h.store (a + k) v } else h)
+    → MayDoAtOnce done h t (steps.Store object i source) g
+may_store h g t object i source a k v w true u s f is e =
+    stored h g t object i source a k w u s f (e ∙ ap (λ (x : ℕ). record h { store = with_word h.store (a + k) x }) is)
+may_store h g t object i source a k v w false u s f is e = e
+
+-- a datum is set, or nothing is
+pub may_set_datum : (h g : HeapState) (t object j value a k : ℕ) (done : Bool) → UsesAtOnce h t object a
+    → datum_at h a j ≡ Some (a + k) → g ≡ (if done then record h { store = with_word h.store (a + k) value } else h)
+    → MayDoAtOnce done h t (steps.SetDatum object j value) g
+may_set_datum h g t object j value a k true u f e = datum_set h g t object j value a k u f e
+may_set_datum h g t object j value a k false u f e = e

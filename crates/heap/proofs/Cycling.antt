@@ -19,7 +19,7 @@ use Rattle.model.specs.States.{HeapState, ThreadState}
 use Rattle.model.specs.Threads.{set_crossed_of}
 use Rattle.model.specs.Bits.{blank_row, blank_all}
 use Rattle.model.specs.Cycles.{is_lent, is_buffer_on, set_todo_of}
-use Rattle.model.specs.Holding.{IsHeap, FillsIn, AreRising, AreRowsFor, AreSidesFor, GoesToPage}
+use Rattle.model.specs.Holding.{IsHeap, FillsIn, HasRegisters, AreRising, AreRowsFor, AreSidesFor, GoesToPage}
 use Rattle.model.proofs.Tables.{none_goes}
 use Rattle.model.proofs.Lists.{each_replicate}
 use Rattle.page.proofs.Ended.{ended_sized, ended_lies, ended_unprotected}
@@ -84,6 +84,7 @@ ended_keeps h s live mark sides i e f g r =
       births = i.births;
       buffers = λ j t a. subst (λ (s : StoreState). FillsIn s t) (sym e)
           (by_buffer j t a t.buffer refl (i.buffers j t a));
+      registers = i.registers;
       idle = λ _. subst NoneProtected (sym e) (ended_unprotected h.store (is_lent h.threads));
     }
   where
@@ -113,6 +114,9 @@ started_keeps h threads globals nmt i e f = record {
   births = i.births;
   buffers = subst (λ ts. Each ts (FillsIn h.store)) (sym e)
       (each_mapped (FillsIn h.store) (FillsIn h.store) (set_crossed_of false) h.threads (λ t k. k) i.buffers);
+  registers = subst (λ ts. Each ts (HasRegisters h.config)) (sym e)
+      (each_mapped (HasRegisters h.config) (HasRegisters h.config) (set_crossed_of false) h.threads (λ t k. k)
+      i.registers);
   idle = λ z. absurd (marking z);
 }
   where

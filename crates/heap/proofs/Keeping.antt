@@ -2,11 +2,13 @@
 use Rattle.std.proofs.Common.{◌≡◌, ℕ, Bool, ◌-◌, ◌<◌, ◌≤◌, ◌+◌, List, Option, Some, None, replicate, arith, rules}
 use Rattle.std.proofs.Common.{length, ap, ◌∙◌, sym, subst, true}
 use Rattle.std.specs.Option.{IfSome}
+use Rattle.std.proofs.Math.ListN.{length-replicate}
+use Rattle.model.specs.declared.config.Config.{Config}
 use Rattle.model.specs.declared.records.Buffer.{Buffer}
 use Rattle.model.specs.Stores.{StoreState}
 use Rattle.model.specs.Owning.{Each, LiesIn, AreSized, NoneProtected}
 use Rattle.model.specs.Phases.{is_marking, is_mark_crossing}
-use Rattle.model.specs.Holding.{IsHeap, HasSizes, FillsIn, AreRowsFor}
+use Rattle.model.specs.Holding.{IsHeap, HasSizes, FillsIn, HasRegisters, AreRowsFor}
 use Rattle.model.specs.States.{HeapState, ThreadState, change_at}
 use Rattle.model.specs.Bits.{put_bit}
 use Rattle.model.specs.Buffers.{opened_rows}
@@ -18,6 +20,12 @@ use Rattle.model.proofs.Lists.{each_changed, each_replicate}
 pub first_fills : (s : StoreState) (n registers : ℕ) (threads : List ThreadState)
     → threads ≡ replicate n (blank_thread registers) → Each threads (FillsIn s)
 first_fills s n registers threads e = rw e (each_replicate (FillsIn s) n (blank_thread registers) (search rules))
+
+-- and have so many registers
+pub first_registers : (c : Config) (threads : List ThreadState) → threads ≡ replicate c.threads (blank_thread c.registers)
+    → Each threads (HasRegisters c)
+first_registers c threads e = rw e (each_replicate (HasRegisters c) c.threads (blank_thread c.registers)
+    (length-replicate c.registers None))
 
 -- the sizes stay where threads and globals are as many, and the store is of the sizes that it was
 threads_sized : (h : HeapState) (threads : List ThreadState) → length threads ≡ length h.threads → HasSizes h
@@ -41,11 +49,12 @@ store_sized h s k z = record {
   globals = z.globals;
 }
 
--- a thread is changed, whose buffer then lies in an open page
+-- a thread is changed, whose buffer then lies in an open page, and which keeps how many registers it has
 pub thread_keeps : (h : HeapState) (t : ℕ) (change : ThreadState → ThreadState) (threads : List ThreadState) → IsHeap h
     → threads ≡ change_at h.threads t change
-    → ((x : ThreadState) → FillsIn h.store x → FillsIn h.store (change x)) → IsHeap (record h { threads = threads })
-thread_keeps h t change threads i e fills = record {
+    → ((x : ThreadState) → FillsIn h.store x → FillsIn h.store (change x))
+    → ((x : ThreadState) → length (change x).registers ≡ length x.registers) → IsHeap (record h { threads = threads })
+thread_keeps h t change threads i e fills many = record {
   config = i.config;
   sizes = threads_sized h threads (ap length e ∙ length_changed h.threads t change) i.sizes;
   starts = i.starts;
@@ -56,6 +65,8 @@ thread_keeps h t change threads i e fills = record {
   births = i.births;
   buffers = subst (λ ts. Each ts (FillsIn h.store)) (sym e)
       (each_changed (FillsIn h.store) h.threads t change i.buffers fills);
+  registers = subst (λ ts. Each ts (HasRegisters h.config)) (sym e)
+      (each_changed (HasRegisters h.config) h.threads t change i.registers (λ x k. many x ∙ k));
   idle = i.idle;
 }
 
@@ -77,6 +88,7 @@ store_keeps h s i z k q = record {
   sides = i.sides;
   births = i.births;
   buffers = λ t x e. fills_in h.store s x.buffer k (i.buffers t x e);
+  registers = i.registers;
   idle = λ e. q (i.idle e);
 }
 
@@ -104,6 +116,7 @@ birth_keeps h s b starts mark todo i low z k q e f g = let sizes = store_sized h
   sides = i.sides;
   births = omega arith;
   buffers = λ t x e. fills_in h.store s x.buffer k (i.buffers t x e);
+  registers = i.registers;
   idle = λ e. q (i.idle e);
 }
   where
@@ -132,6 +145,7 @@ opened_keeps h b starts live mark todo i e f g k = record {
   sides = i.sides;
   births = i.births;
   buffers = i.buffers;
+  registers = i.registers;
   idle = i.idle;
 }
   where

@@ -1,4 +1,6 @@
 pub mod AtOnce
+pub mod AtOnceGlobals
+pub mod Births
 pub mod Cycling
 pub mod Counting
 pub mod Keeping

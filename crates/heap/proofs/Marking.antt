@@ -43,6 +43,7 @@ marks_keep h live mark todo i l m t = record {
   sides = i.sides;
   births = i.births;
   buffers = i.buffers;
+  registers = i.registers;
   idle = i.idle;
 }
 
@@ -87,6 +88,7 @@ phase_keeps h p last i next = record {
   sides = i.sides;
   births = i.births;
   buffers = i.buffers;
+  registers = i.registers;
   idle = λ e. i.idle (was_idle last h.phase p next e);
 }
 

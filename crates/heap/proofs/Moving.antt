@@ -12,7 +12,7 @@ use Rattle.model.specs.Protections.{with_from_pages}
 use Rattle.std.proofs.lemmas.Bool.{true≢false}
 use Rattle.page.specs.Relocating.{NoneGone}
 use Rattle.model.specs.Owning.{Each, LiesIn, AreSized, NoneProtected}
-use Rattle.model.specs.Holding.{IsHeap, FillsIn, AreRising, AreRowsFor, AreSidesFor, GoesToPage}
+use Rattle.model.specs.Holding.{IsHeap, FillsIn, HasRegisters, AreRising, AreRowsFor, AreSidesFor, GoesToPage}
 use Rattle.model.specs.States.{HeapState, ThreadState, change_at}
 use Rattle.model.specs.Threads.{set_crossed_of}
 use Rattle.model.specs.Bits.{with_bit}
@@ -45,6 +45,7 @@ sides_keep h sides i k = record {
   sides = k;
   births = i.births;
   buffers = i.buffers;
+  registers = i.registers;
   idle = i.idle;
 }
 
@@ -101,6 +102,9 @@ protection_keeps h s threads pages i is stays e = record {
   buffers = subst (λ ts. Each ts (FillsIn s)) (sym e)
       (each_mapped (FillsIn h.store) (FillsIn s) (set_crossed_of false) h.threads
       (λ t k. fills_in h.store s t.buffer stays k) i.buffers);
+  registers = subst (λ ts. Each ts (HasRegisters h.config)) (sym e)
+      (each_mapped (HasRegisters h.config) (HasRegisters h.config) (set_crossed_of false) h.threads (λ t k. k)
+      i.registers);
   idle = λ k. absurd (not_idle k);
 }
   where
@@ -136,6 +140,7 @@ copy_keeps h s starts sides words a to n place j o i is e f = record {
   births = i.births;
   buffers = λ t x k. fills_in h.store s x.buffer
       (λ b l. subst (λ (r : StoreState). LiesIn r b) (sym is) (words_lie h.store _ _ b l)) (i.buffers t x k);
+  registers = i.registers;
   idle = λ k. subst NoneProtected (sym is) (words_unprotected h.store _ _ (i.idle k));
 }
   where

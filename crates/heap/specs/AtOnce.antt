@@ -1,8 +1,8 @@
 -- Loads that are done at once, where no trap is due.
 use Rattle.std.specs.Prelude.{◌≡◌, ◌/◌, ◌&&◌, not, ℕ, Option, Ok, Some, None, Bool, true, false, IfSome}
-use Rattle.refword.specs.Words.{mark_in}
+use Rattle.refword.specs.Words.{address_in, mark_in}
 use Rattle.model.specs.declared.records.Counter.TheVariants as counters
-use Rattle.model.specs.declared.records.Place.TheVariants as places
+use Rattle.model.specs.declared.records.Place.{Place}
 use Rattle.model.specs.declared.steps.Actor.TheVariants.{Thread}
 use Rattle.model.specs.declared.steps.Answer.TheVariants as answers
 use Rattle.model.specs.declared.steps.Step.TheVariants as steps
@@ -11,28 +11,39 @@ use Rattle.model.specs.Owning.{IsStore}
 use Rattle.model.specs.Loads.{with_barrier, new_barrier, barrier_of_thread}
 use Rattle.model.specs.declared.steps.Step.{Step}
 use Rattle.model.specs.Outcome.{outcome, Passes, is_for_workers, has_bad_index, no_register}
-use Rattle.model.specs.References.{read_reference, field_at}
+use Rattle.model.specs.References.{read_reference, field_at, global_of}
 use Rattle.model.specs.Registers.{register_of, usable, usable_or_null}
 use Rattle.model.specs.States.{Reference, HeapState}
 use Rattle.model.specs.Stores.{word_at, state_at, is_protected}
+use Rattle.page.specs.Usable.{usable_frame}
 use Rattle.model.specs.Phases.{is_marking, same_bit}
 
--- the heap after a load of reference i of the object at an address has begun, which has read a word
-abbrev pub begun : HeapState → ℕ → ℕ → ℕ → ℕ → Reference → HeapState
-begun h t target address i w = with_barrier h t (new_barrier target (places.Field address i) w) counters.Loads
+-- the heap after a load for a register has begun, which has read a word at a place
+abbrev pub begun : HeapState → ℕ → ℕ → Place → Reference → HeapState
+begun h t target place w = with_barrier h t (new_barrier target place w) counters.Loads
 
 -- an address is on no protected page
 abbrev pub IsOpenTo : HeapState → ℕ → Type 0
 IsOpenTo h address = is_protected (state_at h.store (address / h.store.words)) ≡ false
 
+-- an address is on a page that has memory, this frame, and isn't protected
+abbrev pub IsOnFrame : HeapState → ℕ → ℕ → Type 0
+IsOnFrame h address frame = usable_frame h.store (address / h.store.words) ≡ Some frame
+
 -- a mark runs, and the word hasn't the collector's NMT value
 abbrev pub mark_is_due : HeapState → Reference → Bool
 mark_is_due h w = is_marking h.phase && not (same_bit (mark_in w) h.nmt)
 
--- a word is neither to be marked nor on a protected page
-pub record IsQuiet (h : HeapState) (w : Reference) : Type 0 where
-  pub marked : mark_is_due h w ≡ false
-  pub free : IfSome w (λ v. IsOpenTo h v.0)
+-- a word is null, or neither to be marked nor on a protected page
+abbrev pub IsQuiet : HeapState → Reference → Type 0
+IsQuiet h w = IfSome w (λ v. (mark_is_due h (Some v) ≡ false) × IsOpenTo h v.0)
+
+-- register r of thread t holds this word; the thread runs, and its barrier is closed
+pub record HoldsAtOnce (h : HeapState) (t r : ℕ) (w : Reference) : Type 0 where
+  pub passes : (s : Step) → is_for_workers s ≡ false → has_bad_index h s ≡ false → Passes h t s
+  pub closed : barrier_of_thread h t ≡ None
+  pub there : no_register h r ≡ false
+  pub word : register_of h t r ≡ w
 
 -- thread t may load a reference of the object at an address, which register object names, for register target
 pub record NamesAtOnce (h : HeapState) (t target object address : ℕ) : Type 0 where
@@ -48,19 +59,25 @@ pub record ReadsAtOnce (h : HeapState) (address i : ℕ) (w : Reference) : Type 
   pub read : word_at h.store place ≡ Some bits
   pub word : w ≡ read_reference bits
 
--- heap g is what a load of a field leads to by its first step and its last, between which no trap is due; the heap
+-- heap g is what a load leads to by the step that begins it and its last, between which no trap is due; the heap
 -- between them keeps what all heaps keep
-pub record LoadsAtOnce (h : HeapState) (t target object i : ℕ) (g : HeapState) : Type 0 where
+pub record LoadsAtOnce (h : HeapState) (t : ℕ) (begin : Step) (g : HeapState) : Type 0 where
   pub between : HeapState
   pub heap : IsHeap between
   pub store : IsStore between.store
-  pub loads : outcome h (Thread t) (steps.Load target object i) ≡ Ok (between, answers.Loaded)
+  pub loads : outcome h (Thread t) begin ≡ Ok (between, answers.Loaded)
   pub ends : outcome between (Thread t) steps.Finish ≡ Ok (g, answers.Done)
 
 -- true where the load is done at once, and false where nothing is done
-abbrev pub MayLoadAtOnce : Bool → HeapState → ℕ → ℕ → ℕ → ℕ → HeapState → Type 0
-MayLoadAtOnce true h t target object i g = LoadsAtOnce h t target object i g
-MayLoadAtOnce false h t target object i g = g ≡ h
+abbrev pub MayLoadAtOnce : Bool → HeapState → ℕ → Step → HeapState → Type 0
+MayLoadAtOnce true h t begin g = LoadsAtOnce h t begin g
+MayLoadAtOnce false h t begin g = g ≡ h
+
+-- a load of a global for a register may begin, which reads this word
+pub record ReadsGlobal (h : HeapState) (t target global : ℕ) (w : Reference) : Type 0 where
+  pub passes : Passes h t (steps.LoadGlobal target global)
+  pub closed : barrier_of_thread h t ≡ None
+  pub word : w ≡ global_of h global
 
 -- thread t may use the object at an address, which a register names
 pub record UsesAtOnce (h : HeapState) (t object address : ℕ) : Type 0 where
@@ -72,8 +89,7 @@ pub record UsesAtOnce (h : HeapState) (t object address : ℕ) : Type 0 where
 pub record SourceAtOnce (h : HeapState) (t r : ℕ) (w : Reference) : Type 0 where
   pub there : no_register h r ≡ false
   pub named : register_of h t r ≡ w
-  pub address : Option ℕ
-  pub usable : usable_or_null h t r ≡ Ok address
+  pub usable : usable_or_null h t r ≡ Ok (address_in w)
 
 -- true if a step of thread t is done at once, and false if nothing is done
 abbrev pub MayDoAtOnce : Bool → HeapState → ℕ → Step → HeapState → Type 0

@@ -84,8 +84,9 @@ impl Model for Heap {
 impl Heap {
     /// What holds of every heap: its frames have one owner each; it has the words of a page, the
     /// frames, pages, threads, workers and globals that it was made with; each page record has rows
-    /// of a bit a word, and a side array whose entries rise; each thread's buffer lies in an open
-    /// page; births are within their limit; and in `Idle` no page is protected.
+    /// of a bit a word, and a side array whose entries rise; each thread has the registers that it was
+    /// made with, and its buffer lies in an open page; births are within their limit; and in `Idle` no
+    /// page is protected.
     pub fn law(&self)
         ensures store { IsStore self.now.store }
         ensures heap { IsHeap self.now }

@@ -13,3 +13,4 @@ pub mod Emptied
 pub mod Scrubbed
 pub mod Corrected
 pub mod Clearing
+pub mod Several

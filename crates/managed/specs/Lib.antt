@@ -5,3 +5,4 @@ pub mod Collecting
 pub mod Emptying
 pub mod Managing
 pub mod Scrubbing
+pub mod Batches

@@ -7,6 +7,7 @@
 //! here, by `Mutating` and by `step`; it reads it by `heap`, which lends no edit.
 #![tactic(auto)]
 
+mod batches;
 mod collecting;
 mod crossing;
 mod emptying;
@@ -17,6 +18,7 @@ mod preparing;
 mod scanning;
 mod scrubbing;
 
+pub use batches::{FieldLoad, LoadsFault};
 pub use cycle::{Mutating, Stepping};
 pub use heap::{Config, Heap, NewFault, Refusal};
 pub use managed::ManagedHeap;

@@ -119,12 +119,38 @@ impl ManagedHeap {
         }
     }
 
-    /// Loads a global into a register, whole. Refused as `load_global` or as `end_read` is.
-    pub fn read_global(&mut self, thread: u32, target: u32, global: u32) -> Result<(), Refusal>
+    /// A complete load of a global in one go, if no test refuses it and no trap is due. Returns whether it is
+    /// done; else nothing is.
+    #[inline(always)]
+    #[tactic(auto, using(crate::proofs::AtOnce::may_load_global_whole))]
+    fn read_global_at_once(&mut self, thread: u32, target: u32, global: u32) -> bool
+        ensures { MayLoadWhole result self.old thread (steps.LoadGlobal target global) self.new }
+    {
+        self.heap.law();
+        refinement::law();
+        self.heap.load_global_at_once(thread, target, global)
+    }
+
+    /// A complete load of a global by its steps.
+    #[cold]
+    #[inline(never)]
+    fn read_global_by_steps(&mut self, thread: u32, target: u32, global: u32) -> Result<(), Refusal>
         ensures loads { LoadsWhole self.old thread (steps.LoadGlobal target global) result self.new }
         ensures stands { LoadStands self.old thread (steps.LoadGlobal target global) result self.new }
     {
         self.load_global(thread, target, global)?;
         self.end_read(thread)
+    }
+
+    /// Loads a global into a register, whole. Refused as `load_global` or as `end_read` is.
+    #[inline(always)]
+    pub fn read_global(&mut self, thread: u32, target: u32, global: u32) -> Result<(), Refusal>
+        ensures loads { LoadsWhole self.old thread (steps.LoadGlobal target global) result self.new }
+        ensures stands { LoadStands self.old thread (steps.LoadGlobal target global) result self.new }
+    {
+        match self.read_global_at_once(thread, target, global) {
+            true => Ok(()),
+            false => self.read_global_by_steps(thread, target, global),
+        }
     }
 }

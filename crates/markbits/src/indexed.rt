@@ -104,6 +104,17 @@ impl IndexedRows {
         settle(&mut self.busy, &self.rows, index);
     }
 
+    /// Clears a bit of a row, if it is there. Where no bit is set in any row that is one test.
+    #[inline(always)]
+    #[tactic(auto, using(crate::proofs::Bare::none_unset))]
+    pub fn unset(&mut self, index: usize, offset: usize)
+        ensures { self.new ≡ change_at self.old index (put_bit offset false) }
+    {
+        if !self.is_empty() {
+            self.put(index, offset, false);
+        }
+    }
+
     /// Clears a row, if it is there.
     #[tactic(auto, using(crate::proofs::Busy::settled))]
     pub fn clear(&mut self, index: usize)

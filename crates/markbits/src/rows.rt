@@ -149,6 +149,17 @@ impl Row {
         Some(was)
     }
 
+    /// Clears a bit, if the row goes that far. A row in which none is set costs one test.
+    #[inline(always)]
+    #[tactic(auto, using(crate::proofs::Bare::bare_unset))]
+    pub fn unset(&mut self, offset: usize)
+        ensures { self.new ≡ put_bit offset false self.old }
+    {
+        if self.count() != 0 {
+            self.put(offset, false);
+        }
+    }
+
     /// Clears all bits.
     pub fn clear(&mut self)
         ensures { self.new ≡ blank_row self.old }
@@ -336,6 +347,28 @@ impl Rows {
         if index < self.rows.len() {
             let row = &mut self.rows[index];
             row.put(offset, bit);
+        }
+    }
+
+    /// Sets a bit of a row, if it is there.
+    #[inline(always)]
+    pub fn set(&mut self, index: usize, offset: usize)
+        ensures { self.new ≡ change_at self.old index (put_bit offset true) }
+    {
+        if index < self.rows.len() {
+            let row = &mut self.rows[index];
+            row.put(offset, true);
+        }
+    }
+
+    /// Clears a bit of a row, if it is there. In a row without a bit that is one test.
+    #[inline(always)]
+    pub fn unset(&mut self, index: usize, offset: usize)
+        ensures { self.new ≡ change_at self.old index (put_bit offset false) }
+    {
+        if index < self.rows.len() {
+            let row = &mut self.rows[index];
+            row.unset(offset);
         }
     }
 

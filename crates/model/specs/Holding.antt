@@ -12,6 +12,10 @@ use Rattle.model.specs.States.{HeapState, ThreadState}
 abbrev pub FillsIn : StoreState → ThreadState → Type 0
 FillsIn s t = IfSome t.buffer (LiesIn s)
 
+-- a thread has as many registers as the heap was made with
+abbrev pub HasRegisters : Config → ThreadState → Type 0
+HasRegisters c t = length t.registers ≡ c.registers
+
 -- the heap is of the sizes that it was made with
 pub record HasSizes (h : HeapState) : Type 0 where
   pub words : h.store.words ≡ h.config.words
@@ -61,4 +65,5 @@ pub record IsHeap (h : HeapState) : Type 0 where
   pub sides : AreSidesFor h.config h.sides
   pub births : h.births ≤ h.config.births
   pub buffers : Each h.threads (FillsIn h.store)
+  pub registers : Each h.threads (HasRegisters h.config)
   pub idle : h.phase ≡ Idle → NoneProtected h.store

@@ -186,7 +186,8 @@ impl Tally {
         ensures { self.new ≡ counted counter self.old }
     {
         match counter {
-            Counter::Loads => self.loads = self.loads.saturating_add(1),
+            Counter::Loads if self.loads != u64::MAX => self.loads += 1,
+            Counter::Loads => {}
             Counter::Gc => self.gc = self.gc.saturating_add(1),
             Counter::Nmt => self.nmt = self.nmt.saturating_add(1),
             Counter::Healed => self.healed = self.healed.saturating_add(1),

@@ -8,10 +8,10 @@ use Rattle.model.specs.Stores.{StoreState, page_at, frame_in, at_offset, spot_of
 parted : (a k w : ℕ) → a + k ≡ a / w * w + (a % w + k)
 parted a k w = omega (arith, div-add-mod' a w)
 
-same_page : (a k w : ℕ) → a % w + k < w → (a + k) / w ≡ a / w
+pub same_page : (a k w : ℕ) → a % w + k < w → (a + k) / w ≡ a / w
 same_page a k w near = ap (λ x. x / w) (parted a k w) ∙ div-mul-add (a / w) w (a % w + k) near
 
-further_on : (a k w : ℕ) → a % w + k < w → (a + k) % w ≡ a % w + k
+pub further_on : (a k w : ℕ) → a % w + k < w → (a + k) % w ≡ a % w + k
 further_on a k w near = ap (λ x. x % w) (parted a k w) ∙ mod-mul-add (a / w) w (a % w + k) near
 
 -- what is less than a page behind an address, on its page, has that page's frame

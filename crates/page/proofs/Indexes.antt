@@ -16,7 +16,7 @@ first_mapped f q n [] h = refl
 first_mapped f q n (x ∷ xs) h = ap (λ b. cond (not b) (1 + position_or_len (λ v. nat_le n v) (map f xs)) 0) (h x)
     ∙ ap (λ k. cond (not (q x)) (1 + k) 0) (first_mapped f q n xs h)
 
-length_mapped : {X : Type 0} (f : X → ℕ) (xs : List X) → length (map f xs) ≡ length xs
+pub length_mapped : {X Y : Type 0} (f : X → Y) (xs : List X) → length (map f xs) ≡ length xs
 length_mapped f [] = refl
 length_mapped f (x ∷ xs) = ap suc (length_mapped f xs)
 
@@ -52,19 +52,19 @@ free_in_index owners = found_mapped (λ (o : Option ℕ). mark (is_none o)) is_n
 
 -- what changes
 
-pub set_mapped : {X : Type 0} (f : X → ℕ) (xs : List X) (i : ℕ) (v : X) (n : ℕ) → n ≡ f v
+pub set_mapped : {X Y : Type 0} (f : X → Y) (xs : List X) (i : ℕ) (v : X) (n : Y) → n ≡ f v
     → set (map f xs) i n ≡ map f (set xs i v)
 set_mapped f [] i v n e = refl
 set_mapped f (x ∷ xs) zero v n e = ap (λ k. k ∷ map f xs) e
 set_mapped f (x ∷ xs) (suc i) v n e = ap (λ ks. f x ∷ ks) (set_mapped f xs i v n e)
 
-pub kept_mapped : {X : Type 0} (f : X → ℕ) (xs : List X) (i : ℕ) (x v : X) → slice_get xs i ≡ Some x → f x ≡ f v
+pub kept_mapped : {X Y : Type 0} (f : X → Y) (xs : List X) (i : ℕ) (x v : X) → slice_get xs i ≡ Some x → f x ≡ f v
     → map f xs ≡ map f (set xs i v)
 kept_mapped f [] i x v h e = refl
 kept_mapped f (y ∷ ys) zero x v h e = let here : y ≡ x = cc in ap (λ k. k ∷ map f ys) (ap f here ∙ e)
 kept_mapped f (y ∷ ys) (suc i) x v h e = ap (λ ks. f y ∷ ks) (kept_mapped f ys i x v h e)
 
-pub copies_mapped : {X : Type 0} (f : X → ℕ) (n : ℕ) (x : X) → replicate n (f x) ≡ map f (replicate n x)
+pub copies_mapped : {X Y : Type 0} (f : X → Y) (n : ℕ) (x : X) → replicate n (f x) ≡ map f (replicate n x)
 copies_mapped f zero x = refl
 copies_mapped f (suc n) x = ap (λ ks. f x ∷ ks) (copies_mapped f n x)
 

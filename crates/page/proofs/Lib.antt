@@ -12,3 +12,4 @@ pub mod Copied
 pub mod Protecting
 pub mod NextTargets
 pub mod Runs
+pub mod Usable

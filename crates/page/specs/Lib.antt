@@ -6,3 +6,5 @@ pub mod Records
 pub mod Tournaments
 pub mod Views
 pub mod Relocating
+pub mod Usable
+pub mod Sizes

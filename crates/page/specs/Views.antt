@@ -5,6 +5,7 @@ use Rattle.model.specs.declared.records.Page.{Page}
 use Rattle.model.specs.Stores.{StoreState, is_open, is_unused}
 use Rattle.model.specs.Owning.{IsStore}
 use Rattle.page.specs.Tournaments.{IsTree}
+use Rattle.page.specs.Usable.{usable_by_number}
 use Rattle.page.specs.declared.index.Tournament.TheInside as index
 use Rattle.page.specs.declared.store.Store.TheInside.{Inside}
 
@@ -39,7 +40,7 @@ store_of s = record {
   owners = s.owners.items;
 }
 
--- the store is one, and the number of its free frames and three indexes are kept beside it
+-- the store is one, and the number of its free frames, three indexes and usable pages' frames are kept beside it
 pub record IsStoreInside (s : Inside) : Type 0 where
   pub size : s.size ≡ s.words
   pub store : IsStore (store_of s)
@@ -47,3 +48,4 @@ pub record IsStoreInside (s : Inside) : Type 0 where
   pub rooms : s.rooms ≡ map (left_in s.words) s.pages.items
   pub unused : s.unused ≡ map (λ p. mark (is_unused p.state)) s.pages.items
   pub spare : s.spare ≡ map (λ o. mark (is_none o)) s.owners.items
+  pub usable : s.usable.items ≡ usable_by_number s.pages.items

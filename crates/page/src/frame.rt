@@ -1,7 +1,7 @@
 //! The memory of a page.
 
 ghost use Rattle.std.specs.Prelude.{◌≡◌, ◌+◌, ◌≤◌, ◌<◌, ◌^◌, length, slice_get, slice_set, slice_range, replicate};
-ghost use Rattle.std.specs.Prelude.{take, drop, [], IfOk};
+ghost use Rattle.std.specs.Prelude.{take, drop, [], IfOk, nat_lt};
 ghost use Rattle.std.specs.Borrow.{sem};
 ghost use Rattle.page.specs.Lending.{LendsRun};
 
@@ -63,6 +63,20 @@ impl Frame {
             self.written = true;
             self.words[offset] = value;
         }
+    }
+
+    /// Writes the word at an offset, if the frame goes that far. Returns whether it does.
+    #[inline(always)]
+    pub fn put(&mut self, offset: usize, value: u64) -> bool
+        ensures done { result ≡ nat_lt offset (length self.old) }
+        ensures value { self.new ≡ slice_set self.old offset value }
+    {
+        if offset >= self.words.len() {
+            return false;
+        }
+        self.written = true;
+        self.words[offset] = value;
+        true
     }
 
     /// Makes all words zero. Where none was written since they were, that costs nothing.

@@ -1,9 +1,10 @@
 //! All frames of a store, of which two can be lent at once.
 
-ghost use Rattle.std.specs.Prelude.{◌≡◌, ◌≢◌, ◌≤◌, ◌<◌, length, slice_get, slice_set, replicate, IfOk, Some};
+ghost use Rattle.std.specs.Prelude.{◌≡◌, ◌≢◌, ◌≤◌, ◌<◌, length, slice_get, slice_set, replicate, IfOk, IfSome, Some};
+ghost use Rattle.std.specs.Prelude.{if◌then◌else◌, true};
 ghost use Rattle.std.specs.Option.{option_copied};
 ghost use Rattle.std.specs.Borrow.{sem};
-ghost use Rattle.model.specs.Stores.{word_in};
+ghost use Rattle.model.specs.Stores.{changed_in, word_in};
 ghost use Rattle.page.specs.Aside.{left_in};
 ghost use Rattle.page.specs.Lending.{LendsFrame, LendsWords};
 
@@ -108,6 +109,28 @@ impl Frames {
                 None => None,
             },
         }
+    }
+
+    /// The word at an offset of a frame that there is, if the frame isn't aside and goes so far.
+    #[inline(always)]
+    pub(crate) fn word_at_once(&self, number: usize, offset: usize) -> Option<u64>
+        requires { number < length self.now }
+        ensures { IfSome result (λ v. word_in self.now (Some (number, offset)) ≡ Some v) }
+    {
+        self.frames[number].get(offset)
+    }
+
+    /// Writes the word at an offset of a frame that there is, if the frame isn't aside and goes so far.
+    /// Returns whether it did.
+    #[inline(always)]
+    pub(crate) fn set_at_once(&mut self, number: usize, offset: usize, value: u64) -> bool
+        requires { number < length self.old }
+        ensures value { self.new ≡ (if result then changed_in self.old (Some number) (λ ws. slice_set ws offset value)
+            else self.old) }
+        ensures within { result ≡ true → IfSome (slice_get self.old number) (λ ws. offset < length ws) }
+    {
+        let frame = &mut self.frames[number];
+        frame.put(offset, value)
     }
 
     /// The words of a frame.

@@ -5,21 +5,24 @@ ghost use Rattle.model.specs.Configs.{is_page_size};
 
 use std::marker::Model;
 
-/// The words of a page, a power of two, as its exponent: so an address is parted into page and
+/// The words of a page, a power of two, as its exponent and a mask: so an address is parted into page and
 /// offset by a shift and a mask, without a division. A contract sees the number of words.
 #[derive(Debug, Drop)]
 pub struct PageSize {
     shift: u32,
+    /// One less than the words of a page: the bits of an offset.
+    mask: u64,
 }
 
 impl Model for PageSize {
-    ghost use Rattle.std.specs.Prelude.{ℕ, ◌^◌, ◌≤◌};
+    ghost use Rattle.std.specs.Prelude.{ℕ};
+    ghost use Rattle.page.specs.Sizes.{size_of, IsSize};
 
     ghost Value = { ℕ };
 
-    ghost view = { λ p. 2 ^ p.shift };
+    ghost view = { size_of };
 
-    ghost invariant = { λ p. p.shift ≤ 15 };
+    ghost invariant = { IsSize };
 }
 
 impl PageSize {
@@ -42,7 +45,10 @@ impl PageSize {
             16384 => 14,
             _ => 15,
         };
-        PageSize { shift }
+        PageSize {
+            shift,
+            mask: (1 << shift) - 1,
+        }
     }
 
     /// The number of the page that an address is in.
@@ -56,6 +62,6 @@ impl PageSize {
     pub fn offset_of(&self, address: u64) -> u64
         ensures { result ≡ address % self.now }
     {
-        address & ((1 << self.shift) - 1)
+        address & self.mask
     }
 }

@@ -1,9 +1,11 @@
 //! Pages and their frames.
+mod behind;
 mod buffers;
 mod ending;
 mod lending;
 mod relocating;
 mod runs;
+mod usable;
 
 ghost use Rattle.std.specs.Prelude.{◌≡◌, ◌≤◌, ◌<◌, ◌+◌, ◌/◌, ◌%◌, ◌^◌, length, slice_set};
 ghost use Rattle.std.specs.Prelude.{IfOk, IfSome, count_by, is_some, is_none, Some, true};
@@ -30,13 +32,16 @@ use std::marker::Model;
 /// as they can ever be in use at once, which is twice the number of frames; the others are unused.
 ///
 /// Beside them it keeps three indexes, which hold the same as pages and owners do: the words left
-/// of each open page, 1 for each unused page and 1 for each free frame, and 0 for all others.
+/// of each open page, 1 for each unused page and 1 for each free frame, and 0 for all others. And by
+/// page number, from 0, it keeps the frame of each page that has memory and isn't protected, so that
+/// one look answers what a read or write of an object asks of its page.
 #[derive(Drop)]
 pub struct Store {
     words: u32,
     size: PageSize,
     count: u32,
     pages: Vec<Page, Global>,
+    usable: Vec<Option<u32>, Global>,
     frames: Frames,
     owners: Vec<Option<u32>, Global>,
     free: u32,
@@ -94,6 +99,7 @@ impl Store {
             size: PageSize::of(words),
             count: pages,
             pages: many(alloc, records, blank)?,
+            usable: many(alloc, records + 1, None)?,
             frames: Frames::new(alloc, frames, words)?,
             owners: many(alloc, frames, None)?,
             free: frames,
@@ -275,44 +281,6 @@ impl Store {
         self.word_in(frame, offset)
     }
 
-    /// The first word of an object at an address, if its page has memory.
-    #[inline(always)]
-    #[tactic(auto, unfolding(model::specs::Stores::word_at, model::specs::Stores::spot_of))]
-    pub fn first_word(&self, address: Addr) -> Option<u64>
-        ensures { result ≡ word_at self.now address }
-    {
-        let frame = self.recorded_frame(self.page_of(address))?;
-        self.word_in(frame, self.offset_of(address) as usize)
-    }
-
-    /// The word less than 2^17 words behind an address, if it is on a page that has memory. Where
-    /// that is the page of the address, no other is looked up.
-    #[inline(always)]
-    #[tactic(auto, unfolding(model::specs::Stores::word_at), using(crate::proofs::Behind::spot_behind))]
-    pub fn word_behind(&self, address: Addr, ahead: u64) -> Option<u64>
-        requires { ahead < 2 ^ 17 }
-        ensures { result ≡ word_at self.now (address + ahead) }
-    {
-        let offset = self.size.offset_of(address.number()) + ahead;
-        if offset >= u64::from(self.words) {
-            return self.word(address.number() + ahead);
-        }
-        let frame = self.recorded_frame(self.page_of(address))?;
-        self.word_in(frame, offset as usize)
-    }
-
-    /// The words of the page of an address, and where in them the address is, if the page has memory.
-    #[inline(always)]
-    #[tactic(auto, unfolding(model::specs::Stores::words_at))]
-    pub fn page_behind(&self, address: Addr) -> Option<(&[u64], usize)>
-        ensures words { IfSome result (λ r. words_at self.now (address / self.now.words) ≡ Some r.0.now) }
-        ensures offset { IfSome result (λ r. r.1 ≡ address % self.now.words) }
-    {
-        let number = self.recorded_frame(self.page_of(address))?;
-        let frame = self.frames.get(number as usize)?;
-        Some((frame.words(), self.offset_of(address) as usize))
-    }
-
     /// The words of a page by its number, if it has memory.
     #[tactic(auto, unfolding(model::specs::Stores::words_at))]
     pub fn words(&self, page: u32) -> Option<&[u64]>
@@ -344,22 +312,6 @@ impl Store {
     {
         if let Some((frame, offset)) = self.spot(address) {
             self.set_word_in(frame, offset, value);
-        }
-    }
-
-    /// Writes the word less than 2^17 words behind an address, if it is on a page that has memory.
-    /// Where that is the page of the address, no other is looked up.
-    #[inline(always)]
-    #[tactic(auto, unfolding(model::specs::Stores::with_word, model::specs::Stores::with_words, model::specs::Stores::spot_of), using(crate::proofs::Behind::spot_behind))]
-    pub fn set_word_behind(&mut self, address: Addr, ahead: u64, value: u64)
-        requires { ahead < 2 ^ 17 }
-        ensures { self.new ≡ with_word self.old (address + ahead) value }
-    {
-        let offset = self.size.offset_of(address.number()) + ahead;
-        if offset >= u64::from(self.words) {
-            self.set_word(address.number() + ahead, value);
-        } else if let Some(frame) = self.recorded_frame(self.page_of(address)) {
-            self.set_word_in(frame, offset as usize, value);
         }
     }
 }

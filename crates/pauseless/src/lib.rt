@@ -39,7 +39,7 @@ pub use drains::{Portion, is_ready};
 pub use heap::{Config, ConfigFault, NewFault, Refusal};
 pub use heap_images::{image_of, verify};
 pub use layout::{Layout, Layouts};
-pub use managed::ManagedHeap as Heap;
+pub use managed::{FieldLoad, LoadsFault, ManagedHeap as Heap};
 pub use reporting::{ReportFault, report_heap};
 pub use sharing::{Seat, Settled, Shared, Steps, Stray, settle};
 pub use verify::{Fault, Image, PageImage, Root, Verdict, Words, verify_image};

@@ -1,13 +1,14 @@
 //! The lines of a report.
 
 ghost use Rattle.std.specs.Prelude.{◌≡◌, ◌++◌, ◌∷◌, [], IfSome, ◌+◌, ◌<◌, ◌≤◌, ◌^◌, OnOk, string_bytes, length};
-ghost use Rattle.std.specs.Prelude.{slice_get};
+ghost use Rattle.std.specs.Prelude.{IfErr, slice_get};
 ghost use Rattle.std.specs.Io.KnownBytes.{Appends};
 ghost use Rattle.model.specs.Stores.{is_protected, is_unused};
 ghost use Rattle.wording.specs.Reports.{texts_from};
 ghost use Rattle.reporting.specs.Reports.{head_line, page_line, thread_line, global_line, barrier_line, cycle_line};
 ghost use Rattle.reporting.specs.Reports.{cycles_from, next_cycle, bits_in, copied_in, copies_in, copies_of};
 ghost use Rattle.reporting.specs.Reports.{activity_of};
+ghost use Rattle.reporting.specs.declared.fault.ReportFault.TheVariants.{Write};
 
 use crate::fault::ReportFault;
 use entries::History;
@@ -24,7 +25,8 @@ use wording::{
 
 /// Writes a text. The fault is a writer that failed.
 pub fn tell<W: io::Write>(w: &mut W, text: &String) -> Result<(), ReportFault>
-    ensures { OnOk result (Appends (W.contents w.old) (W.contents w.new) (string_bytes text.now)) }
+    ensures written { OnOk result (Appends (W.contents w.old) (W.contents w.new) (string_bytes text.now)) }
+    ensures faults { IfErr result (λ fault. fault ≡ Write) }
 {
     match w.write_all(text.as_bytes()) {
         Ok(()) => Ok(()),

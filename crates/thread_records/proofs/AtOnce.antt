@@ -1,5 +1,5 @@
 -- A load that begins and ends at once.
-use Rattle.std.proofs.Common.{◌≡◌, ◌<◌, ℕ, List, length, set, get_or, refl, Option, None}
+use Rattle.std.proofs.Common.{◌≡◌, ◌<◌, ℕ, List, length, set, get_or, refl, None}
 use Rattle.std.specs.Prelude.{slice_set}
 use Rattle.model.specs.declared.records.Barrier.{Barrier}
 use Rattle.model.specs.declared.records.Counter.TheVariants as counters

@@ -1,7 +1,7 @@
 //! The record of a mutator thread. Its barrier, and whether it has crossed, are of the paper's read
 //! barrier and checkpoints; the rest is ours.
 
-ghost use Rattle.std.specs.Prelude.{◌≡◌, ◌<◌, length, slice_get, slice_set, replicate, None, IfOk};
+ghost use Rattle.std.specs.Prelude.{◌≡◌, ◌<◌, length, slice_get, slice_set, replicate, None, IfOk, is_some, ◌||◌};
 ghost use Rattle.model.specs.States.{flat};
 ghost use Rattle.model.specs.Threads.{set_register_of, set_buffer_of, set_barrier_of, set_loaded_of, set_parked_of};
 ghost use Rattle.model.specs.Threads.{set_crossed_of};
@@ -22,12 +22,15 @@ pub struct Thread {
     buffer: Option<Buffer>,
     crossed: bool,
     parked: bool,
+    /// Whether it is parked or has a barrier: most steps ask for neither.
+    held: bool,
     barrier: Option<Barrier>,
     tally: Tally,
 }
 
 impl Model for Thread {
     ghost use Rattle.model.specs.States.{ThreadState};
+    ghost use Rattle.std.specs.Prelude.{◌≡◌, ◌||◌, is_some};
 
     ghost Value = { ThreadState };
 
@@ -40,6 +43,8 @@ impl Model for Thread {
       barrier = t.barrier;
       tally = t.tally;
     } };
+
+    ghost invariant = { λ t. t.held ≡ (t.parked || is_some t.barrier) };
 }
 
 /// So many registers, which are null. Fails only by memory.
@@ -65,6 +70,7 @@ impl Thread {
             buffer: None,
             crossed: true,
             parked: false,
+            held: false,
             barrier: None,
             tally: Tally::blank(),
         })
@@ -105,6 +111,14 @@ impl Thread {
         self.parked
     }
 
+    /// Whether it is parked, or has a load that isn't finished.
+    #[inline(always)]
+    pub fn is_held(&self) -> bool
+        ensures { result ≡ (self.now.parked || is_some self.now.barrier) }
+    {
+        self.held
+    }
+
     /// Its load that isn't finished, if there is one.
     pub fn barrier(&self) -> Option<Barrier>
         ensures { result ≡ self.now.barrier }
@@ -123,9 +137,20 @@ impl Thread {
     pub fn register(&self, number: u32) -> Word
         ensures { result ≡ flat (slice_get self.now.registers number) }
     {
-        match self.registers.get(number as usize) {
+        match self.find_register(number) {
             None => Word::null(),
-            Some(word) => *word,
+            Some(word) => word,
+        }
+    }
+
+    /// The word in a register, by its number from 0, if there is such a register.
+    #[inline(always)]
+    pub fn find_register(&self, number: u32) -> Option<Word>
+        ensures { result ≡ slice_get self.now.registers number }
+    {
+        match self.registers.get(number as usize) {
+            None => None,
+            Some(word) => Some(*word),
         }
     }
 
@@ -150,6 +175,7 @@ impl Thread {
         ensures { self.new ≡ set_barrier_of barrier counter self.old }
     {
         self.barrier = Some(barrier);
+        self.held = true;
         self.tally.count(counter);
     }
 
@@ -160,6 +186,7 @@ impl Thread {
     {
         self.set_register(number, word);
         self.barrier = None;
+        self.held = self.parked;
     }
 
     /// Begins a load and ends it at once: a register, by its number from 0, gets the word, if it is there,
@@ -181,6 +208,7 @@ impl Thread {
         ensures { self.new ≡ set_parked_of parked self.old }
     {
         self.parked = parked;
+        self.held = parked || self.barrier.is_some();
     }
 
     /// Lets it have crossed the open checkpoint, or have it still to cross (the paper's

@@ -280,6 +280,7 @@ impl Threads {
 
     /// A thread, if it is there, has made an object: a register, by its number from 0, gets the
     /// object's word, and its buffer is what is left of it.
+    #[inline(always)]
     #[tactic(auto, using(crate::proofs::Counting::still_behind))]
     pub fn hand_object(&mut self, thread: u32, target: u32, word: Word, rest: Buffer)
         ensures { self.new ≡ change_at self.old thread (hand_object target word rest) }

@@ -1,6 +1,9 @@
-//! Tests of heaps that a program holds: marks, collections in parts, buffers by the policy, and the smallest heaps.
+//! Tests of heaps that a program holds: marks, collections in parts, several steps by one call, buffers by the policy,
+//! and the smallest heaps.
 #![tactic(auto)]
 
+#[cfg(test)]
+mod batches;
 #[cfg(test)]
 mod between;
 #[cfg(test)]

@@ -1,31 +1,22 @@
-//! Loads and reads of data that are done at once, when nothing is due: the read barrier's fast path.
+//! Steps that are done at once, when nothing is due: the read barrier's fast path.
+
+mod globals;
+mod words;
 
 ghost use Rattle.std.specs.Prelude.{◌≡◌, true, false, None, IfSome};
 ghost use Rattle.model.specs.declared.records.Barrier.{Barrier};
 ghost use Rattle.model.specs.declared.records.Counter.TheVariants as counters;
+ghost use Rattle.model.specs.References.{read_reference};
 ghost use Rattle.model.specs.Loads.{barrier_of_thread, with_barrier, with_loaded};
-ghost use Rattle.heap.specs.AtOnce.{IsOpenTo, IsQuiet, mark_is_due, MayLoadAtOnce, NamesAtOnce, ReadsAtOnce};
+ghost use Rattle.heap.specs.AtOnce.{HoldsAtOnce, IsOnFrame, IsOpenTo, IsQuiet, mark_is_due, MayLoadAtOnce, NamesAtOnce, ReadsAtOnce};
 ghost use Rattle.heap.specs.AtOnce.{GivesDatum, MayDoAtOnce, SourceAtOnce, UsesAtOnce};
 ghost use Rattle.model.specs.declared.steps.Step.TheVariants as steps;
 
 use crate::heap::Heap;
-use crate::heap::edits::RawEdits;
-use crate::heap::references::read_reference;
-use model::PageState;
-use refword::{Addr, Word};
+use crate::heap::at_once::words::Spot;
+use refword::Word;
 
 impl Heap {
-    /// Whether an address is on no protected page.
-    #[inline(always)]
-    fn is_open_to(&self, address: Addr) -> bool
-        ensures { result ≡ true → IsOpenTo self.now address }
-    {
-        !matches!(
-            self.store.state_behind(address),
-            PageState::From | PageState::Gone
-        )
-    }
-
     /// Whether a mark runs and a word hasn't the collector's NMT value.
     #[inline(always)]
     fn mark_is_due(&self, word: Word) -> bool
@@ -37,15 +28,15 @@ impl Heap {
         word.nmt() != self.nmt
     }
 
-    /// Whether a word is null or on no protected page.
+    /// Whether a word is null, or on a page that has memory and isn't protected.
     #[inline(always)]
     fn is_free(&self, word: Word) -> bool
         ensures { result ≡ true → IfSome word (λ v. IsOpenTo self.now v.0) }
     {
-        match word.addr() {
-            None => true,
-            Some(address) => self.is_open_to(address),
+        if word.is_null() {
+            return true;
         }
+        self.frame_at_once(word.number()).is_some()
     }
 
     /// Whether no trap is due for a word, whatever thread has loaded it: it is neither to be marked nor
@@ -60,65 +51,63 @@ impl Heap {
         self.is_free(word)
     }
 
-    /// The address of the object that a register of a thread names, where the thread may load a reference
-    /// of it for another register. Threads and registers count from 0.
+    /// The word in a register of a thread, by their numbers from 0, if both are there, the thread runs, and
+    /// its barrier is closed.
     #[inline(always)]
-    fn named_at_once(&self, thread: u32, target: u32, object: u32) -> Option<Addr>
-        ensures { IfSome result (NamesAtOnce self.now thread target object) }
-    {
-        let record = self.threads().get(thread as usize)?;
-        if record.is_parked() {
-            return None;
-        }
-        if record.barrier().is_some() {
-            return None;
-        }
-        if target >= self.config.registers {
-            return None;
-        }
-        if object >= self.config.registers {
-            return None;
-        }
-        let address = record.register(object).addr()?;
-        if !self.is_open_to(address) {
-            return None;
-        }
-        Some(address)
-    }
-
-    /// A reference of the object at an address, by the reference's number from 0, where it stands on the
-    /// object's page.
-    #[inline(always)]
-    fn read_at_once(&self, address: Addr, field: u32) -> Option<Word>
-        ensures { IfSome result (ReadsAtOnce self.now address field) }
+    fn held_at_once(&self, thread: u32, register: u32) -> Option<Word>
+        ensures { IfSome result (HoldsAtOnce self.now thread register) }
     {
         self.law();
-        let (words, offset) = self.store.page_behind(address)?;
-        let header = words.get(offset)?;
-        let layout = self.config.layouts.get((*header >> 32) as u32)?;
-        if field >= u32::from(layout.refs) {
+        let record = self.threads().get(thread as usize)?;
+        if record.is_held() {
             return None;
         }
-        let bits = words.get(offset + 1 + field as usize)?;
-        Some(read_reference(*bits))
+        let held = record.find_register(register)?;
+        Some(held)
+    }
+
+    /// The object that a register of a thread names, where the thread may load a reference of it for another
+    /// register. Threads and registers count from 0.
+    #[inline(always)]
+    fn named_at_once(&self, thread: u32, target: u32, object: u32) -> Option<Spot>
+        ensures names { IfSome result (λ s. NamesAtOnce self.now thread target object s.address) }
+        ensures frame { IfSome result (λ s. IsOnFrame self.now s.address s.frame) }
+    {
+        let _target = self.held_at_once(thread, target)?;
+        let word = self.held_at_once(thread, object)?;
+        let address = word.number();
+        let frame = self.frame_at_once(address)?;
+        Some(Spot { address, frame })
+    }
+
+    /// The bits of a reference of an object, by the reference's number from 0, where it stands on the
+    /// object's page.
+    #[inline(always)]
+    fn bits_at_once(&self, spot: &Spot, field: u32) -> Option<u64>
+        requires { IsOnFrame self.now spot.now.address spot.now.frame }
+        ensures { IfSome result (λ b. ReadsAtOnce self.now spot.now.address field (read_reference b)) }
+    {
+        let ahead = self.field_on(spot, field)?;
+        let bits = self.word_on(spot, ahead)?;
+        Some(bits)
     }
 
     /// Loads a reference field of an object into a register, completely, if no test refuses it and no
     /// trap is due: it then does what `Load` and `Finish` do, and returns true. Else nothing is done.
     #[inline(always)]
     pub fn load_at_once(&mut self, thread: u32, target: u32, object: u32, field: u32) -> bool
-        ensures { MayLoadAtOnce result self.old thread target object field self.new }
+        ensures { MayLoadAtOnce result self.old thread (steps.Load target object field) self.new }
     {
         self.law();
-        let Some(address) = self.named_at_once(thread, target, object) else {
+        let Some(spot) = self.named_at_once(thread, target, object) else {
             return false;
         };
-        let Some(word) = self.read_at_once(address, field) else {
+        let Some(bits) = self.bits_at_once(&spot, field) else {
             return false;
         };
-        if !self.is_quiet(word) {
+        let Some(word) = self.quiet_word(bits) else {
             return false;
-        }
+        };
         self.read_into(thread, target, word);
         true
     }
@@ -133,27 +122,17 @@ impl Heap {
         self.threads.set_read(thread, target, word);
     }
 
-    /// The address of the object that a register of a thread names, where the thread may use it. Threads and
-    /// registers count from 0.
+    /// The object that a register of a thread names, where the thread may use it. Threads and registers
+    /// count from 0.
     #[inline(always)]
-    fn object_at_once(&self, thread: u32, object: u32) -> Option<Addr>
-        ensures { IfSome result (UsesAtOnce self.now thread object) }
+    fn object_at_once(&self, thread: u32, object: u32) -> Option<Spot>
+        ensures uses { IfSome result (λ s. UsesAtOnce self.now thread object s.address) }
+        ensures frame { IfSome result (λ s. IsOnFrame self.now s.address s.frame) }
     {
-        let record = self.threads().get(thread as usize)?;
-        if record.is_parked() {
-            return None;
-        }
-        if record.barrier().is_some() {
-            return None;
-        }
-        if object >= self.config.registers {
-            return None;
-        }
-        let address = record.register(object).addr()?;
-        if !self.is_open_to(address) {
-            return None;
-        }
-        Some(address)
+        let word = self.held_at_once(thread, object)?;
+        let address = word.number();
+        let frame = self.frame_at_once(address)?;
+        Some(Spot { address, frame })
     }
 
     /// A data word of an object, where nothing refuses it, and it stands on the object's page.
@@ -161,16 +140,10 @@ impl Heap {
     pub fn datum_at_once(&self, thread: u32, object: u32, index: u32) -> Option<u64>
         ensures { IfSome result (GivesDatum self.now thread object index) }
     {
-        self.law();
-        let address = self.object_at_once(thread, object)?;
-        let (words, offset) = self.store.page_behind(address)?;
-        let header = words.get(offset)?;
-        let layout = self.config.layouts.get((*header >> 32) as u32)?;
-        if index >= u32::from(layout.nums) {
-            return None;
-        }
-        let value = words.get(offset + 1 + layout.refs as usize + index as usize)?;
-        Some(*value)
+        let spot = self.object_at_once(thread, object)?;
+        let ahead = self.datum_on(&spot, index)?;
+        let value = self.word_on(&spot, ahead)?;
+        Some(value)
     }
 
     /// The word in a register of a thread, by their numbers from 0, if it is null or may be used.
@@ -178,10 +151,9 @@ impl Heap {
     fn source_at_once(&self, thread: u32, register: u32) -> Option<Word>
         ensures { IfSome result (SourceAtOnce self.now thread register) }
     {
-        if register >= self.config.registers {
-            return None;
-        }
-        let word = self.register(thread, register);
+        self.law();
+        let record = self.threads().get(thread as usize)?;
+        let word = record.find_register(register)?;
         if !self.is_free(word) {
             return None;
         }
@@ -194,17 +166,16 @@ impl Heap {
     pub fn store_at_once(&mut self, thread: u32, object: u32, field: u32, source: u32) -> bool
         ensures { MayDoAtOnce result self.old thread (steps.Store object field source) self.new }
     {
-        let Some(address) = self.object_at_once(thread, object) else {
+        let Some(spot) = self.object_at_once(thread, object) else {
             return false;
         };
         let Some(word) = self.source_at_once(thread, source) else {
             return false;
         };
-        let Some(ahead) = self.field_behind(address, field) else {
+        let Some(ahead) = self.field_on(&spot, field) else {
             return false;
         };
-        self.raw_set_word_behind(address, ahead, word.bits());
-        true
+        self.set_word_on(&spot, ahead, word.bits())
     }
 
     /// Writes a data word of an object, if no test refuses it. Returns whether it is done; else nothing
@@ -213,13 +184,12 @@ impl Heap {
     pub fn set_datum_at_once(&mut self, thread: u32, object: u32, index: u32, value: u64) -> bool
         ensures { MayDoAtOnce result self.old thread (steps.SetDatum object index value) self.new }
     {
-        let Some(address) = self.object_at_once(thread, object) else {
+        let Some(spot) = self.object_at_once(thread, object) else {
             return false;
         };
-        let Some(ahead) = self.datum_behind(address, index) else {
+        let Some(ahead) = self.datum_on(&spot, index) else {
             return false;
         };
-        self.raw_set_word_behind(address, ahead, value);
-        true
+        self.set_word_on(&spot, ahead, value)
     }
 }

@@ -1,6 +1,6 @@
 //! New objects.
 
-ghost use Rattle.std.specs.Prelude.{◌≡◌, ◌≤◌, ◌<◌, ◌+◌, ◌-◌, ◌*◌, ◌∷◌, ◌++◌, length, drop, replicate, slice_get, Some};
+ghost use Rattle.std.specs.Prelude.{◌≡◌, ◌≤◌, ◌<◌, ◌+◌, ◌-◌, ◌*◌, ◌∷◌, ◌++◌, length, drop, replicate, slice_get, slice_set, Some};
 ghost use Rattle.std.specs.Prelude.{true};
 ghost use Rattle.layout.specs.Objects.{size_of};
 ghost use Rattle.model.specs.Stores.{overlay, with_words};
@@ -22,17 +22,57 @@ use model::{Buffer, Phase, Refusal};
 use page::Store;
 use refword::{Addr, Word};
 
+/// Writes a zero at an index, if it is there.
+#[inline(always)]
+fn clear_at(words: &mut [u64], index: usize)
+    ensures { words.new ≡ slice_set words.old index 0 }
+{
+    if index < words.len() {
+        words[index] = 0;
+    }
+}
+
+/// Writes zeros over at most 7 words, one by one: a call of C's `memset` would take longer.
+#[inline(always)]
+#[tactic(auto, using(crate::proofs::Births::few_cleared))]
+fn clear_few(words: &mut [u64])
+    requires { length words.old ≤ 7 }
+    ensures { words.new ≡ replicate (length words.old) 0 }
+{
+    clear_at(words, 0);
+    clear_at(words, 1);
+    clear_at(words, 2);
+    clear_at(words, 3);
+    clear_at(words, 4);
+    clear_at(words, 5);
+    clear_at(words, 6);
+}
+
+/// Writes zeros over all words.
+#[inline(always)]
+fn clear_words(words: &mut [u64])
+    ensures { words.new ≡ replicate (length words.old) 0 }
+{
+    if words.len() > 7 {
+        words.fill(0);
+    } else {
+        clear_few(words);
+    }
+}
+
 /// Writes an object's header, and zeros behind it.
+#[inline(always)]
 fn write_object(part: &mut [u64], header: u64, others: usize)
     requires { others < length part.old }
     ensures { part.new ≡ (header ∷ replicate others 0) ++ drop (1 + others) part.old }
 {
     let object = &mut part[..1 + others];
-    object.fill(0);
+    clear_words(object);
     object[0] = header;
 }
 
 /// Writes a new object at the head of a buffer's free rest.
+#[inline(always)]
 fn write_new(store: &mut Store, buffer: Buffer, header: u64, others: u32)
     requires lies { LiesIn store.old buffer }
     requires room { others < buffer.end - buffer.next }
@@ -45,7 +85,10 @@ fn write_new(store: &mut Store, buffer: Buffer, header: u64, others: u32)
 }
 
 /// Notes that an object starts at the head of a buffer. While a mark runs it is marked at once,
-/// and to be scanned while threads have still to cross (ours).
+/// and to be scanned while threads have still to cross (ours). While none runs, no bit of a mark is mostly set on
+/// the page, and then none is cleared.
+#[inline(always)]
+#[tactic(auto, using(crate::proofs::Births::not_crossing))]
 fn note_start(
     starts: &mut Rows,
     mark: &mut Rows,
@@ -59,9 +102,14 @@ fn note_start(
 {
     let index = buffer.page.saturating_sub(1) as usize;
     let offset = buffer.next as usize;
-    starts.put(index, offset, true);
-    mark.put(index, offset, phase.is_marking());
-    todo.put(index, offset, phase.is_mark_crossing());
+    starts.set(index, offset);
+    if phase.is_marking() {
+        mark.put(index, offset, true);
+        todo.put(index, offset, phase.is_mark_crossing());
+    } else {
+        mark.unset(index, offset);
+        todo.unset(index, offset);
+    }
 }
 
 impl Heap {
@@ -70,6 +118,7 @@ impl Heap {
     ///
     /// Refused where there is no buffer, or it has fewer words left than the object
     /// (`NoRoom`); `BadIndex` where there is no such layout; `Births` where no more may be born.
+    #[inline(always)]
     #[tactic(auto, unfolding(model::specs::Births::new_outcome))]
     pub fn new_row(&mut self, thread: u32, target: u32, number: u32) -> Result<u32, Refusal>
         requires { Passes self.old thread (steps.New target number) }
@@ -92,7 +141,9 @@ impl Heap {
         Ok(birth)
     }
 
-    /// Makes an object in a buffer that has room for it.
+    /// Makes an object in a buffer that has room for it. Its words come last, as less has to be kept over the call
+    /// that lends them.
+    #[inline(always)]
     #[tactic(auto, unfolding(model::specs::Births::place_object))]
     fn place(&mut self, thread: u32, target: u32, number: u32, layout: Layout, buffer: Buffer)
         requires there { slice_get self.old.config.layouts number ≡ Some layout }
@@ -107,7 +158,12 @@ impl Heap {
         };
         let size = layout.size();
         let word = Word::of(self.buffer_address(buffer), self.nmt);
-        write_new(&mut self.store, buffer, header.write(), size - 1);
+        let rest = Buffer {
+            page: buffer.page,
+            next: buffer.next + size,
+            end: buffer.end,
+        };
+        self.hand_over(thread, target, word, rest);
         note_start(
             &mut self.starts,
             &mut self.mark,
@@ -116,15 +172,11 @@ impl Heap {
             buffer,
         );
         self.births += 1;
-        let rest = Buffer {
-            page: buffer.page,
-            next: buffer.next + size,
-            end: buffer.end,
-        };
-        self.hand_over(thread, target, word, rest);
+        write_new(&mut self.store, buffer, header.write(), size - 1);
     }
 
     /// A thread's register gets a new object's word, and its buffer is what is left of it.
+    #[inline(always)]
     #[tactic(auto, using(crate::proofs::Keeping::thread_keeps))]
     fn hand_over(&mut self, thread: u32, target: u32, word: Word, rest: Buffer)
         requires { LiesIn self.old.store rest }
@@ -137,6 +189,7 @@ impl Heap {
     }
 
     /// The address at which the next object of a buffer starts.
+    #[inline(always)]
     fn buffer_address(&self, buffer: Buffer) -> Addr
         requires lies { LiesIn self.now.store buffer }
         requires room { buffer.next < buffer.end }

@@ -29,8 +29,20 @@ impl Heap {
     /// the thread has still to cross the checkpoint at which pages are being protected (ours).
     /// Refused as `Stall` where it has crossed that checkpoint, and in other phases as `Stale`.
     #[inline(always)]
-    #[tactic(auto, unfolding(model::specs::Registers::let_through))]
     pub fn let_through(&self, thread: u32, address: Addr) -> Result<(), Refusal>
+        ensures { result ≡ let_through self.now thread address }
+    {
+        if self.frame_at_once(address.number()).is_some() {
+            return Ok(());
+        }
+        self.let_through_by_record(thread, address)
+    }
+
+    /// The same, found by the record of the page.
+    #[cold]
+    #[inline(never)]
+    #[tactic(auto, unfolding(model::specs::Registers::let_through))]
+    fn let_through_by_record(&self, thread: u32, address: Addr) -> Result<(), Refusal>
         ensures { result ≡ let_through self.now thread address }
     {
         if !matches!(

@@ -60,6 +60,7 @@ impl Store {
             frame: Some(frame as u32),
             top: 0,
         };
+        self.usable[index + 1] = Some(frame as u32);
         self.owners[frame] = Some((index + 1) as u32);
         self.rooms.set(index, self.words);
         self.unused.set(index, 0);

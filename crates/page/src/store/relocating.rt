@@ -85,6 +85,7 @@ impl Store {
     {
         let page = &mut self.pages[index];
         page.state = PageState::From;
+        self.usable[index + 1] = None;
     }
 
     /// Releases a page that is being emptied, by its number from 1: its frame is free at once (the

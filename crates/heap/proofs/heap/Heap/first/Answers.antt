@@ -7,7 +7,7 @@ use Rattle.model.specs.declared.config.Config.{Config}
 use Rattle.model.specs.First.{blank_rows}
 use Rattle.model.specs.Holding.{AreRowsFor, AreSidesFor}
 use Rattle.model.proofs.Tables.{first_rows, first_sides}
-use Rattle.heap.proofs.Keeping.{first_fills}
+use Rattle.heap.proofs.Keeping.{first_fills, first_registers}
 use Rattle.heap.proofs.heap.Heap.first.Goals as goal
 
 rows_for : (c : Config) (new : List (List Bool)) → new ≡ blank_rows c → AreRowsFor c new
@@ -33,6 +33,7 @@ invariant_of-result c = record {
   births = omega arith;
   buffers = first_fills _ c.args.config.threads c.args.config.registers
       _ c.requires.blank.threads;
+  registers = first_registers c.args.config _ c.requires.blank.threads;
   idle = λ e. subst NoneProtected (sym c.requires.blank.store)
       (each_replicate (λ p. is_protected p.state ≡ false) (record_count c.args.config.frames c.args.config.pages)
       blank_page refl);

@@ -1,9 +1,7 @@
-use Rattle.std.proofs.Common.{sym}
-use Rattle.heap.proofs.AtOnce.{datum_set}
+use Rattle.heap.proofs.AtOnce.{may_set_datum}
 use Rattle.heap.proofs.heap.Heap.set_datum_at_once.Goals as goal
 
 pub returns : goal.returns
-returns c =
-    datum_set c.args.self.now c.raw_set_word_behind.new.self c.args.thread c.args.object c.args.index c.args.value
-    c.in-Some.address c.in-Some-datum_behind.ahead c.in-Some.ensures (sym c.in-Some-datum_behind.ensures.value)
-    c.raw_set_word_behind.ensures
+returns c = may_set_datum c.args.self.now c.set_word_on.new.self c.args.thread c.args.object c.args.index c.args.value
+    c.in-Some.spot.address c.in-Some-datum_on.ahead c.set_word_on.result c.in-Some.ensures.uses
+    c.in-Some-datum_on.ensures.value c.set_word_on.ensures

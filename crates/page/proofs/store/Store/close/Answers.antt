@@ -1,12 +1,14 @@
-use Rattle.std.proofs.Common.{◌≡◌, ◌<◌, true, false, length, set, refl, sym, subst, ap, ◌∙◌}
+use Rattle.std.proofs.Common.{◌≡◌, ◌<◌, ◌∷◌, None, true, false, length, set, refl, sym, subst, ap, ◌∙◌}
 use Rattle.std.specs.List.{slice_get}
 use Rattle.model.specs.declared.records.Page.{Page}
 use Rattle.model.specs.Stores.{StoreState, is_open, is_unused, state_in}
 use Rattle.model.proofs.Lists.{get_read}
 use Rattle.page.specs.Ending.{with_mark_ended_at}
+use Rattle.page.specs.Usable.{usable_in}
 use Rattle.page.specs.Views.{store_of, left_in, mark}
 use Rattle.page.proofs.Indexes.{set_mapped, kept_mapped}
 use Rattle.page.proofs.Retiring.{closed_page, close_keeps, closed_marked, closed_at}
+use Rattle.page.proofs.Usable.{usable_closed}
 use Rattle.page.proofs.store.Store.close.Goals as goal
 
 pub invariant_of-self : goal.invariant_of-self
@@ -29,6 +31,8 @@ invariant_of-self c =
       unused = old.unused ∙ kept_mapped (λ (p : Page). mark (is_unused p.state)) s.pages i p (closed_page p) at
           (ap mark (closed_marked p open_before));
       spare = old.spare;
+      usable = old.usable ∙ ap (λ us. None ∷ us) (kept_mapped usable_in s.pages i p (closed_page p) at
+          (usable_closed p open_before));
     }
 
 pub returns : goal.returns

@@ -1,8 +1,9 @@
-use Rattle.std.proofs.Common.{◌≡◌, ◌≤◌, ◌<◌, ◌+◌, ◌-◌, true, length, set, refl, sym, subst, ap, ◌∙◌}
+use Rattle.std.proofs.Common.{◌≡◌, ◌≤◌, ◌<◌, ◌+◌, ◌-◌, ◌∷◌, None, true, length, set, refl, sym, subst, ap, ◌∙◌}
 use Rattle.std.specs.List.{slice_get}
 use Rattle.model.specs.declared.records.Page.{Page}
 use Rattle.model.specs.Stores.{StoreState, is_open, is_unused, state_in, top_in, give_words}
 use Rattle.model.proofs.Lists.{get_read}
+use Rattle.page.specs.Usable.{usable_in}
 use Rattle.page.specs.Views.{store_of, left_in, mark}
 use Rattle.page.proofs.Indexes.{set_mapped, kept_mapped}
 use Rattle.page.proofs.Keeping.{raise_keeps, given_at, top_there}
@@ -31,6 +32,7 @@ invariant_of-self c =
           ∙ set_mapped (left_in s.words) s.pages i q _ left;
       unused = old.unused ∙ kept_mapped (λ (p : Page). mark (is_unused p.state)) s.pages i p q at refl;
       spare = old.spare;
+      usable = old.usable ∙ ap (λ us. None ∷ us) (kept_mapped usable_in s.pages i p q at refl);
     }
 
 pub returns : goal.returns

@@ -8,6 +8,7 @@ use Rattle.page.specs.Views.{store_of, left_in, mark}
 use Rattle.page.proofs.Indexes.{set_mapped}
 use Rattle.page.specs.Records.{is_unused_in}
 use Rattle.page.proofs.Keeping.{opened_with, opened_as, frame_of_owner}
+use Rattle.page.proofs.Usable.{usable_changed}
 use Rattle.page.proofs.store.Store.open.Goals as goal
 
 pub overflow_sub-self : goal.overflow_sub-self
@@ -44,6 +45,8 @@ invariant_of-self c =
           ∙ set_mapped (λ (p : Page). mark (is_unused p.state)) s.pages c.args.index (fresh_page c.args.frame) 0 refl;
       spare = c.set-3.ensures ∙ ap (λ ns. set ns c.args.frame 0) c.self.invariant.spare
           ∙ set_mapped (λ (o : Option ℕ). mark (is_none o)) s.owners c.args.frame (Some (c.args.index + 1)) 0 refl;
+      usable = usable_changed _ s.pages c.args.index (fresh_page c.args.frame) (Some c.args.frame)
+          c.self.invariant.usable refl;
     }
 
 pub returns : goal.returns

@@ -18,6 +18,7 @@ invariant_of-self-lent c = λ w.
       rooms = c.self.invariant.rooms;
       unused = c.self.invariant.unused;
       spare = c.self.invariant.spare;
+      usable = c.self.invariant.usable;
     }
 
 pub returns : goal.returns

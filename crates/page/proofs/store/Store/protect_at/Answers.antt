@@ -1,4 +1,4 @@
-use Rattle.std.proofs.Common.{◌≡◌, ◌<◌, length, sym, subst, ap, ◌∙◌}
+use Rattle.std.proofs.Common.{◌≡◌, ◌<◌, None, length, refl, sym, subst, ap, ◌∙◌}
 use Rattle.std.specs.List.{slice_get}
 use Rattle.model.specs.declared.records.Page.{Page}
 use Rattle.model.specs.declared.records.PageState.TheVariants.{Closed}
@@ -10,6 +10,7 @@ use Rattle.page.specs.Relocating.{NoneGone}
 use Rattle.page.specs.Views.{store_of, left_in, mark}
 use Rattle.page.proofs.Indexes.{kept_mapped}
 use Rattle.page.proofs.Relocated.{protect_keeps, changed_there, from_left, from_marked}
+use Rattle.page.proofs.Usable.{usable_changed}
 use Rattle.page.proofs.store.Store.protect_at.Goals as goal
 
 pub invariant_of-self : goal.invariant_of-self
@@ -30,6 +31,7 @@ invariant_of-self c =
       unused = old.unused ∙ kept_mapped (λ (p : Page). mark (is_unused p.state)) s.pages i p (set_from_of p) at
           (from_marked p closed);
       spare = old.spare;
+      usable = usable_changed _ s.pages i (set_from_of p) None old.usable refl;
     }
 
 pub returns : goal.returns

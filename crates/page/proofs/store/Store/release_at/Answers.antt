@@ -1,12 +1,13 @@
-use Rattle.std.proofs.Common.{◌≡◌, ◌<◌, ◌+◌, ℕ, length, set, Option, Some, None, is_none, refl, sym}
+use Rattle.std.proofs.Common.{◌≡◌, ◌<◌, ◌+◌, ◌∷◌, ℕ, cond, length, set, Option, Some, None, is_none, refl, sym}
 use Rattle.std.proofs.Common.{subst, ap, ap₂, ◌∙◌, arith, rules}
 use Rattle.std.specs.List.{slice_get}
 use Rattle.model.specs.declared.records.Page.{Page}
 use Rattle.model.specs.declared.records.PageState.TheVariants.{From}
-use Rattle.model.specs.Stores.{StoreState, is_unused, state_in, frame_in}
+use Rattle.model.specs.Stores.{StoreState, is_protected, is_unused, state_in, frame_in}
 use Rattle.model.specs.States.{change_at}
 use Rattle.model.specs.Moves.{set_gone_of, with_free}
 use Rattle.model.proofs.Lists.{get_read, count_set}
+use Rattle.page.specs.Usable.{usable_in}
 use Rattle.page.specs.Views.{store_of, left_in, mark}
 use Rattle.page.proofs.Indexes.{set_mapped, kept_mapped, length_index}
 use Rattle.page.proofs.Retiring.{frame_within, owners_few, count_few}
@@ -80,6 +81,8 @@ invariant_of-self c =
           (gone_marked p from);
       spare = c.set.ensures ∙ ap (λ ns. set ns g 1) old.spare
           ∙ set_mapped (λ (o : Option ℕ). mark (is_none o)) s.owners g None 1 refl;
+      usable = old.usable ∙ ap (λ us. None ∷ us) (kept_mapped usable_in s.pages i p (set_gone_of p) at
+          (ap (λ st. cond (is_protected st) None p.frame) from));
     }
 
 pub invariant_of-self-in_default : goal.invariant_of-self-in_default

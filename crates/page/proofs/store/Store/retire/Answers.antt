@@ -1,10 +1,11 @@
-use Rattle.std.proofs.Common.{◌≡◌, ◌<◌, ◌+◌, ℕ, true, false, length, set, Option, Some, None, is_none, refl, sym}
+use Rattle.std.proofs.Common.{◌≡◌, ◌<◌, ◌+◌, ◌∷◌, ℕ, cond, true, false, length, set, Option, Some, None, is_none, refl, sym}
 use Rattle.std.proofs.Common.{subst, ap, ◌∙◌, arith, rules}
 use Rattle.std.specs.List.{slice_get}
 use Rattle.model.specs.declared.records.Page.{Page}
 use Rattle.model.specs.Stores.{StoreState, is_protected, is_unused, state_in}
 use Rattle.model.proofs.Lists.{get_read, count_set}
 use Rattle.page.specs.Ending.{with_mark_ended_at}
+use Rattle.page.specs.Usable.{usable_in}
 use Rattle.page.specs.Views.{store_of, left_in, mark}
 use Rattle.page.proofs.Indexes.{set_mapped, kept_mapped, length_index}
 use Rattle.page.proofs.Retiring.{retired_page, retire_gone_keeps, retire_from_keeps, retired_gone_at, retired_from_at}
@@ -69,6 +70,8 @@ invariant_of-self c =
           ∙ set_mapped (λ (p : Page). mark (is_unused p.state)) s.pages i (retired_page p) 1 refl;
       spare = c.set-in-Some.ensures ∙ ap (λ ns. set ns g 1) old.spare
           ∙ set_mapped (λ (o : Option ℕ). mark (is_none o)) s.owners g None 1 refl;
+      usable = old.usable ∙ ap (λ us. None ∷ us) (kept_mapped usable_in s.pages i p (retired_page p) at
+          (ap (λ b. cond b None p.frame) before));
     }
 
 pub invariant_of-self-in_default : goal.invariant_of-self-in_default
@@ -91,6 +94,8 @@ invariant_of-self-in_default c =
       unused = c.set.ensures ∙ ap (λ ns. set ns i 1) old.unused
           ∙ set_mapped (λ (p : Page). mark (is_unused p.state)) s.pages i (retired_page p) 1 refl;
       spare = old.spare;
+      usable = old.usable ∙ ap (λ us. None ∷ us) (kept_mapped usable_in s.pages i p (retired_page p) at
+          (ap (λ b. cond b None p.frame) before));
     }
 
 pub returns-in-Some : goal.returns-in-Some

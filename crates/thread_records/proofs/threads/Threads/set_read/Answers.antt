@@ -1,4 +1,4 @@
-use Rattle.std.proofs.Common.{rules, arith, subst, sym, ◌≡◌, set}
+use Rattle.std.proofs.Common.{arith, subst, ◌≡◌, set}
 use Rattle.model.specs.declared.records.Counter.TheVariants as counters
 use Rattle.model.specs.States.{ThreadState, change_at}
 use Rattle.model.specs.Threads.{set_barrier_of, set_loaded_of}

@@ -1,9 +1,0 @@
-use Rattle.std.proofs.Common.{Some, ap, ◌∙◌}
-use Rattle.foreign.proofs.Calling.{loaded}
-use Rattle.foreign.proofs.references.pauseless_load_global.Goals as goal
-
--- src/references.rt
-pub returns : goal.returns
-returns c = loaded _ _ c.deref_mut.result.now _ c.read_global-answer.result _ _ _ (ap Some c.deref_mut.ensures.value
-    ∙ c.in-Some.ensures.taken)
-    c.read_global-answer.ensures.loads c.read_global-answer.ensures.stands c.code.ensures c.put.ensures

@@ -1,0 +1,176 @@
+//! Several steps of a thread by one call: loads of one object, and what a new object is filled with.
+
+ghost use Rattle.std.specs.Prelude.{◌≡◌, ◌≤◌, IfOk, length};
+ghost use Rattle.managed.specs.Batches.{EndsFilling, EndsLoads, LayoutHas, fill_steps, fill_test};
+ghost use Rattle.managed.specs.Batches.{places_test, set_steps, source_test, sources_test, store_steps};
+
+use crate::managed::ManagedHeap;
+use cycle::Mutating;
+use model::Refusal;
+
+/// One of several loads: a register gets a reference of an object.
+#[repr(C)]
+#[derive(Clone, Copy, Debug, PartialEq, Eq)]
+pub struct FieldLoad {
+    /// The register that gets the reference.
+    pub target: u32,
+    /// The reference's number in the object, from 0.
+    pub field: u32,
+}
+
+/// At which of several loads a call stopped, and why.
+#[derive(Clone, Copy, Debug, PartialEq, Eq)]
+pub struct LoadsFault {
+    /// How many loads are done, from the first one on.
+    pub done: usize,
+    /// Why the next one isn't.
+    pub refusal: Refusal,
+}
+
+impl ManagedHeap {
+    /// Loads several reference fields of the object that a register names, each as `read` does, in their
+    /// order. A load whose `target` is that register comes last: those after it would load from the object
+    /// that the register names then.
+    ///
+    /// Stops at the first load that fails, and returns how many are done, and why this one isn't. Fails as
+    /// `read` does.
+    #[inline(always)]
+    pub fn loads(
+        &mut self,
+        thread: u32,
+        object: u32,
+        fields: &[FieldLoad],
+    ) -> Result<(), LoadsFault>
+        ensures { EndsLoads thread object 0 fields.now self.old result self.new }
+    {
+        for done in 0..fields.len() {
+            let load = fields[done];
+            if let Err(refusal) = self.read(thread, load.target, object, load.field) {
+                return Err(LoadsFault { done, refusal });
+            }
+        }
+        Ok(())
+    }
+
+    /// Whether a new object of a layout can be filled: it has as many references and data, and each source
+    /// may be stored. The register of the new object may be a source, and then names that object.
+    ///
+    /// Fails with `BadIndex` if a register or a layout isn't there, or the layout has fewer references or
+    /// data; and with `Stall` or `Stale` if a source may not be used.
+    #[inline(always)]
+    #[tactic(auto, unfolding(crate::specs::Batches::fill_test))]
+    pub fn may_fill(
+        &self,
+        thread: u32,
+        target: u32,
+        layout: u32,
+        sources: &[u32],
+        nums: &[u64],
+    ) -> Result<(), Refusal>
+        ensures tests { result ≡ fill_test self.now thread target layout sources.now nums.now }
+        ensures places { IfOk result (λ _. LayoutHas (length sources.now) (length nums.now)) }
+    {
+        match self.may_place(layout, sources.len(), nums.len()) {
+            Ok(()) => self.may_store_each(thread, target, sources),
+            Err(refusal) => Err(refusal),
+        }
+    }
+
+    /// Whether a layout has at least `refs` references and `nums` data words.
+    #[inline(always)]
+    #[tactic(auto, unfolding(crate::specs::Batches::places_test))]
+    fn may_place(&self, layout: u32, refs: usize, nums: usize) -> Result<(), Refusal>
+        ensures tests { result ≡ places_test self.now layout refs nums }
+        ensures places { IfOk result (λ _. LayoutHas refs nums) }
+    {
+        let Some(shape) = self.heap.config().layouts.get(layout) else {
+            return Err(Refusal::BadIndex);
+        };
+        if refs > usize::from(shape.refs) {
+            return Err(Refusal::BadIndex);
+        }
+        if nums > usize::from(shape.nums) {
+            return Err(Refusal::BadIndex);
+        }
+        Ok(())
+    }
+
+    /// Whether each of these registers may be stored in the new object of another one.
+    #[inline(always)]
+    fn may_store_each(&self, thread: u32, target: u32, sources: &[u32]) -> Result<(), Refusal>
+        ensures { result ≡ sources_test self.now thread target sources.now }
+    {
+        for index in 0..sources.len() {
+            if let Err(refusal) = self.may_store(thread, target, sources[index]) {
+                return Err(refusal);
+            }
+        }
+        Ok(())
+    }
+
+    /// Whether a register may be stored in the new object of another one.
+    #[inline(always)]
+    #[tactic(auto, unfolding(crate::specs::Batches::source_test, model::specs::Outcome::no_register))]
+    fn may_store(&self, thread: u32, target: u32, source: u32) -> Result<(), Refusal>
+        ensures { result ≡ source_test self.now thread target source }
+    {
+        if source >= self.heap.config().registers {
+            return Err(Refusal::BadIndex);
+        }
+        if source == target {
+            return Ok(());
+        }
+        match self.heap.usable_or_null(thread, source) {
+            Ok(_) => Ok(()),
+            Err(refusal) => Err(refusal),
+        }
+    }
+
+    /// Fills an object: its first references are those of registers, and its first data words are given.
+    /// Stops at the first word that can't be written, and fails as `store` or `set_datum` does; those before
+    /// it are written.
+    #[inline(always)]
+    pub fn fill(
+        &mut self,
+        thread: u32,
+        object: u32,
+        sources: &[u32],
+        nums: &[u64],
+    ) -> Result<(), Refusal>
+        requires { LayoutHas (length sources.now) (length nums.now) }
+        ensures { EndsFilling thread (fill_steps object sources.now nums.now) self.old result self.new }
+    {
+        match self.store_each(thread, object, sources) {
+            Ok(()) => self.set_each(thread, object, nums),
+            Err(refusal) => Err(refusal),
+        }
+    }
+
+    /// Stores these registers in the first references of an object.
+    #[inline(always)]
+    fn store_each(&mut self, thread: u32, object: u32, sources: &[u32]) -> Result<(), Refusal>
+        requires { length sources.now ≤ 65535 }
+        ensures { EndsFilling thread (store_steps object 0 sources.now) self.old result self.new }
+    {
+        for index in 0..sources.len() {
+            if let Err(refusal) = self.store(thread, object, index as u32, sources[index]) {
+                return Err(refusal);
+            }
+        }
+        Ok(())
+    }
+
+    /// Writes the first data words of an object.
+    #[inline(always)]
+    fn set_each(&mut self, thread: u32, object: u32, nums: &[u64]) -> Result<(), Refusal>
+        requires { length nums.now ≤ 65535 }
+        ensures { EndsFilling thread (set_steps object 0 nums.now) self.old result self.new }
+    {
+        for index in 0..nums.len() {
+            if let Err(refusal) = self.set_datum(thread, object, index as u32, nums[index]) {
+                return Err(refusal);
+            }
+        }
+        Ok(())
+    }
+}

@@ -1,0 +1,50 @@
+//! Words of pages that have memory and aren't protected, found by one look at the page.
+
+ghost use Rattle.std.specs.Prelude.{◌≡◌, ◌+◌, ◌/◌, ◌^◌, ◌<◌, IfSome, Some, if◌then◌else◌};
+ghost use Rattle.model.specs.Stores.{with_word, word_at};
+ghost use Rattle.refword.specs.Words.{IsAddress};
+ghost use Rattle.page.specs.Usable.{usable_frame};
+
+use crate::store::Store;
+
+impl Store {
+    /// The frame of the page that a number is an address on, if the page has memory and isn't protected.
+    #[inline(always)]
+    #[tactic(auto, using(crate::proofs::Usable::found))]
+    pub fn usable_frame(&self, number: u64) -> Option<u32>
+        ensures value { result ≡ usable_frame self.now (number / self.now.words) }
+        ensures address { IfSome result (λ _. IsAddress number) }
+    {
+        match self.usable.get(self.size.page_of(number) as usize) {
+            None => None,
+            Some(frame) => *frame,
+        }
+    }
+
+    /// The word less than 2^17 words behind an address on a usable page, if it is on the same page. That is
+    /// found by the page's frame alone, so it may also be `None` after the page was lent beside another;
+    /// `word_behind` then finds it.
+    #[inline(always)]
+    pub fn word_on(&self, frame: u32, number: u64, ahead: u64) -> Option<u64>
+        requires usable { usable_frame self.now (number / self.now.words) ≡ Some frame }
+        requires near { ahead < 2 ^ 17 }
+        ensures { IfSome result (λ v. word_at self.now (number + ahead) ≡ Some v) }
+    {
+        let offset = self.size.offset_of(number) + ahead;
+        self.frames.word_at_once(frame as usize, offset as usize)
+    }
+
+    /// Writes the word less than 2^17 words behind an address on a usable page, if it is on the same page.
+    /// Returns whether it did. It may also be false after the page was lent beside another;
+    /// `set_word_behind` then writes it.
+    #[inline(always)]
+    pub fn set_word_on(&mut self, frame: u32, number: u64, ahead: u64, value: u64) -> bool
+        requires usable { usable_frame self.old (number / self.old.words) ≡ Some frame }
+        requires near { ahead < 2 ^ 17 }
+        ensures { self.new ≡ (if result then with_word self.old (number + ahead) value else self.old) }
+    {
+        let offset = self.size.offset_of(number) + ahead;
+        self.frames
+            .set_at_once(frame as usize, offset as usize, value)
+    }
+}
