@@ -85,6 +85,12 @@ pub record UsesAtOnce (h : HeapState) (t object address : ℕ) : Type 0 where
   pub there : no_register h object ≡ false
   pub usable : usable h t object ≡ Ok address
 
+-- register r of thread t names an object that it may use, and this is the object's header
+pub record NamesHeader (h : HeapState) (t r header : ℕ) : Type 0 where
+  pub address : ℕ
+  pub usable : usable h t r ≡ Ok address
+  pub stands : word_at h.store address ≡ Some header
+
 -- what register r of thread t holds: null, or a word that the thread may use
 pub record SourceAtOnce (h : HeapState) (t r : ℕ) (w : Reference) : Type 0 where
   pub there : no_register h r ≡ false

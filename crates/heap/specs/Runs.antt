@@ -1,4 +1,4 @@
--- Runs: entries of a page's side array, one behind the other, whose objects are copied.
+-- Runs: entries of a page's side array, one after the other, whose objects are copied.
 use Rattle.std.specs.Prelude.{◌≡◌, ℕ, zero, suc, ◌+◌, ◌*◌, ◌/◌, ◌<◌, Bool, true, List, Option, Some, None}
 use Rattle.std.specs.Prelude.{slice_get}
 use Rattle.std.specs.Prelude.{if◌then◌else◌}

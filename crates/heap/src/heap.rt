@@ -125,7 +125,7 @@ impl Heap {
         Addr::new(u64::from(page) * words + u64::from(offset)).unwrap()
     }
 
-    /// Where objects start, by record and offset (ours).
+    /// Where objects start, by record and offset.
     pub fn starts(&self) -> &Rows
         ensures { result.now ≡ self.now.starts }
     {
@@ -168,7 +168,7 @@ impl Heap {
         self.threads.as_slice()
     }
 
-    /// Whether a thread has a buffer on a page, by the page's number from 1 (ours).
+    /// Whether a thread has a buffer on a page, by the page's number from 1.
     pub fn is_lent(&self, page: u32) -> bool
         ensures { result ≡ is_lent self.now.threads page }
     {

@@ -8,7 +8,7 @@ use std::alloc::{AllocError, Global};
 use std::marker::Model;
 
 /// A list of at most 8,192 numbers that finds the first number of at least some size in as many
-/// steps as the list's length has binary digits, and takes another number in as many (ours).
+/// steps as the list's length has binary digits, and takes another number in as many.
 ///
 /// The numbers are the leaves of a tree, whose other nodes have the greater of the two numbers
 /// below them. The nodes below node `n` are `2 * n` and `2 * n + 1`, and node 1 is the root.

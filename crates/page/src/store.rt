@@ -63,7 +63,7 @@ impl Model for Store {
 }
 
 /// How many pages of a store have records, of so many frames and page numbers: no more are ever
-/// in use at once (ours). There are at most 4,096 frames.
+/// in use at once. There are at most 4,096 frames.
 pub fn record_count(frames: u32, pages: u32) -> u32
     requires { frames ≤ MOST_FRAMES }
     ensures { result ≡ record_count frames pages }
@@ -255,7 +255,7 @@ impl Store {
         self.size.offset_of(address.number()) as u32
     }
 
-    /// The frame and the offset behind an address, if its page has memory.
+    /// The frame and the offset of an address, if its page has memory.
     #[tactic(auto, unfolding(model::specs::Stores::spot_of))]
     fn spot(&self, address: u64) -> Option<(u32, usize)>
         ensures { result ≡ spot_of self.now address }

@@ -8,8 +8,9 @@ ghost use Rattle.model.specs.declared.records.Barrier.{Barrier};
 ghost use Rattle.model.specs.declared.records.Counter.TheVariants as counters;
 ghost use Rattle.model.specs.References.{read_reference};
 ghost use Rattle.model.specs.Loads.{barrier_of_thread, with_barrier, with_loaded};
-ghost use Rattle.heap.specs.AtOnce.{HoldsAtOnce, IsOnFrame, IsOpenTo, IsQuiet, mark_is_due, MayLoadAtOnce, NamesAtOnce, ReadsAtOnce};
-ghost use Rattle.heap.specs.AtOnce.{GivesDatum, MayDoAtOnce, SourceAtOnce, UsesAtOnce};
+ghost use Rattle.heap.specs.AtOnce.{HoldsAtOnce, IsOnFrame, IsOpenTo, IsQuiet, mark_is_due};
+ghost use Rattle.heap.specs.AtOnce.{MayLoadAtOnce, NamesAtOnce, ReadsAtOnce};
+ghost use Rattle.heap.specs.AtOnce.{GivesDatum, MayDoAtOnce, NamesHeader, SourceAtOnce, UsesAtOnce};
 ghost use Rattle.model.specs.declared.steps.Step.TheVariants as steps;
 
 use crate::heap::Heap;
@@ -133,6 +134,17 @@ impl Heap {
         let address = word.number();
         let frame = self.frame_at_once(address)?;
         Some(Spot { address, frame })
+    }
+
+    /// The header of the object that a register of a thread names, by their numbers from 0, if the thread
+    /// runs, its barrier is closed, and it may use the object.
+    #[inline(always)]
+    pub fn header_at_once(&self, thread: u32, register: u32) -> Option<u64>
+        ensures { IfSome result (NamesHeader self.now thread register) }
+    {
+        let spot = self.object_at_once(thread, register)?;
+        let header = self.word_on(&spot, 0)?;
+        Some(header)
     }
 
     /// A data word of an object, where nothing refuses it, and it stands on the object's page.

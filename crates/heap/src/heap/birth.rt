@@ -60,7 +60,7 @@ fn clear_words(words: &mut [u64])
     }
 }
 
-/// Writes an object's header, and zeros behind it.
+/// Writes an object's header, and zeros after it.
 #[inline(always)]
 fn write_object(part: &mut [u64], header: u64, others: usize)
     requires { others < length part.old }
@@ -85,7 +85,7 @@ fn write_new(store: &mut Store, buffer: Buffer, header: u64, others: u32)
 }
 
 /// Notes that an object starts at the head of a buffer. While a mark runs it is marked at once,
-/// and to be scanned while threads have still to cross (ours). While none runs, no bit of a mark is mostly set on
+/// and to be scanned while threads have still to cross. While none runs, no bit of a mark is mostly set on
 /// the page, and then none is cleared.
 #[inline(always)]
 #[tactic(auto, using(crate::proofs::Births::not_crossing))]

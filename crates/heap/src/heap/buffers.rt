@@ -63,7 +63,7 @@ impl Heap {
     }
 
     /// A thread takes a buffer of 1 to the words of a page, in the lowest open page with room,
-    /// else in a fresh page (ours). Gives the buffer, which is the thread's then.
+    /// else in a fresh page. Gives the buffer, which is the thread's then.
     ///
     /// Refused where it has one (`HasBuffer`); where no page has room and no frame is free
     /// (`NoFrames`); where no page number is unused (`NoPages`).

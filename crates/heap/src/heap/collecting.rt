@@ -50,7 +50,7 @@ pub trait RawCollectorEdits {
     /// paper's Mark phase).
     fn start_mark(&mut self);
 
-    /// A mark ends (ours): what it marked is live, open pages without a lent buffer close, protected
+    /// A mark ends: what it marked is live, open pages without a lent buffer close, protected
     /// pages are unused again, what was forwarded is forgotten, and the phase is idle.
     fn end_mark(&mut self);
 }
@@ -103,7 +103,7 @@ fn end_pages(store: &mut Store, threads: &Threads)
     store.law();
 }
 
-/// The phase behind a checkpoint (the paper's checkpoints).
+/// The phase after a checkpoint (the paper's checkpoints).
 fn phase_behind(phase: Phase) -> Phase
     ensures { result ≡ phase_behind phase }
 {
@@ -114,7 +114,7 @@ fn phase_behind(phase: Phase) -> Phase
     }
 }
 
-/// The phase after a thread has crossed: the next one where no thread is behind.
+/// The phase after a thread has crossed: the next one where no thread has still to cross.
 fn phase_after(threads: &Threads, phase: Phase) -> Phase
     ensures { result ≡ (if is_none (first_behind threads.now) then phase_behind phase else phase) }
 {

@@ -27,7 +27,7 @@ impl Heap {
         self.config.layouts.get(number)
     }
 
-    /// How many words behind the address of an object a data word of it stands.
+    /// How many words after the address of an object a data word of it stands.
     #[inline(always)]
     #[tactic(auto, unfolding(model::specs::Data::datum_at))]
     pub(crate) fn datum_behind(&self, address: Addr, index: u32) -> Option<u64>
@@ -48,7 +48,7 @@ impl Heap {
         self.store.set_word(address, value);
     }
 
-    /// A raw edit: writes the word less than 2^17 words behind an address, if its page has memory.
+    /// A raw edit: writes the word less than 2^17 words after an address, if its page has memory.
     #[inline(always)]
     pub fn raw_set_word_behind(&mut self, address: Addr, ahead: u64, value: u64)
         requires { ahead < 2 ^ 17 }

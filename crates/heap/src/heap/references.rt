@@ -14,7 +14,7 @@ use crate::heap::edits::RawEdits;
 use model::{Place, Refusal};
 use refword::{Addr, Word};
 
-/// The reference that 64 bits in memory are; bits that are no word's count as null (ours).
+/// The reference that 64 bits in memory are; bits that are no word's count as null.
 pub fn read_reference(bits: u64) -> Word
     ensures { result ≡ read_reference bits }
 {
@@ -25,7 +25,7 @@ pub fn read_reference(bits: u64) -> Word
 }
 
 impl Heap {
-    /// How many words behind the address of an object a reference of it stands, by the reference's
+    /// How many words after the address of an object a reference of it stands, by the reference's
     /// number from 0; none where the object has no such reference.
     #[inline(always)]
     #[tactic(auto, unfolding(model::specs::References::field_at))]

@@ -26,7 +26,7 @@ impl Heap {
     }
 
     /// Whether a thread, by its number from 0, may use an address: not on a protected page, unless
-    /// the thread has still to cross the checkpoint at which pages are being protected (ours).
+    /// the thread has still to cross the checkpoint at which pages are being protected.
     /// Refused as `Stall` where it has crossed that checkpoint, and in other phases as `Stale`.
     #[inline(always)]
     pub fn let_through(&self, thread: u32, address: Addr) -> Result<(), Refusal>
@@ -67,7 +67,7 @@ impl Heap {
     /// from 0.
     ///
     /// Refused where it is null (`Null`); on a protected page `Stall`, where pages are being
-    /// protected and the thread has crossed, and in other phases `Stale` (ours).
+    /// protected and the thread has crossed, and in other phases `Stale`.
     #[inline(always)]
     #[tactic(auto, unfolding(model::specs::Registers::usable))]
     pub fn usable(&self, thread: u32, register: u32) -> Result<Addr, Refusal>

@@ -21,7 +21,7 @@ use refword::Addr;
 
 impl Heap {
     /// How many words the object at an address has: 1 to 2,047. One that can't be read counts as its
-    /// header alone (ours).
+    /// header alone.
     #[tactic(auto, unfolding(model::specs::Plans::object_words))]
     pub fn object_words(&self, address: Addr) -> u32
         ensures value { result ≡ object_words self.now address }
@@ -33,8 +33,8 @@ impl Heap {
         }
     }
 
-    /// Opens a page for objects that move, of which all words are given out, to nobody
-    /// (ours). It says why there is no room for one, where there is none.
+    /// Opens a page for objects that move, of which all words are given out, to nobody. It says why there
+    /// is no room for one, where there is none.
     #[tactic(auto, unfolding(model::specs::Protections::with_target))]
     pub fn raw_open_target(&mut self) -> Result<Buffer, Room>
         ensures { OpensTarget self.old result self.new }

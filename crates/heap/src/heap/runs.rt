@@ -37,7 +37,7 @@ fn note_each(starts: &mut Rows, sides: &mut Sides, store: &Store, page: u64, fir
     }
 }
 
-/// The same; and it is kept where the last of them lies, behind which the next one is looked for.
+/// The same; and it is kept where the last of them lies, after which the next one is looked for.
 fn note_copies(
     starts: &mut Rows,
     sides: &mut Sides,

@@ -1,4 +1,4 @@
-//! Words behind an address. Where its page is usable, one look finds the page's frame; else its record is asked.
+//! Words after an address. Where its page is usable, one look finds the page's frame; else its record is asked.
 
 ghost use Rattle.std.specs.Prelude.{◌≡◌, ◌+◌, ◌^◌, ◌<◌};
 ghost use Rattle.model.specs.Stores.{with_word, word_at};
@@ -32,7 +32,7 @@ impl Store {
         self.word_in(frame, self.offset_of(address) as usize)
     }
 
-    /// The word less than 2^17 words behind an address, if it is on a page that has memory. Where
+    /// The word less than 2^17 words after an address, if it is on a page that has memory. Where
     /// that is the page of the address, no other is looked up.
     #[inline(always)]
     pub fn word_behind(&self, address: Addr, ahead: u64) -> Option<u64>
@@ -63,7 +63,7 @@ impl Store {
         self.word_in(frame, offset as usize)
     }
 
-    /// Writes the word less than 2^17 words behind an address, if it is on a page that has memory.
+    /// Writes the word less than 2^17 words after an address, if it is on a page that has memory.
     /// Where that is the page of the address, no other is looked up.
     #[inline(always)]
     pub fn set_word_behind(&mut self, address: Addr, ahead: u64, value: u64)

@@ -14,6 +14,7 @@ use model::{Buffer, Page, PageState, Room};
 
 impl Store {
     /// Lends the free rest of a buffer that lies in an open page, to be written.
+    #[inline(always)]
     pub fn part_mut(&mut self, buffer: &Buffer) -> &mut [u64]
         requires { LiesIn self.old buffer.now }
         ensures value { IfSome (words_at self.old buffer.now.page) (λ ws. result.now
@@ -101,7 +102,7 @@ impl Store {
     }
 
     /// A buffer of `n` words: in the lowest open page that has room, else in the lowest unused
-    /// page, opened on the lowest free frame (ours). `n` is 1 to the words of a page. It finds them
+    /// page, opened on the lowest free frame. `n` is 1 to the words of a page. It finds them
     /// in some 14 steps at most, as many as the number of records has binary digits; where it opens
     /// a page it also writes the page's words.
     ///

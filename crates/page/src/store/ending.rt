@@ -9,7 +9,7 @@ use model::{Page, PageState};
 
 impl Store {
     /// Ends a mark for the page of an index, which is one less than the page's number and below the
-    /// number of records. An open page closes, unless a buffer of it is lent (ours). A protected
+    /// number of records. An open page closes, unless a buffer of it is lent. A protected
     /// page is unused again, and its frame is free, if it has one (the paper's Remap phase: its
     /// number may be used again once no reference names it). Other pages stay as they are.
     #[tactic(auto, using(crate::proofs::Retiring::kept_in), unfolding(crate::specs::Ending::with_mark_ended_at))]

@@ -30,7 +30,7 @@ fn unused_in(pages: &[Page]) -> usize
 
 impl Store {
     /// A fresh page as one buffer of all its words: the lowest unused page, opened on the lowest
-    /// free frame (ours).
+    /// free frame.
     ///
     /// Answers `NoFrames` where no frame is free, else `NoPages` where no page is unused; the
     /// store is then as it was.

@@ -1,5 +1,5 @@
 //! Objects of a page are copied to their places on another page (the paper's Relocate phase), a run
-//! of entries at once (ours).
+//! of entries at once.
 
 ghost use Rattle.std.specs.Prelude.{◌≡◌, ◌+◌, ◌≤◌, length};
 ghost use Rattle.model.specs.declared.limits.TheConstants.{MOST_WORDS};

@@ -21,7 +21,7 @@ impl Store {
         }
     }
 
-    /// The word less than 2^17 words behind an address on a usable page, if it is on the same page. That is
+    /// The word less than 2^17 words after an address on a usable page, if it is on the same page. That is
     /// found by the page's frame alone, so it may also be `None` after the page was lent beside another;
     /// `word_behind` then finds it.
     #[inline(always)]
@@ -34,7 +34,7 @@ impl Store {
         self.frames.word_at_once(frame as usize, offset as usize)
     }
 
-    /// Writes the word less than 2^17 words behind an address on a usable page, if it is on the same page.
+    /// Writes the word less than 2^17 words after an address on a usable page, if it is on the same page.
     /// Returns whether it did. It may also be false after the page was lent beside another;
     /// `set_word_behind` then writes it.
     #[inline(always)]

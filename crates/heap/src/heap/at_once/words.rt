@@ -49,7 +49,7 @@ impl Heap {
         Some(word)
     }
 
-    /// The word less than 2^17 words behind an object's address, if it is on the same page.
+    /// The word less than 2^17 words after an object's address, if it is on the same page.
     #[inline(always)]
     pub(super) fn word_on(&self, spot: &Spot, ahead: u64) -> Option<u64>
         requires frame { IsOnFrame self.now spot.now.address spot.now.frame }
@@ -69,7 +69,7 @@ impl Heap {
         self.config.layouts.get((header >> 32) as u32)
     }
 
-    /// How far behind the address of an object a reference stands, by its number from 0.
+    /// How far after the address of an object a reference stands, by its number from 0.
     #[inline(always)]
     pub(super) fn field_on(&self, spot: &Spot, index: u32) -> Option<u64>
         requires { IsOnFrame self.now spot.now.address spot.now.frame }
@@ -83,7 +83,7 @@ impl Heap {
         Some(1 + u64::from(index))
     }
 
-    /// How far behind the address of an object a data word stands, by its number from 0.
+    /// How far after the address of an object a data word stands, by its number from 0.
     #[inline(always)]
     pub(super) fn datum_on(&self, spot: &Spot, index: u32) -> Option<u64>
         requires { IsOnFrame self.now spot.now.address spot.now.frame }
@@ -97,7 +97,7 @@ impl Heap {
         Some(1 + u64::from(layout.refs) + u64::from(index))
     }
 
-    /// Writes the word less than 2^17 words behind an object's address, if it is on the same page.
+    /// Writes the word less than 2^17 words after an object's address, if it is on the same page.
     /// Returns whether it did.
     #[inline(always)]
     pub(super) fn set_word_on(&mut self, spot: &Spot, ahead: u64, value: u64) -> bool
