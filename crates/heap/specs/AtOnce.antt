@@ -1,5 +1,5 @@
 -- Loads that are done at once, where no trap is due.
-use Rattle.std.specs.Prelude.{◌≡◌, ◌/◌, ◌&&◌, not, ℕ, Option, Ok, Some, None, Bool, true, false, IfSome}
+use Rattle.std.specs.Prelude.{◌≡◌, ◌/◌, ◌&&◌, not, ℕ, Ok, Some, None, Bool, true, false, IfSome}
 use Rattle.refword.specs.Words.{address_in, mark_in}
 use Rattle.model.specs.declared.records.Counter.TheVariants as counters
 use Rattle.model.specs.declared.records.Place.{Place}
