@@ -1,0 +1,106 @@
+-- A portion stays one of its thread.
+use Rattle.std.proofs.Common.{◌≡◌, ◌≢◌, ◌⊎◌, ◌∙◌, ℕ, Bool, true, false, List, [], ◌∷◌, refl, sym, subst, ap, inl, inr}
+use Rattle.std.specs.Prelude.{Result, Ok, Err}
+use Rattle.std.specs.List.{slice_get}
+use Rattle.model.specs.declared.records.Phase.{Phase}
+use Rattle.model.specs.declared.records.Phase.TheVariants.{Idle, MarkCrossing, Scanning, ProtectCrossing, Relocating}
+use Rattle.model.specs.declared.steps.Actor.{Actor}
+use Rattle.model.specs.declared.steps.Actor.TheVariants.{Thread, Worker}
+use Rattle.model.specs.declared.steps.Answer.{Answer}
+use Rattle.model.specs.declared.steps.Answer.TheVariants as answers
+use Rattle.model.specs.declared.steps.Refusal.{Refusal}
+use Rattle.model.specs.declared.steps.Step.{Step}
+use Rattle.model.specs.declared.steps.Step.TheVariants as steps
+use Rattle.model.specs.Outcome.{outcome, is_loading_in}
+use Rattle.model.specs.Phases.{is_crossing, is_protect_crossing}
+use Rattle.model.specs.States.{HeapState}
+use Rattle.model.specs.Threads.{is_parked_in}
+use Rattle.refinement.specs.Standing.{MovesPhase}
+use Rattle.entries.specs.declared.entry.Entry.{Entry}
+use Rattle.cycle.specs.Mutating.{DoesThread, ThreadStands}
+use Rattle.managed.specs.Collecting.{IsCollecting}
+use Rattle.managed.specs.Goings.{EachIs, Goes, IsCrossing, IsInBarrier, IsScrub, Steps, entry}
+use Rattle.managed.specs.Managing.{Promises}
+use Rattle.managed.specs.Runs.{Leads}
+use Rattle.managed.specs.Scrubbing.{AreScrubbed, names_protected}
+use Rattle.managed.proofs.Going.{goes_then, goes_thread}
+use Rattle.managed.proofs.Scrubbed.{scrubs_phase}
+use Rattle.collecting.specs.Collections.{WORKER}
+use Rattle.portions.specs.Apart.{IsApart, IsStill, RunsAlone}
+use Rattle.portions.specs.Portions.{GoesIn, IsInPortion, MayUseAll}
+use Rattle.portions.proofs.Parking.{alone_stays, apart_stays}
+use Rattle.portions.proofs.Rows.{step_stays, turns}
+use Rattle.portions.proofs.Staying.{AllStay, all_same, all_then}
+
+-- ---- steps of one kind are steps of another
+
+each_more : (P Q : Actor → Step → Type 0) → ((a : Actor) (s : Step) → P a s → Q a s) → (es : List Entry)
+    → EachIs P es → EachIs Q es
+each_more P Q f [] k = k
+each_more P Q f (e ∷ es) k = (f e.actor e.step k.0, each_more P Q f es k.1)
+
+pub goes_more : (P Q : Actor → Step → Type 0) → ((a : Actor) (s : Step) → P a s → Q a s) → (h g : HeapState)
+    → Goes P h g → Goes Q h g
+goes_more P Q f h g k =
+    record { entries = k.entries; each = each_more P Q f k.entries k.each; runs = k.runs }
+
+pub scrub_collects : (t : ℕ) (a : Actor) (s : Step) → IsScrub a s → IsInPortion t a s
+scrub_collects t (Thread u) (steps.Scrub r) k = inr tt
+scrub_collects t (Thread u) _ k = absurd k
+scrub_collects t (Worker w) s k = absurd k
+
+-- ---- all threads stay
+
+entries_stay : (P : Actor → Step → Type 0) → ((a : Actor) (s : Step) → P a s → turns s ≡ false) → (h g : HeapState)
+    (es : List Entry) → EachIs P es → Leads h es g → AllStay h g
+entries_stay P f h g [] each leads = subst (AllStay h) (sym leads) (all_same h)
+entries_stay P f h g (e ∷ es) each leads = all_then h leads.0 g
+    (step_stays h e.actor e.step leads.0 e.answer (f e.actor e.step each.0) leads.1)
+    (entries_stay P f leads.0 g es each.1 leads.2)
+
+pub goes_stay : (P : Actor → Step → Type 0) → ((a : Actor) (s : Step) → P a s → turns s ≡ false) → (h g : HeapState)
+    → Goes P h g → AllStay h g
+goes_stay P f h g k = entries_stay P f h g k.entries k.each k.runs.steps
+
+scrub_turns : (a : Actor) (s : Step) → IsScrub a s → turns s ≡ false
+scrub_turns (Thread t) (steps.Scrub r) k = refl
+scrub_turns (Thread t) _ k = absurd k
+scrub_turns (Worker w) s k = absurd k
+
+-- ---- registers are corrected
+
+-- where a thread runs alone, it does after registers were corrected, and may use all that they name
+pub scrubs_apart : (h g : HeapState) (t : ℕ) → Goes IsScrub h g → IsApart h t → IsApart g t
+scrubs_apart h g t k a = apart_stays h g t (goes_stay IsScrub scrub_turns h g k) (scrubs_phase h g k) a
+
+pub scrubs_use : (h g : HeapState) (t : ℕ) → Goes IsScrub h g → IsApart h t
+    → is_parked_in (slice_get h.threads t) ≡ false → AreScrubbed g → MayUseAll g t
+scrubs_use h g t k a runs s = record {
+  runs = ((goes_stay IsScrub scrub_turns h g k).each t).parked ∙ runs;
+  registers = λ r. s t r (((goes_stay IsScrub scrub_turns h g k).each t).parked ∙ runs)
+      ((scrubs_apart h g t k a).runs.closed t);
+}
+
+-- ---- one step
+
+-- a step of a thread that leaves the phase, as accepted steps move it
+pub does_apart : {A : Type 0} (answer : A → Answer) (h g : HeapState) (t : ℕ) (step : Step) (r : Result A Refusal)
+    → turns step ≡ false → ((x y : HeapState) → MovesPhase x step y → y.phase ≡ x.phase) → Promises h
+    → DoesThread answer h t step r g → ThreadStands answer h t step r g → IsApart h t → IsApart g t
+does_apart answer h g t step (Ok a) e f p does stands k = apart_stays h g t
+    (step_stays h (Thread t) step g (answer a) e does) (f h g (stands _ _ p.holds).phase) k
+does_apart answer h g t step (Err n) e f p does stands k = subst (λ (x : HeapState). IsApart x t) (sym does.1) k
+
+-- the portion goes on with a step of its thread
+pub does_goes : {A : Type 0} (answer : A → Answer) (b h g : HeapState) (t : ℕ) (step : Step) (r : Result A Refusal)
+    → DoesThread answer h t step r g → ThreadStands answer h t step r g → GoesIn t b h → GoesIn t b g
+does_goes answer b h g t step r does stands k =
+    goes_thread (IsInPortion t) answer b h g t step r (inl refl) does stands k
+
+-- where no checkpoint is open, none of protected pages is
+pub not_protecting : (f : Phase) → is_crossing f ≡ false → is_protect_crossing f ≡ false
+not_protecting ProtectCrossing e = e
+not_protecting MarkCrossing e = refl
+not_protecting Idle e = refl
+not_protecting Scanning e = refl
+not_protecting Relocating e = refl

@@ -1,0 +1,5 @@
+pub mod Staying
+pub mod Rows
+pub mod Parking
+pub mod Doing
+pub mod Loads

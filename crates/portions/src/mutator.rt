@@ -1,0 +1,86 @@
+//! A heap in a portion of a thread.
+
+ghost use Rattle.std.specs.Prelude.{◌≡◌};
+ghost use Rattle.portions.specs.Apart.{IsApart, IsStill};
+ghost use Rattle.portions.specs.Portions.{Begins, GoesOn, HoldsInPortion};
+
+use cycle::Mutating;
+use managed::ManagedHeap;
+use std::marker::Model;
+use std::snapshot::Snapshot;
+
+/// A heap that threads share, in a portion of one thread. Between portions all threads are parked. In a portion
+/// only its thread runs; no thread is inside a load, and no checkpoint is open.
+#[derive(Drop)]
+pub struct Mutator {
+    pub(crate) heap: ManagedHeap,
+    pub(crate) thread: u32,
+    began: Snapshot<ManagedHeap>,
+}
+
+impl Model for Mutator {
+    ghost use Rattle.portions.specs.Portions.{MutatorState};
+    ghost use Rattle.portions.specs.Views.{mutator_of, IsMutator};
+
+    ghost Value = { MutatorState };
+
+    ghost view = { mutator_of };
+
+    ghost invariant = { IsMutator };
+}
+
+impl Mutator {
+    /// A portion of thread 0 in which nothing is done yet.
+    #[tactic(auto, using(managed::proofs::Going::goes_none))]
+    pub(crate) fn new(heap: ManagedHeap) -> Mutator
+        requires { IsApart heap 0 }
+        ensures { result.heap ≡ heap }
+    {
+        let began = Snapshot::of(&heap);
+        Mutator {
+            heap,
+            thread: 0,
+            began,
+        }
+    }
+
+    /// Returns the heap alone.
+    pub(crate) fn into_heap(self) -> ManagedHeap
+        ensures { result ≡ self.heap }
+    {
+        self.heap
+    }
+
+    /// Begins a portion of a thread: the thread runs, and its registers name no page that is being emptied, or was.
+    pub(crate) fn begin(&mut self, thread: u32)
+        ensures { Begins thread self.new }
+    {
+        self.leave();
+        self.thread = thread;
+        self.began = Snapshot::of(&self.heap);
+        let _ = self.heap.unpark(thread);
+        self.heap.scrub_all();
+    }
+
+    /// Ends the portion: parks its thread.
+    pub(crate) fn leave(&mut self)
+        ensures on { GoesOn self.old self.new }
+        ensures still { IsStill self.new.heap }
+    {
+        let _ = self.heap.park(self.thread);
+    }
+
+    /// Returns the number of the thread whose portion it is, from 0.
+    pub fn thread(&self) -> u32
+        ensures { result ≡ self.now.thread }
+    {
+        self.thread
+    }
+
+    /// What holds in a portion. It changes nothing and never fails.
+    pub fn law(&self)
+        ensures { HoldsInPortion self.now }
+    {
+        self.heap.law();
+    }
+}
