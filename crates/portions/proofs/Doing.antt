@@ -15,12 +15,10 @@ use Rattle.model.specs.Outcome.{outcome, is_loading_in}
 use Rattle.model.specs.Phases.{is_crossing, is_protect_crossing}
 use Rattle.model.specs.States.{HeapState}
 use Rattle.model.specs.Threads.{is_parked_in}
-use Rattle.refinement.specs.Standing.{MovesPhase}
 use Rattle.entries.specs.declared.entry.Entry.{Entry}
 use Rattle.cycle.specs.Mutating.{DoesThread, ThreadStands}
 use Rattle.managed.specs.Collecting.{IsCollecting}
 use Rattle.managed.specs.Goings.{EachIs, Goes, IsCrossing, IsInBarrier, IsScrub, Steps, entry}
-use Rattle.managed.specs.Managing.{Promises}
 use Rattle.managed.specs.Runs.{Leads}
 use Rattle.managed.specs.Scrubbing.{AreScrubbed, names_protected}
 use Rattle.managed.proofs.Going.{goes_then, goes_thread}
@@ -29,7 +27,7 @@ use Rattle.collecting.specs.Collections.{WORKER}
 use Rattle.portions.specs.Apart.{IsApart, IsStill, RunsAlone}
 use Rattle.portions.specs.Portions.{GoesIn, IsInPortion, MayUseAll}
 use Rattle.portions.proofs.Parking.{alone_stays, apart_stays}
-use Rattle.portions.proofs.Rows.{step_stays, turns}
+use Rattle.portions.proofs.Rows.{disturbs, step_keeps, step_stays, turns}
 use Rattle.portions.proofs.Staying.{AllStay, all_same, all_then}
 
 -- ---- steps of one kind are steps of another
@@ -51,45 +49,45 @@ scrub_collects t (Worker w) s k = absurd k
 
 -- ---- all threads stay
 
-entries_stay : (P : Actor → Step → Type 0) → ((a : Actor) (s : Step) → P a s → turns s ≡ false) → (h g : HeapState)
+entries_stay : (P : Actor → Step → Type 0) → ((a : Actor) (s : Step) → P a s → disturbs a s ≡ false) → (h g : HeapState)
     (es : List Entry) → EachIs P es → Leads h es g → AllStay h g
 entries_stay P f h g [] each leads = subst (AllStay h) (sym leads) (all_same h)
 entries_stay P f h g (e ∷ es) each leads = all_then h leads.0 g
     (step_stays h e.actor e.step leads.0 e.answer (f e.actor e.step each.0) leads.1)
     (entries_stay P f leads.0 g es each.1 leads.2)
 
-pub goes_stay : (P : Actor → Step → Type 0) → ((a : Actor) (s : Step) → P a s → turns s ≡ false) → (h g : HeapState)
+pub goes_stay : (P : Actor → Step → Type 0) → ((a : Actor) (s : Step) → P a s → disturbs a s ≡ false) → (h g : HeapState)
     → Goes P h g → AllStay h g
 goes_stay P f h g k = entries_stay P f h g k.entries k.each k.runs.steps
 
-scrub_turns : (a : Actor) (s : Step) → IsScrub a s → turns s ≡ false
-scrub_turns (Thread t) (steps.Scrub r) k = refl
-scrub_turns (Thread t) _ k = absurd k
-scrub_turns (Worker w) s k = absurd k
+scrub_stays : (a : Actor) (s : Step) → IsScrub a s → disturbs a s ≡ false
+scrub_stays (Thread t) (steps.Scrub r) k = refl
+scrub_stays (Thread t) _ k = absurd k
+scrub_stays (Worker w) s k = absurd k
 
 -- ---- registers are corrected
 
 -- where a thread runs alone, it does after registers were corrected, and may use all that they name
 pub scrubs_apart : (h g : HeapState) (t : ℕ) → Goes IsScrub h g → IsApart h t → IsApart g t
-scrubs_apart h g t k a = apart_stays h g t (goes_stay IsScrub scrub_turns h g k) (scrubs_phase h g k) a
+scrubs_apart h g t k a = apart_stays h g t (goes_stay IsScrub scrub_stays h g k) (scrubs_phase h g k) a
 
 pub scrubs_use : (h g : HeapState) (t : ℕ) → Goes IsScrub h g → IsApart h t
     → is_parked_in (slice_get h.threads t) ≡ false → AreScrubbed g → MayUseAll g t
 scrubs_use h g t k a runs s = record {
-  runs = ((goes_stay IsScrub scrub_turns h g k).each t).parked ∙ runs;
-  registers = λ r. s t r (((goes_stay IsScrub scrub_turns h g k).each t).parked ∙ runs)
+  runs = ((goes_stay IsScrub scrub_stays h g k).each t).parked ∙ runs;
+  registers = λ r. s t r (((goes_stay IsScrub scrub_stays h g k).each t).parked ∙ runs)
       ((scrubs_apart h g t k a).runs.closed t);
 }
 
 -- ---- one step
 
--- a step of a thread that leaves the phase, as accepted steps move it
+-- a step of a thread that leaves the threads and the phase as they are
 pub does_apart : {A : Type 0} (answer : A → Answer) (h g : HeapState) (t : ℕ) (step : Step) (r : Result A Refusal)
-    → turns step ≡ false → ((x y : HeapState) → MovesPhase x step y → y.phase ≡ x.phase) → Promises h
-    → DoesThread answer h t step r g → ThreadStands answer h t step r g → IsApart h t → IsApart g t
-does_apart answer h g t step (Ok a) e f p does stands k = apart_stays h g t
-    (step_stays h (Thread t) step g (answer a) e does) (f h g (stands _ _ p.holds).phase) k
-does_apart answer h g t step (Err n) e f p does stands k = subst (λ (x : HeapState). IsApart x t) (sym does.1) k
+    → turns step ≡ false → DoesThread answer h t step r g → IsApart h t → IsApart g t
+does_apart answer h g t step (Ok a) e does k =
+    let z = step_keeps h t step g (answer a) e does in
+    apart_stays h g t z.stay z.phase k
+does_apart answer h g t step (Err n) e does k = subst (λ (x : HeapState). IsApart x t) (sym does.1) k
 
 -- the portion goes on with a step of its thread
 pub does_goes : {A : Type 0} (answer : A → Answer) (b h g : HeapState) (t : ℕ) (step : Step) (r : Result A Refusal)

@@ -43,7 +43,7 @@ use Rattle.managed.specs.Runs.{Leads}
 use Rattle.portions.specs.Apart.{IsApart, RunsAlone, runs_in}
 use Rattle.portions.proofs.Doing.{not_protecting}
 use Rattle.portions.proofs.Parking.{alone_stays, is_false}
-use Rattle.portions.proofs.Rows.{step_stays, turns}
+use Rattle.portions.proofs.Rows.{disturbs, step_stays, turns}
 use Rattle.portions.proofs.Staying.{AllStay, SameThreads, Stays, changed_all, first_same, for_same, same_none, same_then}
 
 -- the step begins a load
@@ -259,15 +259,15 @@ barrier_row h t steps.Trap is = on_bind (thread_gate h t steps.Trap) _ _ (λ u f
 barrier_row h t steps.Heal is = on_bind (thread_gate h t steps.Heal) _ _ (λ u f. heal_keeps h t)
 barrier_row h t _ is = absurd is
 
-not_turns : (step : Step) → IsTrapOrHeal step → turns step ≡ false
-not_turns steps.Trap is = refl
-not_turns steps.Heal is = refl
-not_turns _ is = absurd is
+not_turns : (t : ℕ) (step : Step) → IsTrapOrHeal step → disturbs (Thread t) step ≡ false
+not_turns t steps.Trap is = refl
+not_turns t steps.Heal is = refl
+not_turns t _ is = absurd is
 
 step_goes_on : (h g : HeapState) (t : ℕ) (actor : Actor) (step : Step) (a : Answer) → IsInBarrier t actor step
     → outcome h actor step ≡ Ok (g, a) → IsLoading h t → IsLoading g t
 step_goes_on h g t (Thread u) step a is ok k = goes_on h g t
-    (step_stays h (Thread u) step g a (not_turns step is.1) ok)
+    (step_stays h (Thread u) step g a (not_turns u step is.1) ok)
     (of_accepted (λ (z : HeapState × Answer). HasBarrier h t z.0) (outcome h (Thread t) step) (g, a)
     (barrier_row h t step is.1) (subst (λ (n : ℕ). outcome h (Thread n) step ≡ Ok (g, a)) is.0 ok)) k
 step_goes_on h g t (Worker w) step a is ok k = absurd is

@@ -58,19 +58,30 @@ use Rattle.refinement.proofs.Accepted.{OnAccepted, of_accepted, on_bind, on_has,
 use Rattle.refinement.proofs.Accepted.{on_unless}
 use Rattle.portions.proofs.Staying.{AllStay, SameThreads, Stays, all_same, all_then, changed_all, changed_stays}
 use Rattle.portions.proofs.Staying.{copy_same, first_same, for_same, mapped_stay, same_none, same_stay, same_then}
-use Rattle.portions.proofs.Staying.{stays_same}
+use Rattle.portions.proofs.Staying.{AllKeep, keep_none, keep_same, stays_same}
 
 -- after an accepted step all threads stay
 abbrev pub Stay : HeapState → Outcome → Type 0
 Stay h o = OnAccepted (λ (z : HeapState × Answer). AllStay h z.0) o
 
--- a step that may begin a load, park a thread, or let it run
+-- the same, and the phase is as it was
+abbrev pub Keep : HeapState → Outcome → Type 0
+Keep h o = OnAccepted (λ (z : HeapState × Answer). AllKeep h z.0) o
+
+-- a step that may begin a load, move the phase, park a thread, or let it run
 abbrev pub turns : Step → Bool
 turns (steps.Load target object i) = true
 turns (steps.LoadGlobal target g) = true
+turns steps.Cross = true
 turns steps.Park = true
 turns steps.Unpark = true
 turns _ = false
+
+-- such a step of a thread, but for crossings
+abbrev pub disturbs : Actor → Step → Bool
+disturbs (Thread t) steps.Cross = false
+disturbs (Thread t) step = turns step
+disturbs (Worker w) step = false
 
 -- ---- crossings
 
@@ -107,64 +118,76 @@ cross_row h t = on_bind (may_cross h t) _ _ (λ u f.
 -- ---- rows of threads
 
 module _ (h : HeapState) (t : ℕ) where
-  take_row : (n : ℕ) → Stay h (take_outcome h t n)
+  take_row : (n : ℕ) → Keep h (take_outcome h t n)
   unfolding take_outcome lend_buffer
   take_row n = on_test (is_some (buffer_of_thread h t)) _ _ _ (λ e. by_room (take_buffer h.store n))
     where
-      by_room : (r : Result (StoreState × Buffer) Room) → Stay h (take_result h t r)
+      by_room : (r : Result (StoreState × Buffer) Room) → Keep h (take_result h t r)
       by_room (Ok x) = record {
-        each = changed_stays h.threads t (set_buffer_of (Some x.1))
-            (λ y e. record { loading = λ l. l; parked = refl; runs = refl });
-        config = refl;
+        stay = record {
+          each = changed_stays h.threads t (set_buffer_of (Some x.1))
+              (λ y e. record { loading = λ l. l; parked = refl; runs = refl });
+          config = refl;
+        };
+        phase = refl;
       }
       by_room (Err NoFrames) = tt
       by_room (Err NoPages) = tt
 
-  give_row : Stay h (give_back_outcome h t)
+  give_row : Keep h (give_back_outcome h t)
   unfolding give_back_outcome with_buffer
   give_row = on_truth (is_some (buffer_of_thread h t)) _ _ _ (λ e. record {
-    each = changed_stays h.threads t (set_buffer_of None)
-        (λ y f. record { loading = λ l. l; parked = refl; runs = refl });
-    config = refl;
+    stay = record {
+      each = changed_stays h.threads t (set_buffer_of None)
+          (λ y f. record { loading = λ l. l; parked = refl; runs = refl });
+      config = refl;
+    };
+    phase = refl;
   })
 
-  new_row : (target number : ℕ) → Stay h (new_outcome h t target number)
+  new_row : (target number : ℕ) → Keep h (new_outcome h t target number)
   unfolding new_outcome place_object
   new_row target number = on_some (buffer_of_thread h t) _ _ _ (λ b e. on_some (slice_get h.config.layouts number) _ _ _
       (λ l f. on_test (nat_lt (b.end - b.next) _) _ _ _ (λ g. on_test (nat_le h.config.births h.births) _ _ _ (λ i.
       record {
-        each = changed_stays h.threads t (hand_object target (Some (b.page * h.store.words + b.next, h.nmt)) _)
-            (λ y j. record { loading = λ k. k; parked = refl; runs = refl });
-        config = refl;
+        stay = record {
+          each = changed_stays h.threads t (hand_object target (Some (b.page * h.store.words + b.next, h.nmt)) _)
+              (λ y j. record { loading = λ k. k; parked = refl; runs = refl });
+          config = refl;
+        };
+        phase = refl;
       }))))
 
   -- the barrier is open, and stays so, in a heap like this one
   barrier_stays : (m : HeapState) (b c : Barrier) (n : Counter) → SameThreads h m → barrier_of_thread h t ≡ Some b
-      → AllStay h (with_barrier m t c n)
+      → AllKeep h (with_barrier m t c n)
   unfolding with_barrier
-  barrier_stays m b c n k e = changed_all h m t (set_barrier_of c n) k (λ x f. record {
-    loading = λ l. ap is_some (sym (ap barrier_of f) ∙ e);
-    parked = refl;
-    runs = refl;
-  })
+  barrier_stays m b c n k e = record {
+    stay = changed_all h m t (set_barrier_of c n) k (λ x f. record {
+      loading = λ l. ap is_some (sym (ap barrier_of f) ∙ e);
+      parked = refl;
+      runs = refl;
+    });
+    phase = k.phase;
+  }
 
-  gc_row : (b : Barrier) (w : Reference) → barrier_of_thread h t ≡ Some b → Stay h (gc_trap h t b w)
-  gc_row b None e = all_same h
+  gc_row : (b : Barrier) (w : Reference) → barrier_of_thread h t ≡ Some b → Keep h (gc_trap h t b w)
+  gc_row b None e = keep_none h
   gc_row b (Some w) e = on_test (is_protect_crossing h.phase) _ _ _ (λ f.
       barrier_stays (copied_first h w.0) b _ counters.Gc (first_same h w.0) e)
 
-  nmt_row : (b : Barrier) → barrier_of_thread h t ≡ Some b → Stay h (nmt_trap h t b)
+  nmt_row : (b : Barrier) → barrier_of_thread h t ≡ Some b → Keep h (nmt_trap h t b)
   unfolding with_mark
   nmt_row b e = on_either (nmt_trap_due h t b.now) _ _ _ (λ f. barrier_stays
       (with_mark (copied_for h b.now) b.now) b _ counters.Nmt (same_then h (copied_for h b.now) _ (for_same h b.now)
-      (record { threads = refl; config = refl; phase = refl })) e) (λ f. all_same h)
+      (record { threads = refl; config = refl; phase = refl })) e) (λ f. keep_none h)
 
-  trap_row : Stay h (trap_outcome h t)
+  trap_row : Keep h (trap_outcome h t)
   unfolding trap_outcome
   trap_row = on_some (barrier_of_thread h t) _ _ _ (λ b e. on_either (gc_trap_due h t b.now) _ _ _
       (λ f. gc_row b b.now e) (λ f. nmt_row b e))
 
-  heal_row : Stay h (heal_outcome h t)
+  heal_row : Keep h (heal_outcome h t)
   unfolding heal_outcome heal_place with_global
   heal_row = on_some (barrier_of_thread h t) _ _ _ (λ b e. on_test (trap_due h t b.now) _ _ _ (λ f.
       by_bits b e (are_bits_of (bits_at h b.place) b.raw) b.place))
@@ -173,58 +196,64 @@ module _ (h : HeapState) (t : ℕ) where
       at_place b (places.Field a i) = (record { threads = refl; config = refl; phase = refl })
       at_place b (places.Global n) = (record { threads = refl; config = refl; phase = refl })
 
-      by_bits : (b : Barrier) → barrier_of_thread h t ≡ Some b → (c : Bool) (z : Place) → Stay h (Ok (cond c
+      by_bits : (b : Barrier) → barrier_of_thread h t ≡ Some b → (c : Bool) (z : Place) → Keep h (Ok (cond c
           (with_barrier (with_place h z b.now) t (set_healed b) counters.Healed, answers.Healed)
           (with_barrier h t (set_healed b) counters.Changed, answers.Changed)))
       by_bits b e true z = barrier_stays (with_place h z b.now) b (set_healed b) counters.Healed (at_place b z) e
       by_bits b e false z = barrier_stays h b (set_healed b) counters.Changed (same_none h) e
 
-  finish_row : Stay h (finish_outcome h t)
+  finish_row : Keep h (finish_outcome h t)
   unfolding finish_outcome end_load with_loaded
   finish_row = on_some (barrier_of_thread h t) _ _ _ (λ b e. on_test (trap_due h t b.now) _ _ _ (λ f.
       on_truth (may_finish b) _ _ _ (λ m. record {
-        each = changed_stays h.threads t (set_loaded_of b.target b.now)
-            (λ y g. record { loading = λ l. absurd (cc); parked = refl; runs = refl });
-        config = refl;
+        stay = record {
+          each = changed_stays h.threads t (set_loaded_of b.target b.now)
+              (λ y g. record { loading = λ l. absurd (cc); parked = refl; runs = refl });
+          config = refl;
+        };
+        phase = refl;
       })))
 
-  store_row : (o i r : ℕ) → Stay h (store_outcome h t o i r)
+  store_row : (o i r : ℕ) → Keep h (store_outcome h t o i r)
   unfolding store_outcome
   store_row o i r = on_bind (usable h t o) _ _ (λ a e. on_some (field_at h a i) _ _ _ (λ n f.
       on_bind (usable_or_null h t r) _ _ (λ u g.
-      same_stay h _ (record { threads = refl; config = refl; phase = refl }))))
+      keep_same h _ (record { threads = refl; config = refl; phase = refl }))))
 
-  store_global_row : (n r : ℕ) → Stay h (store_global_outcome h t n r)
+  store_global_row : (n r : ℕ) → Keep h (store_global_outcome h t n r)
   unfolding store_global_outcome with_global
   store_global_row n r = on_bind (usable_or_null h t r) _ _ (λ u g.
-      same_stay h _ (record { threads = refl; config = refl; phase = refl }))
+      keep_same h _ (record { threads = refl; config = refl; phase = refl }))
 
-  datum_row : (o j : ℕ) → Stay h (datum_outcome h t o j)
+  datum_row : (o j : ℕ) → Keep h (datum_outcome h t o j)
   unfolding datum_outcome
   datum_row o j = on_bind (usable h t o) _ _ (λ a e. on_some (datum_at h a j) _ _ _ (λ n f.
-      on_some (word_at h.store n) _ _ _ (λ v g. all_same h)))
+      on_some (word_at h.store n) _ _ _ (λ v g. keep_none h)))
 
-  set_datum_row : (o j v : ℕ) → Stay h (set_datum_outcome h t o j v)
+  set_datum_row : (o j v : ℕ) → Keep h (set_datum_outcome h t o j v)
   unfolding set_datum_outcome
   set_datum_row o j v = on_bind (usable h t o) _ _ (λ a e. on_some (datum_at h a j) _ _ _ (λ n f.
-      same_stay h _ (record { threads = refl; config = refl; phase = refl })))
+      keep_same h _ (record { threads = refl; config = refl; phase = refl })))
 
-  same_row : (l r : ℕ) → Stay h (same_outcome h t l r)
+  same_row : (l r : ℕ) → Keep h (same_outcome h t l r)
   unfolding same_outcome
-  same_row l r = on_bind (usable_or_null h t l) _ _ (λ a e. on_bind (usable_or_null h t r) _ _ (λ b f. all_same h))
+  same_row l r = on_bind (usable_or_null h t l) _ _ (λ a e. on_bind (usable_or_null h t r) _ _ (λ b f. keep_none h))
 
-  register_stays : (m : HeapState) (r : ℕ) (w : Reference) → SameThreads h m → AllStay h (with_register m t r w)
+  register_stays : (m : HeapState) (r : ℕ) (w : Reference) → SameThreads h m → AllKeep h (with_register m t r w)
   unfolding with_register
-  register_stays m r w k = changed_all h m t (set_register_of r w) k
-      (λ x e. record { loading = λ l. l; parked = refl; runs = refl })
+  register_stays m r w k = record {
+    stay = changed_all h m t (set_register_of r w) k
+        (λ x e. record { loading = λ l. l; parked = refl; runs = refl });
+    phase = k.phase;
+  }
 
-  scrub_row : (r : ℕ) → Stay h (scrub_outcome h t r)
+  scrub_row : (r : ℕ) → Keep h (scrub_outcome h t r)
   unfolding scrub_outcome
   scrub_row r = on_some (register_of h t r) _ _ _ (λ w e. on_either (not (is_refused (let_through h t w.0))) _ _ _
-      (λ f. all_same h) (λ f. on_test (is_protect_crossing h.phase) _ _ _ (λ g.
+      (λ f. keep_none h) (λ f. on_test (is_protect_crossing h.phase) _ _ _ (λ g.
       register_stays (copied_first h w.0) r (Some (moved_word h w)) (first_same h w.0))))
 
-  thread_rows : (step : Step) → turns step ≡ false → Stay h (thread_row h t step)
+  thread_rows : (step : Step) → turns step ≡ false → Keep h (thread_row h t step)
   unfolding is_null_outcome copy_register_outcome clear_register_outcome
   thread_rows (steps.Take n) e = take_row n
   thread_rows steps.GiveBack e = give_row
@@ -239,10 +268,10 @@ module _ (h : HeapState) (t : ℕ) where
   thread_rows (steps.Datum o j) e = datum_row o j
   thread_rows (steps.SetDatum o j v) e = set_datum_row o j v
   thread_rows (steps.Same l r) e = same_row l r
-  thread_rows (steps.IsNull r) e = all_same h
+  thread_rows (steps.IsNull r) e = keep_none h
   thread_rows (steps.CopyReg target r) e = register_stays h target (register_of h t r) (same_none h)
   thread_rows (steps.ClearReg target) e = register_stays h target None (same_none h)
-  thread_rows steps.Cross e = cross_row h t
+  thread_rows steps.Cross e = absurd (cc)
   thread_rows (steps.Scrub r) e = scrub_row r
   thread_rows steps.Park e = absurd (cc)
   thread_rows steps.Unpark e = absurd (cc)
@@ -371,12 +400,29 @@ module _ (h : HeapState) where
 
 -- ---- steps
 
-rows_stay : (h : HeapState) (actor : Actor) (step : Step) → turns step ≡ false → Stay h (outcome h actor step)
+keeps_stay : (h : HeapState) (o : Outcome) → Keep h o → Stay h o
+keeps_stay h (Ok z) k = k.stay
+keeps_stay h (Err n) k = tt
+
+thread_stays : (h : HeapState) (t : ℕ) (step : Step) → disturbs (Thread t) step ≡ false → Stay h (thread_row h t step)
+thread_stays h t steps.Cross e = cross_row h t
+thread_stays h t step e = keeps_stay h (thread_row h t step) (thread_rows h t step e)
+
+rows_stay : (h : HeapState) (actor : Actor) (step : Step) → disturbs actor step ≡ false → Stay h (outcome h actor step)
 unfolding outcome
-rows_stay h (Thread t) step e = on_bind (thread_gate h t step) _ _ (λ u f. thread_rows h t step e)
+rows_stay h (Thread t) step e = on_bind (thread_gate h t step) _ _ (λ u f. thread_stays h t step e)
 rows_stay h (Worker w) step e = on_bind (worker_gate h w step) _ _ (λ u f. worker_rows h w step)
 
-pub step_stays : (h : HeapState) (actor : Actor) (step : Step) (g : HeapState) (a : Answer) → turns step ≡ false
-    → outcome h actor step ≡ Ok (g, a) → AllStay h g
+pub step_stays : (h : HeapState) (actor : Actor) (step : Step) (g : HeapState) (a : Answer)
+    → disturbs actor step ≡ false → outcome h actor step ≡ Ok (g, a) → AllStay h g
 step_stays h actor step g a e ok = of_accepted (λ (z : HeapState × Answer). AllStay h z.0) (outcome h actor step)
     (g, a) (rows_stay h actor step e) ok
+
+rows_keep : (h : HeapState) (t : ℕ) (step : Step) → turns step ≡ false → Keep h (outcome h (Thread t) step)
+unfolding outcome
+rows_keep h t step e = on_bind (thread_gate h t step) _ _ (λ u f. thread_rows h t step e)
+
+pub step_keeps : (h : HeapState) (t : ℕ) (step : Step) (g : HeapState) (a : Answer) → turns step ≡ false
+    → outcome h (Thread t) step ≡ Ok (g, a) → AllKeep h g
+step_keeps h t step g a e ok = of_accepted (λ (z : HeapState × Answer). AllKeep h z.0) (outcome h (Thread t) step)
+    (g, a) (rows_keep h t step e) ok

@@ -104,6 +104,17 @@ same_stay h g k = record {
   config = k.config;
 }
 
+-- all threads stay, and the phase is the same
+pub record AllKeep (h g : HeapState) : Type 0 where
+  pub stay : AllStay h g
+  pub phase : g.phase ≡ h.phase
+
+pub keep_same : (h g : HeapState) → SameThreads h g → AllKeep h g
+keep_same h g k = record { stay = same_stay h g k; phase = k.phase }
+
+pub keep_none : (h : HeapState) → AllKeep h h
+keep_none h = record { stay = all_same h; phase = refl }
+
 -- a heap like this one, but for one thread
 pub changed_all : (h m : HeapState) (t : ℕ) (f : ThreadState → ThreadState) → SameThreads h m
     → ((x : ThreadState) → slice_get h.threads t ≡ Some x → Stays (Some x) (Some (f x)))
