@@ -18,7 +18,7 @@ use Rattle.model.specs.Threads.{is_parked_in}
 use Rattle.entries.specs.declared.entry.Entry.{Entry}
 use Rattle.cycle.specs.Mutating.{DoesThread, ThreadStands}
 use Rattle.managed.specs.Collecting.{IsCollecting}
-use Rattle.managed.specs.Goings.{EachIs, Goes, IsCrossing, IsInBarrier, IsScrub, Steps, entry}
+use Rattle.managed.specs.Goings.{EachIs, Goes, IsCrossing, IsInBarrier, IsScrub, EndsLoad, LoadsWhole, Steps, entry}
 use Rattle.managed.specs.Runs.{Leads}
 use Rattle.managed.specs.Scrubbing.{AreScrubbed, names_protected}
 use Rattle.managed.proofs.Going.{goes_then, goes_thread}
@@ -102,3 +102,27 @@ not_protecting MarkCrossing e = refl
 not_protecting Idle e = refl
 not_protecting Scanning e = refl
 not_protecting Relocating e = refl
+
+-- ---- whole loads
+
+barrier_in : (t : ℕ) (a : Actor) (s : Step) → IsInBarrier t a s → IsInPortion t a s
+barrier_in t (Thread u) s k = inl (ap Thread k.0)
+barrier_in t (Worker w) s k = absurd k
+
+pub goes_one : (t : ℕ) (step : Step) (a : Answer) (h g : HeapState) → Steps (Thread t) step a h g → GoesIn t h g
+goes_one t step a h g k = record { entries = entry (Thread t) step a ∷ []; each = (inl refl, tt); runs = k }
+
+ends_goes : (t : ℕ) (h g : HeapState) (r : Result Unit Refusal) → EndsLoad h t r g → GoesIn t h g
+ends_goes t h g (Ok u) k = goes_then (IsInPortion t) h k.0 g
+    (goes_more (IsInBarrier t) (IsInPortion t) (barrier_in t) h k.0 k.1)
+    (goes_one t steps.Finish answers.Done k.0 g k.2)
+ends_goes t h g (Err e) k = goes_more (IsInBarrier t) (IsInPortion t) (barrier_in t) h g k.0
+
+-- the portion goes on with a whole load of its thread
+pub load_goes : (t : ℕ) (begin : Step) (b h g : HeapState) (r : Result Unit Refusal) → LoadsWhole h t begin r g
+    → GoesIn t b h → GoesIn t b g
+load_goes t begin b h g (Ok u) k done = goes_then (IsInPortion t) b h g done
+    (goes_then (IsInPortion t) h k.0 g (goes_one t begin answers.Loaded h k.0 k.1) (ends_goes t k.0 g (Ok u) k.2))
+load_goes t begin b h g (Err e) (inl k) done = subst (GoesIn t b) (sym k.1) done
+load_goes t begin b h g (Err e) (inr k) done = goes_then (IsInPortion t) b h g done
+    (goes_then (IsInPortion t) h k.0 g (goes_one t begin answers.Loaded h k.0 k.1) (ends_goes t k.0 g (Err e) k.2))

@@ -3,3 +3,4 @@ pub mod Rows
 pub mod Parking
 pub mod Doing
 pub mod Loads
+pub mod Collected

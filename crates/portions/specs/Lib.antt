@@ -1,3 +1,4 @@
 pub mod Apart
 pub mod Portions
+pub mod Seats
 pub mod Views

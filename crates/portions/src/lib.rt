@@ -2,8 +2,15 @@
 //! thread under one hold of the lock.
 #![tactic(auto)]
 
+mod calls;
+mod making;
 mod mutator;
+mod seats;
+mod settling;
+mod shared;
 
 pub use managed::ManagedHeap;
 pub use model::Refusal;
 pub use mutator::Mutator;
+pub use seats::{CollectorSeat, ThreadSeat};
+pub use shared::SharedHeap;

@@ -16,6 +16,7 @@ pub struct Mutator {
     pub(crate) heap: ManagedHeap,
     pub(crate) thread: u32,
     began: Snapshot<ManagedHeap>,
+    rests: u32,
 }
 
 impl Model for Mutator {
@@ -41,6 +42,7 @@ impl Mutator {
             heap,
             thread: 0,
             began,
+            rests: 0,
         }
     }
 
@@ -58,6 +60,7 @@ impl Mutator {
         self.leave();
         self.thread = thread;
         self.began = Snapshot::of(&self.heap);
+        self.rests = 0;
         let _ = self.heap.unpark(thread);
         self.heap.scrub_all();
     }
@@ -68,6 +71,16 @@ impl Mutator {
         ensures still { IsStill self.new.heap }
     {
         let _ = self.heap.park(self.thread);
+    }
+
+    /// Counts one more rest of the portion, up to 2^32 - 1, and returns how many there were before.
+    #[inline(always)]
+    pub(crate) fn rests(&mut self) -> u32
+        ensures { self.new ≡ self.old }
+    {
+        let rests = self.rests;
+        self.rests = rests.saturating_add(1);
+        rests
     }
 
     /// Returns the number of the thread whose portion it is, from 0.

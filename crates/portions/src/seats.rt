@@ -1,0 +1,41 @@
+//! Seats: who acts for whom.
+
+ghost use Rattle.std.specs.Prelude.{◌≡◌, ℕ, ◌<◌, IfOk, length, map};
+ghost use Rattle.std.specs.List.{range_with_len};
+ghost use Rattle.portions.specs.Seats.{seat_of};
+
+use collecting::Parts;
+use std::alloc::{AllocError, Global};
+
+/// The seat of a thread of the heap: whoever has it acts for that thread, and nobody else does. A seat is for the
+/// heap that it was opened with.
+#[derive(Drop)]
+pub struct ThreadSeat {
+    pub(crate) thread: u32,
+}
+
+impl ThreadSeat {
+    /// Returns the number of its thread, from 0.
+    pub fn thread(&self) -> u32
+        ensures { result ≡ self.now.thread }
+    {
+        self.thread
+    }
+}
+
+/// The seat of the worker that collects, and how far its collection has come.
+#[derive(Drop)]
+pub struct CollectorSeat {
+    pub(crate) parts: Parts,
+}
+
+/// A seat for each thread of a heap, by their numbers.
+pub(crate) fn thread_seats(alloc: Global, threads: u32) -> Result<Vec<ThreadSeat>, AllocError>
+    ensures { IfOk result (λ seats. seats.items ≡ map seat_of (range_with_len 0 threads)) }
+{
+    let mut seats = Vec::with_capacity(alloc, threads as usize)?;
+    for thread in 0..threads {
+        seats.push(ThreadSeat { thread })?;
+    }
+    Ok(seats)
+}
