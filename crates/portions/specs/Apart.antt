@@ -26,3 +26,12 @@ pub record IsStill (h : HeapState) : Type 0 where
   pub closed : (u : ℕ) → is_loading_in (slice_get h.threads u) ≡ false
   pub parked : (u : ℕ) → runs_in (slice_get h.threads u) ≡ false
   pub workers : 0 < h.config.workers
+
+-- a thread is parked, and outside of a load, or it isn't there
+pub record IsStillAt (h : HeapState) (u : ℕ) : Type 0 where
+  pub closed : is_loading_in (slice_get h.threads u) ≡ false
+  pub parked : runs_in (slice_get h.threads u) ≡ false
+
+-- all threads are
+abbrev pub AllStill : HeapState → Type 0
+AllStill h = (u : ℕ) → IsStillAt h u

@@ -1,7 +1,8 @@
 -- Portions: many steps of one thread, one after another, on a heap that threads share.
-use Rattle.std.specs.Prelude.{◌≡◌, ◌⊎◌, ℕ, false, slice_get, Ok, Err}
+use Rattle.std.specs.Prelude.{◌≡◌, ◌⊎◌, ℕ, Bool, false, slice_get, Result, Ok, Err}
 use Rattle.model.specs.declared.steps.Actor.{Actor}
 use Rattle.model.specs.declared.steps.Actor.TheVariants.{Thread}
+use Rattle.model.specs.declared.steps.Refusal.{Refusal}
 use Rattle.model.specs.declared.steps.Refusal.TheVariants as refusals
 use Rattle.model.specs.declared.steps.Step.{Step}
 use Rattle.model.specs.Checkpoints.{all_crossed}
@@ -13,7 +14,8 @@ use Rattle.managed.specs.Goings.{Goes, IsCrossing}
 use Rattle.managed.specs.Managing.{Promises}
 use Rattle.managed.specs.Scrubbing.{names_protected}
 use Rattle.collecting.specs.Collections.{WORKER}
-use Rattle.portions.specs.Apart.{IsApart}
+use Rattle.collecting.specs.Parts.{EndsPart}
+use Rattle.portions.specs.Apart.{IsApart, IsStill}
 
 -- the thread whose portion it is, the heap as the portion began, and the heap
 pub record MutatorState : Type 0 where
@@ -65,3 +67,10 @@ ThenCrosses P g = (m : HeapState) × P m × Goes (IsCrossing WORKER) m g
 -- the same portion goes on, or another one of its thread has begun
 abbrev pub Rests : MutatorState → MutatorState → Type 0
 Rests old new = (new ≡ old) ⊎ (Begins old.thread new × HoldsInPortion new)
+
+-- between two portions a part of a collection was done, on a heap whose threads were all parked
+pub record CollectsBetween (result : Result Bool Refusal) (m : MutatorState) : Type 0 where
+  pub before : HeapState
+  pub still : IsStill before
+  pub ends : ThenCrosses (EndsPart before result) m.heap
+  pub holds : HoldsInPortion m

@@ -3,8 +3,10 @@
 #![tactic(auto)]
 
 mod calls;
+mod collector;
 mod making;
 mod mutator;
+mod opening;
 mod seats;
 mod settling;
 mod shared;
@@ -12,5 +14,6 @@ mod shared;
 pub use managed::ManagedHeap;
 pub use model::Refusal;
 pub use mutator::Mutator;
+pub use opening::{OpenFault, Seats};
 pub use seats::{CollectorSeat, ThreadSeat};
 pub use shared::SharedHeap;
