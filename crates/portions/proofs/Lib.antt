@@ -4,3 +4,4 @@ pub mod Parking
 pub mod Doing
 pub mod Loads
 pub mod Collected
+pub mod Numbered

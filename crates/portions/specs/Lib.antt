@@ -1,4 +1,3 @@
 pub mod Apart
 pub mod Portions
-pub mod Seats
 pub mod Views

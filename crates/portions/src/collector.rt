@@ -7,12 +7,22 @@ use crate::mutator::Mutator;
 use crate::seats::CollectorSeat;
 use crate::settling::settle;
 use crate::shared::SharedHeap;
-use collecting::{Holding, Parts};
+use collecting::{Holding, Parts, Policy};
 use model::Refusal;
 use std::alloc::Global;
 use std::sync::Wait;
+use std::thread;
+use std::time::{Clock, Duration};
+
+/// The collector sleeps for so many milliseconds when nothing is due.
+const PAUSE: u64 = 1;
 
 impl Mutator {
+    /// Whether at most so many frames are free.
+    pub(crate) fn is_low(&self, free: u32) -> bool {
+        self.heap.heap().memory().free_frames() <= free
+    }
+
     /// Does a part of a collection, while all threads are parked.
     pub(crate) fn collect_part(
         &mut self,
@@ -51,5 +61,54 @@ impl SharedHeap {
         let mut desk = self.hold(rt);
         let mutator = &mut *desk;
         mutator.collect_part(alloc, &mut seat.parts, percent, budget)
+    }
+    /// Does the next part of a collection if one has begun, or if at most `policy.free` frames are free. Returns
+    /// whether the collection has ended, or `None` if nothing was due.
+    fn collect_if_due<R: Wait>(
+        &self,
+        rt: &R,
+        alloc: Global,
+        seat: &mut CollectorSeat,
+        policy: Policy,
+        budget: u32,
+    ) -> Result<Option<bool>, Refusal> {
+        let mut desk = self.hold(rt);
+        let mutator = &mut *desk;
+        if !seat.has_begun && !mutator.is_low(policy.free) {
+            return Ok(None);
+        }
+        seat.has_begun = true;
+        let ended = mutator.collect_part(alloc, &mut seat.parts, policy.percent, budget)?;
+        seat.has_begun = !ended;
+        Ok(Some(ended))
+    }
+
+    /// Collects between portions until `close` is called, for a thread that does nothing else. A collection begins
+    /// when at most `policy.free` frames are free; it is done in parts as `collect_some` does them. After each part
+    /// threads that wait have the heap. When nothing is due, or memory is refused, the thread sleeps for a
+    /// millisecond. Returns how many collections have ended.
+    pub fn run_collector<R: Wait + Clock>(
+        &self,
+        rt: &R,
+        alloc: Global,
+        seat: &mut CollectorSeat,
+        policy: Policy,
+        budget: u32,
+    ) -> u64 {
+        let mut collections = 0u64;
+        for _ in rt.forever() {
+            if self.is_closed() {
+                return collections;
+            }
+            match self.collect_if_due(rt, alloc, seat, policy, budget) {
+                Ok(Some(false)) => self.give_way(),
+                Ok(Some(true)) => {
+                    collections = collections.saturating_add(1);
+                    thread::sleep(rt, Duration::from_millis(PAUSE));
+                }
+                Ok(None) | Err(_) => thread::sleep(rt, Duration::from_millis(PAUSE)),
+            }
+        }
+        unreachable!()
     }
 }

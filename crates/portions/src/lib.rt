@@ -2,15 +2,16 @@
 //! thread under one hold of the lock.
 #![tactic(auto)]
 
+mod acting;
 mod calls;
 mod collector;
-mod making;
 mod mutator;
 mod opening;
 mod seats;
 mod settling;
 mod shared;
 
+pub use calls::MutatorCalls;
 pub use managed::ManagedHeap;
 pub use model::Refusal;
 pub use mutator::Mutator;

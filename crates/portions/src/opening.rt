@@ -1,9 +1,8 @@
 //! A heap is shared: its threads are parked, and each gets a seat.
 
-ghost use Rattle.std.specs.Prelude.{◌≡◌, ℕ, None, false, IfOk, map};
+ghost use Rattle.std.specs.Prelude.{◌≡◌, ℕ, None, false, IfOk};
 ghost use Rattle.std.specs.List.{range_with_len};
 ghost use Rattle.portions.specs.Apart.{AllStill, IsApart, IsStillAt};
-ghost use Rattle.portions.specs.Seats.{seat_of};
 
 use crate::mutator::Mutator;
 use crate::seats::{CollectorSeat, ThreadSeat, thread_seats};
@@ -86,7 +85,7 @@ impl SharedHeap {
     ///
     /// Fails with `Pending` if a thread is inside a load, and with `Memory`; the fault has the heap.
     pub fn open(alloc: Global, heap: ManagedHeap, rests: u32) -> Result<(SharedHeap, Seats), OpenFault>
-        ensures { IfOk result (λ both. (threads : ℕ) × (both.1.threads.items ≡ map seat_of (range_with_len 0 threads))) }
+        ensures { IfOk result (λ both. (threads : ℕ) × (both.1.threads.items ≡ range_with_len 0 threads)) }
     {
         let threads = heap.heap().config().threads;
         let Ok(threads) = thread_seats(alloc, threads) else {
@@ -101,6 +100,7 @@ impl SharedHeap {
         }
         let collector = CollectorSeat {
             parts: Parts::new(alloc),
+            has_begun: false,
         };
         let shared = SharedHeap::with_mutator(Mutator::new(heap), rests);
         Ok((shared, Seats { threads, collector }))

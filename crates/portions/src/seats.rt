@@ -1,11 +1,11 @@
 //! Seats: who acts for whom.
 
-ghost use Rattle.std.specs.Prelude.{◌≡◌, ℕ, ◌<◌, IfOk, length, map};
+ghost use Rattle.std.specs.Prelude.{◌≡◌, IfOk};
 ghost use Rattle.std.specs.List.{range_with_len};
-ghost use Rattle.portions.specs.Seats.{seat_of};
 
 use collecting::Parts;
 use std::alloc::{AllocError, Global};
+use std::marker::Model;
 
 /// The seat of a thread of the heap: whoever has it acts for that thread, and nobody else does. A seat is for the
 /// heap that it was opened with.
@@ -14,10 +14,18 @@ pub struct ThreadSeat {
     pub(crate) thread: u32,
 }
 
+impl Model for ThreadSeat {
+    ghost use Rattle.std.specs.Prelude.{ℕ};
+
+    ghost Value = { ℕ };
+
+    ghost view = { λ seat. seat.thread };
+}
+
 impl ThreadSeat {
     /// Returns the number of its thread, from 0.
     pub fn thread(&self) -> u32
-        ensures { result ≡ self.now.thread }
+        ensures { result ≡ self.now }
     {
         self.thread
     }
@@ -27,11 +35,12 @@ impl ThreadSeat {
 #[derive(Drop)]
 pub struct CollectorSeat {
     pub(crate) parts: Parts,
+    pub(crate) has_begun: bool,
 }
 
 /// A seat for each thread of a heap, by their numbers.
 pub(crate) fn thread_seats(alloc: Global, threads: u32) -> Result<Vec<ThreadSeat>, AllocError>
-    ensures { IfOk result (λ seats. seats.items ≡ map seat_of (range_with_len 0 threads)) }
+    ensures { IfOk result (λ seats. seats.items ≡ range_with_len 0 threads) }
 {
     let mut seats = Vec::with_capacity(alloc, threads as usize)?;
     for thread in 0..threads {

@@ -9,7 +9,7 @@ ghost use Rattle.portions.specs.Portions.{Begins, HoldsInPortion, MutatorState, 
 use crate::mutator::Mutator;
 use crate::seats::ThreadSeat;
 use managed::ManagedHeap;
-use std::sync::atomic::{AtomicU64, Ordering};
+use std::sync::atomic::{AtomicBool, AtomicU64, Ordering};
 use std::sync::{RwLock, RwLockWriteGuard, Wait};
 use std::thread;
 
@@ -21,6 +21,7 @@ const MOST_YIELDS: u32 = 1000;
 pub struct SharedHeap {
     desk: RwLock<Mutator>,
     wanted: AtomicU64,
+    closed: AtomicBool,
     rests: u32,
 }
 
@@ -30,6 +31,7 @@ impl SharedHeap {
         SharedHeap {
             desk: RwLock::new(mutator),
             wanted: AtomicU64::new(0),
+            closed: AtomicBool::new(false),
             rests,
         }
     }
@@ -48,6 +50,16 @@ impl SharedHeap {
         self.wanted.load(Ordering::SeqCst) > 0
     }
 
+    /// Ends `run_collector` after the part that it does.
+    pub fn close(&self) {
+        self.closed.store(true, Ordering::SeqCst);
+    }
+
+    /// Whether `close` was called.
+    pub fn is_closed(&self) -> bool {
+        self.closed.load(Ordering::SeqCst)
+    }
+
     /// Takes the lock; meanwhile the heap is wanted.
     pub(crate) fn hold<'a, R: Wait>(&'a self, rt: &R) -> RwLockWriteGuard<'a, Mutator> {
         let _ = self.wanted.fetch_add(1, Ordering::SeqCst);
@@ -63,7 +75,7 @@ impl SharedHeap {
         rt: &R,
         seat: &'a mut ThreadSeat,
     ) -> RwLockWriteGuard<'a, Mutator>
-        ensures begins { Begins seat.old.thread (write_guard_value result) }
+        ensures begins { Begins seat.old (write_guard_value result) }
         ensures holds { HoldsInPortion (write_guard_value result) }
     {
         self.begin(rt, seat.thread)
@@ -108,13 +120,18 @@ impl SharedHeap {
     {
         let thread = portion.thread();
         SharedHeap::leave(portion);
+        self.give_way();
+        self.begin(rt, thread)
+    }
+
+    /// Lets other threads run until one that waits has the heap, or up to 1,000 times.
+    pub(crate) fn give_way(&self) {
         for _ in 0..MOST_YIELDS {
             if !self.is_wanted() {
-                break;
+                return;
             }
             thread::yield_now();
         }
-        self.begin(rt, thread)
     }
 
     /// Ends a portion: its thread is parked, and others may have the heap. A guard that is dropped does the same, but
@@ -126,8 +143,8 @@ impl SharedHeap {
 
     /// Does a portion of a seat's thread: what `f` does.
     pub fn with<R: Wait, T, F: FnOnce(&mut Mutator) -> T>(&self, rt: &R, seat: &mut ThreadSeat, f: F) -> T
-        requires { (m : MutatorState) → Begins seat.old.thread m → HoldsInPortion m → FnOnceTakesAtMut F.FnOnce f m }
-        ensures did { (m n : MutatorState) × Begins seat.old.thread m × HoldsInPortion m × HoldsInPortion n
+        requires { (m : MutatorState) → Begins seat.old m → HoldsInPortion m → FnOnceTakesAtMut F.FnOnce f m }
+        ensures did { (m n : MutatorState) × Begins seat.old m × HoldsInPortion m × HoldsInPortion n
             × FnOnceReturnsAtMut F.FnOnce f m result n }
         ensures seat { seat.new ≡ seat.old }
     {
