@@ -1,6 +1,6 @@
 -- Collections in a portion: they neither begin a load nor park a thread or let it run, and what checkpoint they leave
 -- open all threads can cross.
-use Rattle.std.proofs.Common.{◌≡◌, ◌⊎◌, ◌∙◌, ◌<◌, ◌≤◌, ℕ, ◌+◌, Bool, true, false, List, [], ◌∷◌, ◌++◌, length, refl, sym, subst, ap, inl, inr}
+use Rattle.std.proofs.Common.{◌≡◌, ◌∙◌, ℕ, ◌+◌, Bool, true, false, List, [], ◌∷◌, ◌++◌, refl, sym, subst, ap, inl, inr}
 use Rattle.std.proofs.Common.{Option, Some, None, ◌/◌, arith, cond, not}
 use Rattle.std.specs.Prelude.{Result, Ok, Err}
 use Rattle.std.specs.List.{slice_get}
@@ -15,7 +15,7 @@ use Rattle.model.specs.declared.steps.Refusal.TheVariants as refusals
 use Rattle.model.specs.declared.steps.Step.{Step}
 use Rattle.model.specs.declared.steps.Step.TheVariants as steps
 use Rattle.model.specs.Checkpoints.{all_crossed, first_behind, none_behind}
-use Rattle.model.specs.Outcome.{outcome, is_loading_in}
+use Rattle.model.specs.Outcome.{outcome}
 use Rattle.model.specs.Phases.{is_crossing}
 use Rattle.model.specs.Registers.{held_back, let_through}
 use Rattle.model.specs.States.{HeapState, ThreadState}
@@ -28,15 +28,14 @@ use Rattle.managed.specs.declared.batches.FieldLoad.{FieldLoad}
 use Rattle.managed.specs.declared.batches.LoadsFault.{LoadsFault}
 use Rattle.managed.specs.Batches.{EndsFilling, EndsLoads, fill_steps, fill_test, set_steps, store_steps}
 use Rattle.managed.specs.Collecting.{IsCollecting}
-use Rattle.managed.specs.Goings.{AllTried, Goes, IsBehind, IsCrossing, IsStuck, StandsForSame, Steps}
+use Rattle.managed.specs.Goings.{AllTried, Goes, IsCrossing, IsStuck, StandsForSame, Steps}
 use Rattle.managed.specs.Managing.{Promises}
-use Rattle.managed.proofs.Going.{goes_then}
 use Rattle.collecting.specs.Collections.{Collects, WORKER}
 use Rattle.collecting.specs.Filling.{AfterTest, EndsMakingWith, MakesAndFills}
 use Rattle.collecting.specs.Rooms.{EndsMaking, IsRefill, MakingStands, Refills}
 use Rattle.portions.specs.Apart.{IsApart, RunsAlone}
-use Rattle.portions.specs.Portions.{GoesIn, IsInPortion, NeverStalls}
-use Rattle.portions.proofs.Doing.{goes_more, goes_one, goes_stay, load_goes}
+use Rattle.portions.specs.Portions.{NeverStalls}
+use Rattle.portions.proofs.Doing.{goes_stay}
 use Rattle.portions.proofs.Loads.{load_apart}
 use Rattle.portions.proofs.Parking.{alone_stays, is_false}
 use Rattle.portions.proofs.Rows.{disturbs, step_stays, turns}
@@ -62,40 +61,11 @@ refill_stay t (Thread u) (steps.Scrub r) k = refl
 refill_stay t (Thread u) _ k = absurd k
 refill_stay t (Worker v) s k = refl
 
-pub collecting_in : (t : ℕ) (a : Actor) (s : Step) → IsCollecting WORKER a s → IsInPortion t a s
-collecting_in t a s k = inr k
+-- ---- thread t runs alone, after such steps too
 
-pub crossing_in : (t : ℕ) (a : Actor) (s : Step) → IsCrossing WORKER a s → IsInPortion t a s
-crossing_in t (Thread u) steps.Cross k = inr tt
-crossing_in t (Thread u) _ k = absurd k
-crossing_in t (Worker v) (steps.CrossFor u) k = inr k
-crossing_in t (Worker v) _ k = absurd k
-
-pub refill_in : (t : ℕ) (a : Actor) (s : Step) → IsRefill t a s → IsInPortion t a s
-refill_in t (Thread u) (steps.Take n) k = inl (ap Thread k)
-refill_in t (Thread u) steps.GiveBack k = inl (ap Thread k)
-refill_in t (Thread u) steps.Cross k = inr tt
-refill_in t (Thread u) (steps.Scrub r) k = inr tt
-refill_in t (Thread u) _ k = absurd k
-refill_in t (Worker v) s k = inr k
-
--- ---- a portion goes on
-
--- what was done since a portion of thread t began is of the portion, and t runs alone
-pub record Going (t : ℕ) (b h : HeapState) : Type 0 where
-  pub goes : GoesIn t b h
-  pub alone : RunsAlone h t
-
-pub going_by : (P : Actor → Step → Type 0) (t : ℕ) → ((a : Actor) (s : Step) → P a s → IsInPortion t a s)
-    → ((a : Actor) (s : Step) → P a s → disturbs a s ≡ false) → (b h g : HeapState) → Goes P h g → Going t b h
-    → Going t b g
-going_by P t f e b h g k a = record {
-  goes = goes_then (IsInPortion t) b h g a.goes (goes_more P (IsInPortion t) f h g k);
-  alone = alone_stays h g t (goes_stay P e h g k) a.alone;
-}
-
-pub going_apart : (t : ℕ) (b h : HeapState) → GoesIn t b h → IsApart h t → Going t b h
-going_apart t b h k a = record { goes = k; alone = a.runs }
+pub alone_by : (P : Actor → Step → Type 0) (t : ℕ) → ((a : Actor) (s : Step) → P a s → disturbs a s ≡ false)
+    → (h g : HeapState) → Goes P h g → RunsAlone h t → RunsAlone g t
+alone_by P t e h g k a = alone_stays h g t (goes_stay P e h g k) a
 
 -- ---- a checkpoint is closed
 
@@ -165,27 +135,22 @@ accepted_step : (actor : Actor) (step : Step) (a : Answer) (h g : HeapState) →
     → outcome h actor step ≡ Ok (g, a)
 accepted_step actor step a h g k = subst (λ (x : HeapState). outcome h actor step ≡ Ok (x, a)) (sym k.steps.2) k.steps.1
 
-pub step_going : (t : ℕ) (step : Step) (a : Answer) (b h g : HeapState) → disturbs (Thread t) step ≡ false
-    → Steps (Thread t) step a h g → Going t b h → Going t b g
-step_going t step a b h g e k z = record {
-  goes = goes_then (IsInPortion t) b h g z.goes (goes_one t step a h g k);
-  alone = alone_stays h g t (step_stays h (Thread t) step g a e (accepted_step (Thread t) step a h g k)) z.alone;
-}
+pub step_alone : (t : ℕ) (step : Step) (a : Answer) (h g : HeapState) → disturbs (Thread t) step ≡ false
+    → Steps (Thread t) step a h g → RunsAlone h t → RunsAlone g t
+step_alone t step a h g e k z =
+    alone_stays h g t (step_stays h (Thread t) step g a e (accepted_step (Thread t) step a h g k)) z
 
-pub refills_going : (t : ℕ) (b h g : HeapState) → Refills t h g → Going t b h → Going t b g
-refills_going t b h g = going_by (IsRefill t) t (refill_in t) (refill_stay t) b h g
+pub refills_alone : (t : ℕ) (h g : HeapState) → Refills t h g → RunsAlone h t → RunsAlone g t
+refills_alone t h g = alone_by (IsRefill t) t (refill_stay t) h g
 
-pub collects_going : (t : ℕ) (b h g : HeapState) → Collects h g → Going t b h → Going t b g
-collects_going t b h g = going_by (IsCollecting WORKER) t (collecting_in t) (collecting_stay WORKER) b h g
+pub collects_alone : (t : ℕ) (h g : HeapState) → Collects h g → RunsAlone h t → RunsAlone g t
+collects_alone t h g = alone_by (IsCollecting WORKER) t (collecting_stay WORKER) h g
 
-pub crosses_going : (t : ℕ) (b h g : HeapState) → Goes (IsCrossing WORKER) h g → Going t b h → Going t b g
-crosses_going t b h g = going_by (IsCrossing WORKER) t (crossing_in t) (crossing_stay WORKER) b h g
-
-pub making_going : (t n percent target layout : ℕ) (b h g : HeapState) (r : Result ℕ Refusal)
-    → EndsMaking t n percent target layout h r g → Going t b h → Going t b g
-making_going t n percent target layout b h g (Ok x) k z = step_going t (steps.New target layout) (answers.Birth x) b k.0 g
-    refl k.2 (refills_going t b h k.0 k.1 z)
-making_going t n percent target layout b h g (Err e) k z = refills_going t b h g k.0 z
+pub making_alone : (t n percent target layout : ℕ) (h g : HeapState) (r : Result ℕ Refusal)
+    → EndsMaking t n percent target layout h r g → RunsAlone h t → RunsAlone g t
+making_alone t n percent target layout h g (Ok x) k z = step_alone t (steps.New target layout) (answers.Birth x) k.0 g
+    refl k.2 (refills_alone t h k.0 k.1 z)
+making_alone t n percent target layout h g (Err e) k z = refills_alone t h g k.0 z
 
 -- steps of these neither begin a load nor move the phase
 abbrev AreQuiet : List Step → Type 0
@@ -208,46 +173,43 @@ quiet_disturbs : (t : ℕ) (s : Step) → turns s ≡ false → disturbs (Thread
 quiet_disturbs t steps.Cross e = refl
 quiet_disturbs t s e = e
 
-filling_going : (t : ℕ) (ss : List Step) (b h g : HeapState) (r : Result Unit Refusal) → AreQuiet ss
-    → EndsFilling t ss h r g → Going t b h → Going t b g
-filling_going t [] b h g r q k z = subst (Going t b) (sym k.1) z
-filling_going t (s ∷ ss) b h g r q (inl k) z = filling_going t ss b k.0 g r q.1 k.2
-    (step_going t s answers.Done b h k.0 (quiet_disturbs t s q.0) k.1 z)
-filling_going t (s ∷ ss) b h g r q (inr k) z = subst (Going t b) (sym k.3) z
+filling_alone : (t : ℕ) (ss : List Step) (h g : HeapState) (r : Result Unit Refusal) → AreQuiet ss
+    → EndsFilling t ss h r g → RunsAlone h t → RunsAlone g t
+filling_alone t [] h g r q k z = subst (λ (x : HeapState). RunsAlone x t) (sym k.1) z
+filling_alone t (s ∷ ss) h g r q (inl k) z = filling_alone t ss k.0 g r q.1 k.2
+    (step_alone t s answers.Done h k.0 (quiet_disturbs t s q.0) k.1 z)
+filling_alone t (s ∷ ss) h g r q (inr k) z = subst (λ (x : HeapState). RunsAlone x t) (sym k.3) z
 
-pub making_with_going : (t n percent target layout : ℕ) (sources nums : List ℕ) (b h g : HeapState)
-    (r : Result ℕ Refusal) → EndsMakingWith t n percent target layout sources nums h r g → Going t b h → Going t b g
-making_with_going t n percent target layout sources nums b h g r k z =
+pub making_with_alone : (t n percent target layout : ℕ) (sources nums : List ℕ) (h g : HeapState)
+    (r : Result ℕ Refusal) → EndsMakingWith t n percent target layout sources nums h r g → RunsAlone h t → RunsAlone g t
+making_with_alone t n percent target layout sources nums h g r k z =
     by_test (fill_test h t target layout sources nums) k
   where
     quiet : AreQuiet (fill_steps target sources nums)
     quiet = append_quiet (store_steps target 0 sources) (set_steps target 0 nums) (stores_quiet target 0 sources)
         (sets_quiet target 0 nums)
 
-    by_result : (r : Result ℕ Refusal) → MakesAndFills t n percent target layout sources nums h r g → Going t b g
-    by_result (Ok x) y = filling_going t (fill_steps target sources nums) b y.0 g (Ok tt) quiet y.2
-        (making_going t n percent target layout b h y.0 (Ok x) y.1.0 z)
-    by_result (Err e) (inl y) = making_going t n percent target layout b h g (Err e) y.0 z
-    by_result (Err e) (inr y) = filling_going t (fill_steps target sources nums) b y.0 g (Err e) quiet y.3
-        (making_going t n percent target layout b h y.0 (Ok y.1) y.2.0 z)
+    by_result : (r : Result ℕ Refusal) → MakesAndFills t n percent target layout sources nums h r g → RunsAlone g t
+    by_result (Ok x) y = filling_alone t (fill_steps target sources nums) y.0 g (Ok tt) quiet y.2
+        (making_alone t n percent target layout h y.0 (Ok x) y.1.0 z)
+    by_result (Err e) (inl y) = making_alone t n percent target layout h g (Err e) y.0 z
+    by_result (Err e) (inr y) = filling_alone t (fill_steps target sources nums) y.0 g (Err e) quiet y.3
+        (making_alone t n percent target layout h y.0 (Ok y.1) y.2.0 z)
 
     by_test : (x : Result Unit Refusal)
-        → AfterTest x (MakesAndFills t n percent target layout sources nums) h r g → Going t b g
+        → AfterTest x (MakesAndFills t n percent target layout sources nums) h r g → RunsAlone g t
     by_test (Ok u) y = by_result r y
-    by_test (Err e) y = subst (Going t b) (sym y.1) z
+    by_test (Err e) y = subst (λ (x : HeapState). RunsAlone x t) (sym y.1) z
 
 -- ---- several loads
 
-pub loads_in : (t object n : ℕ) (ls : List FieldLoad) (b h g : HeapState) (r : Result Unit LoadsFault)
-    → EndsLoads t object n ls h r g → GoesIn t b h → IsApart h t → GoesIn t b g × IsApart g t
-loads_in t object n [] b h g r k z a = subst (λ (x : HeapState). GoesIn t b x × IsApart x t) (sym k.1) (z, a)
-loads_in t object n (l ∷ ls) b h g r (inl k) z a = loads_in t object (n + 1) ls b k.0 g r k.2
-    (load_goes t (steps.Load l.target object l.field) b h k.0 (Ok tt) k.1.0 z)
+pub loads_apart : (t object n : ℕ) (ls : List FieldLoad) (h g : HeapState) (r : Result Unit LoadsFault)
+    → EndsLoads t object n ls h r g → IsApart h t → IsApart g t
+loads_apart t object n [] h g r k a = subst (λ (x : HeapState). IsApart x t) (sym k.1) a
+loads_apart t object n (l ∷ ls) h g r (inl k) a = loads_apart t object (n + 1) ls k.0 g r k.2
     (load_apart h k.0 t (steps.Load l.target object l.field) (Ok tt) refl k.1.0 a)
-loads_in t object n (l ∷ ls) b h g r (inr k) z a = (
-  load_goes t (steps.Load l.target object l.field) b h g (Err k.0) k.1.0 z,
-  load_apart h g t (steps.Load l.target object l.field) (Err k.0) refl k.1.0 a,
-)
+loads_apart t object n (l ∷ ls) h g r (inr k) a =
+    load_apart h g t (steps.Load l.target object l.field) (Err k.0) refl k.1.0 a
 
 -- ---- what is made stands, after crossings too
 

@@ -1,5 +1,5 @@
 -- Whole loads of a thread that runs alone, where no checkpoint is open: they always come to their end.
-use Rattle.std.proofs.Common.{◌≡◌, ◌≢◌, ◌⊎◌, ◌∙◌, ◌<◌, ℕ, zero, suc, Bool, true, false, cond, not, List, [], ◌∷◌, set, length}
+use Rattle.std.proofs.Common.{◌≡◌, ◌≢◌, ◌⊎◌, ◌∙◌, ◌<◌, ℕ, Bool, true, false, cond, List, [], ◌∷◌, set, length}
 use Rattle.std.proofs.Common.{◌≤◌, get_or, arith, Option, Some, None, nat_le, refl, sym, subst, ap, inl, inr}
 use Rattle.std.specs.Prelude.{Result, Ok, Err, ◌&&◌, ◌||◌, if◌then◌else◌, is_some}
 use Rattle.std.specs.List.{slice_get}
@@ -38,13 +38,13 @@ use Rattle.model.proofs.Lists.{get_set_same, get_set_other}
 use Rattle.refinement.proofs.Accepted.{OnAccepted, of_accepted, on_bind, on_some, on_test, on_truth, on_either}
 use Rattle.refinement.proofs.Accepted.{on_accepted, on_has}
 use Rattle.entries.specs.declared.entry.Entry.{Entry}
-use Rattle.managed.specs.Goings.{EachIs, EndsLoad, Goes, IsInBarrier, IsTrapOrHeal, LoadsWhole, Steps}
+use Rattle.managed.specs.Goings.{EachIs, IsInBarrier, IsTrapOrHeal, LoadsWhole, Steps}
 use Rattle.managed.specs.Runs.{Leads}
-use Rattle.portions.specs.Apart.{IsApart, RunsAlone, runs_in}
+use Rattle.portions.specs.Apart.{IsApart, runs_in}
 use Rattle.portions.proofs.Doing.{not_protecting}
-use Rattle.portions.proofs.Parking.{alone_stays, is_false}
-use Rattle.portions.proofs.Rows.{disturbs, step_stays, turns}
-use Rattle.portions.proofs.Staying.{AllStay, SameThreads, Stays, changed_all, first_same, for_same, same_none, same_then}
+use Rattle.portions.proofs.Parking.{is_false}
+use Rattle.portions.proofs.Rows.{disturbs, step_stays}
+use Rattle.portions.proofs.Staying.{AllStay, SameThreads, first_same, for_same, same_none, same_then}
 
 -- the step begins a load
 abbrev pub begins_load : Step → Bool

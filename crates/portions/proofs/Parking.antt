@@ -1,5 +1,5 @@
 -- A thread that is parked, or runs again, among threads that are parked.
-use Rattle.std.proofs.Common.{◌≡◌, ◌≢◌, ◌⊎◌, ◌∙◌, ◌<◌, ℕ, Bool, true, false, cond, not, List, set, length}
+use Rattle.std.proofs.Common.{◌≡◌, ◌≢◌, ◌⊎◌, ◌∙◌, ◌<◌, ℕ, Bool, true, false, not, set, length}
 use Rattle.std.proofs.Common.{Option, Some, None, nat_le, refl, sym, subst, ap, inl, inr}
 use Rattle.std.specs.Prelude.{Result, Ok, Err, ◌&&◌, ◌||◌, if◌then◌else◌}
 use Rattle.std.specs.List.{slice_get}
@@ -18,7 +18,7 @@ use Rattle.model.specs.Outcome.{outcome, thread_gate, is_loading_in}
 use Rattle.model.specs.Phases.{is_crossing}
 use Rattle.model.specs.Refusing.{◌>>=◌, Outcome}
 use Rattle.model.specs.Saying.{done}
-use Rattle.model.specs.States.{HeapState, ThreadState, change_at, change_found}
+use Rattle.model.specs.States.{HeapState, ThreadState, change_found}
 use Rattle.model.specs.Threads.{is_parked_in, set_parked_of}
 use Rattle.model.proofs.Lists.{get_set_same, get_set_other}
 use Rattle.refinement.proofs.Accepted.{OnAccepted, of_accepted, on_bind, on_truth}

@@ -1,15 +1,12 @@
 -- Rows that neither begin a load nor park a thread or let it run.
-use Rattle.std.proofs.Common.{◌≡◌, ◌∙◌, ℕ, zero, suc, ◌+◌, ◌-◌, ◌*◌, Bool, true, false, cond, List, [], ◌∷◌, map}
+use Rattle.std.proofs.Common.{◌≡◌, ◌∙◌, ℕ, zero, suc, ◌+◌, ◌-◌, ◌*◌, Bool, true, false, cond, List, map}
 use Rattle.std.proofs.Common.{length, Option, Some, None, refl, sym, subst, ap, not}
 use Rattle.std.specs.Prelude.{Result, Ok, Err, ◌&&◌, ◌||◌, is_some, nat_lt, nat_le}
-use Rattle.std.specs.List.{slice_get, slice_set, list_any}
-use Rattle.layout.specs.declared.shape.Layout.{Layout}
+use Rattle.std.specs.List.{slice_get, list_any}
 use Rattle.model.specs.declared.records.Barrier.{Barrier}
 use Rattle.model.specs.declared.records.Buffer.{Buffer}
 use Rattle.model.specs.declared.records.Counter.{Counter}
 use Rattle.model.specs.declared.records.Counter.TheVariants as counters
-use Rattle.model.specs.declared.records.Forwarding.{Forwarding}
-use Rattle.model.specs.declared.records.Global.{Global}
 use Rattle.model.specs.declared.records.Place.{Place}
 use Rattle.model.specs.declared.records.Place.TheVariants as places
 use Rattle.model.specs.declared.records.Room.{Room}
@@ -19,11 +16,10 @@ use Rattle.model.specs.declared.steps.Actor.{Actor}
 use Rattle.model.specs.declared.steps.Actor.TheVariants.{Thread, Worker}
 use Rattle.model.specs.declared.steps.Answer.{Answer}
 use Rattle.model.specs.declared.steps.Answer.TheVariants as answers
-use Rattle.model.specs.declared.steps.Refusal.{Refusal}
 use Rattle.model.specs.declared.steps.Refusal.TheVariants as refusals
 use Rattle.model.specs.declared.steps.Step.{Step}
 use Rattle.model.specs.declared.steps.Step.TheVariants as steps
-use Rattle.model.specs.Births.{new_outcome, place_object, hand_object, used_buffer}
+use Rattle.model.specs.Births.{new_outcome, place_object, hand_object}
 use Rattle.model.specs.Bits.{of_page, bit_on}
 use Rattle.model.specs.Buffers.{take_outcome, take_result, lend_buffer, give_back_outcome, with_buffer, buffer_of_thread}
 use Rattle.model.specs.Checkpoints.{with_crossed, with_marked_word, with_marked_register, with_marked_registers}
@@ -34,27 +30,27 @@ use Rattle.model.specs.Data.{datum_outcome, datum_at, set_datum_outcome}
 use Rattle.model.specs.Emptying.{copy_outcome, heap_after, copies_from, copy_page, copy_page_outcome, entry_on}
 use Rattle.model.specs.Emptying.{crossed_if_protecting, release_outcome}
 use Rattle.model.specs.Loads.{with_barrier, barrier_of_thread, with_loaded, gc_trap_due, nmt_trap, nmt_trap_due}
-use Rattle.model.specs.Loads.{set_now_of, heal_outcome, heal_place, finish_outcome, end_load, may_finish, trap_due}
+use Rattle.model.specs.Loads.{heal_outcome, heal_place, finish_outcome, end_load, may_finish, trap_due}
 use Rattle.model.specs.Loads.{is_refused, are_bits_of, bits_at, set_healed}
 use Rattle.model.specs.Marks.{with_mark, marked_word}
-use Rattle.model.specs.Moves.{copied_first, copied_for, moved_word, with_copy, with_released}
-use Rattle.model.specs.Outcome.{outcome, thread_gate, thread_row, worker_gate, worker_row, is_loading_in}
+use Rattle.model.specs.Moves.{copied_first, copied_for, moved_word}
+use Rattle.model.specs.Outcome.{outcome, thread_gate, thread_row, worker_gate, worker_row}
 use Rattle.model.specs.Phases.{is_idle, is_protect_crossing, may_start_mark}
 use Rattle.model.specs.Plans.{plan_of, target_count, moves_of}
 use Rattle.model.specs.Protections.{protect, protect_outcome, with_protected, with_targets, behind_target, with_target}
 use Rattle.model.specs.Protections.{take_target, all_ripe, room_for}
 use Rattle.model.specs.References.{store_outcome, store_global_outcome, field_at, with_place, with_global, global_of}
-use Rattle.model.specs.Refusing.{Outcome, refuse_if}
+use Rattle.model.specs.Refusing.{Outcome}
 use Rattle.model.specs.Registers.{register_of, with_register, usable, usable_or_null, let_through, same_outcome}
 use Rattle.model.specs.Registers.{is_null_outcome, copy_register_outcome, clear_register_outcome}
 use Rattle.model.specs.Scans.{pick_outcome, may_scan, with_scan, scan_of, is_taken, scan_field_outcome, scan_next}
 use Rattle.model.specs.Scans.{mark_place, with_marked_place, with_scan_end, scan_global_outcome, mark_global}
 use Rattle.model.specs.Scans.{with_marked_global, is_todo_in, reference_in}
-use Rattle.model.specs.States.{HeapState, ThreadState, Reference, change_at}
-use Rattle.model.specs.Stores.{StoreState, take_buffer, word_at, with_word, state_at, is_from}
+use Rattle.model.specs.States.{HeapState, ThreadState, Reference}
+use Rattle.model.specs.Stores.{StoreState, take_buffer, word_at, state_at, is_from}
 use Rattle.model.specs.Threads.{set_register_of, set_buffer_of, set_barrier_of, set_loaded_of, set_crossed_of, barrier_of, is_parked_in}
-use Rattle.model.specs.Traps.{gc_trap, trap_outcome, scrub_word, scrub_outcome}
-use Rattle.refinement.proofs.Accepted.{OnAccepted, of_accepted, on_bind, on_has, on_some, on_test, on_truth, on_either}
+use Rattle.model.specs.Traps.{gc_trap, trap_outcome, scrub_outcome}
+use Rattle.refinement.proofs.Accepted.{OnAccepted, of_accepted, on_bind, on_some, on_test, on_truth, on_either}
 use Rattle.refinement.proofs.Accepted.{on_unless}
 use Rattle.portions.proofs.Staying.{AllStay, SameThreads, Stays, all_same, all_then, changed_all, changed_stays}
 use Rattle.portions.proofs.Staying.{copy_same, first_same, for_same, mapped_stay, same_none, same_stay, same_then}

@@ -1,19 +1,9 @@
 -- Steps that neither begin a load nor park a thread or let it run.
 use Rattle.std.proofs.Common.{◌≡◌, ◌≢◌, ◌⊎◌, ◌∙◌, ℕ, zero, suc, Bool, true, false, cond, List, [], ◌∷◌, map, set}
-use Rattle.std.proofs.Common.{Option, Some, None, refl, sym, subst, ap, inl, inr, not}
-use Rattle.std.specs.Prelude.{Result, Ok, Err, ◌&&◌, ◌||◌, is_some}
+use Rattle.std.proofs.Common.{Option, Some, None, refl, sym, subst, inl, inr}
 use Rattle.std.specs.List.{slice_get}
 use Rattle.std.proofs.lemmas.Bool.{cases_eq}
-use Rattle.model.specs.declared.config.Config.{Config}
-use Rattle.model.specs.declared.records.Barrier.{Barrier}
-use Rattle.model.specs.declared.records.Buffer.{Buffer}
 use Rattle.model.specs.declared.records.Forwarding.{Forwarding}
-use Rattle.model.specs.declared.records.Place.{Place}
-use Rattle.model.specs.declared.records.Place.TheVariants as places
-use Rattle.model.specs.declared.records.Room.{Room}
-use Rattle.model.specs.declared.records.Room.TheVariants.{NoFrames, NoPages}
-use Rattle.model.specs.Stores.{StoreState, take_buffer}
-use Rattle.model.specs.Buffers.{take_result}
 use Rattle.model.specs.Marks.{entry_at}
 use Rattle.model.specs.Moves.{with_copy, copied_by, copied_first, copied_for}
 use Rattle.model.specs.Outcome.{is_loading_in}

@@ -167,7 +167,13 @@ impl MutatorCalls for Mutator {
     }
 
     #[inline(always)]
-    fn make(&mut self, alloc: Global, policy: Policy, target: u32, layout: u32) -> Result<u32, Refusal>
+    fn make(
+        &mut self,
+        alloc: Global,
+        policy: Policy,
+        target: u32,
+        layout: u32,
+    ) -> Result<u32, Refusal>
         ensures stands { MakingStands self.old.thread target layout self.old.heap result self.new.heap }
         ensures ends { ThenCrosses
             (EndsMaking self.old.thread policy.words policy.percent target layout self.old.heap result) self.new.heap }
@@ -192,7 +198,9 @@ impl MutatorCalls for Mutator {
             nums.now self.old.heap result) self.new.heap }
         ensures on { GoesOn self.old self.new }
     {
-        let result = self.heap.make_with(alloc, policy, self.thread, target, layout, sources, nums);
+        let result = self
+            .heap
+            .make_with(alloc, policy, self.thread, target, layout, sources, nums);
         settle(&mut self.heap, self.thread);
         result
     }

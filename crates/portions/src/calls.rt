@@ -59,7 +59,13 @@ pub trait MutatorCalls {
 
     /// Makes an object, with the room that it needs, as `Holding::make`. All threads cross what checkpoint its
     /// collection has left open.
-    fn make(&mut self, alloc: Global, policy: Policy, target: u32, layout: u32) -> Result<u32, Refusal>;
+    fn make(
+        &mut self,
+        alloc: Global,
+        policy: Policy,
+        target: u32,
+        layout: u32,
+    ) -> Result<u32, Refusal>;
 
     /// Makes an object and fills it, as `Holding::make_with`. All threads cross what checkpoint its collection has
     /// left open.

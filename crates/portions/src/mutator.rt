@@ -7,7 +7,6 @@ ghost use Rattle.portions.specs.Portions.{Begins, GoesOn, HoldsInPortion};
 use cycle::Mutating;
 use managed::ManagedHeap;
 use std::marker::Model;
-use std::snapshot::Snapshot;
 
 /// A heap that threads share, in a portion of one thread. Between portions all threads are parked. In a portion
 /// only its thread runs; no thread is inside a load, and no checkpoint is open.
@@ -15,7 +14,6 @@ use std::snapshot::Snapshot;
 pub struct Mutator {
     pub(crate) heap: ManagedHeap,
     pub(crate) thread: u32,
-    began: Snapshot<ManagedHeap>,
     rests: u32,
 }
 
@@ -32,16 +30,13 @@ impl Model for Mutator {
 
 impl Mutator {
     /// A portion of thread 0 in which nothing is done yet.
-    #[tactic(auto, using(managed::proofs::Going::goes_none))]
     pub(crate) fn new(heap: ManagedHeap) -> Mutator
         requires { IsApart heap 0 }
         ensures { result.heap ≡ heap }
     {
-        let began = Snapshot::of(&heap);
         Mutator {
             heap,
             thread: 0,
-            began,
             rests: 0,
         }
     }
@@ -59,7 +54,6 @@ impl Mutator {
     {
         self.leave();
         self.thread = thread;
-        self.began = Snapshot::of(&self.heap);
         self.rests = 0;
         let _ = self.heap.unpark(thread);
         self.heap.scrub_all();

@@ -84,7 +84,11 @@ impl SharedHeap {
     /// `rests` calls of `rest` at least while others want the heap; some thousand steps make good portions.
     ///
     /// Fails with `Pending` if a thread is inside a load, and with `Memory`; the fault has the heap.
-    pub fn open(alloc: Global, heap: ManagedHeap, rests: u32) -> Result<(SharedHeap, Seats), OpenFault>
+    pub fn open(
+        alloc: Global,
+        heap: ManagedHeap,
+        rests: u32,
+    ) -> Result<(SharedHeap, Seats), OpenFault>
         ensures { IfOk result (λ both. (threads : ℕ) × (both.1.threads.items ≡ range_with_len 0 threads)) }
     {
         let threads = heap.heap().config().threads;

@@ -142,7 +142,12 @@ impl SharedHeap {
     }
 
     /// Does a portion of a seat's thread: what `f` does.
-    pub fn with<R: Wait, T, F: FnOnce(&mut Mutator) -> T>(&self, rt: &R, seat: &mut ThreadSeat, f: F) -> T
+    pub fn with<R: Wait, T, F: FnOnce(&mut Mutator) -> T>(
+        &self,
+        rt: &R,
+        seat: &mut ThreadSeat,
+        f: F,
+    ) -> T
         requires { (m : MutatorState) → Begins seat.old m → HoldsInPortion m → FnOnceTakesAtMut F.FnOnce f m }
         ensures did { (m n : MutatorState) × Begins seat.old m × HoldsInPortion m × HoldsInPortion n
             × FnOnceReturnsAtMut F.FnOnce f m result n }

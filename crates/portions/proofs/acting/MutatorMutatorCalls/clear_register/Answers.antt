@@ -1,13 +1,9 @@
 use Rattle.std.proofs.Common.{refl}
 use Rattle.model.specs.Saying.{done}
 use Rattle.model.specs.declared.steps.Step.TheVariants as steps
-use Rattle.portions.proofs.Doing.{does_apart, does_goes}
+use Rattle.portions.proofs.Doing.{does_apart}
 use Rattle.portions.proofs.acting.MutatorMutatorCalls.clear_register.Goals as goal
 
 pub invariant_of-self : goal.invariant_of-self
-invariant_of-self c = record {
-  goes = does_goes done c.self.inside.began.value c.self.inside.heap c.clear_register.new.self c.self.inside.thread
-      (steps.ClearReg c.args.target) c.clear_register.result c.clear_register.ensures.does c.clear_register.ensures.stands c.self.invariant.goes;
-  apart = does_apart done c.self.inside.heap c.clear_register.new.self c.self.inside.thread
-      (steps.ClearReg c.args.target) c.clear_register.result refl c.clear_register.ensures.does c.self.invariant.apart;
-}
+invariant_of-self c = does_apart done c.self.inside.heap c.clear_register.new.self c.self.inside.thread
+    (steps.ClearReg c.args.target) c.clear_register.result refl c.clear_register.ensures.does c.self.invariant

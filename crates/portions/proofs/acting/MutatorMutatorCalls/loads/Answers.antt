@@ -1,8 +1,6 @@
-use Rattle.portions.proofs.Collected.{loads_in}
+use Rattle.portions.proofs.Collected.{loads_apart}
 use Rattle.portions.proofs.acting.MutatorMutatorCalls.loads.Goals as goal
 
 pub invariant_of-self : goal.invariant_of-self
-invariant_of-self c =
-    let k = loads_in c.self.inside.thread c.args.object 0 c.args.fields.now c.self.inside.began.value c.self.inside.heap
-    c.loads.new.self c.loads.result c.loads.ensures c.self.invariant.goes c.self.invariant.apart in
-    record { goes = k.0; apart = k.1 }
+invariant_of-self c = loads_apart c.self.inside.thread c.args.object 0 c.args.fields.now c.self.inside.heap
+    c.loads.new.self c.loads.result c.loads.ensures c.self.invariant

@@ -1,22 +1,15 @@
 use Rattle.std.proofs.Common.{subst}
 use Rattle.collecting.specs.Rooms.{EndsMaking, MakingStands}
 use Rattle.portions.specs.Portions.{MutatorState, ThenCrosses}
-use Rattle.portions.proofs.Collected.{crosses_going, going_apart, making_going, making_stands}
+use Rattle.portions.proofs.Collected.{making_alone, making_stands}
 use Rattle.portions.proofs.acting.MutatorMutatorCalls.make.Goals as goal
 
 pub settle-requires : goal.settle-requires
-settle-requires c = (making_going c.self.inside.thread c.args.policy.words c.args.policy.percent c.args.target c.args.layout c.self.inside.began.value c.self.inside.heap
-      c.make-result.new.self c.make-result.result c.make-result.ensures.ends (going_apart c.self.inside.thread c.self.inside.began.value c.self.inside.heap
-    c.self.invariant.goes c.self.invariant.apart)).alone
+settle-requires c = making_alone c.self.inside.thread c.args.policy.words c.args.policy.percent c.args.target c.args.layout c.self.inside.heap
+    c.make-result.new.self c.make-result.result c.make-result.ensures.ends c.self.invariant.runs
 
 pub invariant_of-self : goal.invariant_of-self
-invariant_of-self c = record {
-  goes = (crosses_going c.self.inside.thread c.self.inside.began.value c.make-result.new.self c.settle.new.heap
-      c.settle.ensures.goes (making_going c.self.inside.thread c.args.policy.words c.args.policy.percent c.args.target c.args.layout c.self.inside.began.value c.self.inside.heap
-      c.make-result.new.self c.make-result.result c.make-result.ensures.ends (going_apart c.self.inside.thread c.self.inside.began.value c.self.inside.heap
-      c.self.invariant.goes c.self.invariant.apart))).goes;
-  apart = c.settle.ensures.apart;
-}
+invariant_of-self c = c.settle.ensures.apart
 
 pub returns-clause-ends : goal.returns-clause-ends
 returns-clause-ends c = subst (λ (m : MutatorState). ThenCrosses (EndsMaking m.thread c.args.policy.words c.args.policy.percent c.args.target c.args.layout m.heap

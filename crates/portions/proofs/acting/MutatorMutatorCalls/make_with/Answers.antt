@@ -1,22 +1,16 @@
 use Rattle.std.proofs.Common.{subst}
 use Rattle.collecting.specs.Filling.{EndsMakingWith}
 use Rattle.portions.specs.Portions.{MutatorState, ThenCrosses}
-use Rattle.portions.proofs.Collected.{crosses_going, going_apart, making_with_going}
+use Rattle.portions.proofs.Collected.{making_with_alone}
 use Rattle.portions.proofs.acting.MutatorMutatorCalls.make_with.Goals as goal
 
 pub settle-requires : goal.settle-requires
-settle-requires c = (making_with_going c.self.inside.thread c.args.policy.words c.args.policy.percent c.args.target c.args.layout
-      c.args.sources.now c.args.nums.now c.self.inside.began.value c.self.inside.heap c.make_with-result.new.self c.make_with-result.result c.make_with-result.ensures (going_apart c.self.inside.thread c.self.inside.began.value c.self.inside.heap
-    c.self.invariant.goes c.self.invariant.apart)).alone
+settle-requires c = making_with_alone c.self.inside.thread c.args.policy.words c.args.policy.percent c.args.target
+    c.args.layout c.args.sources.now c.args.nums.now c.self.inside.heap c.make_with-result.new.self
+    c.make_with-result.result c.make_with-result.ensures c.self.invariant.runs
 
 pub invariant_of-self : goal.invariant_of-self
-invariant_of-self c = record {
-  goes = (crosses_going c.self.inside.thread c.self.inside.began.value c.make_with-result.new.self c.settle.new.heap
-      c.settle.ensures.goes (making_with_going c.self.inside.thread c.args.policy.words c.args.policy.percent c.args.target c.args.layout
-      c.args.sources.now c.args.nums.now c.self.inside.began.value c.self.inside.heap c.make_with-result.new.self c.make_with-result.result c.make_with-result.ensures (going_apart c.self.inside.thread c.self.inside.began.value c.self.inside.heap
-      c.self.invariant.goes c.self.invariant.apart))).goes;
-  apart = c.settle.ensures.apart;
-}
+invariant_of-self c = c.settle.ensures.apart
 
 pub returns-clause-ends : goal.returns-clause-ends
 returns-clause-ends c = subst (λ (m : MutatorState). ThenCrosses (EndsMakingWith m.thread c.args.policy.words c.args.policy.percent c.args.target c.args.layout

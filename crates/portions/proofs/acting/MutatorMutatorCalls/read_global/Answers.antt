@@ -1,13 +1,8 @@
 use Rattle.std.proofs.Common.{refl}
 use Rattle.model.specs.declared.steps.Step.TheVariants as steps
-use Rattle.portions.proofs.Doing.{load_goes}
 use Rattle.portions.proofs.Loads.{load_apart}
 use Rattle.portions.proofs.acting.MutatorMutatorCalls.read_global.Goals as goal
 
 pub invariant_of-self : goal.invariant_of-self
-invariant_of-self c = record {
-  goes = load_goes c.self.inside.thread (steps.LoadGlobal c.args.target c.args.global) c.self.inside.began.value
-      c.self.inside.heap c.read_global.new.self c.read_global.result c.read_global.ensures.loads c.self.invariant.goes;
-  apart = load_apart c.self.inside.heap c.read_global.new.self c.self.inside.thread
-      (steps.LoadGlobal c.args.target c.args.global) c.read_global.result refl c.read_global.ensures.loads c.self.invariant.apart;
-}
+invariant_of-self c = load_apart c.self.inside.heap c.read_global.new.self c.self.inside.thread
+    (steps.LoadGlobal c.args.target c.args.global) c.read_global.result refl c.read_global.ensures.loads c.self.invariant

@@ -1,20 +1,14 @@
 use Rattle.std.proofs.Common.{subst}
 use Rattle.collecting.specs.Rooms.{EndsRefill}
 use Rattle.portions.specs.Portions.{MutatorState, ThenCrosses}
-use Rattle.portions.proofs.Collected.{crosses_going, going_apart, refills_going}
+use Rattle.portions.proofs.Collected.{refills_alone}
 use Rattle.portions.proofs.acting.MutatorMutatorCalls.refill.Goals as goal
 
 pub settle-requires : goal.settle-requires
-settle-requires c = (refills_going c.self.inside.thread c.self.inside.began.value c.self.inside.heap c.refill-result.new.self c.refill-result.ensures.goes (going_apart c.self.inside.thread c.self.inside.began.value c.self.inside.heap
-    c.self.invariant.goes c.self.invariant.apart)).alone
+settle-requires c = refills_alone c.self.inside.thread c.self.inside.heap c.refill-result.new.self c.refill-result.ensures.goes c.self.invariant.runs
 
 pub invariant_of-self : goal.invariant_of-self
-invariant_of-self c = record {
-  goes = (crosses_going c.self.inside.thread c.self.inside.began.value c.refill-result.new.self c.settle.new.heap
-      c.settle.ensures.goes (refills_going c.self.inside.thread c.self.inside.began.value c.self.inside.heap c.refill-result.new.self c.refill-result.ensures.goes (going_apart c.self.inside.thread c.self.inside.began.value c.self.inside.heap
-      c.self.invariant.goes c.self.invariant.apart))).goes;
-  apart = c.settle.ensures.apart;
-}
+invariant_of-self c = c.settle.ensures.apart
 
 pub returns-clause-ends : goal.returns-clause-ends
 returns-clause-ends c = subst (λ (m : MutatorState). ThenCrosses (EndsRefill m.thread c.args.policy.words c.args.policy.percent m.heap c.refill-result.result)

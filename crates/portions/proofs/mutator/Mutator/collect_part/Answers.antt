@@ -1,22 +1,15 @@
 use Rattle.std.proofs.Common.{subst, sym}
 use Rattle.portions.specs.Apart.{IsStill}
 use Rattle.portions.specs.Portions.{MutatorState}
-use Rattle.portions.proofs.Collected.{Going, collects_going, crosses_going, going_apart, never_stalls, none_waits}
+use Rattle.portions.proofs.Collected.{collects_alone, never_stalls, none_waits}
 use Rattle.portions.proofs.mutator.Mutator.collect_part.Goals as goal
 
 pub settle-requires : goal.settle-requires
-settle-requires c = (collects_going c.self.inside.thread c.self.inside.began.value c.self.inside.heap
-    c.collect_some-result.new.self c.collect_some-result.ensures.goes (going_apart c.self.inside.thread
-    c.self.inside.began.value c.self.inside.heap c.self.invariant.goes c.self.invariant.apart)).alone
+settle-requires c = collects_alone c.self.inside.thread c.self.inside.heap c.collect_some-result.new.self
+    c.collect_some-result.ensures.goes c.self.invariant.runs
 
 pub invariant_of-self : goal.invariant_of-self
-invariant_of-self c = record {
-  goes = (crosses_going c.self.inside.thread c.self.inside.began.value c.collect_some-result.new.self c.settle.new.heap
-      c.settle.ensures.goes (collects_going c.self.inside.thread c.self.inside.began.value c.self.inside.heap
-      c.collect_some-result.new.self c.collect_some-result.ensures.goes (going_apart c.self.inside.thread
-      c.self.inside.began.value c.self.inside.heap c.self.invariant.goes c.self.invariant.apart))).goes;
-  apart = c.settle.ensures.apart;
-}
+invariant_of-self c = c.settle.ensures.apart
 
 pub returns : goal.returns
 returns c = record {
@@ -24,7 +17,6 @@ returns c = record {
   still = subst (λ (m : MutatorState). IsStill m.heap) (sym c.self.view_is) c.leave.ensures.still;
   ends = (c.collect_some-result.new.self, c.collect_some-result.ensures.ends, c.settle.ensures.goes);
   holds = record {
-    goes = (invariant_of-self c).goes;
     apart = c.settle.ensures.apart;
     stalls = never_stalls c.settle.new.heap c.self.inside.thread c.settle.ensures.apart.phase;
     crossed = none_waits c.settle.new.heap c.settle.ensures.apart.phase c.law.ensures;

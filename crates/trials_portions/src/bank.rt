@@ -1,0 +1,119 @@
+//! A bank: threads move money between accounts, and the sum stays.
+
+use crate::same::same;
+use crate::team::{CELL, Job, PLACES, POLICY, TABLE, all_work, heap_of};
+use model::Refusal;
+use portions::{MutatorCalls, SharedHeap, ThreadSeat};
+use std::alloc::Global;
+use std::process::Abort;
+use std::sync::Wait;
+use std::test::Fail;
+use std::thread::Threads;
+use std::time::Clock;
+use verify::Verdict;
+use verifying::verify_held;
+
+/// What each account has first.
+const START: u64 = 1000;
+
+/// How often each thread moves money.
+const TURNS: u32 = 5000;
+
+/// A bank of accounts, in global 0.
+fn found_bank(alloc: Global, mutator: &mut impl MutatorCalls) -> Result<(), Refusal> {
+    mutator.make(alloc, POLICY, 0, TABLE)?;
+    for account in 0..PLACES {
+        mutator.make(alloc, POLICY, 1, CELL)?;
+        mutator.set_datum(1, 0, START)?;
+        mutator.store(0, account, 1)?;
+    }
+    mutator.store_global(0, 0)
+}
+
+/// Moves one coin, and leaves an object behind that nobody keeps.
+fn transfer(
+    alloc: Global,
+    mutator: &mut impl MutatorCalls,
+    from: u32,
+    to: u32,
+) -> Result<(), Refusal> {
+    mutator.read_global(0, 0)?;
+    mutator.read(1, 0, from)?;
+    let had = mutator.datum(1, 0)?;
+    mutator.set_datum(1, 0, had.wrapping_sub(1))?;
+    mutator.read(1, 0, to)?;
+    let has = mutator.datum(1, 0)?;
+    mutator.set_datum(1, 0, has.wrapping_add(1))?;
+    mutator.make(alloc, POLICY, 2, CELL)?;
+    Ok(())
+}
+
+/// What all accounts have.
+fn total(mutator: &mut impl MutatorCalls) -> Result<u64, Refusal> {
+    let mut sum = 0u64;
+    mutator.read_global(0, 0)?;
+    for account in 0..PLACES {
+        mutator.read(1, 0, account)?;
+        sum = sum.wrapping_add(mutator.datum(1, 0)?);
+    }
+    Ok(sum)
+}
+
+/// A thread that moves money: it counts how often the sum wasn't what it is to be.
+#[derive(Drop)]
+struct Teller {
+    alloc: Global,
+}
+
+impl Job for Teller {
+    fn work<R: Wait>(&self, rt: &R, shared: &SharedHeap, seat: ThreadSeat) -> Result<u64, Refusal> {
+        let mut seat = seat;
+        let mut wrong = 0u64;
+        let mut next = seat.thread();
+        let mut portion = shared.enter(rt, &mut seat);
+        for turn in 0..TURNS {
+            next = next.wrapping_mul(1_103_515_245).wrapping_add(12_345);
+            transfer(self.alloc, &mut *portion, (next >> 8) % PLACES, (next >> 16) % PLACES)?;
+            if turn % 100 == 0 && total(&mut *portion)? != START.wrapping_mul(u64::from(PLACES)) {
+                wrong = wrong.wrapping_add(1);
+            }
+            portion = shared.rest(rt, portion);
+        }
+        SharedHeap::leave(portion);
+        Ok(wrong)
+    }
+}
+
+/// So many threads move money; nobody ever sees another sum, the heap is sound, and it was collected.
+fn the_sum_stays<R: Threads + Wait + Clock + Sync + Abort>(
+    rt: &R,
+    alloc: Global,
+    threads: u32,
+    rests: u32,
+) -> Result<(), Fail> {
+    let Ok((shared, seats)) = SharedHeap::open(alloc, heap_of(alloc, threads, 64)?, rests) else {
+        assert!(rt; false, "the heap can't be shared");
+        return Ok(());
+    };
+    let mut seats = seats;
+    if let Some(first) = seats.threads.first_mut() {
+        let founded = shared.with(rt, first, |mutator| found_bank(alloc, mutator));
+        same(rt, founded, Ok(()));
+    }
+    let (found, _collections) = all_work(rt, alloc, &shared, seats, &Teller { alloc })?;
+    for wrong in found {
+        same(rt, wrong, Ok(0));
+    }
+    same(rt, verify_held(alloc, &shared.into_heap())?, Verdict::Sound);
+    Ok(())
+}
+
+#[test]
+fn two_tellers(rt: HostRuntime) -> Result<(), Fail> {
+    the_sum_stays(&rt, rt.alloc(), 2, 4)
+}
+
+#[test]
+fn eight_tellers(rt: HostRuntime) -> Result<(), Fail> {
+    the_sum_stays(&rt, rt.alloc(), 8, 1)
+}

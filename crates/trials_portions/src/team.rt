@@ -1,0 +1,95 @@
+//! Threads that share a heap, each with its seat, alongside a collector.
+
+use collecting::Policy;
+use managed::{Config, ManagedHeap};
+use layout::{Layout, Layouts};
+use model::Refusal;
+use portions::{CollectorSeat, Seats, SharedHeap, ThreadSeat};
+use std::alloc::Global;
+use std::sync::Wait;
+use std::test::Fail;
+use std::thread;
+use std::thread::Threads;
+use std::time::Clock;
+
+/// The layouts: a cell with a reference and a number, and a table of 16 references.
+pub const CELL: u32 = 0;
+
+pub const TABLE: u32 = 1;
+
+/// How many references a table has.
+pub const PLACES: u32 = 16;
+
+/// Buffers of a page of 64 words; a thread collects only if no frame is free.
+pub const POLICY: Policy = Policy {
+    words: 64,
+    free: 0,
+    percent: 75,
+};
+
+/// The collector begins when at most 24 frames are free.
+const EARLY: Policy = Policy {
+    words: 64,
+    free: 24,
+    percent: 75,
+};
+
+/// The collector scans up to so many objects in a part.
+const BUDGET: u32 = 16;
+
+/// A heap of so many threads, in pages of 64 words.
+pub fn heap_of(alloc: Global, threads: u32, frames: u32) -> Result<ManagedHeap, Fail> {
+    let cell = Layout { refs: 1, nums: 1 };
+    let table = Layout {
+        refs: 16,
+        nums: 0,
+    };
+    let layouts = Layouts::new(vec![in alloc; cell, table]?);
+    let mut config = Config::new(64, frames, layouts);
+    config.threads = threads;
+    config.globals = 2;
+    Ok(ManagedHeap::new(alloc, config)?)
+}
+
+/// The work of one thread.
+pub trait Job: Sync {
+    /// Works at the heap by a seat, and returns what was found.
+    fn work<R: Wait>(&self, rt: &R, shared: &SharedHeap, seat: ThreadSeat) -> Result<u64, Refusal>;
+}
+
+/// Does a job in a thread for each seat, and collects meanwhile. Returns what each thread found, and how many
+/// collections have ended.
+pub fn all_work<R: Threads + Wait + Clock + Sync, J: Job>(
+    rt: &R,
+    alloc: Global,
+    shared: &SharedHeap,
+    seats: Seats,
+    job: &J,
+) -> Result<(Vec<Result<u64, Refusal>>, u64), Fail> {
+    let Seats { threads, collector } = seats;
+    thread::scope(thread::scope_env(), rt, move |scope| {
+        let collecting = scope.spawn(move || collects(rt, alloc, shared, collector))?;
+        let mut handles = Vec::with_capacity(alloc, threads.len())?;
+        for seat in threads {
+            handles.push(scope.spawn(move || job.work(rt, shared, seat))?)?;
+        }
+        let mut found = Vec::with_capacity(alloc, handles.len())?;
+        for handle in handles {
+            found.push(handle.join(rt))?;
+        }
+        shared.close();
+        let collections = collecting.join(rt);
+        Ok((found, collections))
+    })
+}
+
+/// The collector's work.
+fn collects<R: Wait + Clock>(
+    rt: &R,
+    alloc: Global,
+    shared: &SharedHeap,
+    collector: CollectorSeat,
+) -> u64 {
+    let mut seat = collector;
+    shared.run_collector(rt, alloc, &mut seat, EARLY, BUDGET)
+}
