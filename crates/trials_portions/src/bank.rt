@@ -1,17 +1,15 @@
 //! A bank: threads move money between accounts, and the sum stays.
 
 use crate::same::same;
-use crate::team::{CELL, Job, PLACES, POLICY, TABLE, all_work, heap_of};
+use crate::team::{CELL, Job, PLACES, POLICY, TABLE, all_work, is_sound, shared_heap};
 use model::Refusal;
-use portions::{MutatorCalls, SharedHeap, ThreadSeat};
+use portions::{MutatorCalls, Seats, SharedHeap, ThreadSeat};
 use std::alloc::Global;
 use std::process::Abort;
 use std::sync::Wait;
 use std::test::Fail;
 use std::thread::Threads;
 use std::time::Clock;
-use verify::Verdict;
-use verifying::verify_held;
 
 /// What each account has first.
 const START: u64 = 1000;
@@ -84,28 +82,55 @@ impl Job for Teller {
     }
 }
 
-/// So many threads move money; nobody ever sees another sum, the heap is sound, and it was collected.
+/// A thread founds the bank.
+fn found_by<R: Wait>(
+    rt: &R,
+    alloc: Global,
+    shared: &SharedHeap,
+    seat: &mut ThreadSeat,
+) -> Result<(), Refusal> {
+    let mut portion = shared.enter(rt, seat);
+    found_bank(alloc, &mut *portion)
+}
+
+/// The bank is founded, if there is a thread.
+fn found_first<R: Wait>(
+    rt: &R,
+    alloc: Global,
+    shared: &SharedHeap,
+    seats: &mut Seats,
+) -> Result<(), Refusal> {
+    match seats.threads.first_mut() {
+        Some(seat) => found_by(rt, alloc, shared, seat),
+        None => Ok(()),
+    }
+}
+
+/// All threads move money, and nobody ever sees another sum.
+fn all_move<R: Threads + Wait + Clock + Sync + Abort>(
+    rt: &R,
+    alloc: Global,
+    shared: &SharedHeap,
+    mut seats: Seats,
+) -> Result<(), Fail> {
+    same(rt, found_first(rt, alloc, shared, &mut seats), Ok(()));
+    let (found, _collections) = all_work(rt, alloc, shared, seats, &Teller { alloc })?;
+    for wrong in found {
+        same(rt, wrong, Ok(0));
+    }
+    Ok(())
+}
+
+/// So many threads move money; the heap is sound then.
 fn the_sum_stays<R: Threads + Wait + Clock + Sync + Abort>(
     rt: &R,
     alloc: Global,
     threads: u32,
     rests: u32,
 ) -> Result<(), Fail> {
-    let Ok((shared, seats)) = SharedHeap::open(alloc, heap_of(alloc, threads, 64)?, rests) else {
-        assert!(rt; false, "the heap can't be shared");
-        return Ok(());
-    };
-    let mut seats = seats;
-    if let Some(first) = seats.threads.first_mut() {
-        let founded = shared.with(rt, first, |mutator| found_bank(alloc, mutator));
-        same(rt, founded, Ok(()));
-    }
-    let (found, _collections) = all_work(rt, alloc, &shared, seats, &Teller { alloc })?;
-    for wrong in found {
-        same(rt, wrong, Ok(0));
-    }
-    same(rt, verify_held(alloc, &shared.into_heap())?, Verdict::Sound);
-    Ok(())
+    let (shared, seats) = shared_heap(alloc, threads, 64, rests)?;
+    all_move(rt, alloc, &shared, seats)?;
+    is_sound(rt, alloc, shared)
 }
 
 #[test]

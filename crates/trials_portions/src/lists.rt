@@ -1,17 +1,15 @@
 //! Lists: each thread keeps one in its registers, from portion to portion, while the heap is collected.
 
 use crate::same::same;
-use crate::team::{CELL, Job, POLICY, all_work, heap_of};
+use crate::team::{CELL, Job, POLICY, all_work, is_sound, shared_heap};
 use model::Refusal;
-use portions::{MutatorCalls, SharedHeap, ThreadSeat};
+use portions::{MutatorCalls, Seats, SharedHeap, ThreadSeat};
 use std::alloc::Global;
 use std::process::Abort;
 use std::sync::Wait;
 use std::test::Fail;
 use std::thread::Threads;
 use std::time::Clock;
-use verify::Verdict;
-use verifying::verify_held;
 
 /// How many objects a list has.
 const LENGTH: u32 = 200;
@@ -44,44 +42,55 @@ struct Maker {
     alloc: Global,
 }
 
+/// Puts a number in front, in a portion of its own.
+fn push_by<R: Wait>(
+    rt: &R,
+    alloc: Global,
+    shared: &SharedHeap,
+    seat: &mut ThreadSeat,
+    value: u32,
+) -> Result<(), Refusal> {
+    let mut portion = shared.enter(rt, seat);
+    if value == 0 {
+        portion.clear_register(0)?;
+    }
+    push(alloc, &mut *portion, u64::from(value))
+}
+
+/// The sum of the thread's list.
+fn sum_by<R: Wait>(rt: &R, shared: &SharedHeap, seat: &mut ThreadSeat) -> Result<u64, Refusal> {
+    shared.with(rt, seat, |mutator| sum(mutator))
+}
+
 impl Job for Maker {
     fn work<R: Wait>(&self, rt: &R, shared: &SharedHeap, seat: ThreadSeat) -> Result<u64, Refusal> {
         let mut seat = seat;
-        let alloc = self.alloc;
         for _ in 0..LISTS {
-            shared.with(rt, &mut seat, |mutator| mutator.clear_register(0))?;
             for value in 0..LENGTH {
-                shared.with(rt, &mut seat, |mutator| push(alloc, mutator, u64::from(value)))?;
+                push_by(rt, self.alloc, shared, &mut seat, value)?;
             }
         }
-        shared.with(rt, &mut seat, |mutator| sum(mutator))
+        sum_by(rt, shared, &mut seat)
     }
 }
 
-/// So many threads make lists; each finds its last one whole.
-fn lists_stay<R: Threads + Wait + Clock + Sync + Abort>(
+/// All threads make lists, and each finds its last one whole.
+fn all_make<R: Threads + Wait + Clock + Sync + Abort>(
     rt: &R,
     alloc: Global,
-    threads: u32,
+    shared: &SharedHeap,
+    seats: Seats,
 ) -> Result<(), Fail> {
-    let Ok((shared, seats)) = SharedHeap::open(alloc, heap_of(alloc, threads, 96)?, 1) else {
-        assert!(rt; false, "the heap can't be shared");
-        return Ok(());
-    };
-    let (found, _collections) = all_work(rt, alloc, &shared, seats, &Maker { alloc })?;
+    let (found, _collections) = all_work(rt, alloc, shared, seats, &Maker { alloc })?;
     for sum in found {
         same(rt, sum, Ok(19_900));
     }
-    same(rt, verify_held(alloc, &shared.into_heap())?, Verdict::Sound);
     Ok(())
 }
 
 #[test]
-fn one_list(rt: HostRuntime) -> Result<(), Fail> {
-    lists_stay(&rt, rt.alloc(), 1)
-}
-
-#[test]
 fn four_lists(rt: HostRuntime) -> Result<(), Fail> {
-    lists_stay(&rt, rt.alloc(), 4)
+    let (shared, seats) = shared_heap(rt.alloc(), 4, 96, 1)?;
+    all_make(&rt, rt.alloc(), &shared, seats)?;
+    is_sound(&rt, rt.alloc(), shared)
 }

@@ -1,69 +1,110 @@
 //! Heaps are shared, and aren't any more.
 
 use crate::same::same;
-use crate::team::{CELL, POLICY, heap_of};
+use crate::team::{CELL, POLICY, heap_of, shared_heap};
 use collecting::Holding;
-use cycle::Mutating;
+use managed::ManagedHeap;
 use model::Refusal;
-use portions::{MutatorCalls, SharedHeap};
+use portions::{MutatorCalls, Seats, SharedHeap, ThreadSeat};
+use std::alloc::Global;
+use std::process::Abort;
+use std::sync::Wait;
 use std::test::Fail;
+
+/// The seats are those of threads 0, 1 and 2.
+fn are_of_three(rt: &impl Abort, seats: &Seats) {
+    let mut expected = 0u32;
+    for seat in seats.threads.iter() {
+        same(rt, seat.thread(), expected);
+        expected = expected.wrapping_add(1);
+    }
+    same(rt, expected, 3);
+}
 
 #[test]
 fn seats_are_of_all_threads(rt: HostRuntime) -> Result<(), Fail> {
-    let alloc = rt.alloc();
-    let Ok((shared, seats)) = SharedHeap::open(alloc, heap_of(alloc, 3, 8)?, 1) else {
-        assert!(&rt; false, "the heap can't be shared");
-        return Ok(());
-    };
-    let mut expected = 0u32;
-    for seat in seats.threads.iter() {
-        same(&rt, seat.thread(), expected);
-        expected = expected.wrapping_add(1);
-    }
-    same(&rt, expected, 3);
+    let (shared, seats) = shared_heap(rt.alloc(), 3, 8, 1)?;
+    are_of_three(&rt, &seats);
     assert!(&rt; !shared.is_wanted());
     assert!(&rt; !shared.is_closed());
+    shared.close();
+    assert!(&rt; shared.is_closed());
     Ok(())
+}
+
+/// Thread 1 has an object of datum 9.
+fn make_before(alloc: Global, heap: &mut impl Holding) -> Result<(), Refusal> {
+    heap.make(alloc, POLICY, 1, 0, CELL)?;
+    heap.set_datum(1, 0, 0, 9)
+}
+
+/// The datum, and then the next one.
+fn change(mutator: &mut impl MutatorCalls) -> Result<u64, Refusal> {
+    let before = mutator.datum(0, 0)?;
+    mutator.set_datum(0, 0, before.wrapping_add(1))?;
+    Ok(before)
+}
+
+/// A thread's portion is told to rest where nobody waits, and goes on.
+fn changes<R: Wait>(
+    rt: &R,
+    shared: &SharedHeap,
+    seat: &mut ThreadSeat,
+) -> Result<(u64, u32), Refusal> {
+    let mut portion = shared.enter(rt, seat);
+    change(&mut *portion)?;
+    portion = shared.rest(rt, portion);
+    let thread = portion.thread();
+    let before = change(&mut *portion)?;
+    SharedHeap::leave(portion);
+    Ok((before, thread))
+}
+
+/// What was made before a heap was shared is there, and stays when it isn't shared any more.
+fn stays(rt: &(impl Wait + Abort), shared: &SharedHeap, seats: &mut Seats) {
+    if let Some(seat) = seats.threads.last_mut() {
+        same(rt, changes(rt, shared, seat), Ok((10, 1)));
+    }
+}
+
+/// After all threads were parked.
+fn read_after(heap: &mut impl Holding) -> Result<u64, Refusal> {
+    heap.unpark(1)?;
+    heap.datum(1, 0, 0)
 }
 
 #[test]
 fn what_was_made_before_stays(rt: HostRuntime) -> Result<(), Fail> {
-    let alloc = rt.alloc();
-    let mut heap = heap_of(alloc, 2, 8)?;
-    same(&rt, heap.make(alloc, POLICY, 1, 0, CELL), Ok(0));
-    same(&rt, heap.set_datum(1, 0, 0, 9), Ok(()));
-    let Ok((shared, seats)) = SharedHeap::open(alloc, heap, 1) else {
+    let mut heap = heap_of(rt.alloc(), 2, 8)?;
+    same(&rt, make_before(rt.alloc(), &mut heap), Ok(()));
+    let Ok((shared, mut seats)) = SharedHeap::open(rt.alloc(), heap, 1) else {
         assert!(&rt; false, "the heap can't be shared");
         return Ok(());
     };
-    let mut seats = seats;
-    if let Some(seat) = seats.threads.last_mut() {
-        let mut portion = shared.enter(&rt, seat);
-        same(&rt, portion.datum(0, 0), Ok(9));
-        same(&rt, portion.set_datum(0, 0, 10), Ok(()));
-        portion = shared.rest(&rt, portion);
-        same(&rt, portion.datum(0, 0), Ok(10));
-        same(&rt, portion.thread(), 1);
-        SharedHeap::leave(portion);
-    }
+    stays(&rt, &shared, &mut seats);
     let mut heap = shared.into_heap();
-    same(&rt, heap.unpark(1), Ok(()));
-    same(&rt, heap.datum(1, 0, 0), Ok(10));
+    same(&rt, read_after(&mut heap), Ok(11));
     Ok(())
+}
+
+/// Why a heap isn't shared; it ends the load then.
+fn refused(alloc: Global, heap: ManagedHeap) -> Option<Refusal> {
+    match SharedHeap::open(alloc, heap, 1) {
+        Ok(_) => None,
+        Err(fault) => Some(fault.refusal),
+    }
+}
+
+/// A thread begins a load.
+fn begin_load(heap: &mut impl Holding) -> Result<(), Refusal> {
+    heap.load_global(1, 0, 0)
 }
 
 #[test]
 fn a_thread_inside_a_load(rt: HostRuntime) -> Result<(), Fail> {
-    let alloc = rt.alloc();
-    let mut heap = heap_of(alloc, 2, 8)?;
-    same(&rt, heap.load_global(1, 0, 0), Ok(()));
-    let Err(fault) = SharedHeap::open(alloc, heap, 1) else {
-        assert!(&rt; false, "a heap is shared that has a thread inside a load");
-        return Ok(());
-    };
-    same(&rt, fault.refusal, Refusal::Pending { thread: 1 });
-    let mut heap = fault.heap;
-    same(&rt, heap.end_read(1), Ok(()));
-    assert!(&rt; SharedHeap::open(alloc, heap, 1).is_ok());
+    let mut heap = heap_of(rt.alloc(), 2, 8)?;
+    same(&rt, begin_load(&mut heap), Ok(()));
+    let found = refused(rt.alloc(), heap);
+    same(&rt, found, Some(Refusal::Pending { thread: 1 }));
     Ok(())
 }

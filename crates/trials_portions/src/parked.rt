@@ -1,9 +1,9 @@
 //! Threads between their portions: collections wait for none of them, and change nothing that they keep.
 
 use crate::same::same;
-use crate::team::{CELL, POLICY, heap_of};
+use crate::team::{CELL, POLICY, is_sound, shared_heap};
 use model::Refusal;
-use portions::{MutatorCalls, Seats, SharedHeap};
+use portions::{CollectorSeat, MutatorCalls, Seats, SharedHeap, ThreadSeat};
 use std::alloc::Global;
 use std::process::Abort;
 use std::sync::Wait;
@@ -42,37 +42,66 @@ fn sum(mutator: &mut impl MutatorCalls) -> Result<u64, Refusal> {
     Ok(sum)
 }
 
-/// Collects while no thread is in a portion; after each part the thread finds its list in its registers.
-fn collects(rt: &(impl Wait + Abort), alloc: Global, shared: &SharedHeap, seats: Seats) {
+/// The thread's list, in a portion of its own.
+fn sum_by<R: Wait>(rt: &R, shared: &SharedHeap, seat: &mut ThreadSeat) -> Result<u64, Refusal> {
+    let mut portion = shared.enter(rt, seat);
+    sum(&mut *portion)
+}
+
+/// The thread makes its list.
+fn fill_by<R: Wait>(
+    rt: &R,
+    alloc: Global,
+    shared: &SharedHeap,
+    seat: &mut ThreadSeat,
+) -> Result<(), Refusal> {
+    let mut portion = shared.enter(rt, seat);
+    fill(alloc, &mut *portion)
+}
+
+/// Collects while no thread is in a portion; after each part a thread finds its list in its registers. Returns how
+/// many collections have ended.
+fn collects(
+    rt: &(impl Wait + Abort),
+    alloc: Global,
+    shared: &SharedHeap,
+    seat: &mut ThreadSeat,
+    collector: &mut CollectorSeat,
+) -> Result<u32, Refusal> {
+    let mut ended = 0u32;
+    for _ in 0..PARTS {
+        if shared.collect_some(rt, alloc, collector, 75, BUDGET)? {
+            ended = ended.wrapping_add(1);
+        }
+        same(rt, sum_by(rt, shared, seat), Ok(780));
+    }
+    Ok(ended)
+}
+
+/// All threads have made a list; then the first one reads its own while parts are done.
+fn stays(
+    rt: &(impl Wait + Abort),
+    alloc: Global,
+    shared: &SharedHeap,
+    seats: Seats,
+) -> Result<(), Refusal> {
     let Seats {
         mut threads,
         mut collector,
     } = seats;
-    let mut ended = 0u32;
-    for _ in 0..PARTS {
-        match shared.collect_some(rt, alloc, &mut collector, 75, BUDGET) {
-            Ok(true) => ended = ended.wrapping_add(1),
-            Ok(false) => {}
-            Err(refusal) => same(rt, Err(refusal), Ok(())),
-        }
-        if let Some(seat) = threads.first_mut() {
-            same(rt, shared.with(rt, seat, |mutator| sum(mutator)), Ok(780));
-        }
+    for seat in threads.iter_mut() {
+        fill_by(rt, alloc, shared, seat)?;
     }
-    assert!(rt; ended > 2, "collections have ended {ended} times");
+    if let Some(seat) = threads.first_mut() {
+        let ended = collects(rt, alloc, shared, seat, &mut collector)?;
+        assert!(rt; ended > 2, "collections have ended {ended} times");
+    }
+    Ok(())
 }
 
 #[test]
-fn a_thread_sleeps_between_its_portions(rt: HostRuntime) -> Result<(), Fail> {
-    let alloc = rt.alloc();
-    let Ok((shared, seats)) = SharedHeap::open(alloc, heap_of(alloc, 3, 32)?, 1) else {
-        assert!(&rt; false, "the heap can't be shared");
-        return Ok(());
-    };
-    let mut seats = seats;
-    for seat in seats.threads.iter_mut() {
-        same(&rt, shared.with(&rt, seat, |mutator| fill(alloc, mutator)), Ok(()));
-    }
-    collects(&rt, alloc, &shared, seats);
-    Ok(())
+fn threads_are_parked_between_portions(rt: HostRuntime) -> Result<(), Fail> {
+    let (shared, seats) = shared_heap(rt.alloc(), 3, 32, 1)?;
+    same(&rt, stays(&rt, rt.alloc(), &shared, seats), Ok(()));
+    is_sound(&rt, rt.alloc(), shared)
 }

@@ -1,16 +1,20 @@
 //! Threads that share a heap, each with its seat, alongside a collector.
 
+use crate::same::same;
 use collecting::Policy;
 use managed::{Config, ManagedHeap};
 use layout::{Layout, Layouts};
 use model::Refusal;
 use portions::{CollectorSeat, Seats, SharedHeap, ThreadSeat};
-use std::alloc::Global;
+use std::alloc::{AllocError, Global};
+use std::process::Abort;
 use std::sync::Wait;
 use std::test::Fail;
 use std::thread;
 use std::thread::Threads;
 use std::time::Clock;
+use verify::Verdict;
+use verifying::verify_held;
 
 /// The layouts: a cell with a reference and a number, and a table of 16 references.
 pub const CELL: u32 = 0;
@@ -49,6 +53,26 @@ pub fn heap_of(alloc: Global, threads: u32, frames: u32) -> Result<ManagedHeap, 
     config.threads = threads;
     config.globals = 2;
     Ok(ManagedHeap::new(alloc, config)?)
+}
+
+/// A heap of so many threads that is shared, with its seats.
+pub fn shared_heap(
+    alloc: Global,
+    threads: u32,
+    frames: u32,
+    rests: u32,
+) -> Result<(SharedHeap, Seats), Fail> {
+    match SharedHeap::open(alloc, heap_of(alloc, threads, frames)?, rests) {
+        Ok(opened) => Ok(opened),
+        Err(_) => Err(Fail::from(AllocError)),
+    }
+}
+
+/// A heap that was shared is sound.
+pub fn is_sound(rt: &impl Abort, alloc: Global, shared: SharedHeap) -> Result<(), Fail> {
+    let heap = shared.into_heap();
+    same(rt, verify_held(alloc, &heap)?, Verdict::Sound);
+    Ok(())
 }
 
 /// The work of one thread.
