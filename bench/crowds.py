@@ -8,8 +8,9 @@ best would be of a run in which they hardly met. Where other programs use the
 processors too, `chrt -f 20` before the command keeps them away from threads.
 
 Steps: a register is copied, some 900,000 times, by the calls of a book without
-seats, by a seat without a lock, and by seats of 1 to 8 threads under the lock;
-beside these, threads that add to a number under a lock.
+seats, by a seat without a lock, by seats of 1 to 8 threads under the lock, and by
+portions of as many threads on a heap that they share, forty times as often;
+alongside, threads that add to a number under a lock.
 
 A wait: the processor time of a thread that waits a second for a step of
 another one.
@@ -56,6 +57,7 @@ def print_steps(program):
     forms = {form: (form, STEPS) for form in ("act", "any", "seat")}
     for threads in THREADS:
         forms["steps", threads] = ("steps", threads, STEPS // threads)
+        forms["portions", threads] = ("portions", threads, 40 * STEPS // threads)
         forms["counter", threads] = ("counter", threads, STEPS // threads)
     took = {form: [] for form in forms}
     for _ in range(RUNS):
@@ -66,6 +68,7 @@ def print_steps(program):
     print("|---|---|---|---|")
     names = {"act": "`Book::act`, its kind known", "any": "`Book::act`", "seat": "`Seat::act`"}
     names |= {("steps", threads): "`Shared::step`" for threads in THREADS}
+    names |= {("portions", threads): "portions of a `SharedHeap`" for threads in THREADS}
     names |= {("counter", threads): "a number under a lock" for threads in THREADS}
     for form, name in names.items():
         threads = form[1] if isinstance(form, tuple) else 1

@@ -114,7 +114,7 @@ run_programs() {
     done < "$kept/headings"
 }
 
-run_programs docs/LIBRARY.md 3
+run_programs docs/LIBRARY.md 4
 rm -r "$copy/crates/mine"
 cp "$kept/crates.txt" "$copy/crates.txt"
 

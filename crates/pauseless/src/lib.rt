@@ -13,6 +13,9 @@
 //! frees an object; `Heap::law` hands that out. `Heap::heap` lends the bare heap inside for reading, and
 //! nothing here lends it for writing.
 //!
+//! Threads of the system share a heap by a `SharedHeap`: each has a `ThreadSeat`, and works in portions of
+//! many steps on a `Mutator`, by the calls of `MutatorCalls`; a `CollectorSeat` collects between portions.
+//!
 //! A `Book` is a heap that keeps the history of its steps, and `Shared` a book that threads of the
 //! system share. What their actors do is asked as a `Step` of an `Actor`; what comes is a `Reply`: an
 //! `Answer` or a `Refusal`.
@@ -40,6 +43,9 @@ pub use heap::{Config, ConfigFault, NewFault, Refusal};
 pub use heap_images::{image_of, verify};
 pub use layout::{Layout, Layouts};
 pub use managed::{FieldLoad, LoadsFault, ManagedHeap as Heap};
+pub use portions::{
+    CollectorSeat, Mutator, MutatorCalls, OpenFault, Seats, SharedHeap, ThreadSeat,
+};
 pub use reporting::{ReportFault, report_heap};
 pub use sharing::{Seat, Settled, Shared, Steps, Stray, settle};
 pub use verify::{Fault, Image, PageImage, Root, Verdict, Words, verify_image};

@@ -1,0 +1,103 @@
+//! Steps of several threads on one heap that they share, by portions.
+
+use anyhow::{Result, bail};
+use layout::{Layout, Layouts};
+use managed::ManagedHeap;
+use model::{Config, Refusal};
+use portions::{MutatorCalls, Seats, SharedHeap, ThreadSeat};
+use std::alloc::{AllocError, Global};
+use std::sync::Wait;
+use std::thread;
+use std::thread::Threads;
+use std::time::{Clock, Instant};
+use works::{Lap, since};
+
+/// A thread rests after so many steps.
+const STEPS: u32 = 64;
+
+/// A portion lasts for so many rests at least, while another thread waits: some 5,000 steps.
+const RESTS: u32 = 80;
+
+/// A register is copied so often.
+fn copy(mutator: &mut impl MutatorCalls, count: u32) -> Result<(), Refusal> {
+    for _ in 0..count {
+        mutator.copy_register(1, 0)?;
+    }
+    Ok(())
+}
+
+/// A thread copies a register so often, and rests now and then. Returns how often it did.
+fn copies<R: Wait>(rt: &R, shared: &SharedHeap, seat: ThreadSeat, count: u32) -> u64 {
+    let mut seat = seat;
+    let mut done = 0u64;
+    let mut portion = shared.enter(rt, &mut seat);
+    for _ in 0..count / STEPS {
+        if copy(&mut *portion, STEPS).is_ok() {
+            done = done.wrapping_add(u64::from(STEPS));
+        }
+        portion = shared.rest(rt, portion);
+    }
+    SharedHeap::leave(portion);
+    done
+}
+
+/// The threads of these seats copy so often each. Returns how often they did.
+fn all<R: Threads + Wait + Sync>(
+    rt: &R,
+    alloc: Global,
+    shared: &SharedHeap,
+    seats: Vec<ThreadSeat>,
+    count: u32,
+) -> Result<u64, AllocError> {
+    thread::scope(thread::scope_env(), rt, move |scope| {
+        let mut handles = Vec::with_capacity(alloc, seats.len())?;
+        for seat in seats {
+            if let Ok(handle) = scope.spawn(move || copies(rt, shared, seat, count)) {
+                handles.push(handle)?;
+            }
+        }
+        let mut done = 0u64;
+        for handle in handles {
+            done = done.wrapping_add(handle.join(rt));
+        }
+        Ok(done)
+    })
+}
+
+/// A heap of so many threads that is shared, with its seats.
+fn opened(alloc: Global, threads: u32) -> Result<(SharedHeap, Seats)> {
+    let layouts = Layouts::new(vec![in alloc; Layout { refs: 1, nums: 1 }]?);
+    let mut config = Config::new(16, 2, layouts);
+    config.threads = threads;
+    let heap = ManagedHeap::new(alloc, config)?;
+    match SharedHeap::open(alloc, heap, RESTS).ok() {
+        Some(opened) => Ok(opened),
+        None => bail!("there is no memory for seats"),
+    }
+}
+
+/// The threads of a heap's seats do so many steps each.
+fn timed<R: Threads + Wait + Clock + Sync>(
+    rt: &R,
+    alloc: Global,
+    shared: &SharedHeap,
+    seats: Seats,
+    count: u32,
+) -> Result<Lap> {
+    let start = Instant::now(rt)?;
+    let done = all(rt, alloc, shared, seats.threads, count)?;
+    let nanos = since(rt, start)?;
+    Ok(Lap::once("portions", done, nanos))
+}
+
+/// So many threads do so many steps each, by portions of a heap that they share.
+pub fn portions<R: Threads + Wait + Clock + Sync>(
+    rt: &R,
+    alloc: Global,
+    threads: u32,
+    count: u32,
+) -> Result<Vec<Lap>> {
+    let (shared, seats) = opened(alloc, threads)?;
+    let lap = timed(rt, alloc, &shared, seats, count)?;
+    Ok(vec![in alloc; lap]?)
+}
