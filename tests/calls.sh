@@ -37,6 +37,7 @@ for named in \
     shortages:emptying::pages_are_emptied \
     shortages:emptying::a_heap_is_made \
     shortages:emptying::a_heap_is_verified \
+    shortages:sharing::a_heap_is_shared \
     trials_books:books::a_run_is_accepted \
     trials_books:marks::a_drain \
     trials_verifier:verified::the_image_of_an_object_that_moves \

@@ -10,3 +10,5 @@ mod heaps;
 mod protections;
 #[cfg(test)]
 mod same;
+#[cfg(test)]
+mod sharing;

@@ -71,7 +71,12 @@ impl Job for Teller {
         let mut portion = shared.enter(rt, &mut seat);
         for turn in 0..TURNS {
             next = next.wrapping_mul(1_103_515_245).wrapping_add(12_345);
-            transfer(self.alloc, &mut *portion, (next >> 8) % PLACES, (next >> 16) % PLACES)?;
+            transfer(
+                self.alloc,
+                &mut *portion,
+                (next >> 8) % PLACES,
+                (next >> 16) % PLACES,
+            )?;
             if turn % 100 == 0 && total(&mut *portion)? != START.wrapping_mul(u64::from(PLACES)) {
                 wrong = wrong.wrapping_add(1);
             }

@@ -1,7 +1,7 @@
 //! Heaps are shared, and aren't any more.
 
 use crate::same::same;
-use crate::team::{CELL, POLICY, heap_of, shared_heap};
+use crate::team::{CELL, POLICY, heap_of, opened, shared_heap};
 use collecting::Holding;
 use managed::ManagedHeap;
 use model::Refusal;
@@ -73,16 +73,22 @@ fn read_after(heap: &mut impl Holding) -> Result<u64, Refusal> {
     heap.datum(1, 0, 0)
 }
 
+/// A heap in which that was made is shared, and then isn't any more.
+fn goes_on(
+    rt: &(impl Wait + Abort),
+    alloc: Global,
+    heap: ManagedHeap,
+) -> Result<ManagedHeap, Fail> {
+    let (shared, mut seats) = opened(alloc, heap, 1)?;
+    stays(rt, &shared, &mut seats);
+    Ok(shared.into_heap())
+}
+
 #[test]
 fn what_was_made_before_stays(rt: HostRuntime) -> Result<(), Fail> {
     let mut heap = heap_of(rt.alloc(), 2, 8)?;
     same(&rt, make_before(rt.alloc(), &mut heap), Ok(()));
-    let Ok((shared, mut seats)) = SharedHeap::open(rt.alloc(), heap, 1) else {
-        assert!(&rt; false, "the heap can't be shared");
-        return Ok(());
-    };
-    stays(&rt, &shared, &mut seats);
-    let mut heap = shared.into_heap();
+    let mut heap = goes_on(&rt, rt.alloc(), heap)?;
     same(&rt, read_after(&mut heap), Ok(11));
     Ok(())
 }

@@ -2,11 +2,11 @@
 
 use crate::same::same;
 use collecting::Policy;
-use managed::{Config, ManagedHeap};
 use layout::{Layout, Layouts};
+use managed::{Config, ManagedHeap};
 use model::Refusal;
 use portions::{CollectorSeat, Seats, SharedHeap, ThreadSeat};
-use std::alloc::{AllocError, Global};
+use std::alloc::Global;
 use std::process::Abort;
 use std::sync::Wait;
 use std::test::Fail;
@@ -44,15 +44,20 @@ const BUDGET: u32 = 16;
 /// A heap of so many threads, in pages of 64 words.
 pub fn heap_of(alloc: Global, threads: u32, frames: u32) -> Result<ManagedHeap, Fail> {
     let cell = Layout { refs: 1, nums: 1 };
-    let table = Layout {
-        refs: 16,
-        nums: 0,
-    };
+    let table = Layout { refs: 16, nums: 0 };
     let layouts = Layouts::new(vec![in alloc; cell, table]?);
     let mut config = Config::new(64, frames, layouts);
     config.threads = threads;
     config.globals = 2;
     Ok(ManagedHeap::new(alloc, config)?)
+}
+
+/// A heap is shared.
+pub fn opened(alloc: Global, heap: ManagedHeap, rests: u32) -> Result<(SharedHeap, Seats), Fail> {
+    match SharedHeap::open(alloc, heap, rests) {
+        Ok(opened) => Ok(opened),
+        Err(fault) => Err(Fail::from(fault.refusal)),
+    }
 }
 
 /// A heap of so many threads that is shared, with its seats.
@@ -62,10 +67,7 @@ pub fn shared_heap(
     frames: u32,
     rests: u32,
 ) -> Result<(SharedHeap, Seats), Fail> {
-    match SharedHeap::open(alloc, heap_of(alloc, threads, frames)?, rests) {
-        Ok(opened) => Ok(opened),
-        Err(_) => Err(Fail::from(AllocError)),
-    }
+    opened(alloc, heap_of(alloc, threads, frames)?, rests)
 }
 
 /// A heap that was shared is sound.

@@ -1,0 +1,96 @@
+//! A heap is shared, works in a portion, and is collected between portions.
+
+use crate::same::same;
+use collecting::Policy;
+use layout::{Layout, Layouts};
+use managed::{Config, ManagedHeap};
+use model::Refusal;
+use portions::{MutatorCalls, Seats, SharedHeap};
+use std::alloc::Global;
+use std::process::Abort;
+use std::sync::Wait;
+use std::test::Fail;
+
+/// Buffers of a page of 64 words.
+const POLICY: Policy = Policy {
+    words: 64,
+    free: 1,
+    percent: 75,
+};
+
+/// More parts than a collection of this heap takes.
+const PARTS: u32 = 50;
+
+/// Makes objects until the heap was collected, of which the last is kept.
+fn fill(alloc: Global, mutator: &mut impl MutatorCalls) -> Result<(), Refusal> {
+    for value in 0..200u64 {
+        mutator.make(alloc, POLICY, 0, 0)?;
+        mutator.set_datum(0, 0, value)?;
+    }
+    Ok(())
+}
+
+/// A portion, after which the object is there.
+fn work<R: Wait>(
+    rt: &R,
+    alloc: Global,
+    shared: &SharedHeap,
+    seats: &mut Seats,
+) -> Result<u64, Refusal> {
+    let Some(seat) = seats.threads.first_mut() else {
+        return Err(Refusal::NoActor);
+    };
+    let mut portion = shared.enter(rt, seat);
+    fill(alloc, &mut *portion)?;
+    portion.datum(0, 0)
+}
+
+/// A whole collection between portions; a part that lacks memory is done again.
+fn collect<R: Wait>(
+    rt: &R,
+    alloc: Global,
+    shared: &SharedHeap,
+    seats: &mut Seats,
+) -> Result<(), Refusal> {
+    for _ in 0..PARTS {
+        if shared.collect_some(rt, alloc, &mut seats.collector, 75, 16)? {
+            return Ok(());
+        }
+    }
+    Err(Refusal::Phase)
+}
+
+/// The heap that is shared.
+fn new_heap(alloc: Global) -> Result<ManagedHeap, Fail> {
+    let layouts = Layouts::new(vec![in alloc; Layout { refs: 0, nums: 1 }]?);
+    Ok(ManagedHeap::new(alloc, Config::new(64, 4, layouts))?)
+}
+
+/// It works, and is collected. Where a call lacks memory, it is done when it is made again; the test tells that then.
+fn works(
+    rt: &(impl Wait + Abort),
+    alloc: Global,
+    shared: &SharedHeap,
+    mut seats: Seats,
+) -> Result<(), Refusal> {
+    let first = work(rt, alloc, shared, &mut seats);
+    if first.is_err() {
+        same(rt, work(rt, alloc, shared, &mut seats), Ok(199));
+    } else {
+        same(rt, first, Ok(199));
+    }
+    let end = collect(rt, alloc, shared, &mut seats);
+    if end.is_err() {
+        same(rt, collect(rt, alloc, shared, &mut seats), Ok(()));
+    }
+    first?;
+    end
+}
+
+#[test]
+fn a_heap_is_shared(rt: HostRuntime) -> Result<(), Fail> {
+    match SharedHeap::open(rt.alloc(), new_heap(rt.alloc())?, 1) {
+        Ok((shared, seats)) => Ok(works(&rt, rt.alloc(), &shared, seats)?),
+        Err(fault) => Err(Fail::from(fault.refusal)),
+    }
+}
