@@ -8,9 +8,9 @@ best would be of a run in which they hardly met. Where other programs use the
 processors too, `chrt -f 20` before the command keeps them away from threads.
 
 Steps: a register is copied, some 900,000 times, by the calls of a book without
-seats, by a seat without a lock, by seats of 1 to 8 threads under the lock, and by
-portions of as many threads on a heap that they share, forty times as often;
-alongside, threads that add to a number under a lock.
+seats, by a seat without a lock, and by seats of 1 to 8 threads under the lock;
+loads and reads and writes of data, forty times as many, by portions of as many threads
+on a heap that they share; alongside, threads that add to a number under a lock.
 
 A wait: the processor time of a thread that waits a second for a step of
 another one.

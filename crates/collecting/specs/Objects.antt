@@ -8,10 +8,15 @@ use Rattle.model.specs.States.{HeapState}
 use Rattle.model.specs.Stores.{word_at}
 use Rattle.collecting.specs.declared.seeing.Object.{Object}
 
--- the object that register r of thread t names, by the header at its address
+-- the header of the object that register r of thread t names
+unfoldable pub header_of : HeapState → ℕ → ℕ → Result ℕ Refusal
+header_of h t r = do
+  address ← usable h t r
+  or_refuse (word_at h.store address) refusals.BadIndex
+
+-- the object that register r of thread t names, by its header
 unfoldable pub seen : HeapState → ℕ → ℕ → Result Object Refusal
 seen h t r = do
-  address ← usable h t r
-  header ← or_refuse (word_at h.store address) refusals.BadIndex
+  header ← header_of h t r
   layout ← or_refuse (slice_get h.config.layouts (header / 2 ^ 32)) refusals.BadIndex
   Ok (record { birth = header % 2 ^ 32; layout = header / 2 ^ 32; refs = layout.refs; nums = layout.nums })

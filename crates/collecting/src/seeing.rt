@@ -1,8 +1,9 @@
 //! What a register names.
 
 ghost use Rattle.std.specs.Prelude.{◌≡◌};
-ghost use Rattle.collecting.specs.Objects.{seen};
+ghost use Rattle.collecting.specs.Objects.{header_of, seen};
 
+use heap::Heap;
 use managed::ManagedHeap;
 use model::Refusal;
 
@@ -25,13 +26,9 @@ pub struct Object {
 pub(crate) fn look(heap: &ManagedHeap, thread: u32, register: u32) -> Result<Object, Refusal>
     ensures { result ≡ seen heap.now thread register }
 {
-    let inside = heap.heap();
-    let address = inside.usable(thread, register)?;
-    let Some(header) = inside.memory().first_word(address) else {
-        return Err(Refusal::BadIndex);
-    };
+    let header = header_of(heap.heap(), thread, register)?;
     let layout = (header >> 32) as u32;
-    let Some(shape) = inside.config().layouts.get(layout) else {
+    let Some(shape) = heap.heap().config().layouts.get(layout) else {
         return Err(Refusal::BadIndex);
     };
     Ok(Object {
@@ -40,4 +37,29 @@ pub(crate) fn look(heap: &ManagedHeap, thread: u32, register: u32) -> Result<Obj
         refs: shape.refs,
         nums: shape.nums,
     })
+}
+
+/// The header of the object that a register of a thread names.
+#[inline(always)]
+fn header_of(heap: &Heap, thread: u32, register: u32) -> Result<u64, Refusal>
+    ensures { result ≡ header_of heap.now thread register }
+{
+    match heap.header_at_once(thread, register) {
+        Some(header) => Ok(header),
+        None => header_by_tests(heap, thread, register),
+    }
+}
+
+/// The same, by the tests one after another.
+#[cold]
+#[inline(never)]
+#[tactic(auto, unfolding(crate::specs::Objects::header_of))]
+fn header_by_tests(heap: &Heap, thread: u32, register: u32) -> Result<u64, Refusal>
+    ensures { result ≡ header_of heap.now thread register }
+{
+    let address = heap.usable(thread, register)?;
+    let Some(header) = heap.memory().first_word(address) else {
+        return Err(Refusal::BadIndex);
+    };
+    Ok(header)
 }

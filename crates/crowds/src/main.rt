@@ -7,7 +7,7 @@
 //! | `any STEPS` | the same where the kind of step isn't known at the call |
 //! | `seat STEPS` | the same by `Seat::act`, which keeps the seat's list too |
 //! | `steps THREADS STEPS` | the same by `Shared::step`, by so many threads that have so many steps each |
-//! | `portions THREADS STEPS` | the same on a heap, by portions of a `SharedHeap` |
+//! | `portions THREADS STEPS` | loads, reads and writes of data on a heap, by portions of a `SharedHeap` |
 //! | `counter THREADS STEPS` | so many threads add to a number under a lock, so often each |
 //! | `waits MILLISECONDS` | a thread waits so long for a step that is refused as `Stall` |
 //!

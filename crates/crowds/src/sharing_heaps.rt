@@ -1,6 +1,7 @@
 //! Steps of several threads on one heap that they share, by portions.
 
 use anyhow::{Result, bail};
+use collecting::Policy;
 use layout::{Layout, Layouts};
 use managed::ManagedHeap;
 use model::{Config, Refusal};
@@ -12,36 +13,60 @@ use std::thread::Threads;
 use std::time::{Clock, Instant};
 use works::{Lap, since};
 
-/// A thread rests after so many steps.
-const STEPS: u32 = 64;
+/// A thread rests after so many turns, each of a load, a read and a write.
+const TURNS: u32 = 20;
+
+/// The steps of a turn.
+const STEPS: u32 = 3;
 
 /// A portion lasts for so many rests at least, while another thread waits: some 5,000 steps.
 const RESTS: u32 = 80;
 
-/// A register is copied so often.
-fn copy(mutator: &mut impl MutatorCalls, count: u32) -> Result<(), Refusal> {
+/// Buffers of a page.
+const POLICY: Policy = Policy {
+    words: 16,
+    free: 0,
+    percent: 75,
+};
+
+/// Makes an object in register 0 that names itself.
+fn prepare(alloc: Global, mutator: &mut impl MutatorCalls) -> Result<(), Refusal> {
+    mutator.make(alloc, POLICY, 0, 0)?;
+    mutator.store(0, 0, 0)
+}
+
+/// Loads the object's reference, and adds 1 to its datum, so often.
+fn turn(mutator: &mut impl MutatorCalls, count: u32) -> Result<(), Refusal> {
     for _ in 0..count {
-        mutator.copy_register(1, 0)?;
+        mutator.read(1, 0, 0)?;
+        let value = mutator.datum(1, 0)?;
+        mutator.set_datum(1, 0, value.wrapping_add(1))?;
     }
     Ok(())
 }
 
-/// A thread copies a register so often, and rests now and then. Returns how often it did.
-fn copies<R: Wait>(rt: &R, shared: &SharedHeap, seat: ThreadSeat, count: u32) -> u64 {
+/// A thread does so many steps, and rests now and then. Returns how many it did.
+fn turns<R: Wait>(
+    rt: &R,
+    alloc: Global,
+    shared: &SharedHeap,
+    seat: ThreadSeat,
+    count: u32,
+) -> Result<u64, Refusal> {
     let mut seat = seat;
     let mut done = 0u64;
     let mut portion = shared.enter(rt, &mut seat);
-    for _ in 0..count / STEPS {
-        if copy(&mut *portion, STEPS).is_ok() {
-            done = done.wrapping_add(u64::from(STEPS));
-        }
+    prepare(alloc, &mut *portion)?;
+    for _ in 0..count / (TURNS * STEPS) {
+        turn(&mut *portion, TURNS)?;
+        done = done.wrapping_add(u64::from(TURNS * STEPS));
         portion = shared.rest(rt, portion);
     }
     SharedHeap::leave(portion);
-    done
+    Ok(done)
 }
 
-/// The threads of these seats copy so often each. Returns how often they did.
+/// The threads of these seats do so many steps each. Returns how many they did.
 fn all<R: Threads + Wait + Sync>(
     rt: &R,
     alloc: Global,
@@ -52,13 +77,13 @@ fn all<R: Threads + Wait + Sync>(
     thread::scope(thread::scope_env(), rt, move |scope| {
         let mut handles = Vec::with_capacity(alloc, seats.len())?;
         for seat in seats {
-            if let Ok(handle) = scope.spawn(move || copies(rt, shared, seat, count)) {
+            if let Ok(handle) = scope.spawn(move || turns(rt, alloc, shared, seat, count)) {
                 handles.push(handle)?;
             }
         }
         let mut done = 0u64;
         for handle in handles {
-            done = done.wrapping_add(handle.join(rt));
+            done = done.wrapping_add(handle.join(rt).unwrap_or(0));
         }
         Ok(done)
     })
@@ -67,7 +92,7 @@ fn all<R: Threads + Wait + Sync>(
 /// A heap of so many threads that is shared, with its seats.
 fn opened(alloc: Global, threads: u32) -> Result<(SharedHeap, Seats)> {
     let layouts = Layouts::new(vec![in alloc; Layout { refs: 1, nums: 1 }]?);
-    let mut config = Config::new(16, 2, layouts);
+    let mut config = Config::new(16, 2 * threads, layouts);
     config.threads = threads;
     let heap = ManagedHeap::new(alloc, config)?;
     match SharedHeap::open(alloc, heap, RESTS).ok() {
