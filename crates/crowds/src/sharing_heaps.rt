@@ -92,7 +92,7 @@ fn all<R: Threads + Wait + Sync>(
 /// A heap of so many threads that is shared, with its seats.
 fn opened(alloc: Global, threads: u32) -> Result<(SharedHeap, Seats)> {
     let layouts = Layouts::new(vec![in alloc; Layout { refs: 1, nums: 1 }]?);
-    let mut config = Config::new(16, 2 * threads, layouts);
+    let mut config = Config::new(16, threads.saturating_mul(2), layouts);
     config.threads = threads;
     let heap = ManagedHeap::new(alloc, config)?;
     match SharedHeap::open(alloc, heap, RESTS).ok() {
