@@ -12,7 +12,7 @@
 #                   nothing, and prints which crates aren't recorded
 # make lib          builds the static library for C and leaves it as ./libpauseless.a; with TRY=1 as
 #                   target/unproved/libpauseless.a, by a build that proves nothing
-# make install      installs the program in PREFIX/bin, and the library, its header and its pkg-config file
+# make install      installs the program in PREFIX/bin, and the library, its headers and its pkg-config file
 # make bench        times the program on generated scripts, loops over the library's calls, collections compared with
 #                   bdwgc, and the Lisp in C
 # make film         makes film.html of examples/moving.script, or of SCRIPT=..; FILM=.. names another file; with TRY=1
@@ -154,7 +154,7 @@ endif
 install: pauseless libpauseless.a
 	$(INSTALL) -d '$(DESTDIR)$(PREFIX)/bin' '$(DESTDIR)$(PREFIX)/include' '$(DESTDIR)$(PREFIX)/lib/pkgconfig'
 	$(INSTALL) -m 755 pauseless '$(DESTDIR)$(PREFIX)/bin/pauseless'
-	$(INSTALL) -m 644 include/pauseless.h '$(DESTDIR)$(PREFIX)/include/pauseless.h'
+	$(INSTALL) -m 644 include/pauseless.h include/pauseless_shared.h '$(DESTDIR)$(PREFIX)/include'
 	$(INSTALL) -m 644 libpauseless.a '$(DESTDIR)$(PREFIX)/lib/libpauseless.a'
 	sed 's|@PREFIX@|$(PREFIX)|; s|@VERSION@|$(VERSION)|' include/pauseless.pc.in \
 		> '$(DESTDIR)$(PREFIX)/lib/pkgconfig/pauseless.pc'

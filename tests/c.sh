@@ -78,6 +78,18 @@ for source in examples/c/*.c; do
     leaves "$name"
 done
 
+# Threads that share a heap; and, where there is one, under a tool that finds races in the header and the test.
+build tests/c/shared.c -pthread
+"$kept/shared"
+told 'shared finds no difference' $?
+leaves shared
+echo 'int main(void) { return 0; }' > "$kept/races.c"
+if $CC -fsanitize=thread "$kept/races.c" -o "$kept/races" 2> "$kept/errors" && "$kept/races"; then
+    build tests/c/shared.c -pthread -fsanitize=thread
+    "$kept/shared" > "$kept/output" 2>&1
+    told 'shared has no races' $?
+fi
+
 build tests/c/calls.c
 build tests/c/random.c
 build tests/c/memory.c -Wl,--wrap=malloc -Wl,--wrap=realloc -Wl,--wrap=free

@@ -1,0 +1,135 @@
+/* Threads that share a heap: a lock, portions of many calls, and a thread that collects between portions.
+ *
+ * A thread has the heap for a portion: from pauseless_enter to pauseless_leave. In it any call of pauseless.h may be
+ * made, with the number of the thread's own registers. pauseless_rest is a safepoint: if another thread waits, and the
+ * portion has lasted for long enough, others have the heap before it goes on. Between portions a thread never delays a
+ * collection. In a portion never wait for another thread, and don't enter again.
+ *
+ * The lock is the system's, and nothing here is proved: the calls of pauseless.h are. Link with -pthread. */
+#ifndef PAUSELESS_SHARED_H
+#define PAUSELESS_SHARED_H
+
+#include <pthread.h>
+#include <sched.h>
+#include <stdatomic.h>
+#include <stdbool.h>
+#include <stdint.h>
+#include <time.h>
+
+#include "pauseless.h"
+
+/* A heap that is shared. It must not be moved while threads use it. */
+typedef struct pauseless_shared {
+    pauseless_heap *heap;
+    uint32_t rests;          /* a portion lasts for so many rests at least, while others wait */
+    atomic_uint wanted;      /* how many threads wait for the heap */
+    pthread_mutex_t lock;    /* of the heap, and of all below */
+    pthread_cond_t closing;  /* is_closed has changed */
+    bool is_closed, has_begun, has_collector;
+    pauseless_policy policy; /* of the collector: its words aren't used */
+    uint32_t budget;
+    pauseless_code failed;   /* how the collector's last part ended; read it in a portion */
+    pthread_t collector;
+} pauseless_shared;
+
+/* A thread's portion. */
+typedef struct pauseless_portion {
+    pauseless_shared *shared;
+    uint32_t rests;
+} pauseless_portion;
+
+/* Shares a heap that pauseless_new has made; some thousand calls make good portions. false if there is no lock. */
+static inline bool pauseless_share(pauseless_shared *shared, pauseless_heap *heap, uint32_t rests) {
+    *shared = (pauseless_shared){.heap = heap, .rests = rests, .failed = PAUSELESS_DONE};
+    if (pthread_mutex_init(&shared->lock, NULL) != 0) return false;
+    if (pthread_cond_init(&shared->closing, NULL) == 0) return true;
+    pthread_mutex_destroy(&shared->lock);
+    return false;
+}
+
+/* Waits for the heap. */
+static inline void pauseless_lock_heap(pauseless_shared *shared) {
+    atomic_fetch_add(&shared->wanted, 1);
+    pthread_mutex_lock(&shared->lock);
+    atomic_fetch_sub(&shared->wanted, 1);
+}
+
+/* Lets others have the heap, which this thread has let go: until none waits, or up to 1,000 times. */
+static inline void pauseless_give_way(pauseless_shared *shared) {
+    for (int turn = 0; turn < 1000 && atomic_load(&shared->wanted) > 0; turn++) sched_yield();
+}
+
+/* Begins a portion, which waits for the heap. */
+static inline pauseless_portion pauseless_enter(pauseless_shared *shared) {
+    pauseless_lock_heap(shared);
+    return (pauseless_portion){.shared = shared, .rests = 0};
+}
+
+/* Ends a portion. */
+static inline void pauseless_leave(pauseless_portion *portion) { pthread_mutex_unlock(&portion->shared->lock); }
+
+/* A safepoint. What registers name may have moved then, and other threads may have changed objects. */
+static inline void pauseless_rest(pauseless_portion *portion) {
+    if (portion->rests < portion->shared->rests) {
+        portion->rests++;
+    } else if (atomic_load(&portion->shared->wanted) > 0) {
+        pauseless_leave(portion);
+        pauseless_give_way(portion->shared);
+        *portion = pauseless_enter(portion->shared);
+    }
+}
+
+/* Whether a part of a collection was done and another one is due; the heap is held. */
+static inline bool pauseless_collect_due(pauseless_shared *shared) {
+    pauseless_counts counts;
+    bool has_ended = true;
+    if (pauseless_count(shared->heap, &counts) != PAUSELESS_DONE) return false;
+    if (!shared->has_begun && counts.free > shared->policy.free) return false;
+    shared->failed = pauseless_collect_some(shared->heap, shared->policy.percent, shared->budget, &has_ended);
+    shared->has_begun = shared->failed != PAUSELESS_DONE || !has_ended;
+    return shared->failed == PAUSELESS_DONE && !has_ended;
+}
+
+/* The collector's thread. When nothing is due it sleeps for a millisecond. */
+static inline void *pauseless_collects(void *argument) {
+    pauseless_shared *shared = argument;
+    pauseless_lock_heap(shared);
+    while (!shared->is_closed) {
+        if (pauseless_collect_due(shared)) {
+            pthread_mutex_unlock(&shared->lock);
+            pauseless_give_way(shared);
+            pauseless_lock_heap(shared);
+        } else {
+            struct timespec until;
+            timespec_get(&until, TIME_UTC);
+            until.tv_nsec += 1000000;
+            if (until.tv_nsec >= 1000000000) until.tv_sec++, until.tv_nsec -= 1000000000;
+            pthread_cond_timedwait(&shared->closing, &shared->lock, &until);
+        }
+    }
+    pthread_mutex_unlock(&shared->lock);
+    return NULL;
+}
+
+/* Starts a thread that collects between portions, in parts that scan up to budget objects, when at most policy->free
+ * frames are free. false if the system can't start it. */
+static inline bool pauseless_start_collector(pauseless_shared *shared, const pauseless_policy *policy,
+                                             uint32_t budget) {
+    shared->policy = *policy;
+    shared->budget = budget;
+    shared->has_collector = pthread_create(&shared->collector, NULL, pauseless_collects, shared) == 0;
+    return shared->has_collector;
+}
+
+/* The heap isn't shared any more: ends the collector's thread. No thread may be in a portion. */
+static inline void pauseless_unshare(pauseless_shared *shared) {
+    pthread_mutex_lock(&shared->lock);
+    shared->is_closed = true;
+    pthread_cond_signal(&shared->closing);
+    pthread_mutex_unlock(&shared->lock);
+    if (shared->has_collector) pthread_join(shared->collector, NULL);
+    pthread_cond_destroy(&shared->closing);
+    pthread_mutex_destroy(&shared->lock);
+}
+
+#endif
