@@ -20,7 +20,8 @@
 # make plot         makes plot.html of a long run, or of SCRIPT=..; PLOT=.. names another file; EVERY=.. counts after
 #                   every so many commands; TRY=1 as for a film
 # make soak         drives heaps by 10,000,000 random steps each, or SOAK_STEPS=.., verified at intervals; and makes
-#                   100,000,000 objects that nobody keeps, or SOAK_OBJECTS=.., in the smallest heaps
+#                   100,000,000 objects that nobody keeps, or SOAK_OBJECTS=.., in the smallest heaps; and has eight
+#                   threads share a heap for 40,000,000 turns each, or SOAK_TURNS=.., alongside a collector
 # make fuzz         runs the program on changed scripts for 600 seconds, or FUZZ_SECONDS=..
 # make clean        removes the program, the library, the log and all that earlier builds and checks kept
 #
@@ -222,8 +223,9 @@ plot:
 SOAKED = rows rolling smallest several long many
 SOAK_STEPS = 10000000
 SOAK_OBJECTS = 100000000
+SOAK_TURNS = 40000000
 
-soak:
+soak: libpauseless.a
 	@$(needs_toolchain)
 	@$(call built,driver,rolling 1 100000 1)
 	@$(call part,1 of $(words x $(SOAKED)): $(SOAK_OBJECTS) objects that nobody keeps) \
@@ -234,6 +236,9 @@ soak:
 		echo "$$what" >&2; \
 		$(PROGRESS) --say "$$what" -- crates/driver/out/driver $$heap 1 $(SOAK_STEPS) 1000 1 || exit 1; \
 	done
+	@mkdir -p target
+	@$(CC) -std=c11 -O2 -Iinclude tests/c/shared.c libpauseless.a -pthread -o target/shared
+	@$(call part,the last: eight threads that share a heap) target/shared $(SOAK_TURNS)
 
 FUZZ_SECONDS = 600
 

@@ -1,17 +1,20 @@
 /* Threads that share a heap, with a thread that collects: they move coins between the accounts of a bank, and keep lists
- * in their registers. The sum and the lists stay, and the heap is sound. */
+ * in their registers. The sum and the lists stay, and the heap is sound, at intervals and at the end. The first argument
+ * is how many turns each thread does. */
 #include <pauseless_shared.h>
+#include <stdlib.h>
 
 #include "same.h"
 
-enum { THREADS = 8, ACCOUNTS = 16, START = 1000, TURNS = 40000, LENGTH = 50, CELL = 0, BANK = 1 };
+enum { THREADS = 8, ACCOUNTS = 16, START = 1000, LENGTH = 50, VERIFIED = 5000, CELL = 0, BANK = 1 };
 
 static const pauseless_layout layouts[] = {{.refs = 1, .nums = 1}, {.refs = ACCOUNTS}};
-static const pauseless_policy policy = {.words = 64, .free = 0, .percent = 75};
+static const pauseless_policy policy = {.words = 64, .free = 8, .percent = 75};
 static const pauseless_policy early = {.words = 64, .free = 24, .percent = 75};
 
 static pauseless_heap heap = PAUSELESS_NONE;
 static pauseless_shared shared;
+static unsigned long turns = 40000;
 
 /* What a thread has found. */
 typedef struct worker {
@@ -69,7 +72,7 @@ static void *work(void *argument) {
     worker *w = argument;
     uint32_t random = w->thread + 1;
     pauseless_portion portion = pauseless_enter(&shared);
-    for (uint32_t turn = 0; turn < TURNS; turn++) {
+    for (unsigned long turn = 0; turn < turns; turn++) {
         random = random * 1103515245 + 12345;
         transfer(w, (random >> 8) % ACCOUNTS, (random >> 16) % ACCOUNTS);
         push(w, turn % LENGTH);
@@ -77,6 +80,7 @@ static void *work(void *argument) {
             w->wrong += pop_all(w) != LENGTH * (LENGTH - 1) / 2;
             w->wrong += total(w) != ACCOUNTS * START;
         }
+        if (turn % VERIFIED == 0 && w->thread == 0) TRY(pauseless_verify(&heap));
         pauseless_rest(&portion);
     }
     pauseless_leave(&portion);
@@ -95,7 +99,8 @@ static void found(void) {
     DONE(pauseless_clear(&heap, 0, 0));
 }
 
-int main(void) {
+int main(int count, char **words) {
+    if (count > 1) turns = strtoul(words[1], NULL, 10);
     pauseless_sizes sizes;
     worker workers[THREADS];
     pauseless_usual(64, 96, &sizes);

@@ -24,10 +24,10 @@ pub const TABLE: u32 = 1;
 /// How many references a table has.
 pub const PLACES: u32 = 16;
 
-/// Buffers of a page of 64 words; a thread collects only if no frame is free.
+/// Buffers of a page of 64 words; a thread collects only if few frames are free. With none there is no room to copy.
 pub const POLICY: Policy = Policy {
     words: 64,
-    free: 0,
+    free: 4,
     percent: 75,
 };
 
