@@ -84,6 +84,13 @@ impl Mutator {
         self.thread
     }
 
+    /// Returns the heap as it stands, for all that reads it.
+    pub fn heap(&self) -> &ManagedHeap
+        ensures { result.now ≡ self.now.heap }
+    {
+        &self.heap
+    }
+
     /// What holds in a portion. It changes nothing and never fails.
     pub fn law(&self)
         ensures { HoldsInPortion self.now }

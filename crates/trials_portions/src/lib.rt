@@ -13,3 +13,5 @@ mod parked;
 mod same;
 #[cfg(test)]
 mod team;
+#[cfg(test)]
+mod turns;
