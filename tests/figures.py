@@ -26,7 +26,7 @@ def rows(path, head, pattern):
 
 def shared_steps():
     """Millions of steps a second on a shared heap, by the number of threads."""
-    table = rows("docs/PERFORMANCE.md", "| Form | Threads | ns a step |", r"\| `Shared::step` \|")
+    table = rows("docs/PERFORMANCE.md", "| Form | Threads | ns a step |", r"\| portions of a `SharedHeap` \|")
     found = {int(row[1]): int(row[3].replace(",", "")) for row in table}
     one, two, four = (f"{found[threads] / 1e6:.1f}" for threads in (1, 2, 4))
     return f"{one} million steps a second by one thread, {two} by two, {four} by four"
