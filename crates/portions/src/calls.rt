@@ -9,8 +9,8 @@ use std::alloc::Global;
 /// Registers, fields, indexes, globals and layouts are numbers from 0. Each call is as its contract says on a
 /// `Mutator`; a function that is generic over this trait knows nothing of what it calls, and is proved in short time.
 ///
-/// None fails with `Parked`, `Busy`, `Stall` or `NotCrossed`: in a portion its thread runs, no load is left open, and
-/// no checkpoint is.
+/// In a portion its thread runs, and neither a load nor a checkpoint is left open, as `Mutator::law` says: so no call
+/// fails with `Parked`, `Busy`, `Stall` or `NotCrossed`.
 pub trait MutatorCalls {
     /// Takes a buffer, as `Mutating::take`.
     fn take(&mut self, words: u32) -> Result<Buffer, Refusal>;
@@ -57,8 +57,8 @@ pub trait MutatorCalls {
     /// Loads several reference fields of an object, as `Holding::loads`.
     fn loads(&mut self, object: u32, fields: &[FieldLoad]) -> Result<(), LoadsFault>;
 
-    /// Makes an object, with the room that it needs, as `Holding::make`. All threads cross what checkpoint its
-    /// collection has left open.
+    /// Makes an object, with the room that it needs, as `Holding::make`. All threads cross the checkpoint that
+    /// its collection has left open, if there is one.
     fn make(
         &mut self,
         alloc: Global,
@@ -67,8 +67,8 @@ pub trait MutatorCalls {
         layout: u32,
     ) -> Result<u32, Refusal>;
 
-    /// Makes an object and fills it, as `Holding::make_with`. All threads cross what checkpoint its collection has
-    /// left open.
+    /// Makes an object and fills it, as `Holding::make_with`. All threads cross the checkpoint that its collection
+    /// has left open, if there is one.
     fn make_with(
         &mut self,
         alloc: Global,
@@ -80,9 +80,10 @@ pub trait MutatorCalls {
     ) -> Result<u32, Refusal>;
 
     /// Takes a fresh buffer, for which the heap is collected if frames run low, as `Holding::refill`. All threads
-    /// cross what checkpoint its collection has left open.
+    /// cross the checkpoint that its collection has left open, if there is one.
     fn refill(&mut self, alloc: Global, policy: Policy) -> Result<Buffer, Refusal>;
 
-    /// Collects the heap, as `Holding::collect`. All threads cross what checkpoint it has left open.
+    /// Collects the heap, as `Holding::collect`. All threads cross the checkpoint that it has left open, if
+    /// there is one.
     fn collect(&mut self, alloc: Global, percent: u32) -> Result<Collected, Refusal>;
 }

@@ -1,6 +1,6 @@
 //! A heap is shared: its threads are parked, and each gets a seat.
 
-ghost use Rattle.std.specs.Prelude.{◌≡◌, ℕ, None, false, IfOk};
+ghost use Rattle.std.specs.Prelude.{◌≡◌, None, false, IfOk};
 ghost use Rattle.std.specs.List.{range_with_len};
 ghost use Rattle.portions.specs.Apart.{AllStill, IsApart, IsStillAt};
 
@@ -89,7 +89,7 @@ impl SharedHeap {
         heap: ManagedHeap,
         rests: u32,
     ) -> Result<(SharedHeap, Seats), OpenFault>
-        ensures { IfOk result (λ both. (threads : ℕ) × (both.1.threads.items ≡ range_with_len 0 threads)) }
+        ensures { IfOk result (λ both. both.1.threads.items ≡ range_with_len 0 heap.config.threads) }
     {
         let threads = heap.heap().config().threads;
         let Ok(threads) = thread_seats(alloc, threads) else {
