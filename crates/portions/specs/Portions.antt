@@ -11,6 +11,7 @@ use Rattle.managed.specs.Managing.{Promises}
 use Rattle.managed.specs.Scrubbing.{names_protected}
 use Rattle.collecting.specs.Collections.{WORKER}
 use Rattle.collecting.specs.Parts.{EndsPart}
+use Rattle.collecting.specs.Stages.{PartGoesOn, PartsState}
 use Rattle.portions.specs.Apart.{IsApart, IsStill}
 
 -- the thread whose portion it is, and the heap
@@ -52,9 +53,15 @@ ThenCrosses P g = (m : HeapState) × P m × Goes (IsCrossing WORKER) m g
 abbrev pub Rests : MutatorState → MutatorState → Type 0
 Rests old new = (new ≡ old) ⊎ (Begins old.thread new × HoldsInPortion new)
 
+-- a part of a collection ended so, and what it has done by its stage
+abbrev pub EndsThisPart : ℕ → ℕ → PartsState → HeapState → Result Bool Refusal → PartsState → HeapState → Type 0
+EndsThisPart percent budget old h result new g =
+    EndsPart h result g × PartGoesOn percent budget old h result new g
+
 -- between two portions a part of a collection was done, on a heap whose threads were all parked
-pub record CollectsBetween (result : Result Bool Refusal) (m : MutatorState) : Type 0 where
+pub record CollectsBetween (percent budget : ℕ) (old new : PartsState) (result : Result Bool Refusal) (m : MutatorState)
+    : Type 0 where
   pub before : HeapState
   pub still : IsStill before
-  pub ends : ThenCrosses (EndsPart before result) m.heap
+  pub ends : ThenCrosses (EndsThisPart percent budget old before result new) m.heap
   pub holds : HoldsInPortion m

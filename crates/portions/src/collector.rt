@@ -31,7 +31,7 @@ impl Mutator {
         percent: u32,
         budget: u32,
     ) -> Result<bool, Refusal>
-        ensures { CollectsBetween result self.new }
+        ensures { CollectsBetween percent budget parts.old parts.new result self.new }
     {
         self.leave();
         let result = self.heap.collect_some(alloc, parts, percent, budget);
@@ -56,7 +56,7 @@ impl SharedHeap {
         percent: u32,
         budget: u32,
     ) -> Result<bool, Refusal>
-        ensures { (m : MutatorState) × CollectsBetween result m }
+        ensures { (m : MutatorState) × CollectsBetween percent budget seat.old seat.new result m }
     {
         let mut desk = self.hold(rt);
         let mutator = &mut *desk;

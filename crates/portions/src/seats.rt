@@ -38,6 +38,14 @@ pub struct CollectorSeat {
     pub(crate) has_begun: bool,
 }
 
+impl Model for CollectorSeat {
+    ghost use Rattle.collecting.specs.Stages.{PartsState};
+
+    ghost Value = { PartsState };
+
+    ghost view = { λ seat. seat.parts };
+}
+
 /// A seat for each thread of a heap, by their numbers.
 pub(crate) fn thread_seats(alloc: Global, threads: u32) -> Result<Vec<ThreadSeat>, AllocError>
     ensures { IfOk result (λ seats. seats.items ≡ range_with_len 0 threads) }

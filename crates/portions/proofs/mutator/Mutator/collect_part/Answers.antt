@@ -15,7 +15,11 @@ pub returns : goal.returns
 returns c = record {
   before = c.self.inside.heap;
   still = subst (λ (m : MutatorState). IsStill m.heap) (sym c.self.view_is) c.leave.ensures.still;
-  ends = (c.collect_some-result.new.self, c.collect_some-result.ensures.ends, c.settle.ensures.goes);
+  ends = (
+    c.collect_some-result.new.self,
+    (c.collect_some-result.ensures.ends, c.collect_some-result.ensures.parts),
+    c.settle.ensures.goes,
+  );
   holds = record {
     apart = c.settle.ensures.apart;
     stalls = never_stalls c.settle.new.heap c.self.inside.thread c.settle.ensures.apart.phase;
