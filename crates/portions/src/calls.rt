@@ -9,8 +9,8 @@ use std::alloc::Global;
 /// Registers, fields, indexes, globals and layouts are numbers from 0. Each call is as its contract says on a
 /// `Mutator`; a function that is generic over this trait knows nothing of what it calls, and is proved in short time.
 ///
-/// In a portion its thread runs, and neither a load nor a checkpoint is left open, as `Mutator::law` says: so no call
-/// fails with `Parked`, `Busy`, `Stall` or `NotCrossed`.
+/// In a portion its thread runs, and between two calls neither a load nor a checkpoint is open, as `Mutator::law` says:
+/// so a step of the thread never stalls, and no thread has still to cross.
 pub trait MutatorCalls {
     /// Takes a buffer, as `Mutating::take`.
     fn take(&mut self, words: u32) -> Result<Buffer, Refusal>;

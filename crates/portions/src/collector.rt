@@ -14,11 +14,11 @@ use std::sync::Wait;
 use std::thread;
 use std::time::{Clock, Duration};
 
-/// The collector sleeps for so many milliseconds when nothing is due.
+/// How many milliseconds the collector sleeps when nothing is due.
 const PAUSE: u64 = 1;
 
 impl Mutator {
-    /// Whether at most so many frames are free.
+    /// Whether at most `free` frames are free.
     pub(crate) fn is_low(&self, free: u32) -> bool {
         self.heap.heap().memory().free_frames() <= free
     }

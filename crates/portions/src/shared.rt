@@ -26,7 +26,7 @@ pub struct SharedHeap {
 }
 
 impl SharedHeap {
-    /// A heap that is shared, of which a portion lasts for so many rests at least while others want it.
+    /// A heap that is shared, of which a portion lasts for at least `rests` rests while others want it.
     pub(crate) fn with_mutator(mutator: Mutator, rests: u32) -> SharedHeap {
         SharedHeap {
             desk: RwLock::new(mutator),
