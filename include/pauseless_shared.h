@@ -21,7 +21,7 @@
 /* A heap that is shared. It must not be moved while threads use it. */
 typedef struct pauseless_shared {
     pauseless_heap *heap;
-    uint32_t rests;          /* a portion lasts for so many rests at least, while others wait */
+    uint32_t rests;          /* a portion lasts for at least as many rests, while others wait */
     atomic_uint wanted;      /* how many threads wait for the heap */
     pthread_mutex_t lock;    /* of the heap, and of all below */
     pthread_cond_t closing;  /* is_closed has changed */
@@ -54,7 +54,7 @@ static inline void pauseless_lock_heap(pauseless_shared *shared) {
     atomic_fetch_sub(&shared->wanted, 1);
 }
 
-/* Lets others have the heap, which this thread has let go: until none waits, or up to 1,000 times. */
+/* Lets others have the heap, which this thread has released: until none waits, or up to 1,000 times. */
 static inline void pauseless_give_way(pauseless_shared *shared) {
     for (int turn = 0; turn < 1000 && atomic_load(&shared->wanted) > 0; turn++) sched_yield();
 }

@@ -13,13 +13,13 @@ use std::thread::Threads;
 use std::time::{Clock, Instant};
 use works::{Lap, since};
 
-/// A thread rests after so many turns, each of a load, a read and a write.
+/// After how many turns a thread rests, each a load, a read and a write.
 const TURNS: u32 = 20;
 
 /// The steps of a turn.
 const STEPS: u32 = 3;
 
-/// A portion lasts for so many rests at least, while another thread waits: some 5,000 steps.
+/// For how many rests a portion lasts at least, while another thread waits: some 5,000 steps.
 const RESTS: u32 = 80;
 
 /// Buffers of a page.
@@ -45,7 +45,7 @@ fn turn(mutator: &mut impl MutatorCalls, count: u32) -> Result<(), Refusal> {
     Ok(())
 }
 
-/// A thread does so many steps, and rests now and then. Returns how many it did.
+/// A thread does `count` steps, and rests now and then. Returns how many it did.
 fn turns<R: Wait>(
     rt: &R,
     alloc: Global,
@@ -66,7 +66,7 @@ fn turns<R: Wait>(
     Ok(done)
 }
 
-/// The threads of these seats do so many steps each. Returns how many they did.
+/// The threads of these seats do `count` steps each. Returns how many they did.
 fn all<R: Threads + Wait + Sync>(
     rt: &R,
     alloc: Global,
@@ -89,7 +89,7 @@ fn all<R: Threads + Wait + Sync>(
     })
 }
 
-/// A heap of so many threads that is shared, with its seats.
+/// A heap of N threads that is shared, with its seats.
 fn opened(alloc: Global, threads: u32) -> Result<(SharedHeap, Seats)> {
     let layouts = Layouts::new(vec![in alloc; Layout { refs: 1, nums: 1 }]?);
     let mut config = Config::new(16, threads.saturating_mul(2), layouts);
@@ -101,7 +101,7 @@ fn opened(alloc: Global, threads: u32) -> Result<(SharedHeap, Seats)> {
     }
 }
 
-/// The threads of a heap's seats do so many steps each.
+/// The threads of a heap's seats do `count` steps each.
 fn timed<R: Threads + Wait + Clock + Sync>(
     rt: &R,
     alloc: Global,
@@ -115,7 +115,7 @@ fn timed<R: Threads + Wait + Clock + Sync>(
     Ok(Lap::once("portions", done, nanos))
 }
 
-/// So many threads do so many steps each, by portions of a heap that they share.
+/// N threads do `count` steps each, by portions of a heap that they share.
 pub fn portions<R: Threads + Wait + Clock + Sync>(
     rt: &R,
     alloc: Global,

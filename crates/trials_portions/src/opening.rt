@@ -45,7 +45,7 @@ fn change(mutator: &mut impl MutatorCalls) -> Result<u64, Refusal> {
     Ok(before)
 }
 
-/// A thread's portion is told to rest where nobody waits, and goes on.
+/// A thread rests when nobody waits, and its portion goes on.
 fn changes<R: Wait>(
     rt: &R,
     shared: &SharedHeap,

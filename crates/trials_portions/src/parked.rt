@@ -9,7 +9,7 @@ use std::process::Abort;
 use std::sync::Wait;
 use std::test::Fail;
 
-/// A part scans up to so many objects.
+/// How many objects a part scans at most.
 const BUDGET: u32 = 4;
 
 /// More parts than a collection of this heap takes.

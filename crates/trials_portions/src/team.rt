@@ -38,10 +38,10 @@ const EARLY: Policy = Policy {
     percent: 75,
 };
 
-/// The collector scans up to so many objects in a part.
+/// How many objects the collector scans in a part at most.
 const BUDGET: u32 = 16;
 
-/// A heap of so many threads, in pages of 64 words.
+/// A heap of N threads, in pages of 64 words.
 pub fn heap_of(alloc: Global, threads: u32, frames: u32) -> Result<ManagedHeap, Fail> {
     let cell = Layout { refs: 1, nums: 1 };
     let table = Layout { refs: 16, nums: 0 };
@@ -60,7 +60,7 @@ pub fn opened(alloc: Global, heap: ManagedHeap, rests: u32) -> Result<(SharedHea
     }
 }
 
-/// A heap of so many threads that is shared, with its seats.
+/// A heap of N threads that is shared, with its seats.
 pub fn shared_heap(
     alloc: Global,
     threads: u32,
