@@ -14,14 +14,16 @@
 #                   target/unproved/libpauseless.a, by a build that proves nothing
 # make install      installs the program in PREFIX/bin, and the library, its headers and its pkg-config file
 # make bench        times the program on generated scripts, loops over the library's calls, collections compared with
-#                   bdwgc, and the Lisp in C
+#                   bdwgc, threads that share a heap, also compared with the JVM's ZGC, and the Lisp in C
 # make film         makes film.html of examples/moving.script, or of SCRIPT=..; FILM=.. names another file; with TRY=1
 #                   by a build that proves nothing and is kept
 # make plot         makes plot.html of a long run, or of SCRIPT=..; PLOT=.. names another file; EVERY=.. counts after
 #                   every so many commands; TRY=1 as for a film
 # make soak         drives heaps by 10,000,000 random steps each, or SOAK_STEPS=.., verified at intervals; and makes
-#                   100,000,000 objects that nobody keeps, or SOAK_OBJECTS=.., in the smallest heaps; and has eight
-#                   threads share a heap for 40,000,000 turns each, or SOAK_TURNS=.., alongside a collector
+#                   100,000,000 objects that nobody keeps, or SOAK_OBJECTS=.., in the smallest heaps; and has threads
+#                   share a heap alongside a collector: two, four and eight for 10,000,000 turns each, with lists that
+#                   they read of each other, and eight in C for 40,000,000 each; SOAK_TURNS=.. sets the latter, and the
+#                   former are a quarter of it
 # make fuzz         runs the program on changed scripts for 600 seconds, or FUZZ_SECONDS=..
 # make clean        removes the program, the library, the log and all that earlier builds and checks kept
 #
@@ -165,14 +167,17 @@ bench: pauseless libpauseless.a
 	@$(call built,timings,mark-list 10 2 1 1)
 	@$(call built,crowds,act 100)
 	@$(call built,holds,holds 64 8 4 2 10)
-	@$(call part,1 of 7: the program on generated scripts) $(PYTHON) bench/run.py ./pauseless
-	@$(call part,2 of 7: calls of the library) $(PYTHON) bench/calls.py crates/bench/out/bench
-	@export CC='$(CC)'; $(call part,3 of 7: collections compared with bdwgc) \
+	@$(call built,contention,portions 2 128)
+	@$(call built,lists,views 2 4000)
+	@$(call part,1 of 8: the program on generated scripts) $(PYTHON) bench/run.py ./pauseless
+	@$(call part,2 of 8: calls of the library) $(PYTHON) bench/calls.py crates/bench/out/bench
+	@export CC='$(CC)'; $(call part,3 of 8: collections compared with bdwgc) \
 		$(PYTHON) bench/boehm.py crates/timings/out/timings
-	@$(call part,4 of 7: threads that share a heap) $(PYTHON) bench/crowds.py
-	@$(call part,5 of 7: pauses of collections in parts) $(PYTHON) bench/pauses.py
-	@$(call part,6 of 7: commands of scripts) $(PYTHON) bench/commands.py ./pauseless
-	@export CC='$(CC)'; $(call part,7 of 7: the Lisp) $(PYTHON) bench/lisp.py ./libpauseless.a
+	@$(call part,4 of 8: threads that share a heap) $(PYTHON) bench/crowds.py
+	@$(call part,5 of 8: lists of threads compared with ZGC) $(PYTHON) bench/zgc.py
+	@$(call part,6 of 8: pauses of collections in parts) $(PYTHON) bench/pauses.py
+	@$(call part,7 of 8: commands of scripts) $(PYTHON) bench/commands.py ./pauseless
+	@export CC='$(CC)'; $(call part,8 of 8: the Lisp) $(PYTHON) bench/lisp.py ./libpauseless.a
 
 # The program that writes the states of a script's heap, with TRY=1 as a build that proves nothing.
 ifdef TRY
@@ -219,15 +224,17 @@ plot:
 	@$(call drawn,film/plot.py,$(PLOT),$(EVERY))
 	@echo 'The plot is $(PLOT).'
 
-# The heaps that are driven, and the steps of each.
+# The heaps that are driven, and the steps of each; and how many threads share a heap.
 SOAKED = rows rolling smallest several long many
 SOAK_STEPS = 10000000
 SOAK_OBJECTS = 100000000
 SOAK_TURNS = 40000000
+SOAK_THREADS = 2 4 8
 
 soak: libpauseless.a
 	@$(needs_toolchain)
 	@$(call built,driver,rolling 1 100000 1)
+	@$(call built,stress,threads 2 1000)
 	@$(call part,1 of $(words x $(SOAKED)): $(SOAK_OBJECTS) objects that nobody keeps) \
 		crates/driver/out/driver waste $(SOAK_OBJECTS)
 	@number=1; for heap in $(SOAKED); do \
@@ -236,9 +243,15 @@ soak: libpauseless.a
 		echo "$$what" >&2; \
 		$(PROGRESS) --say "$$what" -- crates/driver/out/driver $$heap 1 $(SOAK_STEPS) 1000 1 || exit 1; \
 	done
+	@for threads in $(SOAK_THREADS); do \
+		what="soak: $$threads threads that share a heap"; \
+		echo "$$what" >&2; \
+		$(PROGRESS) --say "$$what" -- crates/stress/out/stress timed threads $$threads $$(($(SOAK_TURNS) / 4)) \
+			|| exit 1; \
+	done
 	@mkdir -p target
 	@$(CC) -std=c11 -O2 -Iinclude tests/c/shared.c libpauseless.a -pthread -o target/shared
-	@$(call part,the last: eight threads that share a heap) target/shared $(SOAK_TURNS)
+	@$(call part,the last: eight threads that share a heap in C) target/shared $(SOAK_TURNS)
 
 FUZZ_SECONDS = 600
 

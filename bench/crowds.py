@@ -1,28 +1,33 @@
 #!/usr/bin/env python3
-"""Times threads that share a book, holds of its lock, and cycles: python3 bench/crowds.py [CROWDS [HOLDS]].
+"""Times threads that share a heap or a book: python3 bench/crowds.py [--only TABLE] [PROGRAM..].
 
-The programs are those of the crates `crowds` and `holds`, which read a clock
-themselves. Forms take turns, so that a slow moment doesn't fall on one alone. Figures of one
-thread are the best of several runs, those of several threads the median: the
-best would be of a run in which they hardly met. Where other programs use the
-processors too, `chrt -f 20` before the command keeps them away from threads.
+The programs are those of the crates `crowds`, `holds`, `contention` and `lists`, in this order, which read a clock
+themselves. --only prints one table: steps, wait, turns, views, apart, holds or cycles. Forms take turns, so that a slow
+moment doesn't fall on one alone. Figures of one thread are the best of several runs, those of several threads the
+median: the best would be of a run in which they hardly met. If other programs use the processors too, `chrt -f 20`
+before the command keeps them away from threads.
 
-Steps: a register is copied, some 900,000 times, by the calls of a book without
-seats, by a seat without a lock, and by seats of 1 to 8 threads under the lock;
-loads and reads and writes of data, forty times as many, by portions of as many threads
-on a heap that they share; alongside, threads that add to a number under a lock.
+steps: a register is copied, some 900,000 times, by the calls of a book without seats, by a seat without a lock, and by
+seats of 1 to 8 threads under the lock; loads and reads and writes of data, forty times as many, by portions of as many
+threads on a heap that they share, and on plain heaps under a plain lock that is taken for each 60 of them; and threads
+that add to a number under a lock.
 
-A wait: the processor time of a thread that waits a second for a step of
-another one.
+wait: the processor time of a thread that waits a second for a step of another one.
 
-Holds: each step of a heap of the largest size is timed alone, as a hold of the
-lock is one step, one look, or a portion of a drain. The longest of each kind is
-the least of some runs, since a run in which the thread was put aside shows a
-longer one.
+turns: how long a thread waits for its turn at a shared heap alongside a collector, and how long others wait for a
+portion to end, by the number of rests that `open` was given; and the same for a plain lock. The longest is the least of
+some runs, since a run in which a thread was put aside shows a longer one.
 
-Cycles: a cycle of one worker or of four, on one list or on eight, beside two
-threads that load references, or that have ended. The mark is from its start to
-its end; the cycle ends when the last page is released.
+views: looks at a list of 1,000 cells by threads that read one heap at the same time, 2,000 looks a view, the best of
+several runs.
+
+apart: the same steps without sharing, each thread on a heap of its own or on a plain one, the best of several runs.
+
+holds: each step of a heap of the largest size is timed alone, as a hold of the lock is one step, one look, or a portion
+of a drain. The longest of each kind is the least of some runs.
+
+cycles: a cycle of one worker or of four, on one list or on eight, alongside two threads that load references, or that
+have ended. The mark is from its start to its end; the cycle ends when the last page is released.
 """
 
 import argparse
@@ -39,6 +44,22 @@ STEPS = 896_000
 THREADS = [1, 2, 4, 8]
 MILLISECONDS = 1_000
 
+# Steps of all threads together in portions.
+SHARED_STEPS = 40 * STEPS
+
+# Steps of all threads together whose waits are timed, and rests that `open` is given. The runs are short, as the system
+# puts threads aside that have kept all processors to themselves for most of a second.
+TIMED_STEPS = 10 * STEPS
+RESTS = [20, 80]
+
+# Threads that read one heap by views, and the looks of each.
+VIEWERS = [1, 2, 4]
+LOOKS = 20_000_000
+
+# Threads that each have a heap of their own, and the steps of each.
+APART = [1, 2, 4]
+APART_STEPS = 10 * STEPS
+
 # Heaps whose steps are timed: words of a page, frames, words of an object, pages full of them, objects of a list.
 HEAPS = {"a word each": (32_768, 4_096, 1, 28, 5_000),
          "66 words each": (32_768, 4_096, 66, 1_800, 5_000),
@@ -52,16 +73,17 @@ WORKERS = [1, 4]
 CYCLE_RUNS = 5
 
 
-def print_steps(program):
+def print_steps(crowds, contention):
     """Times steps by each form of calls."""
-    forms = {form: (form, STEPS) for form in ("act", "any", "seat")}
+    forms = {form: (crowds, form, STEPS) for form in ("act", "any", "seat")}
     for threads in THREADS:
-        forms["steps", threads] = ("steps", threads, STEPS // threads)
-        forms["portions", threads] = ("portions", threads, 40 * STEPS // threads)
-        forms["counter", threads] = ("counter", threads, STEPS // threads)
+        forms["steps", threads] = (crowds, "steps", threads, STEPS // threads)
+        forms["counter", threads] = (crowds, "counter", threads, STEPS // threads)
+        for name in ("portions", "locked"):
+            forms[name, threads] = (contention, name, threads, SHARED_STEPS // threads)
     took = {form: [] for form in forms}
     for _ in range(RUNS):
-        for form, words in forms.items():
+        for form, (program, *words) in forms.items():
             count, nanos, _ = lines(program, words)[words[0]]
             took[form].append(nanos / count)
     print("| Form | Threads | ns a step | steps a second |")
@@ -69,6 +91,7 @@ def print_steps(program):
     names = {"act": "`Book::act`, its kind known", "any": "`Book::act`", "seat": "`Seat::act`"}
     names |= {("steps", threads): "`Shared::step`" for threads in THREADS}
     names |= {("portions", threads): "portions of a `SharedHeap`" for threads in THREADS}
+    names |= {("locked", threads): "plain heaps under a lock" for threads in THREADS}
     names |= {("counter", threads): "a number under a lock" for threads in THREADS}
     for form, name in names.items():
         threads = form[1] if isinstance(form, tuple) else 1
@@ -88,6 +111,52 @@ def print_wait(program):
     lines(program, ["waits", MILLISECONDS])
     took = time.perf_counter() - begun
     print(f"A step refused as Stall that is waited for: {took:.2f} s, of which {spent() - before:.3f} s of a processor")
+
+
+def print_turns(program):
+    """Times waits for a turn, and holds."""
+    forms = {("portions", rests, threads): ("turns", threads, TIMED_STEPS // threads, rests)
+             for rests in RESTS for threads in THREADS}
+    forms |= {("a plain lock", "", threads): ("locked-turns", threads, TIMED_STEPS // threads) for threads in THREADS}
+    found = {form: [] for form in forms}
+    for _ in range(RUNS):
+        for form, words in forms.items():
+            found[form].append(lines(program, words))
+    print("| Form | Rests | Threads | longest wait, ms | longest hold, ms | median wait, us | steps a second |")
+    print("|---|---|---|---|---|---|---|")
+    for (name, rests, threads), runs in found.items():
+        wait, hold = (min(run[kind][2] if kind in run else 0 for run in runs) / 1e6 for kind in ("wait", "hold"))
+        median = min(run["wait"][1] for run in runs) / 1e3
+        steps = max(run[form][0] / run[form][1] for run in runs for form in ("turns", "locked") if form in run)
+        print(f"| {name} | {rests} | {threads} | {wait:.2f} | {hold:.2f} | {median:.1f} | {1e9 * steps:,.0f} |")
+
+
+def print_views(program):
+    """Times threads that read one heap at the same time."""
+    best = {}
+    for _ in range(RUNS):
+        for threads in VIEWERS:
+            count, nanos, _ = lines(program, ("views", threads, LOOKS))["views"]
+            best[threads] = max(best.get(threads, 0), 1e3 * count / nanos)
+    print("| Form | Threads | million looks a second | over one thread |")
+    print("|---|---|---|---|")
+    for threads, looks in best.items():
+        print(f"| views of a `SharedHeap` | {threads} | {looks:.1f} | {looks / best[1]:.2f} |")
+
+
+def print_apart(program):
+    """Times threads that each have a heap of their own."""
+    names = {"apart": "a heap for each thread", "plain": "a plain heap for each thread"}
+    best = {}
+    for _ in range(RUNS):
+        for name in names:
+            for threads in APART:
+                count, nanos, _ = lines(program, (name, threads, APART_STEPS))[name]
+                best[name, threads] = max(best.get((name, threads), 0), 1e3 * count / nanos)
+    print("| Form | Threads | million steps a second | over one thread |")
+    print("|---|---|---|---|")
+    for (name, threads), steps in best.items():
+        print(f"| {names[name]} | {threads} | {steps:.1f} | {steps / best[name, 1]:.2f} |")
 
 
 def held(program, words):
@@ -129,21 +198,28 @@ def print_cycles(program):
 
 
 def main():
-    parser = argparse.ArgumentParser(description="Times threads that share a book, holds of its lock, and cycles.")
-    parser.add_argument("crowds", nargs="?", default="crates/crowds/out/crowds")
-    parser.add_argument("holds", nargs="?", default="crates/holds/out/holds")
+    parser = argparse.ArgumentParser(description="Times threads that share a heap or a book.")
+    programs = ("crowds", "holds", "contention", "lists")
+    for name in programs:
+        parser.add_argument(name, nargs="?", default=f"crates/{name}/out/{name}")
+    parser.add_argument("--only", choices=("steps", "wait", "turns", "views", "apart", "holds", "cycles"),
+                        help="print one table alone")
     words = parser.parse_args()
-    crowds, holds = os.path.abspath(words.crowds), os.path.abspath(words.holds)
-    for program in (crowds, holds):
+    crowds, holds, contention, lists = (os.path.abspath(getattr(words, name)) for name in programs)
+    tables = {"steps": lambda: print_steps(crowds, contention), "wait": lambda: print_wait(crowds),
+              "turns": lambda: print_turns(contention), "views": lambda: print_views(lists),
+              "apart": lambda: print_apart(contention),
+              "holds": lambda: print_holds(holds), "cycles": lambda: print_cycles(holds)}
+    needed = {None: (crowds, holds, contention, lists), "steps": (crowds, contention), "wait": (crowds,),
+              "views": (lists,)}
+    needed |= dict.fromkeys(("turns", "apart"), (contention,)) | dict.fromkeys(("holds", "cycles"), (holds,))
+    for program in needed[words.only]:
         if not os.access(program, os.X_OK):
             sys.exit(f"{program} isn't there: run 'make bench'")
-    print_steps(crowds)
-    print()
-    print_wait(crowds)
-    print()
-    print_holds(holds)
-    print()
-    print_cycles(holds)
+    for number, table in enumerate([words.only] if words.only else tables):
+        if number:
+            print()
+        tables[table]()
 
 
 if __name__ == "__main__":

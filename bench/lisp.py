@@ -2,9 +2,9 @@
 """Times the Lisp of examples/lisp on this heap and on the collector of Boehm, Demers and Weiser:
 lisp.py LIBRARY [--instructions [PROGRAM ..]].
 
-LIBRARY is libpauseless.a. Each program runs in 64 MiB, in 4 MiB, and on bdwgc as that likes, three times. It prints the
-shortest time of a processor and the memory for objects as the Lisp reports it, and how many times as long it takes in
-4 MiB as on bdwgc. If libgc isn't there, a line says so.
+LIBRARY is libpauseless.a. Each program of one thread runs in 64 MiB, in 4 MiB, and on bdwgc as that likes, three times
+(on bdwgc the Lisp has no threads). It prints the shortest time of a processor and the memory for objects as the Lisp
+reports it, and how many times as long it takes in 4 MiB as on bdwgc. If libgc isn't there, a line says so.
 
 With --instructions nothing is timed: callgrind counts where the instructions of a program go that runs in 4 MiB (of all
 five programs, if none is named, which takes minutes). For each call of the library it prints how often it is made, what
@@ -31,8 +31,9 @@ RUNS = 3
 def build(output, memory, words):
     """Builds the Lisp on one memory, and gives whether that went well."""
     include = os.path.join(FOLDER, "..", "..", "include")
-    command = [os.environ.get("CC", "cc"), "-std=c11", "-O2", f"-I{include}", *SOURCES, os.path.join(FOLDER, memory)]
-    return subprocess.run([*command, *words, "-o", output], stderr=subprocess.DEVNULL).returncode == 0
+    command = [os.environ.get("CC", "cc"), "-std=c11", "-O2", "-pthread", f"-I{include}", *SOURCES]
+    command += [os.path.join(FOLDER, memory), *words, "-o", output]
+    return subprocess.run(command, stderr=subprocess.DEVNULL).returncode == 0
 
 
 def run(command):
@@ -100,7 +101,8 @@ def main():
     parser.add_argument("--instructions", nargs="*", metavar="PROGRAM", help="count instructions instead of time")
     words = parser.parse_args()
     folder = os.path.join(FOLDER, "programs")
-    programs = words.instructions or sorted(name[:-5] for name in os.listdir(folder) if name.endswith(".lisp"))
+    programs = words.instructions or sorted(
+        name[:-5] for name in os.listdir(folder) if name.endswith(".lisp") and name != "threads.lisp")
     if words.instructions is not None and shutil.which("valgrind") is None:
         sys.exit("there is no valgrind, which counts instructions")
     with tempfile.TemporaryDirectory() as kept:

@@ -17,7 +17,7 @@
 #define PAUSELESS_H
 
 /* The version of the library, by https://semver.org. */
-#define PAUSELESS_VERSION "1.2.0"
+#define PAUSELESS_VERSION "1.3.0"
 
 #include <stdbool.h>
 #include <stddef.h>
@@ -234,6 +234,19 @@ pauseless_code pauseless_collect(pauseless_heap *heap, uint32_t percent, pausele
 /* The next part of a collection, for a caller that can't stop for a whole one; budget is how many objects it may scan.
  * *has_ended where it was the last one, and the next part begins another. MEMORY. */
 pauseless_code pauseless_collect_some(pauseless_heap *heap, uint32_t percent, uint32_t budget, bool *has_ended);
+
+/* Reading the whole heap without steps, in any phase of a collection. An object is read by its place, which is valid
+ * until another call than these is made; 0 is the place of null. These calls write nothing to the heap. NULL where the
+ * place of an object is 0. */
+
+/* Tells the place of what a register or a global names, or of what an object's reference leads to. */
+pauseless_code pauseless_view_register(pauseless_heap *heap, uint32_t thread, uint32_t reg, uint64_t *place);
+pauseless_code pauseless_view_global(pauseless_heap *heap, uint32_t global, uint64_t *place);
+pauseless_code pauseless_view_load(pauseless_heap *heap, uint64_t object, uint32_t field, uint64_t *place);
+
+/* Reads a datum of an object, and tells what object is at a place. */
+pauseless_code pauseless_view_get(pauseless_heap *heap, uint64_t object, uint32_t index, uint64_t *value);
+pauseless_code pauseless_view_look(pauseless_heap *heap, uint64_t place, pauseless_object *object);
 
 /* Looking at the heap */
 

@@ -1,4 +1,5 @@
-/* Threads that share a heap: a lock, portions of many calls, and a thread that collects between portions.
+/* Threads that share a heap: a lock, portions of many calls, views that read the heap at the same time, and a thread
+ * that collects between portions.
  *
  * A thread has the heap for a portion: from pauseless_enter to pauseless_leave. In it any call of pauseless.h may be
  * made, with the number of the thread's own registers. pauseless_rest is a safepoint: if another thread waits, and the
@@ -12,8 +13,6 @@
 #include <pthread.h>
 #include <sched.h>
 #include <stdatomic.h>
-#include <stdbool.h>
-#include <stdint.h>
 #include <time.h>
 
 #include "pauseless.h"
@@ -23,12 +22,15 @@ typedef struct pauseless_shared {
     pauseless_heap *heap;
     uint32_t rests;          /* a portion lasts for at least as many rests, while others wait */
     atomic_uint wanted;      /* how many threads wait for the heap */
-    pthread_mutex_t lock;    /* of the heap, and of all below */
-    pthread_cond_t closing;  /* is_closed has changed */
+    pthread_mutex_t turn;    /* held while a thread waits for the heap, so that they have it in their order */
+    pthread_mutex_t lock;    /* of the heap while views is 0, and of all below */
+    pthread_cond_t closing, viewed; /* is_closed has changed; views is 0 again */
+    uint32_t views;          /* how many threads read the heap */
     bool is_closed, has_begun, has_collector;
     pauseless_policy policy; /* of the collector: its words aren't used */
     uint32_t budget;
-    pauseless_code failed;   /* how the collector's last part ended; read it in a portion */
+    pauseless_code failed;   /* how the collector's last part ended; read this and collections in a portion */
+    uint64_t collections;    /* those that the collector's thread has ended */
     pthread_t collector;
 } pauseless_shared;
 
@@ -41,16 +43,17 @@ typedef struct pauseless_portion {
 /* Shares a heap that pauseless_new has made; some thousand calls make good portions. false if there is no lock. */
 static inline bool pauseless_share(pauseless_shared *shared, pauseless_heap *heap, uint32_t rests) {
     *shared = (pauseless_shared){.heap = heap, .rests = rests, .failed = PAUSELESS_DONE};
-    if (pthread_mutex_init(&shared->lock, NULL) != 0) return false;
-    if (pthread_cond_init(&shared->closing, NULL) == 0) return true;
-    pthread_mutex_destroy(&shared->lock);
-    return false;
+    return pthread_mutex_init(&shared->turn, NULL) == 0 && pthread_mutex_init(&shared->lock, NULL) == 0 &&
+           pthread_cond_init(&shared->closing, NULL) == 0 && pthread_cond_init(&shared->viewed, NULL) == 0;
 }
 
-/* Waits for the heap. */
-static inline void pauseless_lock_heap(pauseless_shared *shared) {
+/* Waits for the lock, for as many views to end as may be left. */
+static inline void pauseless_wait(pauseless_shared *shared, uint32_t views) {
     atomic_fetch_add(&shared->wanted, 1);
+    pthread_mutex_lock(&shared->turn);
     pthread_mutex_lock(&shared->lock);
+    while (shared->views > views) pthread_cond_wait(&shared->viewed, &shared->lock);
+    pthread_mutex_unlock(&shared->turn);
     atomic_fetch_sub(&shared->wanted, 1);
 }
 
@@ -59,9 +62,23 @@ static inline void pauseless_give_way(pauseless_shared *shared) {
     for (int turn = 0; turn < 1000 && atomic_load(&shared->wanted) > 0; turn++) sched_yield();
 }
 
+/* Begins a view, never in a portion: threads read the heap at the same time, by the calls pauseless_view_.. alone. */
+static inline void pauseless_begin_view(pauseless_shared *shared) {
+    pauseless_wait(shared, UINT32_MAX);
+    shared->views++;
+    pthread_mutex_unlock(&shared->lock);
+}
+
+/* Ends a view: the places that it was told mean nothing any more. */
+static inline void pauseless_end_view(pauseless_shared *shared) {
+    pthread_mutex_lock(&shared->lock);
+    if (--shared->views == 0) pthread_cond_signal(&shared->viewed);
+    pthread_mutex_unlock(&shared->lock);
+}
+
 /* Begins a portion, which waits for the heap. */
 static inline pauseless_portion pauseless_enter(pauseless_shared *shared) {
-    pauseless_lock_heap(shared);
+    pauseless_wait(shared, 0);
     return (pauseless_portion){.shared = shared, .rests = 0};
 }
 
@@ -87,25 +104,22 @@ static inline bool pauseless_collect_due(pauseless_shared *shared) {
     if (!shared->has_begun && counts.free > shared->policy.free) return false;
     shared->failed = pauseless_collect_some(shared->heap, shared->policy.percent, shared->budget, &has_ended);
     shared->has_begun = shared->failed != PAUSELESS_DONE || !has_ended;
+    if (!shared->has_begun) shared->collections++;
     return shared->failed == PAUSELESS_DONE && !has_ended;
 }
 
 /* The collector's thread. When nothing is due it sleeps for a millisecond. */
 static inline void *pauseless_collects(void *argument) {
     pauseless_shared *shared = argument;
-    pauseless_lock_heap(shared);
-    while (!shared->is_closed) {
-        if (pauseless_collect_due(shared)) {
-            pthread_mutex_unlock(&shared->lock);
-            pauseless_give_way(shared);
-            pauseless_lock_heap(shared);
-        } else {
-            struct timespec until;
-            timespec_get(&until, TIME_UTC);
-            until.tv_nsec += 1000000;
-            if (until.tv_nsec >= 1000000000) until.tv_sec++, until.tv_nsec -= 1000000000;
-            pthread_cond_timedwait(&shared->closing, &shared->lock, &until);
-        }
+    for (pauseless_wait(shared, 0); !shared->is_closed; pauseless_wait(shared, 0)) {
+        const bool is_due = pauseless_collect_due(shared);
+        struct timespec until;
+        timespec_get(&until, TIME_UTC);
+        until.tv_nsec += 1000000;
+        if (until.tv_nsec >= 1000000000) until.tv_sec++, until.tv_nsec -= 1000000000;
+        if (!is_due) pthread_cond_timedwait(&shared->closing, &shared->lock, &until);
+        pthread_mutex_unlock(&shared->lock);
+        if (is_due) pauseless_give_way(shared);
     }
     pthread_mutex_unlock(&shared->lock);
     return NULL;
@@ -117,8 +131,7 @@ static inline bool pauseless_start_collector(pauseless_shared *shared, const pau
                                              uint32_t budget) {
     shared->policy = *policy;
     shared->budget = budget;
-    shared->has_collector = pthread_create(&shared->collector, NULL, pauseless_collects, shared) == 0;
-    return shared->has_collector;
+    return shared->has_collector = pthread_create(&shared->collector, NULL, pauseless_collects, shared) == 0;
 }
 
 /* The heap isn't shared any more: ends the collector's thread. No thread may be in a portion. */
@@ -128,8 +141,10 @@ static inline void pauseless_unshare(pauseless_shared *shared) {
     pthread_cond_signal(&shared->closing);
     pthread_mutex_unlock(&shared->lock);
     if (shared->has_collector) pthread_join(shared->collector, NULL);
+    pthread_cond_destroy(&shared->viewed);
     pthread_cond_destroy(&shared->closing);
     pthread_mutex_destroy(&shared->lock);
+    pthread_mutex_destroy(&shared->turn);
 }
 
 #endif

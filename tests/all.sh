@@ -4,13 +4,15 @@
 # changed, on long scripts, and with words, files and outputs that fail; films of
 # scripts, and the states that they are made of; the
 # program and the library's calls with each of their requests for memory refused,
-# and the program with each start of a thread refused; the library for C and a
-# Lisp on it; and the trying of edits itself. All that comes behind the proofs is
-# run in four lanes side by side, and shown when they have ended.
+# and the program with each start of a thread refused; the library for C, a Lisp,
+# an object model and a program in Rust on it; and the trying of edits itself. All
+# that comes after the proofs is run in four lanes side by side, and shown when they
+# have ended.
 # 'make test' runs it at the top of the repository.
 # The last line is 'N passed, M failed, K skipped', and the exit status is 0
 # where M is 0: K edits that must fail weren't tried, as tests/refused.txt says
-# that they were refused. What each crate took stands before it.
+# that they were refused; and if there is no cargo, the program in Rust. What each
+# crate took stands before it.
 
 RT=${RT:-rt}
 INSTALL=${INSTALL:-install}
@@ -83,6 +85,8 @@ lanes=$!
     keep 'building the library for C' build_library
     keep 'the library for C' sh tests/c.sh "$proved/libpauseless.a"
     keep 'the Lisp' sh tests/lisp.sh "$proved/libpauseless.a"
+    keep 'the object model' sh tests/objects.sh "$proved/libpauseless.a"
+    keep 'Rust' sh tests/rust.sh "$proved/libpauseless.a"
 ) &
 lanes="$lanes $!"
 keep 'the trying of edits' sh tests/edits.sh &
@@ -108,7 +112,8 @@ wait
 
 show 'the rooms' 'the README' 'the scripts' 'the checks' 'looks of checks' 'the faults' 'cut and changed scripts' \
     'the program' 'states and films' 'the threads' 'threads that lack memory' 'long scripts' 'refused memory' \
-    'refused memory of calls' 'building the library for C' 'the library for C' 'the Lisp' 'the trying of edits'
+    'refused memory of calls' 'building the library for C' 'the library for C' 'the Lisp' 'the object model' 'Rust' \
+    'the trying of edits'
 cat "$proved.table"
 echo "$passed passed, $failed failed, $skipped skipped"
 [ "$failed" = 0 ]

@@ -8,20 +8,10 @@
 
 cd "$(dirname "$0")/.." || exit 1
 . tests/begin.sh
+. tests/counting.sh
 library=${1:-./libpauseless.a}
 CC=${CC:-cc}
 PYTHON=${PYTHON:-python3}
-
-# told WHAT STATUS: counts a test.
-told() {
-    if [ "$2" = 0 ]; then
-        echo "passed: $1"
-        passed=$((passed + 1))
-    else
-        echo "failed: $1"
-        failed=$((failed + 1))
-    fi
-}
 
 # The codes of refusals and of sizes, in order: each number, with its name in small letters and nothing between words.
 in_header() {
@@ -40,7 +30,7 @@ in_code > "$kept/code"
 told 'the codes of the header' $?
 
 "$PYTHON" tests/header.py
-told 'the functions and structs of the header' $?
+told 'the functions and structs of the header, and what the example in Rust declares' $?
 
 # The functions of the header, and those of the library.
 sed -nE 's/^(pauseless_code|void) (pauseless_[a-z_]+)\(.*/\2/p' include/pauseless.h | sort > "$kept/declared"
@@ -49,10 +39,10 @@ nm -g "$library" 2> "$kept/errors" | sed -nE 's/^[0-9a-f]+ T (pauseless_[a-z_]+)
 told 'the library has the functions of the header' $?
 
 while read -r name; do
-    grep -q "[ (]$name(" tests/c/calls.c || echo "calls.c has no $name" >> "$kept/missing"
+    grep -q "[ (]$name(" tests/c/calls.c tests/c/views.c || echo "no test has $name" >> "$kept/missing"
 done < "$kept/declared"
 [ ! -e "$kept/missing" ]
-told 'calls.c has each function of the header' $?
+told 'calls.c and views.c have each function of the header' $?
 
 # build SOURCE FLAGS..: a program of the same name in $kept.
 build() {
@@ -91,9 +81,10 @@ if $CC -fsanitize=thread "$kept/races.c" -o "$kept/races" 2> "$kept/errors" && "
 fi
 
 build tests/c/calls.c
+build tests/c/views.c
 build tests/c/random.c
 build tests/c/memory.c -Wl,--wrap=malloc -Wl,--wrap=realloc -Wl,--wrap=free
-for name in calls random memory; do
+for name in calls views random memory; do
     "$kept/$name"
     told "$name finds no difference" $?
     leaves "$name"

@@ -1,11 +1,12 @@
 #!/usr/bin/env python3
-"""Compares the header for C with the library's code: functions, and structs that C fills or reads.
+"""Compares the header for C with the library's code, and with the declarations of the example in Rust.
 
     tests/header.py     prints each difference; the status is 0 if there is none
 
 A function of include/pauseless.h and the export of its name in crates/foreign/src have the same parameters in the same
 order: names, types, and what a pointer may write. A struct has the same fields in the same order. A list is a pointer
-with a count after it in C, and one slice in the code.
+with a count after it in C, and one slice in the code. The example declares some of the functions and structs, in the
+same way, and all codes with their texts.
 """
 
 import glob
@@ -14,6 +15,7 @@ import sys
 
 HEADER = "include/pauseless.h"
 CODE = ["crates/foreign/src/*.rt", "crates/managed/src/batches.rt"]
+RUST = "examples/rust/src/pauseless/calls.rs"
 
 # What C calls how many elements of these types a list has: text and data words; others have a count.
 SIZES = {"u8": "size", "u64": "size"}
@@ -25,6 +27,10 @@ TYPES = {"u16": "uint16_t", "u32": "uint32_t", "u64": "uint64_t", "bool": "bool"
          "CountsOfC": "pauseless_counts", "FieldLoad": "pauseless_field_load"}
 NAMES = {"register": "reg"}
 RESULTS = {"u32": "pauseless_code", None: "void"}
+
+# The types of the declarations in Rust that are named otherwise.
+RUST_TYPES = {"u16": "uint16_t", "u32": "uint32_t", "u64": "uint64_t", "usize": "size_t", "bool": "bool",
+              "c_void": "void", "Handle": "pauseless_heap"}
 
 
 def c_parameter(text):
@@ -70,7 +76,8 @@ def structs_in_header(text):
     structs = {}
     for fields, name in re.findall(r"^typedef struct \w+ \{\n(.*?)^\} (\w+);", text, re.M | re.S):
         fields = re.sub(r"/\*.*?\*/", "", fields, flags=re.S)
-        structs[name] = [(kind, each.strip()) for kind, names in re.findall(r"(\w+) ([\w, ]+);", fields)
+        structs[name] = [(kind + star, each.strip())
+                         for kind, star, names in re.findall(r"(\w+) (\*?)([\w, ]+);", fields)
                          for each in names.split(",")]
     return structs
 
@@ -85,11 +92,53 @@ def structs_in_code(text):
     return structs
 
 
-def differences(what, header, code):
+def of_rust(kind):
+    """A type of the declarations in Rust, as C has it."""
+    pointer, name = re.fullmatch(r"(\*mut |\*const |)(\w+)", kind).groups()
+    name = RUST_TYPES.get(name) or f"pauseless_{name.lower()}"
+    return {"*mut ": f"{name}*", "*const ": f"const {name}*", "": name}[pointer]
+
+
+def pairs_in_rust(text):
+    """Parameters or fields of the declarations in Rust: their types, as C has them, and their names."""
+    pairs = [each.strip().removeprefix("pub ").split(": ") for each in text.split(",") if each.strip()]
+    return [(of_rust(kind), name) for name, kind in pairs]
+
+
+def in_rust(text):
+    """The functions that are declared in Rust, in the form of those of the header."""
+    found = re.findall(r"\bfn (pauseless_\w+)\(([^)]*)\)(?: -> ([^;{]+))?;", text)
+    return {name: (RESULTS.get(result or None), pairs_in_rust(parameters)) for name, parameters, result in found}
+
+
+def structs_in_rust(text):
+    """The structs that are declared in Rust, in the form of those of the header; one that isn't C's has no fields."""
+    found = re.findall(r"(#\[repr\(C\)\]\n(?:#\[[^\n]*\]\n)*)?(?:pub )?struct (\w+) \{\n(.*?)^\}", text, re.M | re.S)
+    return {of_rust(name): pairs_in_rust(fields) if is_of_c else [] for is_of_c, name, fields in found}
+
+
+def codes(text, pattern):
+    """The codes: of each name its number and its text."""
+    return {name: (number, words) for name, number, words in re.findall(pattern, text, re.M)}
+
+
+def differences(what, header, code, where="the code"):
     """The lines that tell where the two differ."""
     for name in sorted(header.keys() | code.keys()):
         if header.get(name) != code.get(name):
-            yield f"{what} {name}: the header has {header.get(name)}, the code {code.get(name)}"
+            yield f"{what} {name}: the header has {header.get(name)}, {where} {code.get(name)}"
+
+
+def differences_in_rust(header, rust):
+    """The same of what is declared in Rust, which needn't declare all functions and structs."""
+    declared, structs = in_rust(rust), structs_in_rust(rust)
+    if len(declared) != len(re.findall(r"\bfn pauseless_", rust)) or len(declared) < 10 or len(structs) < 5:
+        yield f"{RUST} isn't understood"
+    for what, known, found in [("function", in_header(header), declared),
+                               ("struct", structs_in_header(header), structs)]:
+        yield from differences(what, {name: known[name] for name in known.keys() & found.keys()}, found, RUST)
+    yield from differences("code", codes(header, r'^    CODE\((\w+), (\d+), (".*?")\)'),
+                           codes(rust, r'^    ([A-Z_]+) (\d+) (".*")$'), RUST)
 
 
 def main():
@@ -100,7 +149,8 @@ def main():
     if len(in_header(header)) < 20 or len(known) < 6:
         sys.exit("the header isn't understood")
     found = [*differences("function", in_header(header), in_code(code)),
-             *differences("struct", known, structs_in_code(code))]
+             *differences("struct", known, structs_in_code(code)),
+             *differences_in_rust(header, open(RUST).read())]
     print(*found, sep="\n", end="\n" if found else "")
     return 1 if found else 0
 

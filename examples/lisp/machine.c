@@ -8,11 +8,15 @@
  * VALUE to ARGUMENTS. */
 enum step { EVALUATE, RETURN, APPLY, DONE };
 
-/* What a frame does with a value: it chooses, defines, goes on with a sequence, or collects for a let or a call. */
-enum work { CHOOSE, DEFINED, GO_ON, LET_IN, CALL };
+/* What a frame does with a value: it chooses, defines, goes on with a sequence, collects for a let or a call, or
+ * leaves an atomic form. */
+enum work { CHOOSE, DEFINED, GO_ON, LET_IN, CALL, LEAVE };
 
-enum special { QUOTE, IF, DEFINE, LAMBDA, LET, BEGIN, SPECIALS };
-const char *const special_names[] = {"quote", "if", "define", "lambda", "let", "begin", NULL};
+enum special { QUOTE, IF, DEFINE, LAMBDA, LET, BEGIN, ATOMIC, SPECIALS };
+const char *const special_names[] = {"quote", "if", "define", "lambda", "let", "begin", "atomic", NULL};
+
+/* How many atomic forms this thread is in. If it is in none, each call of a closure is a safepoint. */
+static _Thread_local unsigned atomics;
 
 /* Pushes a frame, with what is left to do in a register. */
 static void push(enum work work, unsigned rest) {
@@ -109,6 +113,14 @@ static enum step let_in(void) {
     memory_put(FRAMES, REST, LEFT);
     return next_binding();
 }
+/* (atomic BODY ..) evaluates a sequence without a safepoint, so no other thread runs during it. A shared counter is
+ * counted by (atomic (set-cdr! counter (+ (cdr counter) 1))), and no count is lost. */
+static enum step atomic(void) {
+    push(LEAVE, LEFT);
+    atomics++;
+    memory_copy(EXPRESSION, ITEM);
+    return sequence();
+}
 static enum step special(enum special which) {
     memory_get(ITEM, EXPRESSION, CDR);
     memory_gets(ITEM, (const struct get[]){{LEFT, CAR}, {RIGHT, CDR}}, 2);
@@ -118,6 +130,7 @@ static enum step special(enum special which) {
     case DEFINE: return define();
     case LAMBDA: return close_over();
     case LET: return let();
+    case ATOMIC: return atomic();
     default: memory_copy(EXPRESSION, ITEM); return sequence();
     }
 }
@@ -163,6 +176,7 @@ static enum step returned(void) {
     case CALL: return call();
     case GO_ON: pop(EXPRESSION); return sequence();
     case DEFINED: pop(LEFT); set_value(LEFT, VALUE); return RETURN;
+    case LEAVE: pop(LEFT); atomics--; return RETURN;
     default: break;
     }
     pop(EXPRESSION);
@@ -173,9 +187,10 @@ static enum step returned(void) {
 
 /* What a primitive gives of ARGUMENTS, in VALUE. */
 enum { ADD, SUBTRACT, MULTIPLY, DIVIDE, REMAINDER, EQUAL, LESS, CONS, HEAD, TAIL, SET_TAIL, IS_NULL, IS_PAIR, IS_SAME,
-       DISPLAY, NEWLINE };
+       DISPLAY, JOIN, SPAWN, NEWLINE };
 const char *const primitive_names[] = {"+", "-", "*", "quotient", "remainder", "=", "<", "cons", "car", "cdr",
-                                       "set-cdr!", "null?", "pair?", "eq?", "display", "newline", NULL};
+                                       "set-cdr!", "null?", "pair?", "eq?", "display", "join", "spawn", "newline",
+                                       NULL};
 
 /* The next argument, which has a kind, or any where that is NIL. */
 static void argument(unsigned target, enum kind kind) {
@@ -203,12 +218,60 @@ static void calculate(uint64_t which) {
     default: truth(which == EQUAL ? left == right : left < right); break;
     }
 }
+static void run(enum step step);
+
+/* The work of a new thread: it calls the procedure it was started with, and stores the value. */
+static void run_thread(unsigned number) {
+    make_symbol(TRUTH, "#t");
+    memory_get_global(LEFT, number);
+    memory_get(ARGUMENTS, LEFT, CALLED);
+    memory_put(LEFT, CALLED, FRAMES);
+    memory_next(VALUE, ARGUMENTS, ARGUMENTS);
+    run(APPLY);
+    memory_get_global(LEFT, number);
+    memory_set_value(LEFT, VALUE);
+}
+
+/* (spawn PROCEDURE ARGUMENT ..) starts a thread that calls the procedure, and returns the thread. */
+static void spawn(void) {
+    static const uint32_t sources[] = {LEFT, ARGUMENTS};
+    if (memory_is_nil(ARGUMENTS)) fail("too few arguments");
+    const unsigned number = memory_start(run_thread);
+    const uint64_t data[] = {EMPTY, number};
+    memory_clear(LEFT);
+    memory_make(VALUE, THREAD, sources, 2, data, 2);
+    memory_put_global(number, VALUE);
+}
+
+/* (join THREAD) waits until the thread in LEFT has ended, and returns its value. The number of a thread becomes 0 when
+ * it is joined first. */
+static void join(void) {
+    const unsigned number = (unsigned)memory_word(LEFT, SEAT);
+    if (atomics) fail("join in an atomic form");
+    if (!number) fail("a thread is joined twice");
+    memory_set_word(LEFT, SEAT, 0);
+    memory_join(number);
+    memory_clear(RIGHT);
+    memory_put_global(number, RIGHT);
+    memory_value(VALUE, LEFT);
+}
+
+/* Joins each thread that nobody has joined. A thread may start others meanwhile, so each join begins a new search. */
+void join_all(unsigned threads) {
+    for (unsigned number = 1; number < threads; number++) {
+        memory_get_global(LEFT, number);
+        if (memory_is_nil(LEFT) || !memory_word(LEFT, SEAT)) continue;
+        join();
+        number = 0;
+    }
+}
 static void primitive(uint64_t which) {
     if (which <= LESS) {
         calculate(which);
         return;
     }
-    if (which != NEWLINE) argument(LEFT, which == HEAD || which == TAIL || which == SET_TAIL ? PAIR : NIL);
+    if (which == JOIN) argument(LEFT, THREAD);
+    else if (which < JOIN) argument(LEFT, which == HEAD || which == TAIL || which == SET_TAIL ? PAIR : NIL);
     if (which == CONS || which == SET_TAIL || which == IS_SAME) argument(RIGHT, NIL);
     switch (which) {
     case CONS: make_pair(VALUE, LEFT, RIGHT); break;
@@ -219,6 +282,8 @@ static void primitive(uint64_t which) {
     case IS_PAIR: truth(memory_kind(LEFT) == PAIR); break;
     case IS_SAME: truth(memory_same(LEFT, RIGHT)); break;
     case DISPLAY: memory_copy(VALUE, LEFT); print_value(); break;
+    case JOIN: join(); break;
+    case SPAWN: spawn(); break;
     default: putchar('\n'); memory_clear(VALUE); break;
     }
 }
@@ -228,6 +293,7 @@ static enum step applied(void) {
         return RETURN;
     }
     if (memory_kind(VALUE) != CLOSURE) fail("no procedure is called");
+    if (!atomics) memory_rest();
     memory_gets(VALUE, (const struct get[]){{ENVIRONMENT, SCOPE}, {EXPRESSION, BODY}, {ITEM, PARAMETERS}}, 3);
     while (!memory_is_nil(ITEM)) {
         if (memory_is_nil(ARGUMENTS)) fail("too few arguments");
@@ -237,9 +303,11 @@ static enum step applied(void) {
     }
     return sequence();
 }
+static void run(enum step step) {
+    while (step != DONE) step = step == EVALUATE ? evaluated() : step == RETURN ? returned() : applied();
+}
 void evaluate(void) {
-    enum step step = EVALUATE;
     memory_clear(ENVIRONMENT);
     memory_clear(FRAMES);
-    while (step != DONE) step = step == EVALUATE ? evaluated() : step == RETURN ? returned() : applied();
+    run(EVALUATE);
 }

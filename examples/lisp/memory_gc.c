@@ -1,4 +1,4 @@
-/* The memory of the Lisp on the collector of Boehm, Demers and Weiser, for comparison. */
+/* The memory of the Lisp on the collector of Boehm, Demers and Weiser, for comparison. It has one thread. */
 #include "lisp.h"
 
 #include <gc/gc.h>
@@ -12,8 +12,8 @@ struct object {
     } words[];
 };
 
-static struct object *registers[REGISTERS];
-uint64_t immediates[REGISTERS];
+static struct object *registers[REGISTERS], *globals[THREADS];
+_Thread_local uint64_t immediates[REGISTERS];
 
 void memory_open(const struct memory_options *options) {
     (void)options;
@@ -64,6 +64,8 @@ static uint64_t *data_of(unsigned object, unsigned index) {
 
 uint64_t memory_word(unsigned object, unsigned index) { return *data_of(object, index); }
 
+void memory_set_word(unsigned object, unsigned index, uint64_t word) { *data_of(object, index) = word; }
+
 void memory_value(unsigned target, unsigned object) {
     const uint64_t word = memory_word(object, BESIDE);
     memory_get(target, object, 0);
@@ -72,7 +74,7 @@ void memory_value(unsigned target, unsigned object) {
 
 void memory_set_value(unsigned object, unsigned source) {
     memory_put(object, 0, source);
-    *data_of(object, BESIDE) = immediates[source];
+    memory_set_word(object, BESIDE, immediates[source]);
 }
 
 void memory_next(unsigned first, unsigned rest, unsigned list) {
@@ -98,3 +100,19 @@ bool memory_is_nil(unsigned object) { return !immediates[object] && !registers[o
 bool memory_same(unsigned left, unsigned right) {
     return immediates[left] == immediates[right] && registers[left] == registers[right];
 }
+
+void memory_get_global(unsigned target, unsigned global) {
+    registers[target] = globals[global];
+    immediates[target] = EMPTY;
+}
+
+void memory_put_global(unsigned global, unsigned source) { globals[global] = registers[source]; }
+
+unsigned memory_start(void (*work)(unsigned number)) {
+    (void)work;
+    fail("this memory has one thread");
+}
+
+void memory_join(unsigned number) { (void)number; }
+
+void memory_rest(void) {}

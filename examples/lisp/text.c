@@ -51,12 +51,14 @@ int64_t number_in(unsigned number) {
 /* The symbol of a name, which is made where there is none; LEFT is used. */
 void make_symbol(unsigned target, const char *name) {
     const uint64_t data[] = {UNBOUND, name_number(name)};
-    for (memory_copy(LEFT, SYMBOLS); !memory_is_nil(LEFT); memory_get(LEFT, LEFT, CDR)) {
+    for (memory_get_global(LEFT, SYMBOLS); !memory_is_nil(LEFT); memory_get(LEFT, LEFT, CDR)) {
         memory_get(target, LEFT, CAR);
         if (memory_word(target, SPELLED) == data[SPELLED]) return;
     }
     memory_make(target, SYMBOL, &no_source, 0, data, 2);
-    make_pair(SYMBOLS, target, SYMBOLS);
+    memory_get_global(LEFT, SYMBOLS);
+    make_pair(LEFT, target, LEFT);
+    memory_put_global(SYMBOLS, LEFT);
 }
 
 /* Puts an item after the last one of a frame's list; LEFT and RIGHT are used. */
@@ -133,6 +135,7 @@ static void print_atom(unsigned item) {
     if (memory_is_nil(item)) printf("()");
     else if (memory_kind(item) == NUMBER) printf("%lld", (long long)number_in(item));
     else if (memory_kind(item) == SYMBOL) printf("%s", spelling(memory_word(item, SPELLED)));
+    else if (memory_kind(item) == THREAD) printf("#thread");
     else printf("#procedure");
 }
 

@@ -1,12 +1,12 @@
-/* Threads that share a heap, with a thread that collects: they move coins between the accounts of a bank, and keep lists
- * in their registers. The sum and the lists stay, and the heap is sound, at intervals and at the end. The first argument
- * is how many turns each thread does. */
+/* Threads that share a heap, with a thread that collects: they move coins between the accounts of a bank, and keep
+ * lists in their registers; two more threads look at all accounts by views. The sum and the lists stay, and the heap is
+ * sound, at intervals and at the end. The first argument is how many turns each thread does. */
 #include <pauseless_shared.h>
 #include <stdlib.h>
 
 #include "same.h"
 
-enum { THREADS = 8, ACCOUNTS = 16, START = 1000, LENGTH = 50, VERIFIED = 5000, CELL = 0, BANK = 1 };
+enum { THREADS = 8, VIEWERS = 2, ACCOUNTS = 16, START = 1000, LENGTH = 50, VERIFIED = 5000, CELL = 0, BANK = 1 };
 
 static const pauseless_layout layouts[] = {{.refs = 1, .nums = 1}, {.refs = ACCOUNTS}};
 static const pauseless_policy policy = {.words = 64, .free = 8, .percent = 75};
@@ -87,6 +87,27 @@ static void *work(void *argument) {
     return NULL;
 }
 
+/* The sum of all accounts, by a view. */
+static uint64_t viewed_total(worker *w) {
+    uint64_t sum = 0, bank = 0, account = 0, value = 0;
+    pauseless_begin_view(&shared);
+    TRY(pauseless_view_global(&heap, 0, &bank));
+    for (uint32_t number = 0; number < ACCOUNTS; number++) {
+        TRY(pauseless_view_load(&heap, bank, number, &account));
+        TRY(pauseless_view_get(&heap, account, 0, &value));
+        sum += value;
+    }
+    pauseless_end_view(&shared);
+    return sum;
+}
+
+/* Looks at all accounts, a view for each fortieth turn of the others. */
+static void *look(void *argument) {
+    worker *w = argument;
+    for (unsigned long turn = 0; turn < turns; turn += 40) w->wrong += viewed_total(w) != ACCOUNTS * START;
+    return NULL;
+}
+
 /* The bank, in global 0. */
 static void found(void) {
     DONE(pauseless_make(&heap, &policy, 0, 0, BANK));
@@ -102,18 +123,18 @@ static void found(void) {
 int main(int count, char **words) {
     if (count > 1) turns = strtoul(words[1], NULL, 10);
     pauseless_sizes sizes;
-    worker workers[THREADS];
+    worker workers[THREADS + VIEWERS];
     pauseless_usual(64, 96, &sizes);
     sizes.threads = THREADS;
     DONE(pauseless_new(&heap, &sizes, layouts, 2));
     found();
     SAME(pauseless_share(&shared, &heap, 3), true);
     SAME(pauseless_start_collector(&shared, &early, 16), true);
-    for (uint32_t thread = 0; thread < THREADS; thread++) {
+    for (uint32_t thread = 0; thread < THREADS + VIEWERS; thread++) {
         workers[thread] = (worker){.thread = thread};
-        SAME(pthread_create(&workers[thread].id, NULL, work, &workers[thread]), 0);
+        SAME(pthread_create(&workers[thread].id, NULL, thread < THREADS ? work : look, &workers[thread]), 0);
     }
-    for (uint32_t thread = 0; thread < THREADS; thread++) {
+    for (uint32_t thread = 0; thread < THREADS + VIEWERS; thread++) {
         pthread_join(workers[thread].id, NULL);
         SAME(workers[thread].wrong, 0);
     }

@@ -29,7 +29,7 @@ use Rattle.collecting.specs.Parts.{Crossing, Emptying}
 use Rattle.collecting.specs.Stages.{PartsState, at_stage, passed, EndsMarking, MarksOn, TellsAnew, EndsCrossed}
 use Rattle.collecting.specs.Stages.{ProtectsSome, ProtectsOn, ChoosesAll, ChoosesOn, IsChosen}
 use Rattle.collecting.specs.Stages.{EmptiesOn, EndsOne, GoesOnIn, GoesOn, PartGoesOn}
-use Rattle.collecting.specs.Stages.{Measures, measured_by, measured_one}
+use Rattle.collecting.specs.Stages.{Measures, measured_by, measured_one, pages_in}
 use Rattle.collecting.proofs.Collections.{none, and_then}
 
 -- ---- marks
@@ -177,36 +177,36 @@ pub listed_some : (n : ℕ) (ns : List ℕ) (b : Bool) → b ≡ (n == 0) → b 
 listed_some n ns b told is same e =
     true≢false (sym (eq-eqb n 0 (same ∙ ap length e)) ∙ sym told ∙ is)
 
-pub chooses_none : (most : ℕ) (p m q : PartsState) (h : HeapState) (ns : List ℕ) → IsChosen h most p.found ns
-    → m.chosen ≡ ns → ns ≡ [] → q ≡ at_stage stages.Mark m.chosen → ChoosesAll most p h (Ok true) q h
-chooses_none most p m q h ns k same is new =
-    ([], subst (IsChosen h most p.found) is k, (new ∙ ap (at_stage stages.Mark) (same ∙ is), refl))
+pub chooses_none : (budget : ℕ) (p m q : PartsState) (h : HeapState) (ns : List ℕ) → IsChosen h budget p.found ns
+    → m.chosen ≡ ns → ns ≡ [] → q ≡ at_stage stages.Mark m.chosen → ChoosesAll budget p h (Ok true) q h
+chooses_none budget p m q h ns k same is new =
+    ([], subst (IsChosen h budget p.found) is k, (new ∙ ap (at_stage stages.Mark) (same ∙ is), refl))
 
 some_on : (ns : List ℕ) (h : HeapState) (r : Result Bool Refusal) (q : PartsState) (g : HeapState) → (ns ≡ [] → ⊥)
     → ProtectsSome ns h r q g → ProtectsOn ns h r q g
 some_on [] h r q g some k = absurd (some refl)
 some_on (n ∷ ns) h r q g some k = k
 
-pub chooses_some : (most : ℕ) (p q : PartsState) (h g : HeapState) (ns : List ℕ) (r : Result Bool Refusal)
-    → IsChosen h most p.found ns → (ns ≡ [] → ⊥) → ProtectsSome ns h r q g → ChoosesAll most p h r q g
-chooses_some most p q h g ns (Ok b) c some k = (ns, c, some_on ns h (Ok b) q g some k)
-chooses_some most p q h g ns (Err e) c some k = inr (ns, c, some_on ns h (Err e) q g some k)
+pub chooses_some : (budget : ℕ) (p q : PartsState) (h g : HeapState) (ns : List ℕ) (r : Result Bool Refusal)
+    → IsChosen h budget p.found ns → (ns ≡ [] → ⊥) → ProtectsSome ns h r q g → ChoosesAll budget p h r q g
+chooses_some budget p q h g ns (Ok b) c some k = (ns, c, some_on ns h (Ok b) q g some k)
+chooses_some budget p q h g ns (Err e) c some k = inr (ns, c, some_on ns h (Err e) q g some k)
 
-pub chooses_lacks : (most : ℕ) (p q : PartsState) (h : HeapState) → ChoosesAll most p h (Err refusals.Memory) q h
-chooses_lacks most p q h = inl (refl, refl)
+pub chooses_lacks : (budget : ℕ) (p q : PartsState) (h : HeapState) → ChoosesAll budget p h (Err refusals.Memory) q h
+chooses_lacks budget p q h = inl (refl, refl)
 
-pub measures_then : (percent most : ℕ) (p m q : PartsState) (h g : HeapState) (r : Result Bool Refusal)
-    → Measures h percent most p true m → ChoosesAll most m h r q g → ChoosesOn percent most p h r q g
-measures_then percent most p m q h g (Ok b) a k = inr (m, a, k)
-measures_then percent most p m q h g (Err e) a k = inr (m, a, k)
+pub measures_then : (percent budget : ℕ) (p m q : PartsState) (h g : HeapState) (r : Result Bool Refusal)
+    → Measures h percent (pages_in budget) p true m → ChoosesAll budget m h r q g → ChoosesOn percent budget p h r q g
+measures_then percent budget p m q h g (Ok b) a k = inr (m, a, k)
+measures_then percent budget p m q h g (Err e) a k = inr (m, a, k)
 
-pub measures_on : (percent most : ℕ) (p q : PartsState) (h : HeapState) → Measures h percent most p false q
-    → ChoosesOn percent most p h (Ok false) q h
-measures_on percent most p q h a = inl (refl, refl, a)
+pub measures_on : (percent budget : ℕ) (p q : PartsState) (h : HeapState)
+    → Measures h percent (pages_in budget) p false q → ChoosesOn percent budget p h (Ok false) q h
+measures_on percent budget p q h a = inl (refl, refl, a)
 
-pub measures_lacks : (percent most : ℕ) (p q : PartsState) (h : HeapState)
-    → ChoosesOn percent most p h (Err refusals.Memory) q h
-measures_lacks percent most p q h = inl (refl, refl)
+pub measures_lacks : (percent budget : ℕ) (p q : PartsState) (h : HeapState)
+    → ChoosesOn percent budget p h (Err refusals.Memory) q h
+measures_lacks percent budget p q h = inl (refl, refl)
 
 -- ---- measuring
 
@@ -263,11 +263,11 @@ on_stage [] h (Ok b) q g k = subst (Collects h) (sym k.1) (none h)
 on_stage [] h (Err e) q g k = absurd k
 on_stage (n ∷ ns) h r q g k = some_stage (n ∷ ns) h r q g k
 
-all_stage : (most : ℕ) (p : PartsState) (h : HeapState) (r : Result Bool Refusal) (q : PartsState) (g : HeapState)
-    → ChoosesAll most p h r q g → EndsStage h r g
-all_stage most p h (Ok b) q g k = on_stage k.0 h (Ok b) q g k.2
-all_stage most p h (Err e) q g (inl k) = inr k
-all_stage most p h (Err e) q g (inr k) = on_stage k.0 h (Err e) q g k.2
+all_stage : (budget : ℕ) (p : PartsState) (h : HeapState) (r : Result Bool Refusal) (q : PartsState) (g : HeapState)
+    → ChoosesAll budget p h r q g → EndsStage h r g
+all_stage budget p h (Ok b) q g k = on_stage k.0 h (Ok b) q g k.2
+all_stage budget p h (Err e) q g (inl k) = inr k
+all_stage budget p h (Err e) q g (inr k) = on_stage k.0 h (Err e) q g k.2
 
 stage_in : (s : Stage) (percent budget : ℕ) (p : PartsState) (h : HeapState) (r : Result Bool Refusal) (q : PartsState)
     (g : HeapState) → GoesOnIn s percent budget p h r q g → EndsStage h r g

@@ -1,6 +1,7 @@
 -- How a collection in parts goes on, from one part to the next.
-use Rattle.std.specs.Prelude.{◌≡◌, ◌⊎◌, ◌≤◌, ℕ, zero, suc, ◌+◌, ◌-◌, ◌/◌, ◌^◌, min, Bool, true, false, List, [], ◌∷◌}
-use Rattle.std.specs.Prelude.{◌++◌, map, take, get_or, Option, Some, None, Result, Ok, Err, IsPermutation, slice_get}
+use Rattle.std.specs.Prelude.{◌≡◌, ◌⊎◌, ◌≤◌, ℕ, zero, suc, ◌+◌, ◌-◌, ◌*◌, ◌/◌, ◌^◌, min, Bool, true, false}
+use Rattle.std.specs.Prelude.{List, [], ◌∷◌, ◌++◌, length, map, take, get_or, nat_lt, position, unwrap_or}
+use Rattle.std.specs.Prelude.{Option, Some, None, Result, Ok, Err, IsPermutation, slice_get}
 use Rattle.choosing.specs.Choices.{IsLongest, IsRising, has_room_for, measured_if, page_of}
 use Rattle.model.specs.declared.steps.Actor.TheVariants.{Worker}
 use Rattle.model.specs.declared.steps.Step.TheVariants as steps
@@ -37,6 +38,10 @@ at_stage s chosen = record { stage = s; found = []; chosen = chosen; next = 0 }
 abbrev pub pages_in : ℕ → ℕ
 pages_in budget = budget / 64 + 1
 
+-- the most pages without live objects that such a part protects, by the words of a page
+abbrev pub dead_in : ℕ → ℕ → ℕ
+dead_in budget words = budget * 4096 / words + 1
+
 -- ---- which pages are chosen
 
 -- what is there, as a list
@@ -70,10 +75,22 @@ IsFitting h ns xs =
     IsLongest h ns xs
     ⊎ ((k : ℕ) × (xs ≡ take k ns) × (has_room_for h xs ≡ true) × (no_page_in h.store (get_or ns k 0) ≡ true))
 
--- of the pages that were found, those with the fewest live words, at most so many, and as many as there is room for
+-- a page that was found has live objects
+abbrev pub has_live : ℕ × ℕ → Bool
+has_live p = nat_lt 0 p.0
+
+-- how many pages come first that have no live object
+abbrev pub dead_count : List (ℕ × ℕ) → ℕ
+dead_count ps = unwrap_or (position has_live ps) (length ps)
+
+-- how many pages a budget allows of these, which rise by live words: those without live objects, and some others
+abbrev pub allowed : HeapState → ℕ → List (ℕ × ℕ) → ℕ
+allowed h budget ps = min (dead_count ps) (dead_in budget h.config.words) + pages_in budget
+
+-- of the pages that were found, those with the fewest live words, as many as a budget allows and there is room for
 abbrev pub IsChosen : HeapState → ℕ → List (ℕ × ℕ) → List ℕ → Type 0
-IsChosen h most found xs = (ps : List (ℕ × ℕ)) × IsPermutation found ps × IsRising ps
-    × IsFitting h (map page_of (take most ps)) xs
+IsChosen h budget found xs = (ps : List (ℕ × ℕ)) × IsPermutation found ps × IsRising ps
+    × IsFitting h (map page_of (take (allowed h budget ps) ps)) xs
 
 -- ---- what a part does in each stage
 
@@ -132,17 +149,18 @@ ProtectsOn (n ∷ ns) h r q g = ProtectsSome (n ∷ ns) h r q g
 
 -- where all pages are measured, some of those that were found are chosen; or memory for that was refused
 abbrev pub ChoosesAll : ℕ → PartsState → HeapState → Result Bool Refusal → PartsState → HeapState → Type 0
-ChoosesAll most p h (Ok b) q g = (ns : List ℕ) × IsChosen h most p.found ns × ProtectsOn ns h (Ok b) q g
-ChoosesAll most p h (Err e) q g =
-    LacksMemory h e g ⊎ ((ns : List ℕ) × IsChosen h most p.found ns × ProtectsOn ns h (Err e) q g)
+ChoosesAll budget p h (Ok b) q g = (ns : List ℕ) × IsChosen h budget p.found ns × ProtectsOn ns h (Ok b) q g
+ChoosesAll budget p h (Err e) q g =
+    LacksMemory h e g ⊎ ((ns : List ℕ) × IsChosen h budget p.found ns × ProtectsOn ns h (Err e) q g)
 
 -- a part that measures pages, and chooses where all are measured
 abbrev pub ChoosesOn : ℕ → ℕ → PartsState → HeapState → Result Bool Refusal → PartsState → HeapState → Type 0
-ChoosesOn percent most p h (Ok b) q g =
-    ((b ≡ false) × (g ≡ h) × Measures h percent most p false q)
-    ⊎ ((m : PartsState) × Measures h percent most p true m × ChoosesAll most m h (Ok b) q g)
-ChoosesOn percent most p h (Err e) q g =
-    LacksMemory h e g ⊎ ((m : PartsState) × Measures h percent most p true m × ChoosesAll most m h (Err e) q g)
+ChoosesOn percent budget p h (Ok b) q g =
+    ((b ≡ false) × (g ≡ h) × Measures h percent (pages_in budget) p false q)
+    ⊎ ((m : PartsState) × Measures h percent (pages_in budget) p true m × ChoosesAll budget m h (Ok b) q g)
+ChoosesOn percent budget p h (Err e) q g =
+    LacksMemory h e g
+    ⊎ ((m : PartsState) × Measures h percent (pages_in budget) p true m × ChoosesAll budget m h (Err e) q g)
 
 -- all threads have crossed, and page n isn't being emptied any more
 abbrev pub EmptiesOne : HeapState → ℕ → HeapState → Type 0
@@ -167,7 +185,7 @@ EmptiesOn p h (Err e) q g = (q ≡ p) × Stops h e g
 -- by the stage
 abbrev pub GoesOnIn : Stage → ℕ → ℕ → PartsState → HeapState → Result Bool Refusal → PartsState → HeapState → Type 0
 GoesOnIn stages.Mark percent budget p h r q g = MarksOn p h r q g
-GoesOnIn stages.Choose percent budget p h r q g = ChoosesOn percent (pages_in budget) p h r q g
+GoesOnIn stages.Choose percent budget p h r q g = ChoosesOn percent budget p h r q g
 GoesOnIn stages.Empty percent budget p h r q g = EmptiesOn p h r q g
 
 -- what a part does; true where it is the last one

@@ -1,6 +1,6 @@
 //! Collections in parts, for a program that can't stop for a whole one.
 
-ghost use Rattle.std.specs.Prelude.{◌≡◌, ◌<◌, IfOk, false, map, slice_get, take, true};
+ghost use Rattle.std.specs.Prelude.{◌≡◌, ◌+◌, ◌<◌, ◌≤◌, IfOk, false, length, map, min, position, slice_get, take, true};
 ghost use Rattle.choosing.specs.Choices.{page_of};
 ghost use Rattle.model.specs.declared.records.Page.{Page};
 ghost use Rattle.model.specs.Phases.{is_protect_crossing};
@@ -10,7 +10,7 @@ ghost use Rattle.collecting.specs.Collections.{has_from};
 ghost use Rattle.collecting.specs.Parts.{EndsPart, HasEnded, is_memory};
 ghost use Rattle.collecting.specs.Stages.{ChoosesAll, ChoosesOn, EmptiesOn, EndsCrossed, GoesOn, IsChosen, IsFitting};
 ghost use Rattle.collecting.specs.Stages.{MarksOn, Measures, PartGoesOn, ProtectsSome, TellsAnew, at_stage, entered};
-ghost use Rattle.collecting.specs.Stages.{first_parts, measured_one, pages_in, passed};
+ghost use Rattle.collecting.specs.Stages.{dead_count, dead_in, first_parts, has_live, measured_one, pages_in, passed};
 
 use crate::portions::{cross, empty_one, mark_some, may_start_mark, protect};
 use choosing::{first_packing, measured, packed_page, room};
@@ -116,14 +116,16 @@ impl Parts {
         Ok(false)
     }
 
-    /// Chooses of the pages that were found those with the fewest live words, at most so many, and as many
-    /// as there is room for.
-    fn choose(&mut self, alloc: Global, heap: &Heap, most: u32) -> Result<Vec<u32>, AllocError>
-        ensures chosen { IfOk result (λ pages. IsChosen heap.now most self.old.found pages.items) }
+    /// Chooses of the pages that were found those with the fewest live words, as many as a budget allows and there is
+    /// room for.
+    fn choose(&mut self, alloc: Global, heap: &Heap, budget: u32) -> Result<Vec<u32>, AllocError>
+        ensures chosen { IfOk result (λ pages. IsChosen heap.now budget self.old.found pages.items) }
         ensures kept { IfOk result (λ pages. self.new.chosen ≡ pages.items) }
     {
         self.found.sort()?;
-        let pages = fitting(alloc, heap, first_of(&self.found, most))?;
+        heap.law();
+        let dead = dead_in(budget, heap.config().words);
+        let pages = fitting(alloc, heap, first_of(&self.found, dead, pages_in(budget)))?;
         self.chosen = Vec::from_slice(alloc, &pages)?;
         Ok(pages)
     }
@@ -143,11 +145,27 @@ impl Parts {
     }
 }
 
-/// The first pages, at most so many.
-fn first_of(pages: &[(u64, u32)], most: u32) -> &[(u64, u32)]
-    ensures { result.now ≡ take most pages.now }
+/// Returns the place of the first page that has live objects.
+fn first_live(pages: &[(u64, u32)]) -> Option<usize>
+    ensures { result ≡ position has_live pages.now }
 {
-    let count = pages.len().min(most as usize);
+    pages.iter().position(|page| page.0 > 0)
+}
+
+/// Returns how many pages come first that have no live object.
+fn dead_count(pages: &[(u64, u32)]) -> usize
+    ensures value { result ≡ dead_count pages.now }
+    ensures range { result ≤ length pages.now }
+{
+    first_live(pages).unwrap_or(pages.len())
+}
+
+/// Returns the first pages: at most `dead` without live objects, and at most `most` others.
+fn first_of(pages: &[(u64, u32)], dead: u64, most: u32) -> &[(u64, u32)]
+    ensures { result.now ≡ take (min (dead_count pages.now) dead + most) pages.now }
+{
+    let dead = dead_count(pages).min(dead as usize);
+    let count = dead + (pages.len() - dead).min(most as usize);
     &pages[..count]
 }
 
@@ -178,6 +196,15 @@ fn pages_in(budget: u32) -> u32
     ensures { result ≡ pages_in budget }
 {
     budget / 64 + 1
+}
+
+/// Returns how many pages without live objects a part protects at most, by its budget in objects and the words of a
+/// page: to protect one takes time in proportion to its live bitmap.
+fn dead_in(budget: u32, words: u32) -> u64
+    requires { 0 < words }
+    ensures { result ≡ dead_in budget words }
+{
+    u64::from(budget) * 4096 / u64::from(words) + 1
 }
 
 /// Whether some page is being emptied, and has memory.
@@ -272,9 +299,9 @@ fn choose_part(
     parts: &mut Parts,
     budget: u32,
 ) -> Result<bool, Refusal>
-    ensures { ChoosesAll (pages_in budget) parts.old heap.old result parts.new heap.new }
+    ensures { ChoosesAll budget parts.old heap.old result parts.new heap.new }
 {
-    match parts.choose(alloc, heap.heap(), pages_in(budget)) {
+    match parts.choose(alloc, heap.heap(), budget) {
         Ok(pages) => {
             if pages.is_empty() {
                 parts.begin(Stage::Mark);
@@ -295,7 +322,7 @@ fn measure_part(
     percent: u32,
     budget: u32,
 ) -> Result<bool, Refusal>
-    ensures { ChoosesOn percent (pages_in budget) parts.old heap.old result parts.new heap.new }
+    ensures { ChoosesOn percent budget parts.old heap.old result parts.new heap.new }
 {
     match parts.measure(heap.heap(), percent, pages_in(budget)) {
         Ok(true) => choose_part(heap, alloc, parts, budget),

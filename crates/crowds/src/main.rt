@@ -7,7 +7,6 @@
 //! | `any STEPS` | the same where the kind of step isn't known at the call |
 //! | `seat STEPS` | the same by `Seat::act`, which keeps the seat's list too |
 //! | `steps THREADS STEPS` | the same by `Shared::step`, by so many threads that have so many steps each |
-//! | `portions THREADS STEPS` | loads, reads and writes of data on a heap, by portions of a `SharedHeap` |
 //! | `counter THREADS STEPS` | so many threads add to a number under a lock, so often each |
 //! | `waits MILLISECONDS` | a thread waits so long for a step that is refused as `Stall` |
 //!
@@ -17,7 +16,6 @@
 mod acting;
 mod counting;
 mod crowding;
-mod sharing_heaps;
 mod waiting;
 
 use anyhow::{Result, bail};
@@ -40,7 +38,6 @@ fn work<R: Threads + Wait + Clock + Sync>(
         "any" => acting::by_any_kind(rt, alloc, first),
         "seat" => acting::by_seat(rt, alloc, first),
         "steps" => crowding::steps(rt, alloc, first, second),
-        "portions" => sharing_heaps::portions(rt, alloc, first, second),
         "counter" => counting::counts(rt, alloc, first, second),
         "waits" => waiting::waits(rt, alloc, first),
         _ => bail!("no such work"),

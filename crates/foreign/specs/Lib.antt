@@ -6,3 +6,4 @@ pub mod Lending
 pub mod Looking
 pub mod Making
 pub mod Telling
+pub mod Views

@@ -22,3 +22,4 @@ mod objects;
 mod references;
 mod slot;
 mod texts;
+mod views;

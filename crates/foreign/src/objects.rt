@@ -183,7 +183,7 @@ pub extern "C" fn pauseless_refill(
 }
 
 /// The code of a look at an object, which is written for C if there is one.
-fn give_object(answer: Result<Object, Refusal>, object: &mut ObjectOfC) -> u32
+pub(crate) fn give_object(answer: Result<Object, Refusal>, object: &mut ObjectOfC) -> u32
     ensures code { result ≡ code_of answer }
     ensures object { MatchResult answer (IsSeen object.new) (λ _. object.new ≡ object.old) }
 {

@@ -14,7 +14,8 @@
 //! nothing here lends it for writing.
 //!
 //! Threads of the system share a heap by a `SharedHeap`: each has a `ThreadSeat`, and works in portions of
-//! many steps on a `Mutator`, by the calls of `MutatorCalls`; a `CollectorSeat` collects between portions.
+//! many steps on a `Mutator`, by the calls of `MutatorCalls`; a `CollectorSeat` collects between portions. A
+//! `View` reads a whole heap without steps, by `Handle`s of its objects, also by several threads at once.
 //!
 //! A `Book` is a heap that keeps the history of its steps, and `Shared` a book that threads of the
 //! system share. What their actors do is asked as a `Step` of an `Actor`; what comes is a `Reply`: an
@@ -44,7 +45,7 @@ pub use heap_images::{image_of, verify};
 pub use layout::{Layout, Layouts};
 pub use managed::{FieldLoad, LoadsFault, ManagedHeap as Heap};
 pub use portions::{
-    CollectorSeat, Mutator, MutatorCalls, OpenFault, Seats, SharedHeap, ThreadSeat,
+    CollectorSeat, Handle, Mutator, MutatorCalls, OpenFault, Seats, SharedHeap, ThreadSeat, View,
 };
 pub use reporting::{ReportFault, report_heap};
 pub use sharing::{Seat, Settled, Shared, Steps, Stray, settle};

@@ -18,9 +18,9 @@ use std::time::{Clock, Duration};
 const PAUSE: u64 = 1;
 
 impl Mutator {
-    /// Whether at most `free` frames are free.
-    pub(crate) fn is_low(&self, free: u32) -> bool {
-        self.heap.heap().memory().free_frames() <= free
+    /// How many frames are free.
+    pub(crate) fn free_frames(&self) -> u32 {
+        self.heap.heap().memory().free_frames()
     }
 
     /// Does a part of a collection, while all threads are parked.
@@ -62,6 +62,7 @@ impl SharedHeap {
         let mutator = &mut *desk;
         mutator.collect_part(alloc, &mut seat.parts, percent, budget)
     }
+
     /// Does the next part of a collection if one has begun, or if at most `policy.free` frames are free. Returns
     /// whether the collection has ended, or `None` if nothing was due.
     fn collect_if_due<R: Wait>(
@@ -74,12 +75,17 @@ impl SharedHeap {
     ) -> Result<Option<bool>, Refusal> {
         let mut desk = self.hold(rt);
         let mutator = &mut *desk;
-        if !seat.has_begun && !mutator.is_low(policy.free) {
+        let free = mutator.free_frames();
+        if !seat.has_begun && free > policy.free {
             return Ok(None);
         }
         seat.has_begun = true;
         let ended = mutator.collect_part(alloc, &mut seat.parts, policy.percent, budget)?;
         seat.has_begun = !ended;
+        self.pace.note_part(free, mutator.free_frames());
+        if ended {
+            self.pace.note_end(policy.free);
+        }
         Ok(Some(ended))
     }
 
@@ -96,8 +102,10 @@ impl SharedHeap {
         budget: u32,
     ) -> u64 {
         let mut collections = 0u64;
+        self.pace.begin(policy.free);
         for _ in rt.forever() {
             if self.is_closed() {
+                self.pace.end();
                 return collections;
             }
             match self.collect_if_due(rt, alloc, seat, policy, budget) {
@@ -106,7 +114,11 @@ impl SharedHeap {
                     collections = collections.saturating_add(1);
                     thread::sleep(rt, Duration::from_millis(PAUSE));
                 }
-                Ok(None) | Err(_) => thread::sleep(rt, Duration::from_millis(PAUSE)),
+                Ok(None) => thread::sleep(rt, Duration::from_millis(PAUSE)),
+                Err(_) => {
+                    self.pace.end();
+                    thread::sleep(rt, Duration::from_millis(PAUSE));
+                }
             }
         }
         unreachable!()

@@ -7,6 +7,7 @@ ghost use Rattle.portions.specs.Portions.{Begins, GoesOn, HoldsInPortion};
 use cycle::Mutating;
 use managed::ManagedHeap;
 use std::marker::Model;
+use viewing::View;
 
 /// A heap that threads share, in a portion of one thread. Between portions all threads are parked. In a portion
 /// only its thread runs; no thread is inside a load, and no checkpoint is open.
@@ -89,6 +90,14 @@ impl Mutator {
         ensures { result.now ≡ self.now.heap }
     {
         &self.heap
+    }
+
+    /// Returns a view of the heap as it stands: all of it can be read, by any number of threads that have the heap to
+    /// read it.
+    pub fn view(&self) -> View<'_>
+        ensures { result ≡ self.now.heap }
+    {
+        View::of(&self.heap)
     }
 
     /// What holds in a portion. It changes nothing and never fails.

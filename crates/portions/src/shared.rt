@@ -2,15 +2,16 @@
 
 ghost use Rattle.std.specs.Prelude.{◌≡◌};
 ghost use Rattle.std.specs.Fn.{FnOnceReturnsAtMut, FnOnceTakesAtMut};
-ghost use Rattle.std.specs.Sync.RwLock.{write_guard_value};
+ghost use Rattle.std.specs.Sync.RwLock.{read_guard_value, write_guard_value};
 ghost use Rattle.managed.specs.Managing.{Promises};
 ghost use Rattle.portions.specs.Portions.{Begins, HoldsInPortion, MutatorState, Rests};
 
 use crate::mutator::Mutator;
+use crate::pace::Pace;
 use crate::seats::ThreadSeat;
 use managed::ManagedHeap;
 use std::sync::atomic::{AtomicBool, AtomicU64, Ordering};
-use std::sync::{RwLock, RwLockWriteGuard, Wait};
+use std::sync::{RwLock, RwLockReadGuard, RwLockWriteGuard, Wait};
 use std::thread;
 
 /// A thread that hands the heap on lets others run up to so often, until one of them has it.
@@ -22,6 +23,7 @@ pub struct SharedHeap {
     desk: RwLock<Mutator>,
     wanted: AtomicU64,
     closed: AtomicBool,
+    pub(crate) pace: Pace,
     rests: u32,
 }
 
@@ -32,6 +34,7 @@ impl SharedHeap {
             desk: RwLock::new(mutator),
             wanted: AtomicU64::new(0),
             closed: AtomicBool::new(false),
+            pace: Pace::new(),
             rests,
         }
     }
@@ -68,6 +71,19 @@ impl SharedHeap {
         desk
     }
 
+    /// Waits until no portion goes on, and returns the heap for reading: `Mutator::view` shows all of it. Threads that
+    /// read have the heap at the same time, and no portion begins until all their guards are dropped. In a portion
+    /// never call this, and while reading never wait for another thread.
+    pub fn read<'a, R: Wait>(&'a self, rt: &R) -> RwLockReadGuard<'a, Mutator>
+        ensures { HoldsInPortion (read_guard_value result) }
+    {
+        let _ = self.wanted.fetch_add(1, Ordering::SeqCst);
+        let desk = self.desk.read(rt);
+        let _ = self.wanted.fetch_sub(1, Ordering::SeqCst);
+        desk.law();
+        desk
+    }
+
     /// Begins a portion of a seat's thread, which waits for the heap until it is free. The portion ends by `leave`, or
     /// when the guard is dropped. Never wait for another thread in a portion.
     pub fn enter<'a, R: Wait>(
@@ -93,8 +109,9 @@ impl SharedHeap {
     }
 
     /// A safepoint. If another thread waits for the heap, and the portion has lasted for as many rests as `open` was
-    /// told, the portion ends, others have the heap, and another portion of the same thread begins. Else the portion
-    /// goes on as it is.
+    /// told, the portion ends, others have the heap, and another portion of the same thread begins. So it does if few
+    /// frames are free while a collector's thread runs: the thread then waits until that has freed some. Else the
+    /// portion goes on as it is.
     pub fn rest<'a, R: Wait>(
         &'a self,
         rt: &R,
@@ -103,24 +120,36 @@ impl SharedHeap {
         ensures { Rests (write_guard_value portion.entry) (write_guard_value result) }
     {
         let mut portion = portion;
-        if portion.rests() < self.rests || !self.is_wanted() {
+        if portion.rests() < self.rests {
             return portion;
         }
-        self.hand_on(rt, portion)
+        let is_low = self.pace.is_due(portion.free_frames());
+        if !is_low && !self.is_wanted() {
+            return portion;
+        }
+        self.hand_on(rt, portion, is_low)
     }
 
-    /// Ends a portion, lets others have the heap, and begins another one of the same thread.
+    /// Ends a portion, lets others have the heap, or if it is low the collector free some of it, and begins another
+    /// portion of the same thread.
     fn hand_on<'a, R: Wait>(
         &'a self,
         rt: &R,
         portion: RwLockWriteGuard<'a, Mutator>,
+        is_low: bool,
     ) -> RwLockWriteGuard<'a, Mutator>
         ensures begins { Begins (write_guard_value portion.entry).thread (write_guard_value result) }
         ensures holds { HoldsInPortion (write_guard_value result) }
     {
         let thread = portion.thread();
+        let free = portion.free_frames();
         SharedHeap::leave(portion);
-        self.give_way();
+        if is_low {
+            self.pace.note_free(free);
+            self.pace.wait();
+        } else {
+            self.give_way();
+        }
         self.begin(rt, thread)
     }
 

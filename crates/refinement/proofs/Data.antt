@@ -36,7 +36,7 @@ module _ {h : HeapState} {p p0 : PlainHeap} (s : IsStore h.store) (d : IsHeap h)
   datum_answer (Some q) ds j v e f = ap as_datum (sym (ap (λ l. slice_get l j) e) ∙ f)
 
   -- the datum of an object, in memory
-  datum_read : (a : ℕ) (q : HeapObject) (e : object_at h a ≡ Some q) (j v : ℕ) → j < length q.data_words
+  pub datum_read : (a : ℕ) (q : HeapObject) (e : object_at h a ≡ Some q) (j v : ℕ) → j < length q.data_words
       → word_at h.store (a + (1 + length q.refs + j)) ≡ Some v → slice_get q.data_words j ≡ Some v
   datum_read a q e j v low f =
       let r = there h a q e in

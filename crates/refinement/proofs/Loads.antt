@@ -98,7 +98,7 @@ field_is h s l a q e i bits m f =
     (field_of_read h.config.layouts c.words (a % h.store.words) q c.read i bits within at)
 
 -- a field of a plain object
-plain_field : (o : Option Object) (i : ℕ) → i < length (refs_in o) → field_of o i ≡ Some (get_or (refs_in o) i None)
+pub plain_field : (o : Option Object) (i : ℕ) → i < length (refs_in o) → field_of o i ≡ Some (get_or (refs_in o) i None)
 plain_field None i m = absurd (omega (arith, m))
 plain_field (Some o) i m =
     let (x, e) = get_within o.refs i m in e ∙ ap Some (sym (get_or_from_slice_get o.refs i x None e))

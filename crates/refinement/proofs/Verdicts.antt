@@ -207,3 +207,22 @@ datum_there h a q e j place f =
         let refs = read_refs h.config.layouts t.words (a % h.store.words) q t.read in
         let nums = read_data h.config.layouts t.words (a % h.store.words) q t.read in
         (omega (arith, low, nums), omega (arith, refs, spot))
+
+-- an object has no datum after its last
+pub datum_past : (h : HeapState) (a : ℕ) (q : HeapObject) (e : object_at h a ≡ Some q) (j : ℕ) → datum_at h a j ≡ None
+    → length q.data_words ≤ j
+unfolding datum_at
+datum_past h a q e j f = by_test (nat_lt j t.read.shape.nums) refl (sym (ap (datum_place a j)
+    (shape_there h a q t)) ∙ f)
+  where
+    t : IsThere h a q
+    t = there h a q e
+
+    by_test : (b : Bool) → nat_lt j t.read.shape.nums ≡ b
+        → cond b (Some (datum_address a t.read.shape j)) None ≡ None → length q.data_words ≤ j
+    by_test true f k = absurd (cc)
+    by_test false f k = omega (
+      arith,
+      ltb-false j t.read.shape.nums f,
+      read_data h.config.layouts t.words (a % h.store.words) q t.read,
+    )

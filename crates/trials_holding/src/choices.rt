@@ -111,6 +111,35 @@ fn sparse_pages_by_turns(rt: HostRuntime) -> Result<(), Fail> {
     Ok(())
 }
 
+/// Nothing is live on any page: one collection in parts empties them all.
+fn empties_dead(
+    rt: &impl Abort,
+    alloc: Global,
+    mut heap: impl Paged + Drop,
+    budget: u32,
+) -> Result<(), Fail> {
+    for _ in 0..PAGES {
+        fill(&mut heap, 0, false)?;
+    }
+    heap.clear_register(ME, 0)?;
+    let mut parts = Parts::new(alloc);
+    same(
+        rt,
+        collect(alloc, &mut heap, &mut parts, budget, 300)?,
+        true,
+    );
+    same(rt, heap.free_frames(), PAGES);
+    Ok(())
+}
+
+#[test]
+fn dead_pages_by_one_collection(rt: HostRuntime) -> Result<(), Fail> {
+    for budget in [1, 100] {
+        empties_dead(&rt, rt.alloc(), new_heap(rt.alloc(), PAGES, PAGES)?, budget)?;
+    }
+    Ok(())
+}
+
 /// Behind a collection that has emptied all pages no number is free. A buffer is there all the same, also for a thread
 /// that has one.
 fn refills(rt: &impl Abort, alloc: Global, mut heap: impl Paged + Drop) -> Result<(), Fail> {

@@ -1,4 +1,4 @@
-//! Tests of heaps that threads of the system share: portions, their order, and collections between them.
+//! Tests of heaps that threads of the system share: what they keep from portion to portion, and how a heap is shared.
 #![tactic(auto)]
 
 #[cfg(test)]
@@ -7,11 +7,3 @@ mod bank;
 mod lists;
 #[cfg(test)]
 mod opening;
-#[cfg(test)]
-mod parked;
-#[cfg(test)]
-mod same;
-#[cfg(test)]
-mod team;
-#[cfg(test)]
-mod turns;

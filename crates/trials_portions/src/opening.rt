@@ -1,8 +1,8 @@
 //! Heaps are shared, and aren't any more.
 
-use crate::same::same;
-use crate::team::{CELL, POLICY, heap_of, opened, shared_heap};
 use collecting::Holding;
+use crews::same::same;
+use crews::team::{CELL, POLICY, heap_of, opened, shared_heap};
 use managed::ManagedHeap;
 use model::Refusal;
 use portions::{MutatorCalls, Seats, SharedHeap, ThreadSeat};

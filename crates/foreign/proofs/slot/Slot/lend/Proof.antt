@@ -1,13 +1,13 @@
 -- A slot lends what it leads to: the block's own value is lent, and the slot follows it. Assumes `Logic`.
-use Rattle.std.proofs.Common.{◌≡◌, ℕ, List, [], ◌∷◌, ◌++◌, refl, sym, subst, ap}
+use Rattle.std.proofs.Common.{◌≡◌, ℕ, List, [], ◌∷◌, ◌++◌, refl, sym, subst}
 use seplogic.Ra.Ura.{Ura}
 use base.Fraction.{full_share}
-use base.Logic.{SProp, ent, sep, emp, never, fst∗}
+use base.Logic.{SProp, ent, sep, never, fst∗}
 use base.Fml.{Lft, GName, Share, Fml, ftrue, flft, fsep}
-use contract.Monad.{Fun, fact, fact_i}
+use contract.Monad.{Fun, fact}
 use contract.Running.{tables}
 use mir.Raw.{raw as bare}
-use mir.Syntax.{Fn, named}
+use mir.Syntax.{named}
 use mir.Val.{Val, vptr, vstruct, of_list}
 use prog.Memory.{Memory}
 use prog.Routine.{Routine}
@@ -20,10 +20,9 @@ use types.Run.{stop, fld, load, of_opd, first, blocks, exec, returns, enter, add
 use types.ByLocal.{alloc_all, pass_all, free_all, look_at, get, through, sets, env, sets_last}
 use denote.Exit.{no}
 use denote.Follow.{follows, Part, lends_Part}
-use denote.Laws.{Is, shows}
 use denote.Memory.{part_at, mem, cell_at, part_of, lone}
 use denote.RattleType.{RattleType, owns}
-use denote.RawPtr.{Ptr, block_ptr, null_ptr, ptr_val, in_a_block}
+use denote.RawPtr.{Ptr, block_ptr, null_ptr, in_a_block}
 use denote.Ref.{MutRef, mut_vals, mut_Tells}
 use denote.Signature.{plain, mut_ref_to}
 use denote.Steps.{nothing, opens, heard}

@@ -1,7 +1,7 @@
 //! Who has the heap: a thread that rests hands it on, and the collector takes its turns.
 
-use crate::same::same;
-use crate::team::{CELL, Job, POLICY, all_work, shared_heap};
+use crews::same::same;
+use crews::team::{CELL, Job, POLICY, all_work, shared_heap};
 use model::Refusal;
 use portions::{Mutator, MutatorCalls, Seats, SharedHeap, ThreadSeat};
 use std::alloc::Global;
@@ -191,4 +191,74 @@ fn is_collected<R: Threads + Wait + Clock + Sync + Abort>(
 fn the_collector_frees_frames(rt: HostRuntime) -> Result<(), Fail> {
     let (shared, seats) = shared_heap(rt.alloc(), 1, FRAMES, 4)?;
     is_collected(&rt, rt.alloc(), &shared, seats)
+}
+
+/// A thread that rests waits if fewer frames are free: a quarter of the 24 at which the collector begins.
+const RESERVE: u32 = 6;
+
+/// A thread that uses up the frames in one portion, and rests.
+#[derive(Drop)]
+struct Waster {
+    alloc: Global,
+}
+
+/// Takes buffers until a single frame is free; no collection is done for them.
+fn waste(mutator: &mut Mutator) -> Result<(), Refusal> {
+    for _ in 0..FRAMES {
+        if free_frames(mutator) <= 1 {
+            break;
+        }
+        mutator.take(64)?;
+        mutator.give_back()?;
+    }
+    Ok(())
+}
+
+/// The buffer of the thread is given back.
+fn settle_by<R: Wait>(rt: &R, shared: &SharedHeap, seat: &mut ThreadSeat) -> Result<(), Refusal> {
+    let mut portion = shared.enter(rt, seat);
+    portion.give_back()
+}
+
+/// How many frames are free after a thread has used up all but one, and rested.
+fn rested_by<R: Wait>(rt: &R, shared: &SharedHeap, seat: &mut ThreadSeat) -> Result<u32, Refusal> {
+    let mut portion = shared.enter(rt, seat);
+    waste(&mut *portion)?;
+    let portion = shared.rest(rt, portion);
+    Ok(free_frames(&*portion))
+}
+
+impl Job for Waster {
+    fn work<R: Wait>(&self, rt: &R, shared: &SharedHeap, seat: ThreadSeat) -> Result<u64, Refusal> {
+        let mut seat = seat;
+        spend_by(rt, self.alloc, shared, &mut seat)?;
+        settle_by(rt, shared, &mut seat)?;
+        for _ in 0..RESTS {
+            if free_by(rt, shared, &mut seat) > LOW {
+                break;
+            }
+            thread::yield_now();
+        }
+        Ok(u64::from(rested_by(rt, shared, &mut seat)?.min(RESERVE)))
+    }
+}
+
+/// The thread has waited until enough frames were free.
+fn is_paced<R: Threads + Wait + Clock + Sync + Abort>(
+    rt: &R,
+    alloc: Global,
+    shared: &SharedHeap,
+    seats: Seats,
+) -> Result<(), Fail> {
+    let (found, _collections) = all_work(rt, alloc, shared, seats, &Waster { alloc })?;
+    for number in found {
+        same(rt, number, Ok(u64::from(RESERVE)));
+    }
+    Ok(())
+}
+
+#[test]
+fn a_thread_that_rests_waits_for_frames(rt: HostRuntime) -> Result<(), Fail> {
+    let (shared, seats) = shared_heap(rt.alloc(), 1, FRAMES, 0)?;
+    is_paced(&rt, rt.alloc(), &shared, seats)
 }

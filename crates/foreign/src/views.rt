@@ -1,0 +1,166 @@
+//! The whole heap, read as it stands: objects by their places, which hold for as long as nothing changes the heap.
+
+ghost use Rattle.std.specs.Prelude.{◌≡◌, MatchResult};
+ghost use Rattle.foreign.specs.Calls.{Gives, IsSeen};
+ghost use Rattle.foreign.specs.Views.{IsPlace, ReadsPlace, ViewsDatum, ViewsField, ViewsGlobal, ViewsObject, ViewsRegister};
+ghost use Rattle.foreign.specs.Codes.{code_of};
+
+use crate::codes::{DONE, NO_HEAP, give_number, refusal_code};
+use crate::handle::Handle;
+use crate::objects::{ObjectOfC, give_object};
+use collecting::Object;
+use managed::ManagedHeap;
+use model::Refusal;
+use refword::Addr;
+use viewing::places::{data_word_at, global_at, object_at, reference_at, register_at};
+
+/// The code of a search for an object, whose place is written for C if the search was done: 0 where null was found.
+fn give_place(answer: Result<Option<Addr>, Refusal>, place: &mut u64) -> u32
+    ensures code { result ≡ code_of answer }
+    ensures place { MatchResult answer (IsPlace place.new) (λ _. place.new ≡ place.old) }
+{
+    match answer {
+        Ok(Some(address)) => {
+            *place = address.number();
+            DONE
+        }
+        Ok(None) => {
+            *place = 0;
+            DONE
+        }
+        Err(refusal) => refusal_code(refusal),
+    }
+}
+
+/// The address that a place of C is. Refused as `Null` where it is 0, and as `BadIndex` where no object can be there.
+fn address_of(place: u64) -> Result<Addr, Refusal>
+    ensures { ReadsPlace place result }
+{
+    if place == 0 {
+        return Err(Refusal::Null);
+    }
+    match Addr::new(place) {
+        Some(address) => Ok(address),
+        None => Err(Refusal::BadIndex),
+    }
+}
+
+/// Tells where the object is that a register of a thread names. Refused as `viewing::places::register_at` is.
+#[tactic(auto, using(crate::proofs::Calling::given))]
+#[unsafe(no_mangle)]
+pub extern "C" fn pauseless_view_register(
+    heap: &mut Handle,
+    thread: u32,
+    register: u32,
+    place: &mut u64,
+) -> u32
+    ensures { Gives (ViewsRegister thread register) (IsPlace place.new) (place.new ≡ place.old) heap.old.slot.held
+        result heap.new.slot.held }
+{
+    let Some(held) = heap.lend() else {
+        return NO_HEAP;
+    };
+    let answer = register_at(&held.heap, thread, register);
+    give_place(answer, place)
+}
+
+/// Tells where the object is that a global names. Refused as `viewing::places::global_at` is.
+#[tactic(auto, using(crate::proofs::Calling::given))]
+#[unsafe(no_mangle)]
+pub extern "C" fn pauseless_view_global(heap: &mut Handle, global: u32, place: &mut u64) -> u32
+    ensures { Gives (ViewsGlobal global) (IsPlace place.new) (place.new ≡ place.old) heap.old.slot.held result
+        heap.new.slot.held }
+{
+    let Some(held) = heap.lend() else {
+        return NO_HEAP;
+    };
+    let answer = global_at(&held.heap, global);
+    give_place(answer, place)
+}
+
+/// A reference of the object at a place.
+#[tactic(auto, using(crate::proofs::Places::place_read, crate::proofs::Places::place_refused))]
+fn load_at(heap: &ManagedHeap, place: u64, field: u32) -> Result<Option<Addr>, Refusal>
+    ensures { ViewsField place field heap.now result heap.now }
+{
+    match address_of(place) {
+        Ok(address) => reference_at(heap, address, field),
+        Err(refusal) => Err(refusal),
+    }
+}
+
+/// Tells where the object is that a reference of an object names, by that object's place. Refused as `Null` where the
+/// place is 0, else as `viewing::places::reference_at` is.
+#[tactic(auto, using(crate::proofs::Calling::given))]
+#[unsafe(no_mangle)]
+pub extern "C" fn pauseless_view_load(
+    heap: &mut Handle,
+    object: u64,
+    field: u32,
+    place: &mut u64,
+) -> u32
+    ensures { Gives (ViewsField object field) (IsPlace place.new) (place.new ≡ place.old) heap.old.slot.held result
+        heap.new.slot.held }
+{
+    let Some(held) = heap.lend() else {
+        return NO_HEAP;
+    };
+    let answer = load_at(&held.heap, object, field);
+    give_place(answer, place)
+}
+
+/// A data word of the object at a place.
+#[tactic(auto, using(crate::proofs::Places::place_read, crate::proofs::Places::place_refused))]
+fn get_at(heap: &ManagedHeap, place: u64, index: u32) -> Result<u64, Refusal>
+    ensures { ViewsDatum place index heap.now result heap.now }
+{
+    match address_of(place) {
+        Ok(address) => data_word_at(heap, address, index),
+        Err(refusal) => Err(refusal),
+    }
+}
+
+/// Reads a data word of an object by its place. Refused as `Null` where the place is 0, else as
+/// `viewing::places::data_word_at` is.
+#[tactic(auto, using(crate::proofs::Calling::given))]
+#[unsafe(no_mangle)]
+pub extern "C" fn pauseless_view_get(
+    heap: &mut Handle,
+    object: u64,
+    index: u32,
+    value: &mut u64,
+) -> u32
+    ensures { Gives (ViewsDatum object index) (λ x. value.new ≡ x) (value.new ≡ value.old) heap.old.slot.held result
+        heap.new.slot.held }
+{
+    let Some(held) = heap.lend() else {
+        return NO_HEAP;
+    };
+    let answer = get_at(&held.heap, object, index);
+    give_number(answer, value)
+}
+
+/// The object at a place.
+#[tactic(auto, using(crate::proofs::Places::place_read, crate::proofs::Places::place_refused))]
+fn look_at(heap: &ManagedHeap, place: u64) -> Result<Object, Refusal>
+    ensures { ViewsObject place heap.now result heap.now }
+{
+    match address_of(place) {
+        Ok(address) => object_at(heap, address),
+        Err(refusal) => Err(refusal),
+    }
+}
+
+/// Tells what object is at a place. Refused as `Null` where the place is 0, else as `viewing::places::object_at` is.
+#[tactic(auto, using(crate::proofs::Calling::given))]
+#[unsafe(no_mangle)]
+pub extern "C" fn pauseless_view_look(heap: &mut Handle, place: u64, object: &mut ObjectOfC) -> u32
+    ensures { Gives (ViewsObject place) (IsSeen object.new) (object.new ≡ object.old) heap.old.slot.held result
+        heap.new.slot.held }
+{
+    let Some(held) = heap.lend() else {
+        return NO_HEAP;
+    };
+    let answer = look_at(&held.heap, place);
+    give_object(answer, object)
+}

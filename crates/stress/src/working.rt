@@ -1,0 +1,162 @@
+//! All turns of a thread, which looks for differences as it goes.
+
+use crate::team::PLACES;
+use crate::turns::{LENGTH, is_balanced, is_whole, look_up, publish, push, sum_half, transfer};
+use model::Refusal;
+use portions::{Mutator, SharedHeap, ThreadSeat};
+use std::alloc::{AllocError, Global};
+use std::sync::{RwLockWriteGuard, Wait};
+use verify::Verdict;
+use verifying::verify_held;
+
+/// A thread verifies the heap each time after N turns.
+pub const EVERY: u32 = 10_000;
+
+/// What a thread has done, and how often something wasn't as it has to be.
+#[derive(Clone, Copy)]
+pub struct Found {
+    pub turns: u64,
+    pub verified: u64,
+    pub wrong: u64,
+}
+
+impl Found {
+    /// Nothing.
+    pub fn new() -> Found {
+        Found {
+            turns: 0,
+            verified: 0,
+            wrong: 0,
+        }
+    }
+
+    /// Both together.
+    pub fn and(self, other: Found) -> Found {
+        Found {
+            turns: self.turns.wrapping_add(other.turns),
+            verified: self.verified.wrapping_add(other.verified),
+            wrong: self.wrong.saturating_add(other.wrong),
+        }
+    }
+
+    /// Notes a difference, unless something is as it has to be.
+    pub fn expect(&mut self, is_right: bool) {
+        if !is_right {
+            self.wrong = self.wrong.saturating_add(1);
+        }
+    }
+
+    /// Notes a verification.
+    pub fn verify(&mut self, verdict: Result<Verdict, AllocError>) -> Result<(), Refusal> {
+        let Ok(verdict) = verdict else {
+            return Err(Refusal::Memory);
+        };
+        self.verified = self.verified.wrapping_add(1);
+        self.expect(matches!(&verdict, Verdict::Sound));
+        Ok(())
+    }
+}
+
+/// A thread's random numbers, and what it has found.
+#[derive(Clone, Copy)]
+struct Worker {
+    thread: u32,
+    threads: u32,
+    random: u32,
+    found: Found,
+}
+
+impl Worker {
+    /// The next number.
+    fn draw(&mut self) -> u32 {
+        self.random = self.random.wrapping_mul(1_103_515_245).wrapping_add(12_345);
+        self.random >> 8
+    }
+
+    /// Moves a coin, and makes a cell more.
+    fn work(&mut self, alloc: Global, mutator: &mut Mutator, turn: u32) -> Result<(), Refusal> {
+        let accounts = self.draw();
+        transfer(mutator, accounts % PLACES, (accounts >> 8) % PLACES)?;
+        push(alloc, mutator, turn % LENGTH)?;
+        self.found.turns = self.found.turns.wrapping_add(1);
+        Ok(())
+    }
+
+    /// Reads the list that a thread has put on the board, with a rest in its middle.
+    fn read<'a, R: Wait>(
+        &mut self,
+        rt: &R,
+        shared: &'a SharedHeap,
+        portion: RwLockWriteGuard<'a, Mutator>,
+    ) -> Result<RwLockWriteGuard<'a, Mutator>, Refusal> {
+        let mut portion = portion;
+        let other = self.draw().checked_rem(self.threads).unwrap_or(0);
+        if !look_up(&mut *portion, other)? {
+            return Ok(portion);
+        }
+        let half = sum_half(&mut *portion, 0)?;
+        portion = shared.rest(rt, portion);
+        let sum = sum_half(&mut *portion, half)?;
+        self.found.expect(is_whole(&*portion, sum)?);
+        Ok(portion)
+    }
+
+    /// After a list is complete: puts it on the board, reads one from there, and looks at the bank.
+    fn end_list<'a, R: Wait>(
+        &mut self,
+        rt: &R,
+        shared: &'a SharedHeap,
+        portion: RwLockWriteGuard<'a, Mutator>,
+    ) -> Result<RwLockWriteGuard<'a, Mutator>, Refusal> {
+        let mut portion = portion;
+        publish(&mut *portion, self.thread)?;
+        portion = self.read(rt, shared, portion)?;
+        self.found.expect(is_balanced(&mut *portion)?);
+        Ok(portion)
+    }
+
+    /// One turn and a rest.
+    fn turn<'a, R: Wait>(
+        &mut self,
+        rt: &R,
+        alloc: Global,
+        shared: &'a SharedHeap,
+        portion: RwLockWriteGuard<'a, Mutator>,
+        turn: u32,
+    ) -> Result<RwLockWriteGuard<'a, Mutator>, Refusal> {
+        let mut portion = portion;
+        self.work(alloc, &mut *portion, turn)?;
+        if turn % LENGTH == LENGTH - 1 {
+            portion = self.end_list(rt, shared, portion)?;
+        }
+        if turn % EVERY == EVERY - 1 {
+            self.found.verify(verify_held(alloc, portion.heap()))?;
+        }
+        Ok(shared.rest(rt, portion))
+    }
+}
+
+/// All turns of a seat's thread, one of N threads.
+pub fn work<R: Wait>(
+    rt: &R,
+    alloc: Global,
+    shared: &SharedHeap,
+    seat: ThreadSeat,
+    threads: u32,
+    turns: u32,
+) -> Result<Found, Refusal> {
+    let mut seat = seat;
+    let thread = seat.thread();
+    let mut worker = Worker {
+        thread,
+        threads,
+        random: thread,
+        found: Found::new(),
+    };
+    let mut portion = shared.enter(rt, &mut seat);
+    for turn in 0..turns {
+        portion = worker.turn(rt, alloc, shared, portion, turn)?;
+    }
+    SharedHeap::leave(portion);
+    Ok(worker.found)
+}

@@ -1,0 +1,5 @@
+//! Tests of views: the whole heap is read in each phase of a collection, and by several threads at once.
+#![tactic(auto)]
+
+#[cfg(test)]
+mod views;

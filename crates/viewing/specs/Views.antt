@@ -1,0 +1,10 @@
+-- Handles as contracts see them.
+use Rattle.viewing.specs.Viewing.{HandleState, IsHandle}
+use Rattle.viewing.specs.declared.handle.Handle.TheInside.{Inside}
+
+abbrev pub handle_of : Inside → HandleState
+handle_of s = record { heap = s.heap.now; address = s.address }
+
+-- it names an object that can be reached
+abbrev pub IsHandleInside : Inside → Type 0
+IsHandleInside s = IsHandle (handle_of s)
