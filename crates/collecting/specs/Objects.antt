@@ -1,5 +1,6 @@
 -- What a register names.
-use Rattle.std.specs.Prelude.{ℕ, ◌/◌, ◌%◌, ◌^◌, slice_get, Result, Ok}
+use Rattle.std.specs.Prelude.{ℕ, slice_get, Result, Ok}
+use Rattle.layout.specs.Objects.{birth_of, layout_of}
 use Rattle.model.specs.declared.steps.Refusal.{Refusal}
 use Rattle.model.specs.declared.steps.Refusal.TheVariants as refusals
 use Rattle.model.specs.Refusing.{◌>>=◌, or_refuse}
@@ -18,5 +19,5 @@ header_of h t r = do
 unfoldable pub seen : HeapState → ℕ → ℕ → Result Object Refusal
 seen h t r = do
   header ← header_of h t r
-  layout ← or_refuse (slice_get h.config.layouts (header / 2 ^ 32)) refusals.BadIndex
-  Ok (record { birth = header % 2 ^ 32; layout = header / 2 ^ 32; refs = layout.refs; nums = layout.nums })
+  layout ← or_refuse (slice_get h.config.layouts (layout_of header)) refusals.BadIndex
+  Ok (record { birth = birth_of header; layout = layout_of header; refs = layout.refs; nums = layout.nums })

@@ -4,6 +4,7 @@ ghost use Rattle.std.specs.Prelude.{◌≡◌};
 ghost use Rattle.collecting.specs.Objects.{header_of, seen};
 
 use heap::Heap;
+use layout::{birth_of, layout_of};
 use managed::ManagedHeap;
 use model::Refusal;
 
@@ -11,7 +12,7 @@ use model::Refusal;
 #[derive(Clone, Copy, Debug, PartialEq, Eq)]
 pub struct Object {
     /// Its birth number: how many were born before it. It stays when the object moves.
-    pub birth: u32,
+    pub birth: u64,
     /// The number of its layout.
     pub layout: u32,
     /// How many references it has.
@@ -27,12 +28,12 @@ pub(crate) fn look(heap: &ManagedHeap, thread: u32, register: u32) -> Result<Obj
     ensures { result ≡ seen heap.now thread register }
 {
     let header = header_of(heap.heap(), thread, register)?;
-    let layout = (header >> 32) as u32;
+    let layout = layout_of(header);
     let Some(shape) = heap.heap().config().layouts.get(layout) else {
         return Err(Refusal::BadIndex);
     };
     Ok(Object {
-        birth: (header % 4_294_967_296) as u32,
+        birth: birth_of(header),
         layout,
         refs: shape.refs,
         nums: shape.nums,

@@ -13,7 +13,7 @@ use model::{Answer, Step};
 pub(crate) enum Event {
     Take(u32, u32, u32),
     GiveBack,
-    New(u32, u32, u32),
+    New(u32, u32, u64),
     Load(u32, u32, u32),
     LoadGlobal(u32, u32),
     TrapMoved,

@@ -41,7 +41,7 @@ impl Model for Sides {
 }
 
 impl Sides {
-    /// So many side arrays, all empty: in a heap at most 8,192. Fails only by memory.
+    /// So many side arrays, all empty: in a heap at most 1,048,575. Fails only by memory.
     pub fn new(alloc: Global, count: u32) -> Result<Sides, AllocError>
         ensures { IfOk result (λ s. s ≡ replicate count []) }
     {

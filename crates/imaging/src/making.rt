@@ -87,6 +87,7 @@ pub fn bare(alloc: Global, pages: usize) -> Result<Image, AllocError> {
 pub fn put(image: &mut Image, page: (usize, usize), offset: usize, birth: u32, layout: u8) {
     let (number, frame) = page;
     set_start(image, number, offset, true);
+    let birth = u64::from(birth);
     set_word(image, frame, offset, Header { birth, layout }.write());
 }
 

@@ -34,17 +34,17 @@ fn copy_of(page: &PageImage, offset: usize) -> Option<u64> {
 }
 
 /// The birth of the object that starts at an address, and how many references it has.
-fn object_at(image: &Image, address: u64) -> Option<(u32, u64)> {
+fn object_at(image: &Image, address: u64) -> Option<(u64, u64)> {
     let (page, offset) = page_of(image, address)?;
     let bits = word_at(image, address)?;
-    if !page.starts.test(offset) || bits >> 40 != 0 {
+    if !page.starts.test(offset) {
         return None;
     }
-    let layout = image.layouts.get((bits >> 32) as usize).copied()?;
+    let layout = image.layouts.get((bits >> 32 & 0xff) as usize).copied()?;
     if offset.saturating_add(layout.size() as usize) > image.words as usize {
         return None;
     }
-    Some(((bits & 0xffff_ffff) as u32, u64::from(layout.refs)))
+    Some((bits & 0xffff_ffff | bits >> 40 << 32, u64::from(layout.refs)))
 }
 
 /// What a value leads to; nothing, where it isn't good.
@@ -250,7 +250,7 @@ fn first_bad_field(image: &Image, reached: &Reached) -> Option<Fault> {
 }
 
 /// The birth that a reached object and another object share, if both are to be told apart.
-fn shared(image: &Image, reached: &Reached, one: u64, other: u64) -> Option<u32> {
+fn shared(image: &Image, reached: &Reached, one: u64, other: u64) -> Option<u64> {
     let (birth, _) = object_at(image, one)?;
     let (same, _) = object_at(image, other)?;
     let (page, offset) = page_of(image, other)?;
@@ -263,7 +263,7 @@ fn shared(image: &Image, reached: &Reached, one: u64, other: u64) -> Option<u32>
 }
 
 /// The least birth that two objects share, of which one is reached.
-fn twins(image: &Image, reached: &Reached) -> Option<u32> {
+fn twins(image: &Image, reached: &Reached) -> Option<u64> {
     let mut least = None;
     for one in reached {
         for other in 0..space(image) {

@@ -1,16 +1,17 @@
 //! The first word of an object.
 
-ghost use Rattle.std.specs.Prelude.{◌≡◌, ◌<◌, ◌^◌, IfSome};
-ghost use Rattle.layout.specs.Objects.{IsHeader, header_bits, header_of};
+ghost use Rattle.std.specs.Prelude.{◌≡◌, ◌<◌, ◌^◌};
+ghost use Rattle.layout.specs.Objects.{IsHeader, birth_of, header_bits, header_of, layout_of};
 ghost use Rattle.layout.specs.declared.header.Header.{Header};
 
-/// Which object it is, and of what layout (ours).
+/// Which object it is, and of what layout.
 ///
-/// In memory bits 0 to 31 are the birth number and bits 32 to 39 the layout's; the others are zero.
+/// In memory bits 0 to 31 are the lower bits of the birth number, bits 32 to 39 the layout's number, and
+/// bits 40 to 63 the upper bits of the birth number.
 #[derive(Clone, Copy, Debug, PartialEq, Eq)]
 pub struct Header {
-    /// The birth number: how many objects were born before this one.
-    pub birth: u32,
+    /// The birth number: how many objects were born before this one, below 2^56.
+    pub birth: u64,
     /// The number of its layout in the heap's table, from 0.
     pub layout: u8,
 }
@@ -18,23 +19,40 @@ pub struct Header {
 impl Header {
     /// Its 64 bits.
     pub fn write(self) -> u64
-        ensures bits { result ≡ header_bits self }
-        ensures range { IsHeader self }
+        requires { self.birth < 2 ^ 56 }
+        ensures { result ≡ header_bits self }
     {
-        u64::from(self.birth) + (u64::from(self.layout) << 32)
+        let low = self.birth % 4_294_967_296;
+        let high = self.birth / 4_294_967_296;
+        low + (u64::from(self.layout) << 32) + (high << 40)
     }
 
-    /// The header of these bits, or `None` where one of bits 40 to 63 is set.
-    pub fn read(bits: u64) -> Option<Header>
-        ensures exact { result ≡ header_of bits }
-        ensures value { IfSome result (λ h. header_bits h ≡ bits) }
-        ensures range { IfSome result IsHeader }
-        ensures all { (h : Header) → IsHeader h → header_bits h ≡ bits → result ≡ Some h }
+    /// The header of these bits: any 64 bits are one's.
+    pub fn read(bits: u64) -> Header
+        ensures value { result ≡ header_of bits }
+        ensures range { IsHeader result }
+        ensures bits { header_bits result ≡ bits }
+        ensures all { (h : Header) → IsHeader h → header_bits h ≡ bits → result ≡ h }
     {
-        let layout = u8::try_from(bits >> 32).ok()?;
-        Some(Header {
-            birth: (bits & 0xffff_ffff) as u32,
-            layout,
-        })
+        Header {
+            birth: birth_of(bits),
+            layout: layout_of(bits) as u8,
+        }
     }
+}
+
+/// The birth number in the bits of a header: below 2^56.
+#[inline(always)]
+pub fn birth_of(bits: u64) -> u64
+    ensures { result ≡ birth_of bits }
+{
+    bits % 4_294_967_296 + ((bits >> 40) << 32)
+}
+
+/// The number of the layout in the bits of a header: at most 255.
+#[inline(always)]
+pub fn layout_of(bits: u64) -> u32
+    ensures { result ≡ layout_of bits }
+{
+    ((bits >> 32) % 256) as u32
 }

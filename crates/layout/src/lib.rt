@@ -6,7 +6,7 @@ mod parts;
 mod shape;
 mod splitting;
 
-pub use header::Header;
+pub use header::{Header, birth_of, layout_of};
 pub use parts::Split;
 pub use shape::{Layout, Layouts};
 pub use splitting::{split, split_header, split_parts};

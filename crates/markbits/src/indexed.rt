@@ -48,7 +48,7 @@ fn settle(busy: &mut IndexedRow, rows: &Rows, index: usize)
 }
 
 impl IndexedRows {
-    /// So many rows of so many bits, all clear: in a heap at most 8,192 rows, of 16 to 32,768
+    /// So many rows of so many bits, all clear: in a heap at most 1,048,575 rows, of 16 to 32,768
     /// bits. Fails only by memory.
     #[tactic(auto, using(crate::proofs::Busy::none_busy))]
     pub fn new(alloc: Global, count: u32, words: u32) -> Result<IndexedRows, AllocError>

@@ -5,6 +5,7 @@ ghost use Rattle.model.specs.Bits.{put_bit};
 ghost use Rattle.markbits.specs.Words.{IsNextPlace};
 ghost use Rattle.markbits.specs.Blocks.{IsIndex};
 
+use crate::block_index::BlockIndex;
 use crate::rows::Row;
 use std::alloc::{AllocError, Global};
 use std::marker::Model;
@@ -15,7 +16,7 @@ use std::marker::Model;
 pub struct IndexedRow {
     row: Row,
     /// Bit `i` is set where one of the bits of the row from `64 * i` to `64 * i + 63` is.
-    blocks: Row,
+    blocks: BlockIndex,
 }
 
 impl Model for IndexedRow {
@@ -30,12 +31,12 @@ impl Model for IndexedRow {
 }
 
 impl IndexedRow {
-    /// So many bits, all clear: in a heap at most 8,192. Fails only by memory.
+    /// So many bits, all clear: in a heap at most 1,048,575. Fails only by memory.
     pub fn new(alloc: Global, bits: u32) -> Result<IndexedRow, AllocError>
         ensures { IfOk result (λ r. r ≡ replicate bits false) }
     {
         let row = Row::new(alloc, bits)?;
-        let blocks = Row::new(alloc, bits.div_ceil(64))?;
+        let blocks = BlockIndex::new(alloc, bits.div_ceil(64))?;
         Ok(IndexedRow { row, blocks })
     }
 
@@ -66,7 +67,7 @@ impl IndexedRow {
     }
 
     /// The first place from an offset on where a bit is set, if there is one; none from the row's
-    /// end on. It looks at two words of the row, and at the index: one bit for 64.
+    /// end on. It looks at two words of the row, and at those of the index that its own index names.
     pub fn next_from(&self, offset: usize) -> Option<u32>
         ensures { IsNextPlace self.now offset result }
     {

@@ -2,6 +2,7 @@
 //! to be scanned. All of it is ours.
 #![tactic(auto)]
 
+mod block_index;
 mod indexed;
 mod indexed_row;
 mod ranked_row;

@@ -294,7 +294,7 @@ impl Model for Rows {
 }
 
 impl Rows {
-    /// So many rows of so many bits, all clear: in a heap at most 8,192 rows, of 16 to 32,768
+    /// So many rows of so many bits, all clear: in a heap at most 1,048,575 rows, of 16 to 32,768
     /// bits. Fails only by memory.
     pub fn new(alloc: Global, count: u32, words: u32) -> Result<Rows, AllocError>
         ensures { IfOk result (λ r. r ≡ replicate count (replicate words false)) }

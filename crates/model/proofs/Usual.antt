@@ -10,7 +10,7 @@ use Rattle.model.specs.declared.config.ConfigFault.TheVariants as faults
 use Rattle.model.specs.Configs.{first_fault, usual_config, is_page_size, is_outside, fits_page, IsOfCaller}
 
 -- pages are in range where frames are
-pages_in_range : (frames : ℕ) → is_outside frames 1 4096 ≡ false
+pages_in_range : (frames : ℕ) → is_outside frames 1 1048575 ≡ false
     → is_outside (min (2 * frames) 1048575) frames 1048575 ≡ false
 pages_in_range frames h = grind (arith, nat_tests)
 
@@ -26,8 +26,8 @@ chosen false false false false h = tt
 usual_in_range : (words frames : ℕ) (layouts : List Layout)
     → IfSome (first_fault (usual_config words frames layouts)) IsOfCaller
 unfolding first_fault usual_config
-usual_in_range words frames layouts = chosen (not (is_page_size words)) (is_outside frames 1 4096)
-    (is_outside (length layouts) 1 64 || not (list_all (fits_page words) layouts))
+usual_in_range words frames layouts = chosen (not (is_page_size words)) (is_outside frames 1 1048575)
+    (is_outside (length layouts) 1 256 || not (list_all (fits_page words) layouts))
     (is_outside (min (2 * frames) 1048575) frames 1048575) (pages_in_range frames)
 
 pub rest_in_range : (words frames : ℕ) (layouts : List Layout) (c : Config) → c ≡ usual_config words frames layouts

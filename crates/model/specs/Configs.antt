@@ -6,7 +6,7 @@ use Rattle.layout.specs.declared.shape.Layout.{Layout}
 use Rattle.layout.specs.Objects.{size_of}
 use Rattle.model.specs.declared.config.Config.{Config}
 use Rattle.model.specs.declared.limits.TheConstants.{MOST_WORDS, MOST_FRAMES, MOST_PAGES, MOST_THREADS, MOST_WORKERS}
-use Rattle.model.specs.declared.limits.TheConstants.{MOST_REGISTERS, MOST_FIELDS}
+use Rattle.model.specs.declared.limits.TheConstants.{MOST_REGISTERS, MOST_FIELDS, USUAL_REGISTERS, USUAL_GLOBALS}
 use Rattle.model.specs.declared.limits.TheConstants.{MOST_GLOBALS, MOST_LAYOUTS, MOST_BIRTHS, MOST_HISTORY}
 use Rattle.model.specs.declared.config.ConfigFault.{ConfigFault}
 use Rattle.model.specs.declared.config.ConfigFault.TheVariants as faults
@@ -49,8 +49,8 @@ usual_config words frames layouts = record {
   pages = min (2 * frames) MOST_PAGES;
   threads = 1;
   workers = 1;
-  registers = MOST_REGISTERS;
-  globals = MOST_GLOBALS;
+  registers = USUAL_REGISTERS;
+  globals = USUAL_GLOBALS;
   layouts = layouts;
   births = MOST_BIRTHS;
   history = MOST_HISTORY;

@@ -1,6 +1,7 @@
 -- Data of objects, and the layouts that say where they stand.
-use Rattle.std.specs.Prelude.{ℕ, ◌+◌, ◌/◌, ◌^◌, List, Option, Some, None, slice_get, if◌then◌else◌, Ok, nat_lt}
+use Rattle.std.specs.Prelude.{ℕ, ◌+◌, List, Option, Some, None, slice_get, if◌then◌else◌, Ok, nat_lt}
 use Rattle.layout.specs.declared.shape.Layout.{Layout}
+use Rattle.layout.specs.Objects.{layout_of}
 use Rattle.model.specs.Stores.{word_at, with_word}
 use Rattle.model.specs.declared.steps.Answer.TheVariants as answers
 use Rattle.model.specs.declared.steps.Refusal.TheVariants as refusals
@@ -16,7 +17,7 @@ layout_in layouts (Some l) = slice_get layouts l
 -- the layout's number in a header that may be missing
 abbrev pub header_layout : Option ℕ → Option ℕ
 header_layout None = None
-header_layout (Some bits) = Some (bits / 2 ^ 32)
+header_layout (Some bits) = Some (layout_of bits)
 
 -- the layout of the object at an address
 unfoldable pub layout_at : HeapState → ℕ → Option Layout

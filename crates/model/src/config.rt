@@ -6,7 +6,7 @@ ghost use Rattle.model.specs.Configs.{is_page_size, fits_page, first_fault, usua
 
 use crate::limits::{
     MOST_BIRTHS, MOST_FIELDS, MOST_FRAMES, MOST_GLOBALS, MOST_HISTORY, MOST_LAYOUTS, MOST_PAGES,
-    MOST_REGISTERS, MOST_THREADS, MOST_WORKERS,
+    MOST_REGISTERS, MOST_THREADS, MOST_WORKERS, USUAL_GLOBALS, USUAL_REGISTERS,
 };
 use layout::{Layout, Layouts};
 use std::alloc::{AllocError, Global};
@@ -17,22 +17,22 @@ use thiserror::Error;
 pub struct Config {
     /// The words of a page: 16 to 32,768, a power of two.
     pub words: u32,
-    /// The frames, each the memory of one page: 1 to 4,096.
+    /// The frames, each the memory of one page: 1 to 1,048,575.
     pub frames: u32,
     /// The page numbers: 1 to 1,048,575, and at least as many as frames.
     pub pages: u32,
-    /// The mutator threads: 1 to 64.
+    /// The mutator threads: 1 to 1,024.
     pub threads: u32,
     /// The collector's workers: 1 to 16.
     pub workers: u32,
-    /// The registers of each thread: 1 to 16.
+    /// The registers of each thread: 1 to 65,535.
     pub registers: u32,
-    /// The global roots: 0 to 64.
+    /// The global roots: 0 to 65,535.
     pub globals: u32,
-    /// The layouts: 1 to 64, each of at most 1,023 reference words and 1,023 data words, and of a
+    /// The layouts: 1 to 256, each of at most 1,023 reference words and 1,023 data words, and of a
     /// size of at most the words of a page.
     pub layouts: Layouts,
-    /// How many objects may be born: 1 to 2^32.
+    /// How many objects may be born: 1 to 2^56.
     pub births: u64,
     /// How many entries a history may have: 1 to 1,000,000.
     pub history: u64,
@@ -81,8 +81,8 @@ impl Config {
     /// |---|---|
     /// | `pages` | twice as many as frames, since no more are ever in use at once; 1,048,575 at most |
     /// | `threads`, `workers` | 1 of each |
-    /// | `registers`, `globals` | 16 of each thread, and 64: as many as there may be |
-    /// | `births`, `history` | 2^32, and 1,000,000: as many as there may be |
+    /// | `registers`, `globals` | 16 of each thread, and 64 |
+    /// | `births`, `history` | 2^56, and 1,000,000: as many as there may be |
     ///
     /// Words, frames and layouts are taken as they are; `fault` tells whether they are in range,
     /// and nothing else can be out of it.
@@ -97,8 +97,8 @@ impl Config {
             pages: frames.saturating_mul(2).min(MOST_PAGES),
             threads: 1,
             workers: 1,
-            registers: MOST_REGISTERS,
-            globals: MOST_GLOBALS,
+            registers: USUAL_REGISTERS,
+            globals: USUAL_GLOBALS,
             layouts,
             births: MOST_BIRTHS,
             history: MOST_HISTORY,

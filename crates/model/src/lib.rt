@@ -13,7 +13,7 @@ mod steps;
 pub use config::{Config, ConfigFault};
 pub use limits::{
     MOST_BIRTHS, MOST_FIELDS, MOST_FRAMES, MOST_GLOBALS, MOST_HISTORY, MOST_LAYOUTS, MOST_PAGES,
-    MOST_REGISTERS, MOST_THREADS, MOST_WORDS, MOST_WORKERS,
+    MOST_REGISTERS, MOST_THREADS, MOST_WORDS, MOST_WORKERS, USUAL_GLOBALS, USUAL_REGISTERS,
 };
 pub use records::{
     Barrier, Buffer, Counter, Forwarding, Global, Page, PageState, Phase, Place, Room, Scan, Tally,

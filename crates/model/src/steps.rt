@@ -174,7 +174,7 @@ pub enum Answer {
     /// A buffer begins there: a page's number, and an offset in words.
     Lent { page: u32, offset: u32 },
     /// The object's birth number: how many were born before it.
-    Birth(u32),
+    Birth(u64),
     /// A barrier is open.
     Loaded,
     /// The word names the copy now (the paper's read barrier).

@@ -12,6 +12,7 @@ use Rattle.model.specs.declared.records.Page.{Page}
 use Rattle.model.specs.Stores.{StoreState, at_offset, blank_page, frame_in, is_open, record_count, is_protected, page_at, spot_of}
 use Rattle.model.specs.Stores.{changed_frame, state_at, state_in, with_word, with_words, word_at, word_in}
 use Rattle.model.specs.Owning.{IsStore}
+use Rattle.model.specs.declared.limits.TheConstants.{MOST_PAGES, MOST_WORDS}
 use Rattle.model.proofs.Lists.{get_read}
 use Rattle.model.proofs.Memory.{open_state, page_record}
 use Rattle.std.proofs.lemmas.Nat.{div-add-mod', mod_below, mul-le}
@@ -163,12 +164,12 @@ usable_set_keeps s a v true h =
     words_keep s (a / s.words) (λ ws. set ws (a % s.words) v) (λ ws. length-set ws (a % s.words) v) h
 usable_set_keeps s a v false h = h
 
-records_few : (f c : ℕ) → f ≤ 4096 → record_count f c ≤ 8192
+records_few : (f c : ℕ) → c ≤ MOST_PAGES → record_count f c ≤ MOST_PAGES
 records_few f c h = by_cases (nat_le c (2 * f)) refl
   where
-    by_cases : (b : Bool) → nat_le c (2 * f) ≡ b → cond b c (2 * f) ≤ 8192
-    by_cases true e = let l : c ≤ 2 * f = grind (arith, nat_tests, e) in omega (arith, l, h)
-    by_cases false e = omega (arith, h)
+    by_cases : (b : Bool) → nat_le c (2 * f) ≡ b → cond b c (2 * f) ≤ MOST_PAGES
+    by_cases true e = h
+    by_cases false e = let l : 2 * f < c = grind (arith, nat_tests, e) in omega (arith, l, h)
 
 -- what is on a usable page is an address
 pub usable_address : (s : StoreState) (a f : ℕ) → IsStore s → usable_frame s (a / s.words) ≡ Some f → IsAddress a
@@ -176,13 +177,13 @@ usable_address s a f st h =
     let n = a / s.words in
     let w = s.words in
     let (i, p, is, at, owns) = page_record s n f (usable_framed s n f h) in
-    let few = records_few (length s.frames) s.count st.sized.frame_count in
+    let few = records_few (length s.frames) s.count st.sized.count in
     let within = slice_get_within s.pages i p at in
     let low : 1 ≤ n = omega (arith, is) in
-    let high : n ≤ 8192 = omega (arith, is, within, st.sized.pages, few) in
+    let high : n ≤ MOST_PAGES = omega (arith, is, within, st.sized.pages, few) in
     let parts = div-add-mod' a w in
     let first : 1 * w ≤ n * w = mul-le 1 w n w low (omega arith) in
-    let last : n * w ≤ 8192 * 32768 = mul-le n w 8192 32768 high st.sized.words in
+    let last : n * w ≤ MOST_PAGES * MOST_WORDS = mul-le n w MOST_PAGES MOST_WORDS high st.sized.words in
     record {
       above = omega (arith, parts, first, st.sized.words_low);
       below = omega (arith, parts, last, mod_below a w st.sized.words_low, st.sized.words);

@@ -16,7 +16,7 @@ numbers_of t = take t.count (drop t.width t.nodes.items)
 -- the tree has as many levels as it says, and leaves that aren't in use are 0
 pub record IsTournament (t : index.Inside) : Type 0 where
   pub width : t.width ≡ 2 ^ t.depth
-  pub range : t.width ≤ 16384
+  pub range : t.width ≤ 2 ^ 21
   pub sized : length t.nodes.items ≡ 2 * t.width
   pub count : t.count ≤ t.width
   pub tree : IsTree t.nodes.items t.width

@@ -2,12 +2,13 @@
 
 ghost use Rattle.std.specs.Prelude.{◌≡◌, ◌<◌, ◌≤◌, ◌*◌, ◌^◌, ◌+◌, ◌/◌, length, slice_set, slice_index, replicate, drop};
 ghost use Rattle.std.specs.Prelude.{position, nat_le, IfOk};
+ghost use Rattle.model.specs.declared.limits.TheConstants.{MOST_PAGES};
 ghost use Rattle.page.specs.Tournaments.{IsTree, IsTreeBut, IsFirstFrom};
 
 use std::alloc::{AllocError, Global};
 use std::marker::Model;
 
-/// A list of at most 8,192 numbers that finds the first number of at least some size in as many
+/// A list of at most 1,048,575 numbers that finds the first number of at least some size in as many
 /// steps as the list's length has binary digits, and takes another number in as many.
 ///
 /// The numbers are the leaves of a tree, whose other nodes have the greater of the two numbers
@@ -34,10 +35,10 @@ impl Model for Tournament {
 
 /// How deep a tree of so many leaves is, and how many leaves it then has room for.
 fn size_for(count: u32) -> (u32, usize)
-    requires { count ≤ 8192 }
+    requires { count ≤ MOST_PAGES }
     ensures width { result.1 ≡ 2 ^ result.0 }
     ensures room { count ≤ result.1 }
-    ensures range { result.1 ≤ 16384 }
+    ensures range { result.1 ≤ 2 ^ 21 }
 {
     let mut depth = 0;
     let mut width = 1;
@@ -97,9 +98,9 @@ fn descend(nodes: &[u32], depth: u32, n: u32) -> usize
 }
 
 impl Tournament {
-    /// A list of so many copies of one number: at most 8,192. Fails only by memory.
+    /// A list of so many copies of one number: at most 1,048,575. Fails only by memory.
     pub fn new(alloc: Global, count: u32, value: u32) -> Result<Tournament, AllocError>
-        requires { count ≤ 8192 }
+        requires { count ≤ MOST_PAGES }
         ensures { IfOk result (λ t. t ≡ replicate count value) }
     {
         let (depth, width) = size_for(count);

@@ -63,10 +63,11 @@ impl Model for Store {
 }
 
 /// How many pages of a store have records, of so many frames and page numbers: no more are ever
-/// in use at once. There are at most 4,096 frames.
+/// in use at once. There are at most 1,048,575 frames.
 pub fn record_count(frames: u32, pages: u32) -> u32
     requires { frames ≤ MOST_FRAMES }
-    ensures { result ≡ record_count frames pages }
+    ensures value { result ≡ record_count frames pages }
+    ensures range { result ≤ pages }
 {
     if pages <= 2 * frames {
         pages
@@ -77,7 +78,7 @@ pub fn record_count(frames: u32, pages: u32) -> u32
 
 impl Store {
     /// A store of so many frames and page numbers: all pages unused, all frames free. A page has
-    /// 16 to 32,768 words, a power of two, and there are at most 4,096 frames and 1,048,575 pages.
+    /// 16 to 32,768 words, a power of two, and there are at most 1,048,575 frames and as many pages.
     /// Fails only by memory.
     #[tactic(auto, unfolding(model::specs::Stores::first_store))]
     pub fn new(alloc: Global, words: u32, frames: u32, pages: u32) -> Result<Store, AllocError>
@@ -140,14 +141,14 @@ impl Store {
         &self.pages
     }
 
-    /// The number of frames: at most 4,096. A frame has the words of a page.
+    /// The number of frames: at most 1,048,575. A frame has the words of a page.
     pub fn frame_count(&self) -> usize
         ensures { result ≡ length self.now.frames }
     {
         self.frames().len()
     }
 
-    /// The frames, by number from 0: at most 4,096. Each has the words of a page.
+    /// The frames, by number from 0: at most 1,048,575. Each has the words of a page.
     pub fn frames(&self) -> &Frames
         ensures { result.now ≡ self.now.frames }
     {

@@ -113,7 +113,7 @@ fn change_word(image: &mut Image, dice: &mut Dice) {
     let frame = dice.roll(3) as usize;
     let offset = dice.roll(16) as usize;
     let header = Header {
-        birth: dice.roll(12) as u32,
+        birth: u64::from(dice.roll(12) as u32),
         layout: dice.roll(4) as u8,
     };
     let bits = if dice.hits(2) {

@@ -4,7 +4,7 @@ ghost use Rattle.std.specs.Prelude.{◌≡◌, ◌<◌, ◌^◌, take, drop};
 ghost use Rattle.pieces.specs.Pieces.{source_of, size_at};
 
 use forward::Side;
-use layout::Layouts;
+use layout::{Layouts, layout_of};
 
 /// A page that is being emptied, and what has to be known to copy its objects.
 #[derive(Drop)]
@@ -39,7 +39,7 @@ impl Source<'_> {
         let Some(header) = self.words.get(offset as usize) else {
             return 1;
         };
-        match self.layouts.get((*header >> 32) as u32) {
+        match self.layouts.get(layout_of(*header)) {
             None => 1,
             Some(layout) => layout.size() as usize,
         }

@@ -2,7 +2,7 @@
 use Rattle.std.proofs.Common.{◌≡◌, ℕ, ◌+◌, ◌<◌, Option, Some, None, refl, sym, ◌∙◌, ap, subst, arith, zero, suc, ◌-◌}
 use Rattle.std.proofs.Common.{◌*◌, ◌≤◌, nat_lt, nat_le, replicate, get_or}
 use Rattle.std.specs.List.{slice_get}
-use Rattle.std.proofs.lemmas.Option.{same_Some}
+use Rattle.std.proofs.lemmas.Option.{slice_get_within, same_Some}
 use Rattle.model.specs.declared.steps.Actor.TheVariants.{Thread}
 use Rattle.model.specs.declared.steps.Step.TheVariants as steps
 use Rattle.model.specs.declared.steps.Answer.TheVariants as answers
@@ -64,6 +64,7 @@ module _ {h : HeapState} {p p0 : PlainHeap} (s : IsStore h.store) (d : IsHeap h)
         known = known;
         room = room;
         births = omega (arith, more, d.config.births);
+        few = omega (arith, slice_get_within h.config.layouts number l known, d.config.layouts);
         unplanned = λ m e. open_or_from (sym (births.open_at h b lies (omega (arith, room, lies.end)))
             ∙ k.invariant.objects.planned_from (b.page * h.store.words + b.next) m e);
       }

@@ -59,7 +59,8 @@ pub record MayPlace (h : HeapState) (t target number : ℕ) (shape : Layout) (b 
   pub register : target < length x.registers
   pub known : slice_get h.config.layouts number ≡ Some shape
   pub room : size_of shape ≤ b.end - b.next
-  pub births : h.births < 2 ^ 32
+  pub births : h.births < 2 ^ 56
+  pub few : number < 2 ^ 8
   pub unplanned : (m : ℕ) → (world_of h).side_entry (b.page * h.store.words + b.next) ≢ Planned m
 
 module _ {h : HeapState} (s : IsStore h.store) (l : IsLaid h) {t target number : ℕ} {shape : Layout} {b : Buffer}
@@ -173,7 +174,7 @@ module _ {h : HeapState} (s : IsStore h.store) (l : IsLaid h) {t target number :
 
   read : IsRead h.config.layouts (change ws.0) (address % h.store.words) fresh
   read = subst (λ o. IsRead h.config.layouts (change ws.0) o fresh) (sym address_offset)
-      (read_fresh h.config.layouts ws.0 b.next h.births number shape m.known m.births (omega (arith, long, fits)))
+      (read_fresh h.config.layouts ws.0 b.next h.births number shape m.known m.births m.few (omega (arith, long, fits)))
 
   agree : (y : ℕ) (o : HeapObject) → y ≢ address → y / h.store.words ≡ b.page → object_at h y ≡ Some o
       → Agree (change ws.0) ws.0 (y % h.store.words) (y % h.store.words + object_size o)

@@ -1,5 +1,5 @@
 -- Objects read off words: what a write elsewhere leaves, and what a write into one makes.
-use Rattle.std.proofs.Common.{◌≡◌, ℕ, zero, suc, ◌+◌, ◌*◌, ◌/◌, ◌%◌, ◌^◌, ◌<◌, ◌≤◌, Bool, true, false}
+use Rattle.std.proofs.Common.{◌≡◌, ℕ, zero, suc, ◌+◌, ◌^◌, ◌<◌, ◌≤◌, Bool, true, false}
 use Rattle.std.proofs.Common.{List, [], ◌∷◌, length, take, drop, map, set, cond, nat_le, Option, Some}
 use Rattle.std.proofs.Common.{None, replicate, refl, sym, ◌∙◌, ap, ap₂, arith, leb-true}
 use Rattle.std.specs.List.{slice_get}
@@ -10,7 +10,7 @@ use Rattle.std.proofs.Math.Seq.{take-set-lt}
 use Rattle.std.proofs.lemmas.Option.{same_Some}
 use Rattle.std.proofs.lemmas.Bool.{le-leb}
 use Rattle.layout.specs.declared.shape.Layout.{Layout}
-use Rattle.layout.specs.Objects.{size_of}
+use Rattle.layout.specs.Objects.{size_of, birth_of, layout_of, header_bits}
 use Rattle.model.specs.Stores.{overlay}
 use Rattle.model.specs.Births.{fresh_object}
 use Rattle.model.proofs.Lists.{get_set_other}
@@ -26,7 +26,7 @@ pub record IsRead (ls : List Layout) (ws : List ℕ) (o : ℕ) (q : HeapObject) 
   pub header : ℕ
   pub shape : Layout
   pub at : slice_get ws o ≡ Some header
-  pub known : slice_get ls (header / 2 ^ 32) ≡ Some shape
+  pub known : slice_get ls (layout_of header) ≡ Some shape
   pub fits : o + size_of shape ≤ length ws
   pub is : q ≡ object_of ws o header shape
 
@@ -34,18 +34,18 @@ abbrev object : ℕ → ℕ → List Word → List ℕ → HeapObject
 object b n xs ds = record { birth = b; layout = n; refs = xs; data_words = ds }
 
 abbrev parted : ℕ → List Word → List ℕ → HeapObject
-parted header xs ds = record { birth = header % 2 ^ 32; layout = header / 2 ^ 32; refs = xs; data_words = ds }
+parted header xs ds = record { birth = birth_of header; layout = layout_of header; refs = xs; data_words = ds }
 
 abbrev pub built : ℕ → List ℕ → List ℕ → HeapObject
 built header xs ds =
-    record { birth = header % 2 ^ 32; layout = header / 2 ^ 32; refs = map word_in_memory xs; data_words = ds }
+    record { birth = birth_of header; layout = layout_of header; refs = map word_in_memory xs; data_words = ds }
 
 pub read_is : (ls : List Layout) (ws : List ℕ) (o : ℕ) (q : HeapObject)
     → object_headed ls ws o (slice_get ws o) ≡ Some q → IsRead ls ws o q
 read_is ls ws o q e = by_header (slice_get ws o) refl e
   where
     by_fit : (header : ℕ) (l : Layout) (b : Bool) → nat_le (o + size_of l) (length ws) ≡ b
-        → slice_get ws o ≡ Some header → slice_get ls (header / 2 ^ 32) ≡ Some l
+        → slice_get ws o ≡ Some header → slice_get ls (layout_of header) ≡ Some l
         → cond b (Some (object_of ws o header l)) None ≡ Some q → IsRead ls ws o q
     by_fit header l true f a k r = record {
       header = header;
@@ -57,14 +57,14 @@ read_is ls ws o q e = by_header (slice_get ws o) refl e
     }
     by_fit header l false f a k r = absurd (cc)
 
-    by_layout : (header : ℕ) (y : Option Layout) → slice_get ws o ≡ Some header → slice_get ls (header / 2 ^ 32) ≡ y
+    by_layout : (header : ℕ) (y : Option Layout) → slice_get ws o ≡ Some header → slice_get ls (layout_of header) ≡ y
         → object_laid ws o header y ≡ Some q → IsRead ls ws o q
     by_layout header None a k r = absurd (cc)
     by_layout header (Some l) a k r = by_fit header l (nat_le (o + size_of l) (length ws)) refl a k r
 
     by_header : (y : Option ℕ) → slice_get ws o ≡ y → object_headed ls ws o y ≡ Some q → IsRead ls ws o q
     by_header None a r = absurd (cc)
-    by_header (Some header) a r = by_layout header (slice_get ls (header / 2 ^ 32)) a refl r
+    by_header (Some header) a r = by_layout header (slice_get ls (layout_of header)) a refl r
 
 pub is_read : (ls : List Layout) (ws : List ℕ) (o : ℕ) (q : HeapObject) → IsRead ls ws o q
     → object_headed ls ws o (slice_get ws o) ≡ Some q
@@ -186,11 +186,12 @@ zeros_at (suc n) (suc i) h = zeros_at n i (omega (arith, h))
 
 -- its words are written
 pub read_fresh : (ls : List Layout) (ws : List ℕ) (o birth number : ℕ) (l : Layout)
-    → slice_get ls number ≡ Some l → birth < 2 ^ 32 → o + size_of l ≤ length ws
+    → slice_get ls number ≡ Some l → birth < 2 ^ 56 → number < 2 ^ 8 → o + size_of l ≤ length ws
     → IsRead ls (overlay ws o (fresh_object birth number l)) o (new_object birth number l)
-read_fresh ls ws o birth number l known low room = made (birth + number * 2 ^ 32) refl
+read_fresh ls ws o birth number l known low few room =
+    made (header_bits (record { birth = birth; layout = number })) refl
   where
-    made : (header : ℕ) → birth + number * 2 ^ 32 ≡ header
+    made : (header : ℕ) → header_bits (record { birth = birth; layout = number }) ≡ header
         → IsRead ls (overlay ws o (fresh_object birth number l)) o (new_object birth number l)
     made header e =
         let xs : List ℕ = fresh_object birth number l in
@@ -199,8 +200,8 @@ read_fresh ls ws o birth number l known low room = made (birth + number * 2 ^ 32
         let long : length xs ≡ size_of l = ap suc zeros ∙ one (l.refs + l.nums) ∙ omega arith in
         let inside : o + length xs ≤ length ws = omega (arith, long, room) in
         let size : length (overlay ws o xs) ≡ length ws = length_overlaid ws o xs in
-        let birth_is : header % 2 ^ 32 ≡ birth = omega (arith, e, low) in
-        let number_is : header / 2 ^ 32 ≡ number = omega (arith, e, low) in
+        let birth_is : birth_of header ≡ birth = omega (arith, e, low, few) in
+        let number_is : layout_of header ≡ number = omega (arith, e, low, few) in
         let body : (i : ℕ) → i < l.refs + l.nums → slice_get (overlay ws o xs) (o + 1 + i) ≡ Some 0 =
         λ i h. ap (slice_get (overlay ws o xs)) (omega arith)
         ∙ overlaid_in ws xs o (suc i) inside (omega (arith, long, h)) ∙ zeros_at (l.refs + l.nums) i h in
@@ -216,7 +217,7 @@ read_fresh ls ws o birth number l known low room = made (birth + number * 2 ^ 32
               ∙ ap Some e;
           known = ap (slice_get ls) number_is ∙ known;
           fits = omega (arith, size, room);
-          is = parts birth number (header % 2 ^ 32) (header / 2 ^ 32) _ _ _ _ (sym birth_is) (sym number_is)
+          is = parts birth number (birth_of header) (layout_of header) _ _ _ _ (sym birth_is) (sym number_is)
               (sym (ap (map word_in_memory) refs ∙ nulls l.refs)) (sym nums);
         }
       where

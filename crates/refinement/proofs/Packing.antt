@@ -1,6 +1,6 @@
 -- The objects of a page that is protected lie in two targets at most. Letters are those of `Planned` and `Protections`.
 use Rattle.std.proofs.Common.{◌≡◌, ◌⊎◌, inl, inr, ℕ, zero, suc, ◌+◌, ◌*◌, ◌/◌, ◌%◌, ◌<◌, ◌≤◌, ◌==◌, ◌||◌, Bool, true}
-use Rattle.std.proofs.Common.{false, cond, not, List, [], ◌∷◌, ◌++◌, length, map, take, drop, Option, Some, None}
+use Rattle.std.proofs.Common.{false, not, List, [], ◌∷◌, ◌++◌, length, map, take, drop, Option, Some, None}
 use Rattle.std.proofs.Common.{refl, sym}
 use Rattle.std.proofs.Common.{◌∙◌, ap, subst, arith, eq-eqb}
 use Rattle.std.specs.List.{slice_get, flat_map, list_any, sum_by}
@@ -17,32 +17,31 @@ use Rattle.model.specs.declared.steps.Actor.TheVariants.{Worker}
 use Rattle.model.specs.declared.steps.Answer.{Answer}
 use Rattle.model.specs.declared.steps.Step.TheVariants as steps
 use Rattle.model.specs.declared.steps.Refusal.TheVariants as refusals
-use Rattle.model.specs.Bits.{of_page, bit_at}
+use Rattle.model.specs.Bits.{of_page}
 use Rattle.model.specs.Holding.{IsHeap}
-use Rattle.model.specs.Outcome.{outcome, worker_gate, worker_row}
+use Rattle.model.specs.Outcome.{outcome, worker_gate}
 use Rattle.model.specs.Owning.{Each, IsStore}
 use Rattle.model.specs.Phases.{is_idle}
 use Rattle.model.specs.Plain.{PlainHeap}
 use Rattle.model.specs.Plans.{live_offsets, live_on, live_objects, object_words, plan_of, target_count, moves_of}
 use Rattle.model.specs.Plans.{place_of, side_of, offsets_from}
-use Rattle.model.specs.Protections.{all_ripe, are_bad_pages, has_twice, no_page_in, protect, protect_with}
+use Rattle.model.specs.Protections.{all_ripe, are_bad_pages, has_twice, no_page_in, protect}
 use Rattle.model.specs.Protections.{with_targets, room_for, protect_outcome}
 use Rattle.model.specs.Refusing.{refuse_if}
 use Rattle.model.specs.States.{HeapState}
 use Rattle.model.specs.Stores.{state_at}
 use Rattle.model.proofs.Lists.{get_within}
-use Rattle.model.proofs.Plans.{IsIn, at_in, in_at, in_objects, mapped_in, offset_told, places_length}
+use Rattle.model.proofs.Plans.{IsIn, at_in, in_objects, mapped_in, offset_told}
 use Rattle.forward.proofs.Planned.{near_places}
-use Rattle.refinement.specs.Claims.{IsLaid, Claim, OfObject, Extent, extent, object_size, sized_extent}
+use Rattle.refinement.specs.Claims.{IsLaid, OfObject, extent, object_size, sized_extent}
 use Rattle.refinement.specs.Packing.{LiesInTwo, targets_of}
 use Rattle.refinement.specs.Standing.{Holds}
-use Rattle.refinement.specs.Worlds.{object_at}
 use Rattle.refinement.proofs.Accepted.{OnAccepted, accepted, of_accepted, on_has}
 use Rattle.refinement.proofs.Emptied.{MayEmpty, side_after}
 use Rattle.refinement.proofs.Planned.{IsLive, IsPlanned, live_at, live_within, of_live, planned, words_are}
 use Rattle.refinement.proofs.Protections.{all_closed, has_room, idle_is}
 use Rattle.refinement.proofs.Targets.{targets_hold}
-use Rattle.refinement.proofs.Verdicts.{WorkerPassed, worker_passed}
+use Rattle.refinement.proofs.Verdicts.{worker_passed}
 
 -- objects that lie one behind the other
 

@@ -1,10 +1,10 @@
 -- The heap by addresses that a heap's state stands for: its objects, read off the words of its pages, and all else read
 -- off its records.
-use Rattle.std.specs.Prelude.{ℕ, ◌+◌, ◌/◌, ◌%◌, ◌^◌, ◌==◌, Bool, true, false, List, [], ◌∷◌, length, take, drop, map}
+use Rattle.std.specs.Prelude.{ℕ, ◌+◌, ◌/◌, ◌%◌, ◌==◌, Bool, true, false, List, [], ◌∷◌, length, take, drop, map}
 use Rattle.std.specs.Prelude.{Option, Some, None, option_map, nat_le, nat_lt, slice_get, if◌then◌else◌}
 use Rattle.refword.specs.Words.{read_word}
 use Rattle.layout.specs.declared.shape.Layout.{Layout}
-use Rattle.layout.specs.Objects.{size_of}
+use Rattle.layout.specs.Objects.{size_of, birth_of, layout_of}
 use Rattle.model.specs.declared.records.Forwarding.{Forwarding}
 use Rattle.model.specs.declared.records.Barrier.{Barrier}
 use Rattle.model.specs.declared.records.Scan.{Scan}
@@ -44,8 +44,8 @@ run words offset n = take n (drop offset words)
 -- the object of a layout at an offset: its header, then its references, then its data
 abbrev pub object_of : List ℕ → ℕ → ℕ → Layout → HeapObject
 object_of words offset header l = record {
-  birth = header % 2 ^ 32;
-  layout = header / 2 ^ 32;
+  birth = birth_of header;
+  layout = layout_of header;
   refs = map word_in_memory (run words (offset + 1) l.refs);
   data_words = run words (offset + 1 + l.refs) l.nums;
 }
@@ -59,7 +59,7 @@ object_laid words offset header (Some l) =
 -- the object that begins with a header
 abbrev pub object_headed : List Layout → List ℕ → ℕ → Option ℕ → Option HeapObject
 object_headed ls words offset None = None
-object_headed ls words offset (Some header) = object_laid words offset header (slice_get ls (header / 2 ^ 32))
+object_headed ls words offset (Some header) = object_laid words offset header (slice_get ls (layout_of header))
 
 -- the object at an offset of a page that has memory, where the bit says that one starts there
 abbrev pub object_in : List Layout → Bool → Option (List ℕ) → ℕ → Option HeapObject

@@ -35,8 +35,7 @@ fn words_at(heap: &Heap, words: &[u64], offset: usize) -> u64 {
     let Some(bits) = words.get(offset) else {
         return 0;
     };
-    let number = u32::try_from(*bits >> 32).unwrap_or(u32::MAX);
-    match heap.config().layouts.get(number) {
+    match heap.config().layouts.get(layout_of(*bits)) {
         None => 0,
         Some(layout) => u64::from(layout.size()),
     }

@@ -58,7 +58,7 @@ fn parts(words: &[u64], offset: usize, layout: Layout) -> (&[u64], &[u64]) {
 
 /// The header of the object at an offset of a page's words, and its layout.
 fn kind_at(heap: &Heap, words: &[u64], offset: usize) -> Option<(Header, Layout)> {
-    let header = Header::read(*words.get(offset)?)?;
+    let header = Header::read(*words.get(offset)?);
     let layout = heap.config().layouts.get(u32::from(header.layout))?;
     Some((header, layout))
 }

@@ -10,7 +10,7 @@ use Rattle.std.proofs.lemmas.Bool.{cases_eq, cases_lt}
 use Rattle.std.proofs.lemmas.List.{get_or_past, get_or_append_left}
 use Rattle.std.proofs.lemmas.Nat.{div-mul-add, mod-mul-add}
 use Rattle.refword.specs.declared.addr.TheConstants.Addr as addresses
-use Rattle.layout.specs.Objects.{size_of, header_of}
+use Rattle.layout.specs.Objects.{size_of, birth_of, layout_of}
 use Rattle.verify.specs.declared.objects.Object.{Object}
 use Rattle.verify.specs.declared.spots.Spot.{Spot}
 use Rattle.verify.specs.Images.{ImageData, PageData, ◌>>=◌, page_at, word_at, starts_on, object_in, object_at}
@@ -49,9 +49,9 @@ no_frame i a p e f = by_tests (ltb a addresses.LIMIT) (starts_on (page_at i a) (
     (no_word i a p e f)
   where
     object : Option ℕ → Option Object
-    object o = o >>= (λ bits. header_of bits >>= (λ header. slice_get i.layouts header.layout >>= (λ layout.
+    object o = o >>= (λ bits. slice_get i.layouts (layout_of bits) >>= (λ layout.
         cond (leb (a % i.words + size_of layout) i.words)
-        (Some (record { birth = header.birth; refs = layout.refs })) None)))
+        (Some (record { birth = birth_of bits; refs = layout.refs })) None))
 
     by_tests : (b c : Bool) (o : Option ℕ) → o ≡ None → cond b (cond c (object o) None) None ≡ None
     by_tests true true o z = ap object z

@@ -5,7 +5,7 @@ use Rattle.std.specs.Prelude.{if◌then◌else◌}
 use Rattle.refword.specs.Words.{read_word}
 use Rattle.refword.specs.declared.addr.TheConstants.Addr as addresses
 use Rattle.layout.specs.declared.shape.Layout.{Layout}
-use Rattle.layout.specs.Objects.{size_of, header_of}
+use Rattle.layout.specs.Objects.{size_of, birth_of, layout_of}
 use Rattle.model.specs.declared.records.Forwarding.{Forwarding}
 use Rattle.model.specs.declared.records.PageState.{PageState}
 use Rattle.model.specs.Stores.{is_protected}
@@ -78,14 +78,13 @@ abbrev pub starts_on : Option PageData → ℕ → Bool
 starts_on None offset = false
 starts_on (Some p) offset = get_or p.starts offset false
 
--- the object at an address, if its header is readable, its layout known, and its page has room for its size
+-- the object at an address, if its layout is known and its page has room for its size
 unfoldable pub object_in : ImageData → ℕ → Option Object
 object_in i a = do
   bits ← word_at i a
-  header ← header_of bits
-  layout ← slice_get i.layouts header.layout
+  layout ← slice_get i.layouts (layout_of bits)
   if nat_le (a % i.words + size_of layout) i.words
-      then Some (record { birth = header.birth; refs = layout.refs })
+      then Some (record { birth = birth_of bits; refs = layout.refs })
       else None
 
 -- the object that starts at an address: there is a bit, and an object; and a word can have the address

@@ -15,7 +15,7 @@ use std::collections::HashMap;
 /// An address for each birth.
 #[derive(Drop)]
 struct Births {
-    addresses: HashMap<u32, u64>,
+    addresses: HashMap<u64, u64>,
 }
 
 impl Births {
@@ -29,7 +29,7 @@ impl Births {
     }
 
     /// Notes an address of a birth, in place of what was noted.
-    fn note(&mut self, birth: u32, address: u64) -> Result<(), AllocError>
+    fn note(&mut self, birth: u64, address: u64) -> Result<(), AllocError>
         ensures { IfOk result (λ _. (b : ℕ) → hash.get nat_eq self.new.addresses b
             ≡ (if b == birth then Some address else hash.get nat_eq self.old.addresses b)) }
     {
@@ -53,7 +53,7 @@ impl Births {
     }
 
     /// The address that is noted of a birth.
-    fn get(&self, birth: u32) -> Option<u64>
+    fn get(&self, birth: u64) -> Option<u64>
         ensures { result ≡ hash.get nat_eq self.now.addresses birth }
     {
         self.addresses.get(&birth).copied()
@@ -61,7 +61,7 @@ impl Births {
 
     /// The birth of the object at an address that is reached or wasn't copied, where another
     /// address is noted of it.
-    fn shared_at(&self, chart: &Chart, spots: &Spots, address: u64) -> Option<u32>
+    fn shared_at(&self, chart: &Chart, spots: &Spots, address: u64) -> Option<u64>
         requires sized { 0 < chart.now.words }
         requires spots { TellsReached chart.now spots.now }
         ensures { IsOnly (SharesAt chart.now (hash.get nat_eq self.now.addresses) address) result }
@@ -77,12 +77,12 @@ impl Births {
     }
 
     /// The least birth that is shared.
-    fn least_shared(&self, chart: &Chart, spots: &Spots) -> Option<u32>
+    fn least_shared(&self, chart: &Chart, spots: &Spots) -> Option<u64>
         requires sized { 0 < chart.now.words }
         requires spots { TellsReached chart.now spots.now }
         ensures { IsLeast (SharesBelow chart.now (hash.get nat_eq self.now.addresses) (length spots.now)) result }
     {
-        let mut least: Option<u32> = None;
+        let mut least: Option<u64> = None;
         let mut from = 0;
         while let Some(address) = spots.next_filled(from) {
             least = lesser(least, self.shared_at(chart, spots, address));
@@ -93,7 +93,7 @@ impl Births {
 }
 
 /// The lesser of two numbers that may be missing.
-fn lesser(one: Option<u32>, other: Option<u32>) -> Option<u32>
+fn lesser(one: Option<u64>, other: Option<u64>) -> Option<u64>
     ensures { result ≡ lesser one other }
 {
     match (one, other) {
@@ -123,7 +123,7 @@ pub(crate) fn least_twins(
     alloc: Global,
     chart: &Chart,
     spots: &Spots,
-) -> Result<Option<u32>, AllocError>
+) -> Result<Option<u64>, AllocError>
     requires sized { 0 < chart.now.words }
     requires spots { TellsReached chart.now spots.now }
     ensures { IfOk result (IsLeast (HasTwins chart.now)) }

@@ -7,14 +7,14 @@ ghost use Rattle.verify.specs.Images.{page_at, word_at, starts_on, object_in, ob
 ghost use Rattle.verify.specs.Walks.{space};
 
 use crate::image::{Image, PageImage, Words};
-use layout::Header;
+use layout::{birth_of, layout_of};
 use refword::Addr;
 
 /// What an object's header tells of it.
 #[derive(Clone, Copy)]
 pub(crate) struct Object {
     /// Its birth number.
-    pub(crate) birth: u32,
+    pub(crate) birth: u64,
     /// How many reference fields it has.
     pub(crate) refs: u16,
 }
@@ -77,19 +77,18 @@ impl Image {
         }
     }
 
-    /// The object whose header is at an address, if it is readable and the object ends in its page.
+    /// The object whose header is at an address, if its layout is known and it ends in its page.
     #[tactic(auto, unfolding(crate::specs::Images::object_in))]
     fn object_in(&self, address: u64) -> Option<Object>
         requires { 0 < self.now.words }
         ensures { result ≡ object_in self.now address }
     {
         let bits = self.word_at(address)?;
-        let header = Header::read(bits)?;
-        let layout = self.layouts.get(usize::from(header.layout)).copied()?;
+        let layout = self.layouts.get(layout_of(bits) as usize).copied()?;
         let offset = address % u64::from(self.words);
         if offset + u64::from(layout.size()) <= u64::from(self.words) {
             Some(Object {
-                birth: header.birth,
+                birth: birth_of(bits),
                 refs: layout.refs,
             })
         } else {
@@ -137,7 +136,7 @@ impl Image {
     }
 
     /// The birth number of the object that starts at an address.
-    pub(crate) fn birth_at(&self, address: u64) -> Option<u32>
+    pub(crate) fn birth_at(&self, address: u64) -> Option<u64>
         requires { 0 < self.now.words }
         ensures { result ≡ option_map (λ o. o.birth) (object_at self.now address) }
     {

@@ -24,7 +24,7 @@ pub enum Fault {
     Field(u64, u32),
     /// Two objects have this birth number: one that is reached, and one that is reached too, or
     /// wasn't copied.
-    Twins(u32),
+    Twins(u64),
 }
 
 /// The answer of the verifier (ours).

@@ -117,12 +117,12 @@ pub fn object_at(heap: &ManagedHeap, address: Addr) -> Result<Object, Refusal>
     let Some(header) = inside.memory().first_word(address) else {
         return Err(Refusal::BadIndex);
     };
-    let layout = (header >> 32) as u32;
+    let layout = layout_of(header);
     let Some(shape) = inside.config().layouts.get(layout) else {
         return Err(Refusal::BadIndex);
     };
     Ok(Object {
-        birth: (header % 4_294_967_296) as u32,
+        birth: birth_of(header),
         layout,
         refs: shape.refs,
         nums: shape.nums,

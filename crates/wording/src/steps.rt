@@ -46,7 +46,7 @@ impl AnswerParts {
         use AnswerParts::{One, Two, Word};
         match answer {
             Answer::Lent { page, offset } => Two("lent ", u64::from(page), ".", u64::from(offset)),
-            Answer::Birth(birth) => One("birth ", u64::from(birth)),
+            Answer::Birth(birth) => One("birth ", birth),
             Answer::Loaded => Word("loaded"),
             Answer::Moved => Word("moved"),
             Answer::Marked => Word("marked"),

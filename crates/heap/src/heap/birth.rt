@@ -120,7 +120,7 @@ impl Heap {
     /// (`NoRoom`); `BadIndex` where there is no such layout; `Births` where no more may be born.
     #[inline(always)]
     #[tactic(auto, unfolding(model::specs::Births::new_outcome))]
-    pub fn new_row(&mut self, thread: u32, target: u32, number: u32) -> Result<u32, Refusal>
+    pub fn new_row(&mut self, thread: u32, target: u32, number: u32) -> Result<u64, Refusal>
         requires { Passes self.old thread (steps.New target number) }
         ensures { Does self.old (said answers.Birth result) self.new (new_outcome self.old thread target number) }
     {
@@ -136,7 +136,7 @@ impl Heap {
         if self.births >= self.config.births {
             return Err(Refusal::Births);
         }
-        let birth = self.births as u32;
+        let birth = self.births;
         self.place(thread, target, number, layout, buffer);
         Ok(birth)
     }
@@ -153,7 +153,7 @@ impl Heap {
         ensures { self.new ≡ place_object self.old thread target number layout buffer }
     {
         let header = Header {
-            birth: self.births as u32,
+            birth: self.births,
             layout: number as u8,
         };
         let size = layout.size();

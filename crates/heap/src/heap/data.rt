@@ -11,7 +11,7 @@ ghost use Rattle.model.specs.declared.steps.Step.TheVariants as steps;
 ghost use Rattle.model.specs.declared.steps.Answer.TheVariants as answers;
 
 use crate::heap::Heap;
-use layout::Layout;
+use layout::{Layout, layout_of};
 use model::Refusal;
 use refword::Addr;
 
@@ -23,8 +23,7 @@ impl Heap {
         ensures { result ≡ layout_at self.now address }
     {
         let header = self.store.first_word(address)?;
-        let number = (header >> 32) as u32;
-        self.config.layouts.get(number)
+        self.config.layouts.get(layout_of(header))
     }
 
     /// How many words after the address of an object a data word of it stands.

@@ -8,7 +8,7 @@ ghost use Rattle.refword.specs.Words.{IsAddress};
 ghost use Rattle.heap.specs.AtOnce.{IsOnFrame, IsOpenTo, IsQuiet};
 
 use crate::heap::Heap;
-use layout::Layout;
+use layout::{Layout, layout_of};
 use refword::{Word, number_of_bits};
 
 /// An object on a page that has memory and isn't protected.
@@ -66,7 +66,7 @@ impl Heap {
         ensures { IfSome result (λ l. layout_at self.now spot.now.address ≡ Some l) }
     {
         let header = self.word_on(spot, 0)?;
-        self.config.layouts.get((header >> 32) as u32)
+        self.config.layouts.get(layout_of(header))
     }
 
     /// How far after the address of an object a reference stands, by its number from 0.

@@ -15,7 +15,7 @@ invariant_of-result c =
       size = c.of.ensures;
       store = first_inside c.args.words c.args.frames c.args.pages _ _ _ c.requires.words_low c.requires.words_high
           c.requires.frames_high c.requires.pages_high
-          (c.in_ok-many.ensures ∙ ap (λ n. replicate n blank_page) records.ensures) c.in_ok-new.ensures
+          (c.in_ok-many.ensures ∙ ap (λ n. replicate n blank_page) records.ensures.value) c.in_ok-new.ensures
           c.in_ok-many-3.ensures;
       free = first_free c.args.frames _ c.in_ok-many-3.ensures;
       usable = c.in_ok-many-2.ensures ∙ usable_first records.result
