@@ -17,7 +17,7 @@
 #define PAUSELESS_H
 
 /* The version of the library, by https://semver.org. */
-#define PAUSELESS_VERSION "1.3.0"
+#define PAUSELESS_VERSION "2.0.0"
 
 #include <stdbool.h>
 #include <stddef.h>
@@ -100,13 +100,13 @@ static inline const char *pauseless_text(uint32_t code) {
 /* The sizes and limits of a heap. */
 typedef struct pauseless_sizes {
     uint32_t words;     /* the words of 64 bits of a page: 16 to 32,768, a power of two */
-    uint32_t frames;    /* the frames, each the memory of one page: 1 to 4,096 */
+    uint32_t frames;    /* the frames, each the memory of one page: 1 to 1,048,575 */
     uint32_t pages;     /* the page numbers: at least as many as frames, to 1,048,575 */
-    uint32_t threads;   /* 1 to 64 */
+    uint32_t threads;   /* 1 to 1,024 */
     uint32_t workers;   /* the collector's: 1 to 16; these calls use the first alone */
-    uint32_t registers; /* of each thread: 1 to 16 */
-    uint32_t globals;   /* 0 to 64 */
-    uint64_t births;    /* how many objects may be born: 1 to 2^32 */
+    uint32_t registers; /* of each thread: 1 to 65,535 */
+    uint32_t globals;   /* 0 to 65,535 */
+    uint64_t births;    /* how many objects may be born: 1 to 2^56 */
 } pauseless_sizes;
 
 /* How many references, and how many data of 64 bits, an object has: 0 to 1,023 each. It has a header besides, and one
@@ -130,7 +130,7 @@ typedef struct pauseless_field_load {
 
 /* What a register names. */
 typedef struct pauseless_object {
-    uint32_t birth;  /* how many objects were born before it; it stays when the object moves */
+    uint64_t birth;  /* how many objects were born before it; it stays when the object moves */
     uint32_t layout; /* the number of its layout */
     uint16_t refs, nums;
 } pauseless_object;
@@ -150,11 +150,11 @@ typedef struct pauseless_counts {
 
 /* Making a heap, and letting it go */
 
-/* Sizes that serve most heaps: twice as many page numbers as frames, one thread, one worker, and as many registers,
- * globals and births as there may be. */
+/* Sizes that serve most heaps: twice as many page numbers as frames, one thread of 16 registers, one worker, 64
+ * globals, and as many births as there may be. */
 void pauseless_usual(uint32_t words, uint32_t frames, pauseless_sizes *sizes);
 
-/* Makes a heap with layouts numbered from 0: 1 to 64 of them. All its memory is asked for here, by malloc: the frames,
+/* Makes a heap with layouts numbered from 0: 1 to 256 of them. All its memory is asked for here, by malloc: the frames,
  * and some bits for each word of each page number. RANGE_OF_.. for the first size that is out of its range, HAS_HEAP,
  * MEMORY. */
 pauseless_code pauseless_new(pauseless_heap *heap, const pauseless_sizes *sizes, const pauseless_layout *layouts,

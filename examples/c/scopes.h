@@ -11,9 +11,9 @@
  *     pauseless_code code = pauseless_make(&heap, &policy, 0, node, NODE);
  *     scope_end(&handles, scope);
  *
- * A thread has at most 16 registers. So a loop that takes handles begins a scope in each turn, and a recursion keeps in
- * objects what it needs later. A handle isn't used after the end of its scope: nothing checks this, since its register
- * is null then, or is another handle.
+ * A thread has as many registers as its heap was made with, at most 65,535. So a loop that takes handles begins a scope
+ * in each turn, and a deep recursion keeps in objects what it needs later. A handle isn't used after the end of its
+ * scope: nothing checks this, since its register is null then, or is another handle.
  *
  * Each thread has its own struct handles, and uses it while it may call the library. If a call fails, fail is called
  * with a text that says why. It ends the program, or jumps by longjmp to where an outer scope is ended, which ends the

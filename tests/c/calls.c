@@ -24,7 +24,7 @@ static void usual_sizes(void) {
     SAME(usual.workers, 1);
     SAME(usual.registers, 16);
     SAME(usual.globals, 64);
-    SAME(usual.births, UINT64_C(1) << 32);
+    SAME(usual.births, UINT64_C(1) << 56);
 }
 
 /* Each size has the code of its own range. */
@@ -32,13 +32,13 @@ static void ranges(void) {
     pauseless_sizes wrong[8];
     for (int i = 0; i < 8; i++) wrong[i] = sizes;
     wrong[0].words = 48;
-    wrong[1].frames = 0;
+    wrong[1].frames = 1048576;
     wrong[2].pages = 7;
-    wrong[3].threads = 65;
+    wrong[3].threads = 1025;
     wrong[4].workers = 17;
-    wrong[5].registers = 17;
-    wrong[6].globals = 65;
-    wrong[7].births = 0;
+    wrong[5].registers = 65536;
+    wrong[6].globals = 65536;
+    wrong[7].births = (UINT64_C(1) << 56) + 1;
     for (int i = 0; i < 7; i++) SAME(pauseless_new(&heap, &wrong[i], layouts, 3), PAUSELESS_RANGE_OF_WORDS + i);
     SAME(pauseless_new(&heap, &wrong[7], layouts, 3), PAUSELESS_RANGE_OF_BIRTHS);
     SAME(pauseless_new(&heap, &sizes, layouts, 0), PAUSELESS_RANGE_OF_LAYOUTS);

@@ -112,7 +112,7 @@ pub trait Holding: Mutating {
         thread: u32,
         target: u32,
         layout: u32,
-    ) -> Result<u32, Refusal>;
+    ) -> Result<u64, Refusal>;
 
     /// Makes an object as `make` does, then stores in its first references what the registers `sources`
     /// name, as `store` does, and then writes its first data words, as `set_datum` does. Where `target` is a
@@ -130,7 +130,7 @@ pub trait Holding: Mutating {
         layout: u32,
         sources: &[u32],
         nums: &[u64],
-    ) -> Result<u32, Refusal>;
+    ) -> Result<u64, Refusal>;
 }
 
 impl Holding for ManagedHeap {
@@ -208,7 +208,7 @@ impl Holding for ManagedHeap {
         thread: u32,
         target: u32,
         layout: u32,
-    ) -> Result<u32, Refusal>
+    ) -> Result<u64, Refusal>
         ensures stands { MakingStands thread target layout self.old result self.new }
         ensures ends { EndsMaking thread policy.words policy.percent target layout self.old result self.new }
     {
@@ -225,7 +225,7 @@ impl Holding for ManagedHeap {
         layout: u32,
         sources: &[u32],
         nums: &[u64],
-    ) -> Result<u32, Refusal>
+    ) -> Result<u64, Refusal>
         ensures { EndsMakingWith thread policy.words policy.percent target layout sources.now nums.now self.old result
             self.new }
     {

@@ -21,7 +21,7 @@ fn make_and_fill(
     layout: u32,
     sources: &[u32],
     nums: &[u64],
-) -> Result<u32, Refusal>
+) -> Result<u64, Refusal>
     requires { LayoutHas (length sources.now) (length nums.now) }
     ensures { MakesAndFills thread policy.words policy.percent target layout sources.now nums.now heap.old result
         heap.new }
@@ -46,7 +46,7 @@ pub(crate) fn make_with(
     layout: u32,
     sources: &[u32],
     nums: &[u64],
-) -> Result<u32, Refusal>
+) -> Result<u64, Refusal>
     ensures { EndsMakingWith thread policy.words policy.percent target layout sources.now nums.now heap.old result
         heap.new }
 {

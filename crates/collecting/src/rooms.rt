@@ -129,7 +129,7 @@ fn refill_and_make(
     thread: u32,
     target: u32,
     layout: u32,
-) -> Result<u32, Refusal>
+) -> Result<u64, Refusal>
     ensures { EndsMaking thread policy.words policy.percent target layout heap.old result heap.new }
 {
     match refill(heap, alloc, policy, thread) {
@@ -147,7 +147,7 @@ pub(crate) fn make(
     thread: u32,
     target: u32,
     layout: u32,
-) -> Result<u32, Refusal>
+) -> Result<u64, Refusal>
     ensures { EndsMaking thread policy.words policy.percent target layout heap.old result heap.new }
 {
     match heap.new_object(thread, target, layout) {

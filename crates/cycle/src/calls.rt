@@ -37,7 +37,7 @@ pub(crate) fn new_object(
     thread: u32,
     target: u32,
     layout: u32,
-) -> Result<u32, Refusal>
+) -> Result<u64, Refusal>
     ensures { DoesThread answers.Birth heap.old thread (steps.New target layout) result heap.new }
 {
     thread_gate(heap, thread, &Step::New { target, layout })?;

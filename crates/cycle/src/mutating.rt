@@ -42,7 +42,7 @@ pub trait Mutating {
     ///
     /// Refused as `BadIndex` for a register or a layout that isn't there; `NoRoom` where there is no
     /// buffer, or one with fewer words; `Births` where no more may be born.
-    fn new_object(&mut self, thread: u32, target: u32, layout: u32) -> Result<u32, Refusal>;
+    fn new_object(&mut self, thread: u32, target: u32, layout: u32) -> Result<u64, Refusal>;
 
     /// Begins to load a reference field of an object for a register: a barrier opens (the paper's read
     /// barrier).
@@ -155,7 +155,7 @@ impl Mutating for Heap {
 
     #[inline(always)]
     #[tactic(auto, using(crate::proofs::Replaying::keeps_standing))]
-    fn new_object(&mut self, thread: u32, target: u32, layout: u32) -> Result<u32, Refusal>
+    fn new_object(&mut self, thread: u32, target: u32, layout: u32) -> Result<u64, Refusal>
         ensures does { DoesThread answers.Birth self.old thread (steps.New target layout) result self.new }
         ensures stands { ThreadStands answers.Birth self.old thread (steps.New target layout) result self.new }
     {

@@ -4,7 +4,7 @@ use Rattle.std_alloc.specs.declared.boxed.Box.{Box}
 use Rattle.layout.specs.declared.shape.Layout.{Layout}
 use Rattle.model.specs.declared.config.Config.{Config}
 use Rattle.model.specs.declared.config.ConfigFault.{ConfigFault}
-use Rattle.model.specs.declared.limits.TheConstants.{MOST_PAGES, MOST_REGISTERS, MOST_GLOBALS, MOST_BIRTHS}
+use Rattle.model.specs.declared.limits.TheConstants.{MOST_PAGES, USUAL_REGISTERS, USUAL_GLOBALS, MOST_BIRTHS}
 use Rattle.model.specs.declared.limits.TheConstants.{MOST_HISTORY}
 use Rattle.model.specs.Configs.{first_fault}
 use Rattle.managed.specs.Managing.{MakesHeap}
@@ -21,8 +21,8 @@ usual_sizes words frames = record {
   pages = min (2 * frames) MOST_PAGES;
   threads = 1;
   workers = 1;
-  registers = MOST_REGISTERS;
-  globals = MOST_GLOBALS;
+  registers = USUAL_REGISTERS;
+  globals = USUAL_GLOBALS;
   births = MOST_BIRTHS;
 }
 

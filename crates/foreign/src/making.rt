@@ -10,7 +10,7 @@ use collecting::Parts;
 use heap::{Config, NewFault};
 use layout::{Layout, Layouts};
 use managed::ManagedHeap;
-use model::{MOST_BIRTHS, MOST_GLOBALS, MOST_HISTORY, MOST_PAGES, MOST_REGISTERS};
+use model::{MOST_BIRTHS, MOST_HISTORY, MOST_PAGES, USUAL_GLOBALS, USUAL_REGISTERS};
 use std::alloc::{AllocError, Global};
 
 /// `pauseless_sizes`: the sizes and limits of a heap, whose ranges `Config` says.
@@ -57,8 +57,8 @@ pub extern "C" fn pauseless_usual(words: u32, frames: u32, sizes: &mut SizesOfC)
         pages: frames.saturating_mul(2).min(MOST_PAGES),
         threads: 1,
         workers: 1,
-        registers: MOST_REGISTERS,
-        globals: MOST_GLOBALS,
+        registers: USUAL_REGISTERS,
+        globals: USUAL_GLOBALS,
         births: MOST_BIRTHS,
     };
 }

@@ -32,7 +32,7 @@ pub struct PolicyOfC {
 #[derive(Clone, Copy)]
 pub struct ObjectOfC {
     /// How many objects were born before it.
-    pub birth: u32,
+    pub birth: u64,
     /// The number of its layout.
     pub layout: u32,
     /// How many references it has.

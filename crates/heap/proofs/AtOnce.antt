@@ -8,6 +8,7 @@ use Rattle.std.proofs.lemmas.Bool.{or_parts, leb-false}
 use Rattle.std.proofs.lemmas.Option.{slice_get_within, same_Some}
 use Rattle.refword.specs.Words.{IsAddress, IsBits, bits_of, address_in, number_in, read_word}
 use Rattle.refword.proofs.Reading.{bits_of-read_word, read_word-is_word}
+use Rattle.layout.specs.Objects.{layout_of}
 use Rattle.model.specs.declared.records.Barrier.{Barrier}
 use Rattle.model.specs.declared.records.Counter.TheVariants as counters
 use Rattle.model.specs.declared.records.Place.{Place}
@@ -304,7 +305,7 @@ open_where h a None e = tt
 open_where h a (Some f) e = usable_unprotected h.store (a / h.store.words) f (sym e)
 
 layout_where : (h : HeapState) (a header : ℕ) (l : Layout) → word_at h.store a ≡ Some header
-    → slice_get h.config.layouts (header / 2 ^ 32) ≡ Some l → layout_at h a ≡ Some l
+    → slice_get h.config.layouts (layout_of header) ≡ Some l → layout_at h a ≡ Some l
 unfolding layout_at
 layout_where h a header l read named = rw read named
 
@@ -318,7 +319,7 @@ less i n l = grind arith
 
 -- the header's number names the object's layout
 pub layout_named : (h : HeapState) (a header : ℕ) (o : Option Layout) → word_at h.store (a + 0) ≡ Some header
-    → o ≡ slice_get h.config.layouts (header / 2 ^ 32) → IfSome o (λ l. layout_at h a ≡ Some l)
+    → o ≡ slice_get h.config.layouts (layout_of header) → IfSome o (λ l. layout_at h a ≡ Some l)
 layout_named h a header None read e = tt
 layout_named h a header (Some l) read e =
     let here : a + 0 ≡ a = omega arith in

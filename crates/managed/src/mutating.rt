@@ -33,7 +33,7 @@ impl Mutating for ManagedHeap {
 
     #[inline(always)]
     #[tactic(auto, using(crate::proofs::Running::managed_thread))]
-    fn new_object(&mut self, thread: u32, target: u32, layout: u32) -> Result<u32, Refusal>
+    fn new_object(&mut self, thread: u32, target: u32, layout: u32) -> Result<u64, Refusal>
         ensures does { DoesThread answers.Birth self.old thread (steps.New target layout) result self.new }
         ensures stands { ThreadStands answers.Birth self.old thread (steps.New target layout) result self.new }
     {

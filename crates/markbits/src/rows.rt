@@ -5,6 +5,7 @@ ghost use Rattle.std.specs.Prelude.{slice_index_or, Some, map, true, false, [], 
 ghost use Rattle.std.specs.Int.{div_ceil};
 ghost use Rattle.std.specs.Option.{option_copied};
 ghost use Rattle.model.specs.States.{change_at};
+ghost use Rattle.model.specs.declared.limits.TheConstants.{MOST_PAGES};
 ghost use Rattle.model.specs.Bits.{blank_row, put_bit, of_page, bit_on, bit_count};
 ghost use Rattle.markbits.specs.Words.{bit_of, IsNextPlace};
 ghost use Rattle.std.specs.Borrow.{sem};
@@ -327,9 +328,9 @@ impl Rows {
         }
     }
 
-    /// How many bits are set in all rows, of which there are at most 65,535.
+    /// How many bits are set in all rows, of which there are at most 1,048,575.
     pub fn count(&self) -> u64
-        requires { length self.now ≤ 65535 }
+        requires { length self.now ≤ MOST_PAGES }
         ensures { result ≡ bit_count self.now }
     {
         let rows = self.rows.len();

@@ -29,7 +29,7 @@ use Rattle.std.specs.List.{repeat}
 use Rattle.std.proofs.lemmas.Slice.Eq.{bytes_eq-Decides}
 use Rattle.layout.specs.declared.shape.Layout.{Layout}
 use Rattle.model.specs.declared.steps.Actor.TheVariants.{Thread, Worker}
-use Rattle.model.specs.declared.limits.TheConstants.{MOST_LAYOUTS}
+use Rattle.parser.specs.declared.limits.TheConstants.{MOST_LAYOUTS}
 use Rattle.parser.specs.declared.reading.TheConstants.{MOST_COMMANDS, MOST_TURNS}
 use Rattle.parser.specs.Headings.{heap_in, layout_in}
 use Rattle.parser.specs.Reading.{ReadSoFar, is_idle, first_word_in, first_word, heap_line, layout_line, is_full}

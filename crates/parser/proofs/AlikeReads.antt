@@ -10,7 +10,8 @@ use Rattle.model.specs.Configs.{is_page_size}
 use Rattle.parser.specs.declared.fault.FaultKind.TheVariants as kinds
 use Rattle.parser.specs.declared.fault.Flaw.{Flaw}
 use Rattle.parser.specs.declared.heading.Sizes.{Sizes}
-use Rattle.model.specs.declared.limits.TheConstants.{MOST_FRAMES, MOST_PAGES, MOST_THREADS}
+use Rattle.model.specs.declared.limits.TheConstants.{MOST_PAGES}
+use Rattle.parser.specs.declared.limits.TheConstants.{MOST_FRAMES, MOST_THREADS}
 use Rattle.parser.specs.Words.{◌>>=◌, word_at, word_or, flaw, fixed_at, is_number, capped_from, in_range}
 use Rattle.parser.specs.Words.{number_at, small_at, end_at}
 use Rattle.parser.specs.Headings.{field_at, page_size_at, limit_at, memory_at, actors_at, limits_at}

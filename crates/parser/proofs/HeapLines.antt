@@ -13,7 +13,8 @@ use Rattle.model.proofs.Results.{same_result, not_refused}
 use Rattle.parser.specs.declared.fault.FaultKind.TheVariants as kinds
 use Rattle.parser.specs.declared.fault.Flaw.{Flaw}
 use Rattle.parser.specs.declared.heading.Sizes.{Sizes}
-use Rattle.model.specs.declared.limits.TheConstants.{MOST_FRAMES, MOST_PAGES, MOST_THREADS}
+use Rattle.model.specs.declared.limits.TheConstants.{MOST_PAGES}
+use Rattle.parser.specs.declared.limits.TheConstants.{MOST_FRAMES, MOST_THREADS}
 use Rattle.parser.specs.Words.{flaw, word_at, fixed_at, number_at, end_at}
 use Rattle.parser.specs.Headings.{config_of, field_at, page_size_at, limit_at}
 use Rattle.parser.specs.Headings.{sizes_of, memory_at, actors_at, limits_at, sizes_at, heap_in, layout_in}

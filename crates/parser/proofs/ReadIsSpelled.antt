@@ -17,7 +17,7 @@ use Rattle.model.proofs.Ranges.{page_size_range}
 use Rattle.model.proofs.Results.{same_result, not_refused}
 use Rattle.parser.specs.declared.heading.Sizes.{Sizes}
 use Rattle.parser.specs.declared.order.Command.{Command}
-use Rattle.model.specs.declared.limits.TheConstants.{MOST_LAYOUTS}
+use Rattle.parser.specs.declared.limits.TheConstants.{MOST_LAYOUTS}
 use Rattle.parser.specs.declared.reading.TheConstants.{MOST_COMMANDS, MOST_TURNS}
 use Rattle.parser.specs.Words.{word_at, number_at, end_at}
 use Rattle.parser.specs.Headings.{config_of, heap_in, layout_in}

@@ -18,7 +18,7 @@ use Rattle.parser.specs.declared.fault.FaultKind.TheVariants as kinds
 use Rattle.parser.specs.declared.fault.Flaw.{Flaw}
 use Rattle.parser.specs.declared.heading.Sizes.{Sizes}
 use Rattle.parser.specs.declared.order.Command.{Command}
-use Rattle.model.specs.declared.limits.TheConstants.{MOST_LAYOUTS}
+use Rattle.parser.specs.declared.limits.TheConstants.{MOST_LAYOUTS}
 use Rattle.parser.specs.declared.reading.TheConstants.{MOST_COMMANDS, MOST_TURNS}
 use Rattle.parser.specs.Words.{◌>>=◌, flaw, word_or, number_at, named_in, named_at, end_at}
 use Rattle.parser.specs.Headings.{config_of, heap_in}

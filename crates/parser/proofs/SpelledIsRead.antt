@@ -13,7 +13,7 @@ use Rattle.model.specs.declared.steps.Actor.TheVariants.{Thread, Worker}
 use Rattle.model.specs.Configs.{fits_page}
 use Rattle.parser.specs.declared.heading.Sizes.{Sizes}
 use Rattle.parser.specs.declared.order.Command.{Command}
-use Rattle.model.specs.declared.limits.TheConstants.{MOST_LAYOUTS}
+use Rattle.parser.specs.declared.limits.TheConstants.{MOST_LAYOUTS}
 use Rattle.parser.specs.declared.reading.TheConstants.{MOST_COMMANDS, MOST_TURNS}
 use Rattle.parser.specs.Headings.{config_of}
 use Rattle.parser.specs.Reading.{ScriptValue, script_of, ReadSoFar, nothing, newline, is_idle, with_command, line_in}

@@ -7,7 +7,7 @@ use Rattle.std.proofs.lemmas.Grind.{flat_map-append}
 use Rattle.std.proofs.lemmas.Option.{same_Some}
 use Rattle.layout.specs.declared.shape.Layout.{Layout}
 use Rattle.model.specs.declared.config.Config.{Config}
-use Rattle.model.specs.Configs.{IsConfig}
+use Rattle.parser.specs.Limits.{IsScriptConfig}
 use Rattle.parser.specs.declared.fault.LineFault.{LineFault}
 use Rattle.parser.specs.declared.order.Command.{Command}
 use Rattle.parser.specs.declared.spots.Sought.{Sought}
@@ -107,15 +107,15 @@ Tells s config line = is_sought s line ≡ true → IsCommandLine s config line
 other_tells : (s : Sought) (config : Config) (line : List ℕ) → is_sought s line ≡ false → Tells s config line
 other_tells s config line h = λ e. absurd cc
 
-few_of : (config : Config) → IsConfig config → AreFew (sizes_in config)
+few_of : (config : Config) → IsScriptConfig config → AreFew (sizes_in config)
 few_of config h = few_actors (sizes_in config) (config_tells config h).sizes
 
-sized : (s : Sought) (config : Config) (c : Command) → IsConfig config → IsCommand config c
+sized : (s : Sought) (config : Config) (c : Command) → IsScriptConfig config → IsCommand config c
     → is_sought s (command_line_of c) ≡ is_sought_command s c
 sized s config c valid h =
     command_sought s (sizes_in config) c (few_of config valid) (commands_of config (c ∷ []) (h, tt)).0
 
-commands_tell : (s : Sought) (config : Config) (cs : List Command) → IsConfig config
+commands_tell : (s : Sought) (config : Config) (cs : List Command) → IsScriptConfig config
     → AllByRecursion (IsCommand config) cs → AllByRecursion (Tells s config) (map command_line_of cs)
 commands_tell s config [] valid h = tt
 commands_tell s config (c ∷ cs) valid h = (
@@ -123,7 +123,7 @@ commands_tell s config (c ∷ cs) valid h = (
   commands_tell s config cs valid h.1,
 )
 
-part_tells : (s : Sought) (config : Config) (p : Part) → IsConfig config → IsPart p
+part_tells : (s : Sought) (config : Config) (p : Part) → IsScriptConfig config → IsPart p
     → AllByRecursion (IsCommand config) (part_commands p) → AllByRecursion (Tells s config) (part_lines p)
 part_tells s config (One c) valid is h = commands_tell s config (c ∷ []) valid h
 part_tells s config (Times n cs) valid is h =
@@ -135,7 +135,7 @@ part_tells s config (Times n cs) valid is h =
           (commands_tell s config cs valid own) (last, tt),
     )
 
-parts_tell : (s : Sought) (config : Config) (parts : List Part) → IsConfig config → AllByRecursion IsPart parts
+parts_tell : (s : Sought) (config : Config) (parts : List Part) → IsScriptConfig config → AllByRecursion IsPart parts
     → AllByRecursion (IsCommand config) (flat_map part_commands parts)
     → AllByRecursion (Tells s config) (flat_map part_lines parts)
 parts_tell s config [] valid is h = tt
@@ -183,7 +183,7 @@ lines_tell s bytes t is h =
 -- ---- the place
 
 -- the verb's word stands behind the actor's
-second_at : (config : Config) (c : Command) → IsConfig config → IsCommand config c
+second_at : (config : Config) (c : Command) → IsScriptConfig config → IsCommand config c
     → (first_word (command_line_of c)).1 ≡ length (actor_word c.actor) + 1
 unfolding first_word
 second_at config c valid h =
@@ -195,7 +195,7 @@ second_at config c valid h =
     let e : 0 + length (actor_word c.actor) + 1 ≡ length (actor_word c.actor) + 1 = omega arith in
     ap (λ x. (first_word_in x).1) place ∙ e
 
-none_spelled : (s : Sought) (config : Config) → IsConfig config → (lines : List (List ℕ))
+none_spelled : (s : Sought) (config : Config) → IsScriptConfig config → (lines : List (List ℕ))
     → AllByRecursion (λ x. is_sought s x ≡ false) lines → AllByRecursion (SpellsNone s config) lines
 none_spelled s config valid lines h = all_weaker (λ x. is_sought s x ≡ false) (SpellsNone s config) one lines h
   where

@@ -2,7 +2,7 @@
 use Rattle.std.specs.Prelude.{◌≡◌, ℕ, ◌+◌, ◌<◌, ◌≢◌, true, false, List, [], ◌∷◌, ◌++◌, length, codes, Result, Ok, Err}
 use Rattle.std.specs.Prelude.{filter, ◌⊎◌}
 use Rattle.std.specs.List.{flat_map, All}
-use Rattle.model.specs.Configs.{IsConfig}
+use Rattle.parser.specs.Limits.{IsScriptConfig}
 use Rattle.parser.specs.declared.fault.FaultKind.{FaultKind}
 use Rattle.parser.specs.declared.fault.FaultKind.TheVariants as kinds
 use Rattle.parser.specs.declared.fault.LineFault.{LineFault}
@@ -29,7 +29,7 @@ pub record BeginsScript (bytes : List ℕ) : Type 0 where
 -- commands.
 pub record EndInBlock (lines : List (List ℕ)) : Type 0 where
   pub script : ScriptValue
-  pub config : IsConfig script.config
+  pub config : IsScriptConfig script.config
   pub layouts : All IsLayout script.config.layouts
   pub commands : All (IsCommand script.config) script.commands
   pub spelled : Spells (text_of (lines ++ codes "end" ∷ [])) script

@@ -7,8 +7,10 @@ use Rattle.model.specs.Configs.{is_page_size}
 use Rattle.parser.specs.declared.fault.FaultKind.TheVariants as kinds
 use Rattle.parser.specs.declared.fault.Flaw.{Flaw}
 use Rattle.parser.specs.declared.heading.Sizes.{Sizes}
-use Rattle.model.specs.declared.limits.TheConstants.{MOST_WORDS, MOST_FRAMES, MOST_PAGES, MOST_THREADS}
-use Rattle.model.specs.declared.limits.TheConstants.{MOST_WORKERS, MOST_REGISTERS, MOST_GLOBALS, MOST_BIRTHS}
+use Rattle.model.specs.declared.limits.TheConstants.{MOST_WORDS, MOST_PAGES}
+use Rattle.parser.specs.declared.limits.TheConstants.{MOST_FRAMES, MOST_THREADS}
+use Rattle.model.specs.declared.limits.TheConstants.{MOST_WORKERS}
+use Rattle.parser.specs.declared.limits.TheConstants.{MOST_REGISTERS, MOST_GLOBALS, MOST_BIRTHS}
 use Rattle.model.specs.declared.limits.TheConstants.{MOST_HISTORY}
 use Rattle.model.specs.declared.limits.TheConstants.{MOST_FIELDS}
 use Rattle.parser.specs.Words.{◌>>=◌, flaw, word_at, fixed_at, number_at, end_at}

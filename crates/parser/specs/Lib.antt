@@ -1,5 +1,6 @@
 pub mod Words
 pub mod Headings
+pub mod Limits
 pub mod Verbs
 pub mod Orders
 pub mod Reading

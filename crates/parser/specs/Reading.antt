@@ -15,7 +15,7 @@ use Rattle.parser.specs.declared.heading.Sizes.{Sizes}
 use Rattle.parser.specs.declared.order.Command.{Command}
 use Rattle.parser.specs.declared.fault.Stop.{Stop}
 use Rattle.parser.specs.declared.fault.Stop.TheVariants as stops
-use Rattle.model.specs.declared.limits.TheConstants.{MOST_LAYOUTS}
+use Rattle.parser.specs.declared.limits.TheConstants.{MOST_LAYOUTS}
 use Rattle.parser.specs.declared.reading.TheConstants.{MOST_COMMANDS, MOST_TURNS}
 use Rattle.parser.specs.Words.{◌>>=◌, flaw, word_at, number_at, end_at}
 use Rattle.parser.specs.Headings.{heap_in, layout_in, config_of}

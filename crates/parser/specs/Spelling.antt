@@ -7,13 +7,14 @@ use Rattle.layout.specs.declared.shape.Layout.{Layout}
 use Rattle.model.specs.declared.config.Config.{Config}
 use Rattle.model.specs.declared.steps.Actor.{Actor}
 use Rattle.model.specs.declared.steps.Actor.TheVariants.{Thread, Worker}
-use Rattle.model.specs.Configs.{IsConfig}
+use Rattle.parser.specs.Limits.{IsScriptConfig}
 use Rattle.parser.specs.declared.order.Order.{Order}
 use Rattle.parser.specs.declared.order.Command.{Command}
 use Rattle.parser.specs.declared.verbs.Kind.{Kind}
 use Rattle.parser.specs.declared.verbs.Kind.TheVariants.{Nothing, Register, Number, ThreadName, Long, Address, Percent}
 use Rattle.parser.specs.declared.verbs.Kinds.{Kinds}
-use Rattle.model.specs.declared.limits.TheConstants.{MOST_BIRTHS, MOST_HISTORY, MOST_FIELDS}
+use Rattle.model.specs.declared.limits.TheConstants.{MOST_HISTORY, MOST_FIELDS}
+use Rattle.parser.specs.declared.limits.TheConstants.{MOST_BIRTHS}
 use Rattle.parser.specs.declared.reading.TheConstants.{MOST_COMMANDS, MOST_TURNS}
 use Rattle.parser.specs.Verbs.{row_of}
 use Rattle.parser.specs.Words.{page_in, offset_in}
@@ -191,7 +192,7 @@ pub record IsCommand (config : Config) (c : Command) : Type 0 where
 
 -- a script that all limits allow
 pub record IsScript (script : ScriptValue) : Type 0 where
-  pub config : IsConfig script.config
+  pub config : IsScriptConfig script.config
   pub layouts : All IsLayout script.config.layouts
   pub commands : All (IsCommand script.config) script.commands
   pub count : length script.commands ≤ MOST_COMMANDS

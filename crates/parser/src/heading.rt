@@ -7,12 +7,10 @@ ghost use Rattle.parser.specs.Headings.{field_at, page_size_at, limit_at, memory
 ghost use Rattle.parser.specs.Headings.{heap_in, layout_in, config_of};
 
 use crate::fault::{FaultKind, Flaw};
+use crate::limits::{MOST_BIRTHS, MOST_FRAMES, MOST_GLOBALS, MOST_REGISTERS, MOST_THREADS};
 use crate::words::{end_at, fixed_at, number_at, word_at};
 use layout::{Layout, Layouts};
-use model::{
-    Config, MOST_BIRTHS, MOST_FIELDS, MOST_FRAMES, MOST_GLOBALS, MOST_HISTORY, MOST_PAGES,
-    MOST_REGISTERS, MOST_THREADS, MOST_WORDS, MOST_WORKERS,
-};
+use model::{Config, MOST_FIELDS, MOST_HISTORY, MOST_PAGES, MOST_WORDS, MOST_WORKERS};
 
 /// The numbers of a heap line, those that are left out among them.
 #[derive(Clone, Copy, Debug, PartialEq, Eq)]

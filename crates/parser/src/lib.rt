@@ -4,6 +4,7 @@
 mod commands;
 mod fault;
 mod heading;
+mod limits;
 mod number_list;
 mod order;
 mod reading;

@@ -10,10 +10,11 @@ ghost use Rattle.parser.specs.Reading.{CutsLine, HasNoNewline};
 use crate::commands::{actor_at, order_at};
 use crate::fault::{FaultKind, Flaw, LineFault, ParseFault, Stop};
 use crate::heading::{Sizes, heap_in, layout_in};
+use crate::limits::MOST_LAYOUTS;
 use crate::order::Command;
 use crate::words::{end_at, number_at, word_at};
 use layout::Layout;
-use model::{Config, MOST_LAYOUTS};
+use model::Config;
 use std::alloc::{AllocError, Global};
 use std::marker::Model;
 

@@ -4,6 +4,7 @@ ghost use Rattle.std.specs.Prelude.{◌≡◌, ◌↔◌, ℕ, List, IfOk, IfSom
 ghost use Rattle.std.specs.Option.{is_some};
 ghost use Rattle.std.specs.List.{All};
 ghost use Rattle.model.specs.Configs.{IsConfig};
+ghost use Rattle.parser.specs.Limits.{IsScriptConfig};
 ghost use Rattle.parser.specs.declared.fault.LineFault.{LineFault};
 ghost use Rattle.parser.specs.declared.spots.Sought.TheVariants as sought;
 ghost use Rattle.parser.specs.Reading.{ScriptValue, script_of, script_in};
@@ -50,6 +51,7 @@ impl Script {
     pub fn config(&self) -> &Config
         ensures value { result.now ≡ self.now.config }
         ensures valid { IsConfig result.now }
+        ensures limits { IsScriptConfig result.now }
     {
         &self.config
     }

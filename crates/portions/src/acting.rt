@@ -42,7 +42,7 @@ impl MutatorCalls for Mutator {
     }
 
     #[inline(always)]
-    fn new_object(&mut self, target: u32, layout: u32) -> Result<u32, Refusal>
+    fn new_object(&mut self, target: u32, layout: u32) -> Result<u64, Refusal>
         ensures does { DoesThread answers.Birth self.old.heap self.old.thread (steps.New target layout) result
             self.new.heap }
         ensures stands { ThreadStands answers.Birth self.old.heap self.old.thread (steps.New target layout) result
@@ -173,7 +173,7 @@ impl MutatorCalls for Mutator {
         policy: Policy,
         target: u32,
         layout: u32,
-    ) -> Result<u32, Refusal>
+    ) -> Result<u64, Refusal>
         ensures stands { MakingStands self.old.thread target layout self.old.heap result self.new.heap }
         ensures ends { ThenCrosses
             (EndsMaking self.old.thread policy.words policy.percent target layout self.old.heap result) self.new.heap }
@@ -193,7 +193,7 @@ impl MutatorCalls for Mutator {
         layout: u32,
         sources: &[u32],
         nums: &[u64],
-    ) -> Result<u32, Refusal>
+    ) -> Result<u64, Refusal>
         ensures ends { ThenCrosses (EndsMakingWith self.old.thread policy.words policy.percent target layout sources.now
             nums.now self.old.heap result) self.new.heap }
         ensures on { GoesOn self.old self.new }

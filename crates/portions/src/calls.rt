@@ -19,7 +19,7 @@ pub trait MutatorCalls {
     fn give_back(&mut self) -> Result<(), Refusal>;
 
     /// Makes an object in the buffer, as `Mutating::new_object`.
-    fn new_object(&mut self, target: u32, layout: u32) -> Result<u32, Refusal>;
+    fn new_object(&mut self, target: u32, layout: u32) -> Result<u64, Refusal>;
 
     /// Loads a reference field of an object into a register, as `Holding::read`.
     fn read(&mut self, target: u32, object: u32, field: u32) -> Result<(), Refusal>;
@@ -65,7 +65,7 @@ pub trait MutatorCalls {
         policy: Policy,
         target: u32,
         layout: u32,
-    ) -> Result<u32, Refusal>;
+    ) -> Result<u64, Refusal>;
 
     /// Makes an object and fills it, as `Holding::make_with`. All threads cross the checkpoint that its collection
     /// has left open, if there is one.
@@ -77,7 +77,7 @@ pub trait MutatorCalls {
         layout: u32,
         sources: &[u32],
         nums: &[u64],
-    ) -> Result<u32, Refusal>;
+    ) -> Result<u64, Refusal>;
 
     /// Takes a fresh buffer, for which the heap is collected if frames run low, as `Holding::refill`. All threads
     /// cross the checkpoint that its collection has left open, if there is one.

@@ -8,7 +8,7 @@ use Rattle.std.proofs.lemmas.Bool.{false≢true, lt-ltb, le-leb}
 use Rattle.std.proofs.lemmas.Bool.Decides.{nat_tests}
 use Rattle.std.proofs.Math.Nat.{lt-div-mul-add}
 use Rattle.layout.specs.declared.shape.Layout.{Layout}
-use Rattle.layout.specs.Objects.{size_of}
+use Rattle.layout.specs.Objects.{size_of, birth_of, layout_of}
 use Rattle.refword.specs.declared.addr.TheConstants.Addr as addresses
 use Rattle.model.specs.declared.limits.TheConstants.{MOST_WORDS, MOST_PAGES}
 use Rattle.model.specs.declared.records.Page.{Page}
@@ -58,11 +58,11 @@ address_low h a p s e =
 -- objects
 
 -- what an image has where there is a header, its layout is known, and there is room
-object_read : (i : ImageData) (a bits : ℕ) (l : Layout) → word_at i a ≡ Some bits → ltb (bits / 2 ^ 32) (2 ^ 8) ≡ true
-    → slice_get i.layouts (bits / 2 ^ 32) ≡ Some l → leb (a % i.words + size_of l) i.words ≡ true
-    → object_in i a ≡ Some (record { birth = bits % 2 ^ 32; refs = l.refs })
+object_read : (i : ImageData) (a bits : ℕ) (l : Layout) → word_at i a ≡ Some bits
+    → slice_get i.layouts (layout_of bits) ≡ Some l → leb (a % i.words + size_of l) i.words ≡ true
+    → object_in i a ≡ Some (record { birth = birth_of bits; refs = l.refs })
 unfolding object_in
-object_read i a bits l word low known fits = rw (word, low, known, fits) refl
+object_read i a bits l word known fits = rw (word, known, fits) refl
 
 module _ (h : HeapState) (s : IsStore h.store) (d : IsHeap h) where
   -- the image has each object of the heap
@@ -78,15 +78,12 @@ module _ (h : HeapState) (s : IsStore h.store) (d : IsHeap h) where
       let word : word_at (image_of h) a ≡ Some t.read.header =
       word_is h a ∙ word_on_page h.store a
       ∙ ap (option_and_then (λ ws. slice_get ws (a % h.store.words))) t.page ∙ t.read.at in
-      let within = slice_get_within h.config.layouts (t.read.header / 2 ^ 32) t.read.shape t.read.known in
-      let small : ltb (t.read.header / 2 ^ 32) (2 ^ 8) ≡ true =
-      lt-ltb (t.read.header / 2 ^ 32) (2 ^ 8) (omega (arith, d.config.layouts)) in
       let size = words_sized h.store (a / h.store.words) t.words s t.page in
       let fits : leb (a % h.store.words + size_of t.read.shape) h.store.words ≡ true =
       le-leb (a % h.store.words + size_of t.read.shape) h.store.words (omega (arith, t.read.fits)) in
-      let read = object_read (image_of h) a t.read.header t.read.shape word small t.read.known fits in
+      let read = object_read (image_of h) a t.read.header t.read.shape word t.read.known fits in
       let refs = read_refs h.config.layouts t.words (a % h.store.words) q t.read in
-      let birth : t.read.header % 2 ^ 32 ≡ q.birth = sym (ap (λ (z : HeapObject). z.birth) t.read.is) in
+      let birth : birth_of t.read.header ≡ q.birth = sym (ap (λ (z : HeapObject). z.birth) t.read.is) in
       rw (low, start) (read ∙ rw (birth, ← refs) refl)
 
   -- an object of the image has its start bit in the heap

@@ -2,6 +2,7 @@
 
 use forward::Side;
 use heap::{Heap, Row};
+use layout::layout_of;
 use model::{Page, PageState};
 use std::alloc::AllocError;
 use std::fmt::Write as _;

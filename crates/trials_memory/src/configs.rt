@@ -19,7 +19,7 @@ fn small(alloc: Global) -> Result<Config, AllocError> {
         registers: 4,
         globals: 0,
         layouts: Layouts::new(layouts),
-        births: 1 << 32,
+        births: 1 << 56,
         history: 1_000_000,
     })
 }
@@ -49,6 +49,50 @@ fn the_first_fault_is_told(rt: HostRuntime) -> Result<(), Fail> {
     Ok(())
 }
 
+/// The greatest numbers that a heap may be made with, but for the layouts and the history.
+fn greatest(layouts: Layouts) -> Config {
+    Config {
+        words: 32_768,
+        frames: 1_048_575,
+        pages: 1_048_575,
+        threads: 1024,
+        workers: 16,
+        registers: 65_535,
+        globals: 65_535,
+        layouts,
+        births: 1 << 56,
+        history: 1_000_000,
+    }
+}
+
+/// One more of each than there may be, from the last to the first of these fields.
+fn exceed(rt: &impl Abort, config: &mut Config) {
+    config.births += 1;
+    has_fault(rt, config, Some(ConfigFault::Births));
+    config.globals += 1;
+    has_fault(rt, config, Some(ConfigFault::Globals));
+    config.registers += 1;
+    has_fault(rt, config, Some(ConfigFault::Registers));
+    config.threads += 1;
+    has_fault(rt, config, Some(ConfigFault::Threads));
+    config.pages += 1;
+    has_fault(rt, config, Some(ConfigFault::Pages));
+    config.frames += 1;
+    has_fault(rt, config, Some(ConfigFault::Frames));
+}
+
+#[test]
+fn the_greatest_numbers(rt: HostRuntime) -> Result<(), Fail> {
+    let layouts = vec![in rt.alloc(); Layout { refs: 1, nums: 1 }; 256]?;
+    let mut config = greatest(Layouts::new(layouts));
+    has_fault(&rt, &config, None);
+    exceed(&rt, &mut config);
+    let layouts = vec![in rt.alloc(); Layout { refs: 1, nums: 1 }; 257]?;
+    let config = greatest(Layouts::new(layouts));
+    has_fault(&rt, &config, Some(ConfigFault::Layouts));
+    Ok(())
+}
+
 #[test]
 fn the_text_of_a_fault(rt: HostRuntime) -> Result<(), Fail> {
     let text = format!(in rt.alloc(); "{}", ConfigFault::Words)?;
@@ -58,7 +102,7 @@ fn the_text_of_a_fault(rt: HostRuntime) -> Result<(), Fail> {
 
 /// The limits of births and entries are the highest.
 fn has_highest_limits(rt: &impl Abort, config: &Config) {
-    same(rt, (config.births, config.history), (1 << 32, 1_000_000));
+    same(rt, (config.births, config.history), (1 << 56, 1_000_000));
 }
 
 #[test]

@@ -1,19 +1,23 @@
 //! Layouts of objects, their headers and parts.
 
 use crate::same::{same, same_at};
-use layout::{Header, Layout, Layouts, split, split_header, split_parts};
+use layout::{Header, Layout, Layouts, birth_of, layout_of, split, split_header, split_parts};
 use std::process::Abort;
 use std::test::Fail;
 
 #[test]
 fn bits_of_a_header(rt: HostRuntime) {
-    let header = Header {
-        birth: 5,
-        layout: 3,
-    };
-    same(&rt, header.write(), 0x0000_0003_0000_0005);
-    same(&rt, Header::read(0x0000_0003_0000_0005), Some(header));
-    same(&rt, Header::read(1 << 40), None);
+    for (birth, layout, bits) in [
+        (5, 3, 0x0000_0003_0000_0005),
+        ((1 << 32) - 1, 255, 0x0000_00ff_ffff_ffff),
+        (1 << 32, 0, 1 << 40),
+        ((1 << 56) - 1, 255, u64::MAX),
+    ] {
+        let header = Header { birth, layout };
+        same(&rt, header.write(), bits);
+        same(&rt, Header::read(bits), header);
+        same(&rt, (birth_of(bits), layout_of(bits)), (birth, u32::from(layout)));
+    }
 }
 
 /// Two layouts, of which the second is this one.

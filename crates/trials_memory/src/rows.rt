@@ -1,7 +1,7 @@
 //! Rows of bits, and lists of copies, made where there is memory.
 
 use crate::same::{same, same_at};
-use markbits::{IndexedRows, Row, Rows};
+use markbits::{IndexedRow, IndexedRows, Row, Rows};
 use page::many;
 use std::process::Abort;
 use std::test::Fail;
@@ -66,6 +66,34 @@ fn changes_rows(rt: &impl Abort, rows: &mut IndexedRows) {
     finds_busy_rows(rt, rows, &[Some(0), None, None, None]);
     rows.put(0, 0, false);
     assert!(rt; rows.is_empty());
+}
+
+/// Bits at both ends of the words of a long row, of its index, and of the index of that.
+const FAR: [u32; 9] = [0, 63, 64, 4095, 4096, 262_143, 262_144, 524_288, 1_048_574];
+
+/// The bits are found one after another.
+fn are_found(rt: &impl Abort, row: &IndexedRow, places: &[u32]) {
+    let mut from = 0;
+    for place in places {
+        same_at(rt, from, row.next_from(from), Some(*place));
+        from = *place as usize + 1;
+    }
+    same_at(rt, from, row.next_from(from), None);
+}
+
+#[test]
+fn a_long_row_with_an_index(rt: HostRuntime) -> Result<(), Fail> {
+    let mut row = IndexedRow::new(rt.alloc(), 1_048_575)?;
+    are_found(&rt, &row, &[]);
+    for place in FAR {
+        row.put(place as usize, true);
+    }
+    are_found(&rt, &row, &FAR);
+    for place in &FAR[1..8] {
+        row.put(*place as usize, false);
+    }
+    are_found(&rt, &row, &[0, 1_048_574]);
+    Ok(())
 }
 
 #[test]

@@ -6,6 +6,7 @@ use Rattle.std.specs.Prelude.{Ok, Err, is_some}
 use Rattle.std.specs.List.{slice_get}
 use Rattle.std.specs.Option.{option_map}
 use Rattle.std.proofs.lemmas.Option.{same_Some, slice_get_past}
+use Rattle.layout.specs.Objects.{birth_of, layout_of}
 use Rattle.model.specs.Data.{datum_at}
 use Rattle.model.specs.Holding.{IsHeap}
 use Rattle.model.specs.Owning.{IsStore}
@@ -135,13 +136,13 @@ module _ (h : HeapState) (s : IsStore h.store) (d : IsHeap h) (a : ℕ) (x : IsH
   header_readable_here e m = header_readable m.holds a (x _ _ m.holds) s e
 
   pub layout_known_here : (header : ℕ) → word_at h.store a ≡ Some header
-      → slice_get h.config.layouts (header / 2 ^ 32) ≡ None → Promises h → ⊥
+      → slice_get h.config.layouts (layout_of header) ≡ None → Promises h → ⊥
   layout_known_here header word e m = layout_known m.holds a (x _ _ m.holds) header word e
 
   pub object_found : (header : ℕ) (l : Layout) → word_at h.store a ≡ Some header
-      → slice_get h.config.layouts (header / 2 ^ 32) ≡ Some l → Promises h → TellsObject (handle_at h a) (record {
-        birth = header % 2 ^ 32;
-        layout = header / 2 ^ 32;
+      → slice_get h.config.layouts (layout_of header) ≡ Some l → Promises h → TellsObject (handle_at h a) (record {
+        birth = birth_of header;
+        layout = layout_of header;
         refs = l.refs;
         nums = l.nums;
       })

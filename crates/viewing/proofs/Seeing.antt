@@ -5,6 +5,7 @@ use Rattle.std.specs.List.{slice_get}
 use Rattle.std.specs.Option.{option_and_then}
 use Rattle.std.proofs.lemmas.Option.{same_Some, slice_get_past}
 use Rattle.layout.specs.declared.shape.Layout.{Layout}
+use Rattle.layout.specs.Objects.{birth_of, layout_of}
 use Rattle.model.specs.Data.{datum_at}
 use Rattle.model.specs.Holding.{IsHeap}
 use Rattle.model.specs.Owning.{IsStore}
@@ -145,31 +146,31 @@ module _ {h : HeapState} {p p0 : PlainHeap} (k : Holds h p p0) where
         cc
 
     pub birth_plain : (header : ℕ) → word_at h.store a ≡ Some header
-        → birth_in (current (world_of h) a) ≡ header % 2 ^ 32
+        → birth_in (current (world_of h) a) ≡ birth_of header
     birth_plain header e = birth_here ∙ ap (λ (o : HeapObject). o.birth) (there h a q here).read.is
-        ∙ ap (λ n. n % 2 ^ 32) (header_is header e)
+        ∙ ap birth_of (header_is header e)
 
     pub layout_known : (header : ℕ) → word_at h.store a ≡ Some header
-        → slice_get h.config.layouts (header / 2 ^ 32) ≡ None → ⊥
+        → slice_get h.config.layouts (layout_of header) ≡ None → ⊥
     layout_known header word e =
         let t = there h a q here in
         let z : Some t.read.shape ≡ None =
-        sym t.read.known ∙ ap (λ n. slice_get h.config.layouts (n / 2 ^ 32)) (header_is header word) ∙ e in
+        sym t.read.known ∙ ap (λ n. slice_get h.config.layouts (layout_of n)) (header_is header word) ∙ e in
         absurd (cc)
 
     pub shape_plain : (header : ℕ) (l : Layout) → word_at h.store a ≡ Some header
-        → slice_get h.config.layouts (header / 2 ^ 32) ≡ Some l
-        → IsShaped (slice_get p.objects (birth_in (current (world_of h) a))) (header / 2 ^ 32) l.refs l.nums
+        → slice_get h.config.layouts (layout_of header) ≡ Some l
+        → IsShaped (slice_get p.objects (birth_in (current (world_of h) a))) (layout_of header) l.refs l.nums
     shape_plain header l e known =
         let t = there h a q here in
         let head = header_is header e in
         let low : q.birth < length p.objects =
         omega (arith, k.invariant.objects.births a q here, k.invariant.births) in
         let (o, found) = get_within p.objects q.birth low in
-        let number : q.layout ≡ header / 2 ^ 32 =
-        ap (λ (o : HeapObject). o.layout) t.read.is ∙ ap (λ n. n / 2 ^ 32) head in
+        let number : q.layout ≡ layout_of header =
+        ap (λ (o : HeapObject). o.layout) t.read.is ∙ ap layout_of head in
         let shape : t.read.shape ≡ l = same_Some t.read.shape l
-        (sym t.read.known ∙ ap (λ n. slice_get h.config.layouts (n / 2 ^ 32)) head ∙ known) in
+        (sym t.read.known ∙ ap (λ n. slice_get h.config.layouts (layout_of n)) head ∙ known) in
         let refs : length q.refs ≡ l.refs =
         read_refs h.config.layouts t.words (a % h.store.words) q t.read ∙ ap (λ (l : Layout). l.refs) shape in
         let nums : length q.data_words ≡ l.nums =
@@ -178,7 +179,7 @@ module _ {h : HeapState} {p p0 : PlainHeap} (k : Holds h p p0) where
         let as_many : length q.refs ≡ length o.refs =
         holds.refs_length ∙ ap (λ x. length (refs_in x)) found in
         let same_data : q.data_words ≡ o.data_words = holds.data_words ∙ ap data_in found in
-        subst (λ x. IsShaped x (header / 2 ^ 32) l.refs l.nums)
+        subst (λ x. IsShaped x (layout_of header) l.refs l.nums)
         (sym (ap (slice_get p.objects) birth_here ∙ found))
         (sym same ∙ number, sym as_many ∙ refs, ap (λ (l : List ℕ). length l) (sym same_data) ∙ nums)
 

@@ -1,5 +1,6 @@
 use Rattle.std.proofs.Common.{ap, sym, subst, ◌/◌, ◌^◌, ◌∙◌}
 use Rattle.std.specs.List.{slice_get}
+use Rattle.layout.specs.Objects.{layout_of}
 use Rattle.model.specs.Holding.{IsHeap}
 use Rattle.model.specs.Owning.{IsStore}
 use Rattle.model.specs.States.{HeapState}
@@ -14,6 +15,6 @@ returns c x = object_found c.args.heap.now
     (subst IsHeap c.heap-inside.ensures c.law-2.ensures.heap) c.args.address x c.in-Some.header c.in-Some-get.shape
     (sym (c.first_word.ensures ∙ ap (λ s. word_at s c.args.address)
     (c.memory.ensures ∙ ap (λ (g : HeapState). g.store) c.heap-inside.ensures)) ∙ c.in-Some.is)
-    (sym (c.get.ensures ∙ ap (λ (z : Config). slice_get z.layouts (c.in-Some.header / 2 ^ 32))
+    (sym (c.get.ensures ∙ ap (λ (z : Config). slice_get z.layouts (layout_of c.in-Some.header))
     (c.config.ensures ∙ ap (λ (g : HeapState). g.config) c.heap-inside.ensures)) ∙ c.in-Some-get.is)
     c.law.ensures
