@@ -226,6 +226,14 @@ pauseless_code pauseless_is_null(pauseless_heap *heap, uint32_t thread, uint32_t
 pauseless_code pauseless_get(pauseless_heap *heap, uint32_t thread, uint32_t object, uint32_t index, uint64_t *value);
 pauseless_code pauseless_set(pauseless_heap *heap, uint32_t thread, uint32_t object, uint32_t index, uint64_t value);
 
+/* Several data of an object, from number first on: as a call of pauseless_get or pauseless_set for each, with one look at
+ * the object. BAD_INDEX if the object has fewer: pauseless_set_many has written nothing then, and after
+ * pauseless_get_many nothing is said of values. */
+pauseless_code pauseless_get_many(pauseless_heap *heap, uint32_t thread, uint32_t object, uint32_t first,
+                                  uint64_t *values, size_t size);
+pauseless_code pauseless_set_many(pauseless_heap *heap, uint32_t thread, uint32_t object, uint32_t first,
+                                  const uint64_t *values, size_t size);
+
 /* Collections. pauseless_make and pauseless_refill collect by themselves. */
 
 /* A whole collection, which empties pages of which at most so many words of a hundred are live. MEMORY. */

@@ -179,6 +179,26 @@ static void several_loads(void) {
     pauseless_free(&heap);
 }
 
+/* Several data of an object, read and written all or not at all. */
+static void several_data(void) {
+    const uint64_t numbers[] = {11, 12, 13};
+    const pauseless_policy policy = {.words = 64, .free = 1, .percent = 75};
+    uint64_t values[] = {1, 2, 3};
+    makes_two();
+    DONE(pauseless_make(&heap, &policy, 2, 4, 2));
+    DONE(pauseless_set_many(&heap, 2, 4, 1, numbers, 3));
+    DONE(pauseless_get_many(&heap, 2, 4, 2, values, 2));
+    SAME(values[0] == 12 && values[1] == 13 && values[2] == 3, true);
+    SAME(pauseless_set_many(&heap, 2, 4, 2, numbers, 3), PAUSELESS_BAD_INDEX);
+    DONE(pauseless_get_many(&heap, 2, 4, 0, values, 3));
+    SAME(values[0] == 0 && values[1] == 11 && values[2] == 12, true);
+    SAME(pauseless_get_many(&heap, 2, 4, 5, values, 1), PAUSELESS_BAD_INDEX);
+    SAME(pauseless_get_many(&heap, 2, 1, 0, values, 1), PAUSELESS_NULL);
+    DONE(pauseless_get_many(&heap, 2, 1, 9, values, 0));
+    DONE(pauseless_set_many(&heap, 2, 1, 9, numbers, 0));
+    pauseless_free(&heap);
+}
+
 /* Loads after one into the object's own register are of the object that it names then. */
 static void loads_on_the_way(void) {
     const pauseless_field_load loads[] = {{.target = 3, .field = 1}, {.target = 4, .field = 0}};
@@ -401,6 +421,8 @@ static void unwritten_without_heap(void) {
     SAME(pauseless_count(&heap, &counts), PAUSELESS_NO_HEAP);
     SAME(pauseless_report(&heap, text, 1, &value), PAUSELESS_NO_HEAP);
     SAME(pauseless_loads(&heap, 0, 0, &(pauseless_field_load){.target = 0}, 1, &loaded), PAUSELESS_NO_HEAP);
+    SAME(pauseless_get_many(&heap, 0, 0, 0, &value, 1), PAUSELESS_NO_HEAP);
+    SAME(pauseless_set_many(&heap, 0, 0, 0, &value, 1), PAUSELESS_NO_HEAP);
     SAME(loaded, 0);
     SAME(object.birth, 11);
     SAME(done.live == 12 && done.emptied == 13, true);
@@ -438,6 +460,7 @@ int main(void) {
     frames_that_are_low();
     references();
     several_loads();
+    several_data();
     loads_on_the_way();
     globals();
     registers();

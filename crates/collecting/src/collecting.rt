@@ -1,10 +1,11 @@
 //! Collections by one call.
 
-ghost use Rattle.std.specs.Prelude.{◌≡◌, IfOk, false};
+ghost use Rattle.std.specs.Prelude.{◌≡◌, IfOk, false, length};
 ghost use Rattle.model.specs.declared.steps.Step.TheVariants as steps;
 ghost use Rattle.model.specs.Phases.{is_protect_crossing};
 ghost use Rattle.managed.specs.Batches.{EndsLoads};
 ghost use Rattle.managed.specs.Collecting.{StandsUnseen};
+ghost use Rattle.managed.specs.Data.{EndsReading, EndsWriting};
 ghost use Rattle.managed.specs.Goings.{LoadsWhole, LoadStands};
 ghost use Rattle.managed.specs.Scrubbing.{AreScrubbed};
 ghost use Rattle.collecting.specs.Collections.{Collects, CollectsWhole, EndsCollecting, IsNotRoom};
@@ -52,6 +53,32 @@ pub trait Holding: Mutating {
     ///
     /// Stops at the first load that fails, and returns how many are done. Fails as `read` does.
     fn loads(&mut self, thread: u32, object: u32, fields: &[FieldLoad]) -> Result<(), LoadsFault>;
+
+    /// Reads data words of the object that a register names, from word `first` on, as many as `values` has
+    /// room for: as a call of `Mutating::datum` for each, with one look at the object.
+    ///
+    /// Fails as `Mutating::datum` does of one of them, with `BadIndex` if the object has fewer; nothing is
+    /// said of `values` then.
+    fn get_many(
+        &self,
+        thread: u32,
+        object: u32,
+        first: u32,
+        values: &mut [u64],
+    ) -> Result<(), Refusal>;
+
+    /// Writes data words of the object that a register names, from word `first` on: as a call of
+    /// `Mutating::set_datum` for each of `values`, in order, with one look at the object.
+    ///
+    /// Fails as `Mutating::set_datum` does of one of them, with `BadIndex` if the object has fewer; nothing is
+    /// written then.
+    fn set_many(
+        &mut self,
+        thread: u32,
+        object: u32,
+        first: u32,
+        values: &[u64],
+    ) -> Result<(), Refusal>;
 
     /// Loads a global into a register, whole, through the read barrier. Refused as
     /// `Mutating::load_global` is, and nothing was done then.
@@ -147,6 +174,33 @@ impl Holding for ManagedHeap {
         ensures { EndsLoads thread object 0 fields.now self.old result self.new }
     {
         ManagedHeap::loads(self, thread, object, fields)
+    }
+
+    #[inline(always)]
+    fn get_many(
+        &self,
+        thread: u32,
+        object: u32,
+        first: u32,
+        values: &mut [u64],
+    ) -> Result<(), Refusal>
+        ensures len { length values.new ≡ length values.old }
+        ensures reads { EndsReading thread object first self.now result values.new }
+    {
+        ManagedHeap::get_many(self, thread, object, first, values)
+    }
+
+    #[inline(always)]
+    fn set_many(
+        &mut self,
+        thread: u32,
+        object: u32,
+        first: u32,
+        values: &[u64],
+    ) -> Result<(), Refusal>
+        ensures { EndsWriting thread object first values.now self.old result self.new }
+    {
+        ManagedHeap::set_many(self, thread, object, first, values)
     }
 
     #[inline(always)]

@@ -16,6 +16,7 @@ use Rattle.collecting.specs.Parts.{EndsPart}
 use Rattle.collecting.specs.Rooms.{EndsMaking, EndsRefill, IsNotHeld, MakingStands, Refills}
 use Rattle.collecting.specs.Stages.{PartGoesOn}
 use Rattle.managed.specs.Collecting.{StandsUnseen}
+use Rattle.managed.specs.Data.{EndsReading, EndsWriting}
 use Rattle.managed.specs.Goings.{LoadsWhole, LoadStands}
 use Rattle.managed.specs.Scrubbing.{AreScrubbed}
 use Rattle.foreign.specs.declared.held.Held.{Held}
@@ -54,6 +55,14 @@ Stepped answer t step h r g = DoesThread answer h t step r g × ThreadStands ans
 -- a whole load of thread t, by its first step; and where the heap stood for a plain heap, it does after the load
 abbrev pub Loaded : ℕ → Step → HeapState → Result Unit Refusal → HeapState → Type 0
 Loaded t begin h r g = LoadsWhole h t begin r g × LoadStands h t begin r g
+
+-- thread t was to read data words of an object, from word j on; nothing changed
+abbrev pub ReadMany : ℕ → ℕ → ℕ → List ℕ → HeapState → Result Unit Refusal → HeapState → Type 0
+ReadMany t object j values h r g = EndsReading t object j h r values × (g ≡ h)
+
+-- thread t was to write data words of an object, from word j on
+abbrev pub WroteMany : ℕ → ℕ → ℕ → List ℕ → HeapState → Result Unit Refusal → HeapState → Type 0
+WroteMany t object j values h r g = EndsWriting t object j values h r g
 
 -- thread t was to make an object, for which the heap was collected where there was no room
 abbrev pub Made : ℕ → ℕ → ℕ → ℕ → ℕ → HeapState → Result ℕ Refusal → HeapState → Type 0

@@ -1,13 +1,14 @@
 //! The data of objects.
 
-ghost use Rattle.std.specs.Prelude.{◌≡◌};
+ghost use Rattle.std.specs.Prelude.{◌≡◌, length};
 ghost use Rattle.model.specs.Saying.{done};
 ghost use Rattle.model.specs.declared.steps.Step.TheVariants as steps;
 ghost use Rattle.model.specs.declared.steps.Answer.TheVariants as answers;
-ghost use Rattle.foreign.specs.Calls.{Calls, Gives, Stepped};
+ghost use Rattle.foreign.specs.Calls.{Calls, Gives, ReadMany, Stepped, WroteMany};
 
 use crate::codes::{NO_HEAP, code, give_number};
 use crate::handle::Handle;
+use collecting::Holding;
 use cycle::Mutating;
 
 /// Reads a datum of an object. Refused as `Mutating::datum` is.
@@ -47,5 +48,45 @@ pub extern "C" fn pauseless_set(
         return NO_HEAP;
     };
     let answer = held.heap.set_datum(thread, object, index, value);
+    code(answer)
+}
+
+/// Reads data words of an object, from one by its number on, as many as C has room for. Fails as `Holding::get_many`
+/// does, and then nothing is said of what stands there.
+#[tactic(auto, using(crate::proofs::Calling::called))]
+#[unsafe(no_mangle)]
+pub extern "C" fn pauseless_get_many(
+    heap: &mut Handle,
+    thread: u32,
+    object: u32,
+    first: u32,
+    values: &mut [u64],
+) -> u32
+    ensures len { length values.new ≡ length values.old }
+    ensures call { Calls (ReadMany thread object first values.new) heap.old.slot.held result heap.new.slot.held }
+{
+    let Some(held) = heap.lend() else {
+        return NO_HEAP;
+    };
+    let answer = held.heap.get_many(thread, object, first, values);
+    code(answer)
+}
+
+/// Writes data words of an object, from one by its number on. Fails as `Holding::set_many` does.
+#[tactic(auto, using(crate::proofs::Calling::called))]
+#[unsafe(no_mangle)]
+pub extern "C" fn pauseless_set_many(
+    heap: &mut Handle,
+    thread: u32,
+    object: u32,
+    first: u32,
+    values: &[u64],
+) -> u32
+    ensures { Calls (WroteMany thread object first values.now) heap.old.slot.held result heap.new.slot.held }
+{
+    let Some(held) = heap.lend() else {
+        return NO_HEAP;
+    };
+    let answer = held.heap.set_many(thread, object, first, values);
     code(answer)
 }

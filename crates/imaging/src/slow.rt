@@ -44,7 +44,10 @@ fn object_at(image: &Image, address: u64) -> Option<(u64, u64)> {
     if offset.saturating_add(layout.size() as usize) > image.words as usize {
         return None;
     }
-    Some((bits & 0xffff_ffff | bits >> 40 << 32, u64::from(layout.refs)))
+    Some((
+        bits & 0xffff_ffff | bits >> 40 << 32,
+        u64::from(layout.refs),
+    ))
 }
 
 /// What a value leads to; nothing, where it isn't good.

@@ -14,3 +14,4 @@ pub mod Scrubbed
 pub mod Corrected
 pub mod Clearing
 pub mod Several
+pub mod ManyData

@@ -6,3 +6,4 @@ pub mod Emptying
 pub mod Managing
 pub mod Scrubbing
 pub mod Batches
+pub mod Data

@@ -10,6 +10,7 @@
 mod batches;
 mod collecting;
 mod crossing;
+mod data;
 mod emptying;
 mod loading;
 mod managed;

@@ -17,6 +17,7 @@ use Rattle.model.specs.declared.steps.Step.TheVariants as steps
 use Rattle.model.specs.Checkpoints.{all_crossed, first_behind, none_behind}
 use Rattle.model.specs.Outcome.{outcome}
 use Rattle.model.specs.Phases.{is_crossing}
+use Rattle.model.specs.Saying.{done}
 use Rattle.model.specs.Registers.{held_back, let_through}
 use Rattle.model.specs.States.{HeapState, ThreadState}
 use Rattle.model.specs.Stores.{is_protected, state_at}
@@ -28,14 +29,16 @@ use Rattle.managed.specs.declared.batches.FieldLoad.{FieldLoad}
 use Rattle.managed.specs.declared.batches.LoadsFault.{LoadsFault}
 use Rattle.managed.specs.Batches.{EndsFilling, EndsLoads, fill_steps, fill_test, set_steps, store_steps}
 use Rattle.managed.specs.Collecting.{IsCollecting}
+use Rattle.managed.specs.Data.{EndsWriting, set_entries}
 use Rattle.managed.specs.Goings.{AllTried, Goes, IsCrossing, IsStuck, StandsForSame, Steps}
 use Rattle.managed.specs.Managing.{Promises}
+use Rattle.managed.specs.Runs.{Leads}
 use Rattle.collecting.specs.Collections.{Collects, WORKER}
 use Rattle.collecting.specs.Filling.{AfterTest, EndsMakingWith, MakesAndFills}
 use Rattle.collecting.specs.Rooms.{EndsMaking, IsRefill, MakingStands, Refills}
 use Rattle.portions.specs.Apart.{IsApart, RunsAlone}
 use Rattle.portions.specs.Portions.{NeverStalls}
-use Rattle.portions.proofs.Doing.{goes_stay}
+use Rattle.portions.proofs.Doing.{does_apart, goes_stay}
 use Rattle.portions.proofs.Loads.{load_apart}
 use Rattle.portions.proofs.Parking.{alone_stays, is_false}
 use Rattle.portions.proofs.Rows.{disturbs, step_stays, turns}
@@ -221,3 +224,16 @@ making_stands t target layout h m g (Ok x) k s = λ p p0 holds.
 making_stands t target layout h m g (Err e) k s = λ p p0 holds.
     let y = k p p0 holds in
     (y.0, s.same p y.0 y.1)
+
+-- ---- several data words
+
+entries_apart : (t object j : ℕ) (values : List ℕ) (h g : HeapState) → Leads h (set_entries t object j values) g
+    → IsApart h t → IsApart g t
+entries_apart t object j [] h g leads a = subst (λ (x : HeapState). IsApart x t) (sym leads) a
+entries_apart t object j (v ∷ vs) h g leads a = entries_apart t object (j + 1) vs leads.0 g leads.2
+    (does_apart done h leads.0 t (steps.SetDatum object j v) (Ok tt) refl leads.1 a)
+
+pub writes_apart : (t object j : ℕ) (values : List ℕ) (h g : HeapState) (r : Result Unit Refusal)
+    → EndsWriting t object j values h r g → IsApart h t → IsApart g t
+writes_apart t object j values h g (Ok u) k a = entries_apart t object j values h g k.steps a
+writes_apart t object j values h g (Err e) k a = subst (λ (x : HeapState). IsApart x t) (sym k.0) a

@@ -1,6 +1,6 @@
 //! The calls of a thread on a heap that threads share.
 
-ghost use Rattle.std.specs.Prelude.{◌≡◌, IfOk, Some};
+ghost use Rattle.std.specs.Prelude.{◌≡◌, IfOk, Some, length};
 ghost use Rattle.model.specs.Buffers.{buffer_of_thread};
 ghost use Rattle.model.specs.Saying.{done, lent};
 ghost use Rattle.model.specs.declared.steps.Step.TheVariants as steps;
@@ -9,6 +9,7 @@ ghost use Rattle.cycle.specs.Mutating.{DoesThread, ThreadStands};
 ghost use Rattle.managed.specs.Goings.{LoadsWhole, LoadStands};
 ghost use Rattle.collecting.specs.Objects.{seen};
 ghost use Rattle.managed.specs.Batches.{EndsLoads};
+ghost use Rattle.managed.specs.Data.{EndsReading, EndsWriting};
 ghost use Rattle.collecting.specs.Collections.{Collects, EndsCollecting};
 ghost use Rattle.collecting.specs.Filling.{EndsMakingWith};
 ghost use Rattle.collecting.specs.Rooms.{EndsMaking, EndsRefill, MakingStands};
@@ -164,6 +165,22 @@ impl MutatorCalls for Mutator {
         ensures on { GoesOn self.old self.new }
     {
         self.heap.loads(self.thread, object, fields)
+    }
+
+    #[inline(always)]
+    fn get_many(&self, object: u32, first: u32, values: &mut [u64]) -> Result<(), Refusal>
+        ensures len { length values.new ≡ length values.old }
+        ensures reads { EndsReading self.now.thread object first self.now.heap result values.new }
+    {
+        self.heap.get_many(self.thread, object, first, values)
+    }
+
+    #[inline(always)]
+    fn set_many(&mut self, object: u32, first: u32, values: &[u64]) -> Result<(), Refusal>
+        ensures writes { EndsWriting self.old.thread object first values.now self.old.heap result self.new.heap }
+        ensures on { GoesOn self.old self.new }
+    {
+        self.heap.set_many(self.thread, object, first, values)
     }
 
     #[inline(always)]

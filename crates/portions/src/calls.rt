@@ -57,6 +57,12 @@ pub trait MutatorCalls {
     /// Loads several reference fields of an object, as `Holding::loads`.
     fn loads(&mut self, object: u32, fields: &[FieldLoad]) -> Result<(), LoadsFault>;
 
+    /// Reads data words of an object, from word `first` on, as `Holding::get_many`.
+    fn get_many(&self, object: u32, first: u32, values: &mut [u64]) -> Result<(), Refusal>;
+
+    /// Writes data words of an object, from word `first` on, as `Holding::set_many`.
+    fn set_many(&mut self, object: u32, first: u32, values: &[u64]) -> Result<(), Refusal>;
+
     /// Makes an object, with the room that it needs, as `Holding::make`. All threads cross the checkpoint that
     /// its collection has left open, if there is one.
     fn make(

@@ -11,6 +11,8 @@ mod choices;
 #[cfg(test)]
 mod counting;
 #[cfg(test)]
+mod data;
+#[cfg(test)]
 mod faults;
 #[cfg(test)]
 mod listing;

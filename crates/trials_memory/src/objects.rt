@@ -16,7 +16,11 @@ fn bits_of_a_header(rt: HostRuntime) {
         let header = Header { birth, layout };
         same(&rt, header.write(), bits);
         same(&rt, Header::read(bits), header);
-        same(&rt, (birth_of(bits), layout_of(bits)), (birth, u32::from(layout)));
+        same(
+            &rt,
+            (birth_of(bits), layout_of(bits)),
+            (birth, u32::from(layout)),
+        );
     }
 }
 

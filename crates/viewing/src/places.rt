@@ -8,8 +8,8 @@ ghost use Rattle.viewing.specs.Viewing.{field_entry, global_entry, handle_at, pl
 ghost use Rattle.viewing.specs.Viewing.{IsHandle, ReadsDatum, ReadsEntry, TellsOk};
 
 use collecting::Object;
-use layout::{birth_of, layout_of};
 use heap::{Heap, read_reference};
+use layout::{birth_of, layout_of};
 use managed::ManagedHeap;
 use model::Refusal;
 use refword::{Addr, Word};
