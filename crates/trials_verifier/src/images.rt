@@ -105,6 +105,25 @@ fn least_twins(rt: HostRuntime) -> Result<(), Fail> {
     Ok(())
 }
 
+/// The header of birth 5 + 2^32 and of layout 2.
+const LATE: u64 = 5 + (2 << 32) + (1 << 40);
+
+/// Two objects are no twins where the upper bits of their births differ.
+#[test]
+fn late_twins(rt: HostRuntime) -> Result<(), Fail> {
+    let mut image = sample(rt.alloc())?;
+    for offset in [3, 5] {
+        put(&mut image, (1, 0), offset, 5, 2);
+    }
+    set_register(&mut image, 0, 1, 21);
+    has_fault(&rt, rt.alloc(), &image, Fault::Twins(5));
+    set_word(&mut image, 0, 3, LATE);
+    is_sound(&rt, rt.alloc(), &image);
+    set_word(&mut image, 0, 5, LATE);
+    has_fault(&rt, rt.alloc(), &image, Fault::Twins(5 + (1 << 32)));
+    Ok(())
+}
+
 /// An old object on a protected page is no twin of its copy, once its entry says that it is copied.
 fn copies_in_turn(rt: &impl Abort, alloc: Global, image: &mut Image) -> Result<(), AllocError> {
     set_page(image, 2, PageState::From, Some(1));
