@@ -1,0 +1,87 @@
+#!/usr/bin/env python3
+"""Times heaps near the limits of the library: large.py LIBRARY, of the library for C, which 'make lib' builds.
+
+What a register costs in a collection; what an object costs by the number of frames; and large heaps that are filled,
+collected in parts and verified, as far as the machine has memory for them. Figures are the least of some runs, but for
+what a large heap takes. bench/large.c says what each work is.
+"""
+
+import os
+import subprocess
+import sys
+import tempfile
+
+HERE = os.path.dirname(os.path.abspath(__file__))
+
+RUNS = 5
+
+REGISTERS = [16, 1_000, 10_000, 65_535]
+
+# Frames of pages of 16 words.
+FRAMES = [4_096, 65_536, 1_048_575]
+
+# Frames of pages of 32,768 words, which are 256 KiB.
+HEAPS = [4_096, 16_384, 32_768]
+
+BUDGET = 1_000
+
+
+def built(library, folder):
+    """The program over the library."""
+    program = os.path.join(folder, "large")
+    subprocess.run([os.environ.get("CC", "cc"), "-std=c11", "-O2", "-I", os.path.join(HERE, "..", "include"),
+                    os.path.join(HERE, "large.c"), library, "-o", program], check=True)
+    return program
+
+
+def numbers(program, *words):
+    """The numbers that a run prints."""
+    run = subprocess.run([program, *map(str, words)], stdout=subprocess.PIPE, text=True, check=True)
+    return [float(number) for number in run.stdout.split()]
+
+
+def least(program, *words):
+    """Of several runs the least of each number."""
+    return [min(column) for column in zip(*(numbers(program, *words) for _ in range(RUNS)))]
+
+
+def table(heads, rows):
+    print()
+    for cells in [heads, ["---"] * len(heads), *rows]:
+        print("| " + " | ".join(cells) + " |", flush=True)
+
+
+def free_mib():
+    """The MiB that the machine has left."""
+    with open("/proc/meminfo", encoding="ascii") as file:
+        return next(int(line.split()[1]) // 1024 for line in file if line.startswith("MemAvailable:"))
+
+
+def heap_row(program, frames):
+    """The row of a large heap; none where the machine has no room for it."""
+    size = frames // 4
+    if free_mib() < size * 5 // 4:
+        return None
+    made, objects, each, parts, longest, all_parts, resident = numbers(program, "heap", frames, 32_768, BUDGET)
+    verified = f"{numbers(program, 'verify', frames, 32_768)[0]:,.0f}" if free_mib() > size * 5 // 2 else "-"
+    return [f"{size:,} MiB", f"{objects:,.0f}", f"{made:,.0f}", f"{each:.0f}", f"{parts:,.0f}", f"{longest:.2f}",
+            f"{all_parts:,.0f}", verified, f"{resident:,.0f}"]
+
+
+def main():
+    if len(sys.argv) != 2:
+        sys.exit(__doc__)
+    with tempfile.TemporaryDirectory() as folder:
+        program = built(sys.argv[1], folder)
+        rows = [[f"{count:,}", *(f"{micros:,.0f}" for micros in least(program, "registers", count))]
+                for count in REGISTERS]
+        table(["Registers", "longest part if each names an object, us", "if all are null, us"], rows)
+        table(["Frames of 16 words", "ns an object"],
+              [[f"{count:,}", f"{least(program, 'objects', count, 16)[0]:.1f}"] for count in FRAMES])
+        rows = [heap_row(program, frames) for frames in HEAPS]
+        table(["Heap", "Objects of 64 words", "made in ms", "ns an object", "parts", "the longest, ms", "all, ms",
+               "verified in ms", "resident MiB"], [row for row in rows if row])
+
+
+if __name__ == "__main__":
+    main()
