@@ -91,6 +91,9 @@ uint64_t word(handle object, uint64_t index) {
     must(pauseless_get(&heap, ME, object, (uint32_t)index, &value));
     return value;
 }
+void words(handle object, uint64_t index, uint64_t *values, size_t size) {
+    must(pauseless_get_many(&heap, ME, object, (uint32_t)index, values, size));
+}
 void set_word(handle object, uint64_t index, uint64_t value) {
     must(pauseless_set(&heap, ME, object, (uint32_t)index, value));
 }

@@ -62,6 +62,7 @@ void store(handle object, uint64_t field, handle source);
 
 /* A data word of an object; peek returns false if the object is null. */
 uint64_t word(handle object, uint64_t index);
+void words(handle object, uint64_t index, uint64_t *values, size_t size);
 void set_word(handle object, uint64_t index, uint64_t value);
 bool peek(handle object, uint64_t index, uint64_t *value);
 

@@ -18,23 +18,24 @@ handle string_new(const char *bytes, size_t length) {
 }
 uint64_t string_length(handle string) { return word(string, LENGTH); }
 
+/* Reads the words of a string's bytes, and returns how many bytes they are. */
+static uint64_t read_words(handle string, uint64_t data[LONGEST / 8]) {
+    const uint64_t length = string_length(string);
+    words(string, BYTES, data, words_of(length));
+    return length;
+}
 size_t string_read(handle string, char *bytes) {
-    const uint64_t length = string_length(string), words = words_of(length);
-    for (uint64_t i = 0; i < words; i++) {
-        const uint64_t part = word(string, BYTES + i);
-        memcpy(bytes + 8 * i, &part, i + 1 < words ? 8 : length - 8 * i);
-    }
+    uint64_t data[LONGEST / 8];
+    const uint64_t length = read_words(string, data);
+    memcpy(bytes, data, length);
     return length;
 }
 
 int string_compare(handle left, handle right) {
-    const uint64_t lengths[] = {string_length(left), string_length(right)};
-    const uint64_t words = words_of(lengths[0] < lengths[1] ? lengths[0] : lengths[1]);
-    for (uint64_t i = 0; i < words; i++) {
-        const uint64_t parts[] = {word(left, BYTES + i), word(right, BYTES + i)};
-        if (parts[0] != parts[1]) return memcmp(&parts[0], &parts[1], 8);
-    }
-    return (lengths[0] > lengths[1]) - (lengths[0] < lengths[1]);
+    uint64_t data[2][LONGEST / 8];
+    const uint64_t lengths[] = {read_words(left, data[0]), read_words(right, data[1])};
+    const int order = memcmp(data[0], data[1], lengths[0] < lengths[1] ? lengths[0] : lengths[1]);
+    return order != 0 ? order : (lengths[0] > lengths[1]) - (lengths[0] < lengths[1]);
 }
 bool string_equal(handle left, handle right) {
     return string_length(left) == string_length(right) && string_compare(left, right) == 0;
@@ -55,10 +56,11 @@ handle string_slice(handle string, uint64_t from, uint64_t to) {
 
 /* FNV-1a, by words. */
 uint64_t string_hash(handle string) {
-    const uint64_t length = string_length(string), words = words_of(length);
+    uint64_t data[LONGEST / 8];
+    const uint64_t length = read_words(string, data);
     uint64_t hash = 0xcbf29ce484222325 ^ length;
-    for (uint64_t i = 0; i < words; i++) {
-        hash = (hash ^ word(string, BYTES + i)) * 0x100000001b3;
+    for (uint64_t i = 0; i < words_of(length); i++) {
+        hash = (hash ^ data[i]) * 0x100000001b3;
         hash ^= hash >> 32;
     }
     return hash;
