@@ -120,6 +120,9 @@ typedef struct pauseless_policy {
     uint32_t words;   /* of a fresh buffer: 1 to the words of a page, and at least those of any object that is made */
     uint32_t free;    /* the heap is collected where at most so many frames are free */
     uint32_t percent; /* pages of which at most so many words of a hundred are live are emptied */
+    uint32_t budget;  /* 0: the heap is collected by one call; else pauseless_make and pauseless_make_with collect it in
+                       * parts, each of which scans at most so many objects: two parts for a fresh buffer, while at most
+                       * free frames are free or such a collection has begun */
 } pauseless_policy;
 
 /* One of several loads: a register that gets a reference of an object. */
@@ -226,8 +229,8 @@ pauseless_code pauseless_is_null(pauseless_heap *heap, uint32_t thread, uint32_t
 pauseless_code pauseless_get(pauseless_heap *heap, uint32_t thread, uint32_t object, uint32_t index, uint64_t *value);
 pauseless_code pauseless_set(pauseless_heap *heap, uint32_t thread, uint32_t object, uint32_t index, uint64_t value);
 
-/* Several data of an object, from number first on: as a call of pauseless_get or pauseless_set for each, with one look at
- * the object. BAD_INDEX if the object has fewer: pauseless_set_many has written nothing then, and after
+/* Several data of an object, from number first on: as a call of pauseless_get or pauseless_set for each, with one look
+ * at the object. BAD_INDEX if the object has fewer: pauseless_set_many has written nothing then, and after
  * pauseless_get_many nothing is said of values. */
 pauseless_code pauseless_get_many(pauseless_heap *heap, uint32_t thread, uint32_t object, uint32_t first,
                                   uint64_t *values, size_t size);

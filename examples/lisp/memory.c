@@ -37,7 +37,8 @@ void memory_open(const struct memory_options *options) {
     pauseless_usual(options->words, options->frames, &sizes);
     sizes.threads = sizes.globals = threads = options->threads;
     must(pauseless_new(&heap, &sizes, layouts, KINDS - 1));
-    policy = (pauseless_policy){options->words, options->frames / 8 > 0 ? options->frames / 8 : 1, 75};
+    policy = (pauseless_policy){
+        .words = options->words, .free = options->frames / 8 > 0 ? options->frames / 8 : 1, .percent = 75};
     check = options->check;
 }
 

@@ -35,7 +35,8 @@ void objects_open(const struct options *options) {
     }
     pauseless_usual(options->words, options->frames, &sizes);
     must(pauseless_new(&heap, &sizes, layouts, SHAPES + 2 * fitting));
-    policy = (pauseless_policy){options->words, options->frames / 8 > 0 ? options->frames / 8 : 1, 75};
+    policy = (pauseless_policy){
+        .words = options->words, .free = options->frames / 8 > 0 ? options->frames / 8 : 1, .percent = 75};
     check = options->check;
     handles_open(&handles, &heap, ME, 0, REGISTERS, fail);
 }

@@ -6,3 +6,4 @@ pub mod Refilled
 pub mod Parted
 pub mod Staged
 pub mod Fitted
+pub mod Paced

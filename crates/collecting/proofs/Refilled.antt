@@ -42,7 +42,7 @@ wider t (Thread u) (steps.Scrub r) is = tt
 wider t (Thread u) _ is = absurd is
 wider t (Worker w) step is = is
 
-collects_refill : (t : ℕ) (h g : HeapState) → Collects h g → Refills t h g
+pub collects_refill : (t : ℕ) (h g : HeapState) → Collects h g → Refills t h g
 collects_refill t h g k = goes_wider (IsCollecting WORKER) (IsRefill t) (wider t) h g k
 
 -- what was done before stays known, and counts from an earlier heap on
@@ -247,7 +247,7 @@ made_here t n percent target layout h g (Err e) does keeps = (
   inl (subst (λ (x : HeapState). outcome x (Thread t) (steps.New target layout) ≡ Err e) (sym does.1) does.0),
 )
 
-making_after : (t n percent target layout : ℕ) (h m g : HeapState) (r : Result ℕ Refusal) → Refills t h m
+pub making_after : (t n percent target layout : ℕ) (h m g : HeapState) (r : Result ℕ Refusal) → Refills t h m
     → EndsMaking t n percent target layout m r g → EndsMaking t n percent target layout h r g
 making_after t n percent target layout h m g (Ok b) a k = (k.0, refill_then t h m k.0 a k.1, k.2)
 making_after t n percent target layout h m g (Err e) a (k, inl refused) = (refill_then t h m g a k, inl refused)

@@ -5,3 +5,4 @@ pub mod Faults
 pub mod Objects
 pub mod Parts
 pub mod Stages
+pub mod Pacing

@@ -11,6 +11,7 @@ ghost use Rattle.managed.specs.Scrubbing.{AreScrubbed};
 ghost use Rattle.collecting.specs.Collections.{Collects, CollectsWhole, EndsCollecting, IsNotRoom};
 ghost use Rattle.collecting.specs.Filling.{EndsMakingWith};
 ghost use Rattle.collecting.specs.Objects.{seen};
+ghost use Rattle.collecting.specs.Pacing.{MakesPaced};
 ghost use Rattle.collecting.specs.Parts.{EndsPart};
 ghost use Rattle.collecting.specs.Stages.{PartGoesOn};
 ghost use Rattle.collecting.specs.Rooms.{EndsMaking, EndsRefill, IsNotHeld, MakingStands, Refills};
@@ -20,7 +21,7 @@ use crate::leftovers::settle;
 use crate::parts::Parts;
 use crate::policy::Policy;
 use crate::seeing::Object;
-use crate::{filling, parts, rooms, seeing};
+use crate::{filling, pacing, parts, rooms, seeing};
 use cycle::Mutating;
 use managed::{FieldLoad, LoadsFault, ManagedHeap};
 use model::{Buffer, Refusal};
@@ -139,6 +140,36 @@ pub trait Holding: Mutating {
         thread: u32,
         target: u32,
         layout: u32,
+    ) -> Result<u64, Refusal>;
+
+    /// Makes an object as `make` does, beside a collection in parts. Where the thread's buffer has no room for it,
+    /// and at most `policy.free` frames are free or a collection in parts has begun, its next two parts come first. The
+    /// heap is collected by one call only where no frame is free then.
+    ///
+    /// `budget` is how many objects a part may scan. Refused as `make` is.
+    fn make_paced(
+        &mut self,
+        alloc: Global,
+        parts: &mut Parts,
+        policy: Policy,
+        budget: u32,
+        thread: u32,
+        target: u32,
+        layout: u32,
+    ) -> Result<u64, Refusal>;
+
+    /// Makes an object as `make_paced` does, and fills it as `make_with` does. Refused as `make_with` is.
+    fn make_with_paced(
+        &mut self,
+        alloc: Global,
+        parts: &mut Parts,
+        policy: Policy,
+        budget: u32,
+        thread: u32,
+        target: u32,
+        layout: u32,
+        sources: &[u32],
+        nums: &[u64],
     ) -> Result<u64, Refusal>;
 
     /// Makes an object as `make` does, then stores in its first references what the registers `sources`
@@ -284,6 +315,46 @@ impl Holding for ManagedHeap {
             self.new }
     {
         filling::make_with(self, alloc, policy, thread, target, layout, sources, nums)
+    }
+
+    #[inline(always)]
+    fn make_paced(
+        &mut self,
+        alloc: Global,
+        parts: &mut Parts,
+        policy: Policy,
+        budget: u32,
+        thread: u32,
+        target: u32,
+        layout: u32,
+    ) -> Result<u64, Refusal>
+        ensures stands { MakingStands thread target layout self.old result self.new }
+        ensures ends { EndsMaking thread policy.words policy.percent target layout self.old result self.new }
+        ensures paced { MakesPaced thread policy.words policy.percent policy.free budget target layout parts.old self.old
+            result parts.new self.new }
+    {
+        pacing::make_paced(self, alloc, parts, policy, budget, thread, target, layout)
+    }
+
+    #[inline(always)]
+    fn make_with_paced(
+        &mut self,
+        alloc: Global,
+        parts: &mut Parts,
+        policy: Policy,
+        budget: u32,
+        thread: u32,
+        target: u32,
+        layout: u32,
+        sources: &[u32],
+        nums: &[u64],
+    ) -> Result<u64, Refusal>
+        ensures { EndsMakingWith thread policy.words policy.percent target layout sources.now nums.now self.old result
+            self.new }
+    {
+        pacing::make_with_paced(
+            self, alloc, parts, policy, budget, thread, target, layout, sources, nums,
+        )
     }
 }
 

@@ -9,6 +9,7 @@ mod cycles;
 mod faults;
 mod filling;
 mod leftovers;
+mod pacing;
 mod parts;
 mod policy;
 mod portions;

@@ -7,6 +7,7 @@ ghost use Rattle.model.specs.Phases.{is_protect_crossing};
 ghost use Rattle.managed.specs.Goings.{Goes, IsScrub};
 ghost use Rattle.managed.specs.Scrubbing.{AreScrubbed};
 ghost use Rattle.collecting.specs.Collections.{has_from};
+ghost use Rattle.collecting.specs.Pacing.{has_begun};
 ghost use Rattle.collecting.specs.Parts.{EndsPart, HasEnded, is_memory};
 ghost use Rattle.collecting.specs.Stages.{ChoosesAll, ChoosesOn, EmptiesOn, EndsCrossed, GoesOn, IsChosen, IsFitting};
 ghost use Rattle.collecting.specs.Stages.{MarksOn, Measures, PartGoesOn, ProtectsSome, TellsAnew, at_stage, entered};
@@ -60,6 +61,13 @@ impl Parts {
             chosen: Vec::new(alloc),
             next: 0,
         }
+    }
+
+    /// Whether a collection has begun: a mark runs, or its pages are chosen or emptied.
+    pub(crate) fn has_begun(&self, heap: &Heap) -> bool
+        ensures { result ≡ has_begun self.now heap.now }
+    {
+        !matches!(self.stage, Stage::Mark) || heap.phase().is_marking()
     }
 
     /// Goes on with another part, from its beginning.

@@ -10,6 +10,7 @@ ghost use Rattle.foreign.specs.Calls.{Calls, Gives, Made, MadeWith, Refilled, St
 
 use crate::codes::{DONE, NO_HEAP, code, refusal_code};
 use crate::handle::Handle;
+use crate::held::Held;
 use collecting::{Holding, Object, Policy};
 use cycle::Mutating;
 use model::Refusal;
@@ -25,6 +26,9 @@ pub struct PolicyOfC {
     pub free: u32,
     /// Pages of which at most so many words of a hundred are live are emptied.
     pub percent: u32,
+    /// How many objects a part of a collection may scan that is done for a fresh buffer; 0, if such a collection is
+    /// complete.
+    pub budget: u32,
 }
 
 /// `pauseless_object`: what an object's header tells.
@@ -108,6 +112,55 @@ pub extern "C" fn pauseless_new_object(
     code_of(answer)
 }
 
+/// Makes an object by the policy: beside a collection in parts if it has a budget for these.
+#[inline(always)]
+fn make_by(
+    alloc: Global,
+    held: &mut Held,
+    policy: &PolicyOfC,
+    thread: u32,
+    target: u32,
+    layout: u32,
+) -> Result<u64, Refusal>
+    ensures { Made policy.now.words policy.now.percent thread target layout held.old.heap result held.new.heap }
+{
+    let by = policy_of(policy);
+    if policy.budget == 0 {
+        held.heap.make(alloc, by, thread, target, layout)
+    } else {
+        let budget = policy.budget;
+        held.heap
+            .make_paced(alloc, &mut held.parts, by, budget, thread, target, layout)
+    }
+}
+
+/// Makes an object by the policy, and fills it.
+#[inline(always)]
+fn make_with_by(
+    alloc: Global,
+    held: &mut Held,
+    policy: &PolicyOfC,
+    thread: u32,
+    target: u32,
+    layout: u32,
+    sources: &[u32],
+    nums: &[u64],
+) -> Result<u64, Refusal>
+    ensures { MadeWith policy.now.words policy.now.percent thread target layout sources.now nums.now held.old.heap
+        result held.new.heap }
+{
+    let by = policy_of(policy);
+    if policy.budget == 0 {
+        held.heap
+            .make_with(alloc, by, thread, target, layout, sources, nums)
+    } else {
+        let (parts, budget) = (&mut held.parts, policy.budget);
+        held.heap.make_with_paced(
+            alloc, parts, by, budget, thread, target, layout, sources, nums,
+        )
+    }
+}
+
 /// Makes an object; where the thread's buffer has no room for it, `pauseless_refill` gets it one before. Refused as
 /// `Holding::make` is.
 #[tactic(auto, using(crate::proofs::Calling::called))]
@@ -126,10 +179,7 @@ pub extern "C" fn pauseless_make(
     let Some(held) = heap.lend() else {
         return NO_HEAP;
     };
-    let answer = held
-        .heap
-        .make(alloc, policy_of(policy), thread, target, layout);
-    code_of(answer)
+    code_of(make_by(alloc, held, policy, thread, target, layout))
 }
 
 /// Makes an object, for which `pauseless_refill` gets a buffer if the thread's has no room, and fills it: its first
@@ -152,16 +202,7 @@ pub extern "C" fn pauseless_make_with(
     let Some(held) = heap.lend() else {
         return NO_HEAP;
     };
-    let answer = held.heap.make_with(
-        alloc,
-        policy_of(policy),
-        thread,
-        target,
-        layout,
-        sources,
-        nums,
-    );
-    code_of(answer)
+    code_of(make_with_by(alloc, held, policy, thread, target, layout, sources, nums))
 }
 
 /// Gets a thread a fresh buffer, for which the heap is collected by the policy. Refused as `Holding::refill` is.

@@ -1,7 +1,7 @@
 //! When a heap is collected for a buffer.
 
 use crate::rooms::{new_heap, same};
-use collecting::{Holding, Policy};
+use collecting::{Holding, Parts, Policy};
 use managed::ManagedHeap;
 use model::Refusal;
 use std::alloc::Global;
@@ -65,4 +65,37 @@ fn waits(rt: &impl Abort, alloc: Global, mut heap: impl Framed + Drop) -> Result
 #[test]
 fn only_there(rt: HostRuntime) -> Result<(), Fail> {
     waits(&rt, rt.alloc(), new_heap(rt.alloc(), 8, 16)?)
+}
+
+/// Makes so many objects that nobody keeps, beside a collection in parts. Gives how few frames were free at least.
+fn waste_paced(
+    alloc: Global,
+    heap: &mut impl Framed,
+    free: u32,
+    budget: u32,
+    count: u32,
+) -> Result<u32, Refusal> {
+    let mut parts = Parts::new(alloc);
+    let mut least = u32::MAX;
+    for _ in 0..count {
+        heap.make_paced(alloc, &mut parts, policy(free), budget, ME, LOST, 0)?;
+        heap.clear_register(ME, LOST)?;
+        least = least.min(heap.free_frames());
+    }
+    Ok(least)
+}
+
+/// Frames are taken while the heap is collected in parts, and some are left when it ends.
+fn paces(rt: &impl Abort, alloc: Global, mut heap: impl Framed + Drop) -> Result<(), Fail> {
+    let least = waste_paced(alloc, &mut heap, 32, 4096, 5000)?;
+    assert!(rt;
+        least > 0 && least < 32,
+        "{least} frames were free at least"
+    );
+    Ok(())
+}
+
+#[test]
+fn in_parts(rt: HostRuntime) -> Result<(), Fail> {
+    paces(&rt, rt.alloc(), new_heap(rt.alloc(), 64, 128)?)
 }

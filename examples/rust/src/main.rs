@@ -20,6 +20,7 @@ const POLICY: Policy = Policy {
     words: 64,
     free: 1,
     percent: 75,
+    budget: 0,
 };
 
 /// Starts the list with a node of key 0.

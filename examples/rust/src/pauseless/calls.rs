@@ -47,6 +47,7 @@ pub struct Policy {
     pub words: u32,
     pub free: u32,
     pub percent: u32,
+    pub budget: u32,
 }
 
 /// What a collection has done.

@@ -1,0 +1,157 @@
+//! Objects that are made beside a collection in parts, each of which a fresh buffer pays for.
+
+ghost use Rattle.std.specs.Prelude.{◌≡◌, ◌&&◌, length};
+ghost use Rattle.model.specs.Outcome.{outcome};
+ghost use Rattle.model.specs.declared.steps.Actor.TheVariants.{Thread};
+ghost use Rattle.model.specs.declared.steps.Step.TheVariants as steps;
+ghost use Rattle.managed.specs.Batches.{LayoutHas};
+ghost use Rattle.collecting.specs.Filling.{EndsMakingWith, MakesAndFills};
+ghost use Rattle.collecting.specs.Pacing.{MakesPaced, Paces, PacesAndMakes, PacesTwice, is_due, lacks_buffer};
+
+use crate::collecting::Holding;
+use crate::parts::{Parts, collect_some};
+use crate::policy::Policy;
+use crate::rooms::make;
+use cycle::Mutating;
+use heap::Heap;
+use managed::ManagedHeap;
+use model::Refusal;
+use std::alloc::Global;
+
+/// Whether an object wasn't made because its thread's buffer has no room for it.
+#[inline(always)]
+fn lacks_buffer(made: &Result<u64, Refusal>) -> bool
+    ensures { result ≡ lacks_buffer made.now }
+{
+    matches!(*made, Err(Refusal::NoRoom))
+}
+
+/// Whether at most so many frames are free, or a collection has begun.
+fn is_due(heap: &Heap, parts: &Parts, free: u32) -> bool
+    ensures { result ≡ is_due free parts.now heap.now }
+{
+    heap.memory().free_frames() <= free || parts.has_begun(heap)
+}
+
+/// The next part of a collection, if one is due. That it lacks memory is no matter: the heap is collected by one
+/// call if no frame is left.
+fn do_part(heap: &mut ManagedHeap, alloc: Global, parts: &mut Parts, policy: Policy, budget: u32)
+    ensures { Paces (is_due policy.free parts.old heap.old) policy.percent budget parts.old heap.old parts.new heap.new }
+{
+    if is_due(heap.heap(), parts, policy.free) {
+        let _told = collect_some(heap, alloc, parts, policy.percent, budget);
+    }
+}
+
+/// The next two parts of a collection, each if one is due. A part empties one page at most, and a fresh buffer may
+/// take a page: with one part for each no frame would ever come back.
+fn pace(heap: &mut ManagedHeap, alloc: Global, parts: &mut Parts, policy: Policy, budget: u32)
+    ensures { PacesTwice (is_due policy.free parts.old heap.old) policy.free policy.percent budget parts.old heap.old
+        parts.new heap.new }
+{
+    if is_due(heap.heap(), parts, policy.free) {
+        do_part(heap, alloc, parts, policy, budget);
+        do_part(heap, alloc, parts, policy, budget);
+    }
+}
+
+/// The next two parts of a collection, if they are due, and then an object.
+#[cold]
+#[inline(never)]
+fn pace_and_make(
+    heap: &mut ManagedHeap,
+    alloc: Global,
+    parts: &mut Parts,
+    policy: Policy,
+    budget: u32,
+    thread: u32,
+    target: u32,
+    layout: u32,
+) -> Result<u64, Refusal>
+    ensures { PacesAndMakes (is_due policy.free parts.old heap.old) thread policy.words policy.percent policy.free budget
+        target layout parts.old heap.old result parts.new heap.new }
+{
+    pace(heap, alloc, parts, policy, budget);
+    let last = Policy {
+        words: policy.words,
+        free: 0,
+        percent: policy.percent,
+    };
+    make(heap, alloc, last, thread, target, layout)
+}
+
+/// An object is made; where the thread's buffer has no room for it, the next two parts of a collection come first,
+/// if they are due.
+#[inline(always)]
+pub(crate) fn make_paced(
+    heap: &mut ManagedHeap,
+    alloc: Global,
+    parts: &mut Parts,
+    policy: Policy,
+    budget: u32,
+    thread: u32,
+    target: u32,
+    layout: u32,
+) -> Result<u64, Refusal>
+    ensures { MakesPaced thread policy.words policy.percent policy.free budget target layout parts.old heap.old result
+        parts.new heap.new }
+{
+    let made = heap.new_object(thread, target, layout);
+    if lacks_buffer(&made) {
+        pace_and_make(heap, alloc, parts, policy, budget, thread, target, layout)
+    } else {
+        made
+    }
+}
+
+/// Makes an object beside a collection in parts, and fills it.
+#[inline(always)]
+fn make_paced_and_fill(
+    heap: &mut ManagedHeap,
+    alloc: Global,
+    parts: &mut Parts,
+    policy: Policy,
+    budget: u32,
+    thread: u32,
+    target: u32,
+    layout: u32,
+    sources: &[u32],
+    nums: &[u64],
+) -> Result<u64, Refusal>
+    requires { LayoutHas (length sources.now) (length nums.now) }
+    ensures { MakesAndFills thread policy.words policy.percent target layout sources.now nums.now heap.old result
+        heap.new }
+{
+    match heap.make_paced(alloc, parts, policy, budget, thread, target, layout) {
+        Ok(birth) => match heap.fill(thread, target, sources, nums) {
+            Ok(()) => Ok(birth),
+            Err(refusal) => Err(refusal),
+        },
+        Err(refusal) => Err(refusal),
+    }
+}
+
+/// Makes an object beside a collection in parts and fills it, if it can be filled.
+#[inline(always)]
+pub(crate) fn make_with_paced(
+    heap: &mut ManagedHeap,
+    alloc: Global,
+    parts: &mut Parts,
+    policy: Policy,
+    budget: u32,
+    thread: u32,
+    target: u32,
+    layout: u32,
+    sources: &[u32],
+    nums: &[u64],
+) -> Result<u64, Refusal>
+    ensures { EndsMakingWith thread policy.words policy.percent target layout sources.now nums.now heap.old result
+        heap.new }
+{
+    match heap.may_fill(thread, target, layout, sources, nums) {
+        Ok(()) => make_paced_and_fill(
+            heap, alloc, parts, policy, budget, thread, target, layout, sources, nums,
+        ),
+        Err(refusal) => Err(refusal),
+    }
+}
