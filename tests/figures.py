@@ -49,11 +49,6 @@ def lisp():
     return f"a Lisp in C takes {min(found):.0f} to {max(found):.0f} times its time on bdwgc"
 
 
-def births():
-    """How long the births last at three million a second."""
-    return f"2^32: {2 ** 32 / 3e6 / 60:.0f} minutes at three million a second"
-
-
 def version():
     found = re.search(r'^#define PAUSELESS_VERSION "(.*)"$', read("include/pauseless.h"), re.M)
     return f"Version {found[1]}."
@@ -68,7 +63,7 @@ def main():
     os.chdir(os.path.join(os.path.dirname(os.path.abspath(__file__)), ".."))
     page, passed, failed = " ".join(read("README.md").split()), 0, 0
     tried = {f"README.md has '{words}'": words in page for words in
-             (shared_steps(), marks(), lisp(), births(), version())}
+             (shared_steps(), marks(), lisp(), version())}
     tried["CHANGELOG.md begins with the version of include/pauseless.h"] = latest_change()
     tried[f"README.md has at most 800 words: {len(page.split())}"] = len(page.split()) <= 800
     for what, is_so in tried.items():
