@@ -45,6 +45,7 @@ enum { EMPTY = 0, UNBOUND = 2 };
  * gets the first value of a list and its rest. */
 struct memory_options {
     uint32_t words, frames; /* of a page; how many pages may have memory at once */
+    uint32_t budget;        /* objects that a part of a collection scans; 0: collections are complete */
     uint32_t threads;       /* how many threads there may be at once */
     uint64_t check;         /* after so many objects the memory is verified, if it can be; 0: never */
 };

@@ -38,7 +38,8 @@ void memory_open(const struct memory_options *options) {
     sizes.threads = sizes.globals = threads = options->threads;
     must(pauseless_new(&heap, &sizes, layouts, KINDS - 1));
     policy = (pauseless_policy){
-        .words = options->words, .free = options->frames / 8 > 0 ? options->frames / 8 : 1, .percent = 75};
+        .words = options->words, .free = options->frames / 8 > 0 ? options->frames / 8 : 1, .percent = 75,
+        .budget = options->budget};
     check = options->check;
 }
 
@@ -150,6 +151,7 @@ void memory_put_global(unsigned global, unsigned source) {
 static void share(void) {
     const pauseless_policy early = {.free = 4 * policy.free, .percent = policy.percent};
     if (portion.shared) return;
+    policy.budget = 0;
     if (!pauseless_share(&shared, &heap, RESTS)) fail("the heap can't be shared");
     portion = pauseless_enter(&shared);
     if (!pauseless_start_collector(&shared, &early, BUDGET)) fail("the system starts no thread");
