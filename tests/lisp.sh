@@ -57,7 +57,7 @@ tries sort 665
 # Collections in parts, which end in time with many frames, and in few frames seldom.
 prints queens -w 512 -f 64 -b 2000 -v 100000
 prints queens -w 512 -f 8 -b 100 -v 400000
-prints tree -w 512 -f 44 -b 1000
+prints tree -w 512 -f 100 -b 20000
 
 # Eight threads, whose order is another one in each run; in some orders 28 frames are too few.
 prints threads -v 100000

@@ -144,7 +144,7 @@ pub trait Holding: Mutating {
 
     /// Makes an object as `make` does, beside a collection in parts. Where the thread's buffer has no room for it,
     /// and at most `policy.free` frames are free or a collection in parts has begun, its next two parts come first. The
-    /// heap is collected by one call only where no frame is free then.
+    /// heap is collected by one call only where at most one frame is free then, or none if `policy.free` is 0.
     ///
     /// `budget` is how many objects a part may scan. Refused as `make` is.
     fn make_paced(

@@ -34,7 +34,7 @@ fn is_due(heap: &Heap, parts: &Parts, free: u32) -> bool
 }
 
 /// The next part of a collection, if one is due. That it lacks memory is no matter: the heap is collected by one
-/// call if no frame is left.
+/// call if no frame is left for it.
 fn do_part(heap: &mut ManagedHeap, alloc: Global, parts: &mut Parts, policy: Policy, budget: u32)
     ensures { Paces (is_due policy.free parts.old heap.old) policy.percent budget parts.old heap.old parts.new heap.new }
 {
@@ -55,7 +55,8 @@ fn pace(heap: &mut ManagedHeap, alloc: Global, parts: &mut Parts, policy: Policy
     }
 }
 
-/// The next two parts of a collection, if they are due, and then an object.
+/// The next two parts of a collection, if they are due, and then an object. The last free frame is kept for a
+/// complete collection, as objects need one to move to.
 #[cold]
 #[inline(never)]
 fn pace_and_make(
@@ -74,7 +75,7 @@ fn pace_and_make(
     pace(heap, alloc, parts, policy, budget);
     let last = Policy {
         words: policy.words,
-        free: 0,
+        free: policy.free.min(1),
         percent: policy.percent,
     };
     make(heap, alloc, last, thread, target, layout)
