@@ -1,5 +1,4 @@
 //! Threads that share a heap, each with its seat, alongside a collector: for the tests of portions and of views.
 #![tactic(auto)]
 
-pub mod same;
 pub mod team;

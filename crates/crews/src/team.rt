@@ -1,13 +1,11 @@
 //! Threads that share a heap, each with its seat, alongside a collector.
 
-use crate::same::same;
 use collecting::Policy;
 use layout::{Layout, Layouts};
 use managed::{Config, ManagedHeap};
 use model::Refusal;
 use portions::{CollectorSeat, Seats, SharedHeap, ThreadSeat};
 use std::alloc::Global;
-use std::process::Abort;
 use std::sync::Wait;
 use std::test::Fail;
 use std::thread;
@@ -70,11 +68,10 @@ pub fn shared_heap(
     opened(alloc, heap_of(alloc, threads, frames)?, rests)
 }
 
-/// A heap that was shared is sound.
-pub fn is_sound(rt: &impl Abort, alloc: Global, shared: SharedHeap) -> Result<(), Fail> {
+/// Whether a heap that was shared is sound.
+pub fn verifies(alloc: Global, shared: SharedHeap) -> Result<bool, Fail> {
     let heap = shared.into_heap();
-    same(rt, verify_held(alloc, &heap)?, Verdict::Sound);
-    Ok(())
+    Ok(verify_held(alloc, &heap)? == Verdict::Sound)
 }
 
 /// The work of one thread.

@@ -243,7 +243,7 @@ fn told(alloc: Global, config: Config) -> Option<ConfigFault> {
 #[test]
 fn a_fault_is_told(rt: HostRuntime) -> Result<(), Fail> {
     let mut config = small(rt.alloc())?;
-    config.registers = 17;
+    config.registers = 65_536;
     same(&rt, told(rt.alloc(), config), Some(ConfigFault::Registers));
     Ok(())
 }

@@ -28,14 +28,14 @@ fn spoil(alloc: Global, config: &mut Config, fault: ConfigFault) -> Result<(), A
         ConfigFault::Words => config.words = 24,
         ConfigFault::Frames => config.frames = 0,
         ConfigFault::Pages => config.pages = 0,
-        ConfigFault::Threads => config.threads = 65,
+        ConfigFault::Threads => config.threads = 1025,
         ConfigFault::Workers => config.workers = 0,
-        ConfigFault::Registers => config.registers = 17,
-        ConfigFault::Globals => config.globals = 65,
+        ConfigFault::Registers => config.registers = 65_536,
+        ConfigFault::Globals => config.globals = 65_536,
         ConfigFault::Layouts => {
             config.layouts = Layouts::new(vec![in alloc; Layout { refs: 0, nums: 16 }]?);
         }
-        ConfigFault::Births => config.births = (1 << 32) + 1,
+        ConfigFault::Births => config.births = (1 << 56) + 1,
         ConfigFault::History => config.history = 0,
     }
     Ok(())

@@ -1,7 +1,7 @@
 //! A bank: threads move money between accounts, and the sum stays.
 
-use crews::same::same;
-use crews::team::{CELL, Job, PLACES, POLICY, TABLE, all_work, is_sound, shared_heap};
+use crate::same::{is_sound, same};
+use crews::team::{CELL, Job, PLACES, POLICY, TABLE, all_work, shared_heap};
 use model::Refusal;
 use portions::{MutatorCalls, Seats, SharedHeap, ThreadSeat};
 use std::alloc::Global;

@@ -7,3 +7,5 @@ mod bank;
 mod lists;
 #[cfg(test)]
 mod opening;
+#[cfg(test)]
+mod same;

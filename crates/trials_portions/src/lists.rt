@@ -1,7 +1,7 @@
 //! Lists: each thread keeps one in its registers, from portion to portion, while the heap is collected.
 
-use crews::same::same;
-use crews::team::{CELL, Job, POLICY, all_work, is_sound, shared_heap};
+use crate::same::{is_sound, same};
+use crews::team::{CELL, Job, POLICY, all_work, shared_heap};
 use model::Refusal;
 use portions::{MutatorCalls, Seats, SharedHeap, ThreadSeat};
 use std::alloc::Global;

@@ -1,7 +1,7 @@
 //! Heaps are shared, and aren't any more.
 
+use crate::same::same;
 use collecting::Holding;
-use crews::same::same;
 use crews::team::{CELL, POLICY, heap_of, opened, shared_heap};
 use managed::ManagedHeap;
 use model::Refusal;

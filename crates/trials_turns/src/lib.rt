@@ -4,4 +4,6 @@
 #[cfg(test)]
 mod parked;
 #[cfg(test)]
+mod same;
+#[cfg(test)]
 mod turns;

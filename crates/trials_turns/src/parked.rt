@@ -1,7 +1,7 @@
 //! Threads between their portions: collections wait for none of them, and change nothing that they keep.
 
-use crews::same::same;
-use crews::team::{CELL, POLICY, is_sound, shared_heap};
+use crate::same::{is_sound, same};
+use crews::team::{CELL, POLICY, shared_heap};
 use model::Refusal;
 use portions::{CollectorSeat, MutatorCalls, Seats, SharedHeap, ThreadSeat};
 use std::alloc::Global;

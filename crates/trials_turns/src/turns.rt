@@ -1,6 +1,6 @@
 //! Who has the heap: a thread that rests hands it on, and the collector takes its turns.
 
-use crews::same::same;
+use crate::same::same;
 use crews::team::{CELL, Job, POLICY, all_work, shared_heap};
 use model::Refusal;
 use portions::{Mutator, MutatorCalls, Seats, SharedHeap, ThreadSeat};

@@ -1,7 +1,7 @@
 //! Views: the whole heap is read in each phase of a collection, by several threads at once.
 
-use crews::same::same;
-use crews::team::{CELL, Job, POLICY, all_work, is_sound, shared_heap};
+use crate::same::{is_sound, same};
+use crews::team::{CELL, Job, POLICY, all_work, shared_heap};
 use model::Refusal;
 use portions::{CollectorSeat, Handle, MutatorCalls, Seats, SharedHeap, ThreadSeat, View};
 use std::alloc::Global;
