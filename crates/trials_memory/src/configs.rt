@@ -67,17 +67,17 @@ fn greatest(layouts: Layouts) -> Config {
 
 /// One more of each than there may be, from the last to the first of these fields.
 fn exceed(rt: &impl Abort, config: &mut Config) {
-    config.births += 1;
+    config.births = (1 << 56) + 1;
     has_fault(rt, config, Some(ConfigFault::Births));
-    config.globals += 1;
+    config.globals = 65_536;
     has_fault(rt, config, Some(ConfigFault::Globals));
-    config.registers += 1;
+    config.registers = 65_536;
     has_fault(rt, config, Some(ConfigFault::Registers));
-    config.threads += 1;
+    config.threads = 1025;
     has_fault(rt, config, Some(ConfigFault::Threads));
-    config.pages += 1;
+    config.pages = 1_048_576;
     has_fault(rt, config, Some(ConfigFault::Pages));
-    config.frames += 1;
+    config.frames = 1_048_576;
     has_fault(rt, config, Some(ConfigFault::Frames));
 }
 
