@@ -245,19 +245,20 @@ static uint64_t datum(uint32_t thread, uint32_t object, uint32_t index) {
     return value;
 }
 
-/* Objects that nobody keeps are made beside a collection in parts, which ends before frames run out. */
-static void parts_for_buffers(void) {
+/* Objects that nobody keeps, filled or not, are made while the heap is collected in parts, which ends before so few
+ * frames are free that a complete collection is due. */
+static void parts_for_buffers(bool are_filled) {
     const pauseless_policy policy = {.words = 64, .free = 6, .percent = 75, .budget = 4096};
     const uint64_t numbers[] = {1, 2};
     const uint32_t none = 0;
     makes_heap();
     for (int i = 0; i < 900; i++) {
         pauseless_counts counts;
-        if (i % 2 == 0) DONE(pauseless_make(&heap, &policy, 1, 4, 2));
-        else DONE(pauseless_make_with(&heap, &policy, 1, 4, 2, &none, 0, numbers, 2));
-        SAME(datum(1, 4, 1), i % 2 == 0 ? 0 : 2);
+        if (are_filled) DONE(pauseless_make_with(&heap, &policy, 1, 4, 2, &none, 0, numbers, 2));
+        else DONE(pauseless_make(&heap, &policy, 1, 4, 2));
+        SAME(datum(1, 4, 1), are_filled ? 2 : 0);
         DONE(pauseless_count(&heap, &counts));
-        SAME(counts.free > 0, true);
+        SAME(counts.free > 1, true);
     }
     DONE(pauseless_verify(&heap));
     pauseless_free(&heap);
@@ -479,7 +480,8 @@ int main(void) {
     references();
     several_loads();
     several_data();
-    parts_for_buffers();
+    parts_for_buffers(false);
+    parts_for_buffers(true);
     loads_on_the_way();
     globals();
     registers();

@@ -67,29 +67,42 @@ fn only_there(rt: HostRuntime) -> Result<(), Fail> {
     waits(&rt, rt.alloc(), new_heap(rt.alloc(), 8, 16)?)
 }
 
-/// Makes so many objects that nobody keeps, beside a collection in parts. Gives how few frames were free at least.
-fn waste_paced(
-    alloc: Global,
-    heap: &mut impl Framed,
-    free: u32,
-    budget: u32,
-    count: u32,
-) -> Result<u32, Refusal> {
+/// Makes `count` objects that nobody keeps, while the heap is collected in parts. Returns the fewest frames that were
+/// free after one.
+fn waste_paced(alloc: Global, heap: &mut impl Framed, count: u32) -> Result<u32, Refusal> {
     let mut parts = Parts::new(alloc);
     let mut least = u32::MAX;
     for _ in 0..count {
-        heap.make_paced(alloc, &mut parts, policy(free), budget, ME, LOST, 0)?;
+        heap.make_paced(alloc, &mut parts, policy(32), 4096, ME, LOST, 0)?;
         heap.clear_register(ME, LOST)?;
         least = least.min(heap.free_frames());
     }
     Ok(least)
 }
 
-/// Frames are taken while the heap is collected in parts, and some are left when it ends.
+/// The same of objects that are filled.
+fn waste_filled(alloc: Global, heap: &mut impl Framed, count: u32) -> Result<u32, Refusal> {
+    let mut parts = Parts::new(alloc);
+    let mut least = u32::MAX;
+    for _ in 0..count {
+        heap.make_with_paced(alloc, &mut parts, policy(32), 4096, ME, LOST, 0, &[], &[7])?;
+        heap.clear_register(ME, LOST)?;
+        least = least.min(heap.free_frames());
+    }
+    Ok(least)
+}
+
+/// Frames are taken while the heap is collected in parts, which ends while many are left: a complete collection waits
+/// until at most one is.
 fn paces(rt: &impl Abort, alloc: Global, mut heap: impl Framed + Drop) -> Result<(), Fail> {
-    let least = waste_paced(alloc, &mut heap, 32, 4096, 5000)?;
+    let least = waste_paced(alloc, &mut heap, 5000)?;
     assert!(rt;
-        least > 0 && least < 32,
+        least > 8 && least < 32,
+        "{least} frames were free at least"
+    );
+    let least = waste_filled(alloc, &mut heap, 5000)?;
+    assert!(rt;
+        least > 8 && least < 32,
         "{least} frames were free at least"
     );
     Ok(())
