@@ -52,11 +52,13 @@ own_frame s m n f h e k =
 -- the words of a page fill it
 pub words_sized : (s : StoreState) (n : ℕ) (ws : List ℕ) → IsStore s → words_at s n ≡ Some ws → length ws ≡ s.words
 unfolding words_at
-words_sized s n ws h e = by_frame (frame_in (page_at s n)) e
+words_sized s n ws h e = by_frame (frame_in (page_at s n)) refl e
   where
-    by_frame : (o : Option ℕ) → words_in s.frames o ≡ Some ws → length ws ≡ s.words
-    by_frame None k = absurd (cc)
-    by_frame (Some f) k = h.sized.frames f ws k
+    by_frame : (o : Option ℕ) → frame_in (page_at s n) ≡ o → words_in s.frames o ≡ Some ws → length ws ≡ s.words
+    by_frame None a k = absurd (cc)
+    by_frame (Some f) a k =
+        let (i, p, z, at, frame) = page_record s n f a in
+        h.sized.frames f (Some (i + 1)) ws (h.owning.owned i f p at frame) k
 
 -- the words of the changed page
 pub words_changed : (s : StoreState) (n : ℕ) (f : List ℕ → List ℕ) (ws : List ℕ) → words_at s n ≡ Some ws

@@ -6,7 +6,7 @@ use Rattle.model.specs.Stores.{StoreState, take_buffer}
 use Rattle.model.specs.declared.steps.Answer.TheVariants as answers
 use Rattle.model.specs.declared.steps.Refusal.TheVariants as refusals
 use Rattle.model.specs.declared.records.Room.{Room}
-use Rattle.model.specs.declared.records.Room.TheVariants.{NoFrames, NoPages}
+use Rattle.model.specs.declared.records.Room.TheVariants.{NoFrames, NoPages, NoMemory}
 use Rattle.model.specs.Refusing.{Outcome}
 use Rattle.model.specs.States.{HeapState, change_at}
 use Rattle.model.specs.Threads.{set_buffer_of, buffer_in}
@@ -49,6 +49,7 @@ abbrev pub take_result : HeapState → ℕ → Result (StoreState × Buffer) Roo
 take_result h t (Ok x) = Ok (lend_buffer h t x.0 x.1, answers.Lent x.1.page x.1.next)
 take_result h t (Err NoFrames) = Err (refusals.NoFrames 1 0)
 take_result h t (Err NoPages) = Err refusals.NoPages
+take_result h t (Err NoMemory) = Err refusals.Memory
 
 -- the row of Take
 unfoldable pub take_outcome : HeapState → ℕ → ℕ → Outcome

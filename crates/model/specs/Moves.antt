@@ -4,7 +4,7 @@ use Rattle.std.specs.Prelude.{Option, Some, None, slice_set, if◌then◌else◌
 use Rattle.model.specs.declared.records.Forwarding.{Forwarding}
 use Rattle.model.specs.declared.records.Page.{Page}
 use Rattle.model.specs.declared.records.PageState.TheVariants.{Gone}
-use Rattle.model.specs.Stores.{StoreState, page_at, frame_in, words_at, with_words, overlay}
+use Rattle.model.specs.Stores.{StoreState, page_at, frame_in, words_at, with_words, with_empty, overlay}
 use Rattle.model.specs.States.{Reference, HeapState, change_at}
 use Rattle.model.specs.Bits.{with_bit}
 use Rattle.model.specs.Marks.{entry_at}
@@ -71,5 +71,8 @@ with_free owners (Some f) = slice_set owners f None
 
 -- the store after page n gives its memory up: its frame is free at once, and its side array stays
 unfoldable pub with_released : StoreState → ℕ → StoreState
-with_released s n =
-    record s { pages = change_at s.pages (n - 1) set_gone_of; owners = with_free s.owners (frame_in (page_at s n)) }
+with_released s n = record s {
+  pages = change_at s.pages (n - 1) set_gone_of;
+  frames = with_empty s.frames (frame_in (page_at s n));
+  owners = with_free s.owners (frame_in (page_at s n));
+}

@@ -1,5 +1,6 @@
 -- What holds of every store: each frame is the memory of one page, or free.
 use Rattle.std.specs.Prelude.{◌≡◌, ℕ, ◌+◌, ◌≤◌, ◌<◌, true, false, List, length, count_by, is_some, is_none, Some}
+use Rattle.std.specs.Prelude.{None, Option}
 use Rattle.std.specs.Prelude.{slice_get}
 use Rattle.model.specs.declared.limits.TheConstants.{MOST_WORDS, MOST_FRAMES, MOST_PAGES}
 use Rattle.model.specs.declared.records.Page.{Page}
@@ -27,6 +28,11 @@ pub record IsBalanced (s : StoreState) : Type 0 where
   pub frames : count_by (λ p. has_memory p.state) s.pages + count_by is_none s.owners ≡ length s.frames
   pub leaving : count_by (λ p. is_protected p.state) s.pages ≤ length s.frames
 
+-- how many words a frame of this owner has: those of a page, and none where it is free
+abbrev pub owned_size : ℕ → Option ℕ → ℕ
+owned_size words None = 0
+owned_size words (Some n) = words
+
 -- sizes are within their limits, and each list has one element for each thing that it is of
 pub record IsStoreSized (s : StoreState) : Type 0 where
   pub words_low : 0 < s.words
@@ -35,7 +41,8 @@ pub record IsStoreSized (s : StoreState) : Type 0 where
   pub count : s.count ≤ MOST_PAGES
   pub owners : length s.owners ≡ length s.frames
   pub pages : length s.pages ≡ record_count (length s.frames) s.count
-  pub frames : Each s.frames (λ ws. length ws ≡ s.words)
+  pub frames : (f : ℕ) (o : Option ℕ) (ws : List ℕ) → slice_get s.owners f ≡ Some o → slice_get s.frames f ≡ Some ws
+      → length ws ≡ owned_size s.words o
 
 -- what holds of every store
 pub record IsStore (s : StoreState) : Type 0 where

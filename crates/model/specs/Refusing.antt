@@ -37,7 +37,9 @@ abbrev pub DoesOrLacks : HeapState → Result Answer Refusal → HeapState → O
 DoesOrLacks old (Err refusals.Memory) new outcome = new ≡ old
 DoesOrLacks old result new outcome = Does old result new outcome
 
--- a call for this step did what the outcome says; for Protect alone, whose plan takes memory, that may have run out
+-- a call for this step did what the outcome says; for the two that open pages, which take memory, that may have run
+-- out
 abbrev pub DoesStep : HeapState → Step → Result Answer Refusal → HeapState → Outcome → Type 0
+DoesStep old (steps.Take words) result new outcome = DoesOrLacks old result new outcome
 DoesStep old (steps.Protect pages) result new outcome = DoesOrLacks old result new outcome
 DoesStep old step result new outcome = Does old result new outcome

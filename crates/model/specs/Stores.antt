@@ -8,11 +8,11 @@ use Rattle.model.specs.declared.records.PageState.{PageState}
 use Rattle.model.specs.declared.records.PageState.TheVariants.{Unused, Open, Closed, From, Gone}
 use Rattle.model.specs.declared.records.Buffer.{Buffer}
 use Rattle.model.specs.declared.records.Room.{Room}
-use Rattle.model.specs.declared.records.Room.TheVariants.{NoFrames, NoPages}
+use Rattle.model.specs.declared.records.Room.TheVariants.{NoFrames, NoPages, NoMemory}
 
 -- A store: the words of a page, the number of pages, their records, and the frames with their owners.
 -- Page n has its record at n - 1 of pages; a page without a record is unused.
--- Each frame has the words of a page, and at most one owner, the number of a page.
+-- Each frame has at most one owner, the number of a page, and then the words of a page; a free frame has none.
 pub record StoreState : Type 0 where
   pub words : ℕ
   pub count : ℕ
@@ -136,6 +136,11 @@ unused_in count pages None = if nat_lt (length pages) count then Some (length pa
 unfoldable pub unused_page : ℕ → List Page → Option ℕ
 unused_page count pages = unused_in count pages (position (λ p. is_unused p.state) pages)
 
+-- frames, of which one that may be missing has no words any more
+abbrev pub with_empty : List (List ℕ) → Option ℕ → List (List ℕ)
+with_empty frames None = frames
+with_empty frames (Some f) = slice_set frames f []
+
 -- a page that was just opened on frame f
 abbrev pub fresh_page : ℕ → Page
 fresh_page f = record { state = Open; frame = Some f; top = 0 }
@@ -188,6 +193,11 @@ abbrev pub Takes : StoreState → Result Buffer Room → StoreState → Result (
 Takes old (Ok b) new outcome = outcome ≡ Ok (new, b)
 Takes old (Err e) new outcome = (outcome ≡ Err e) × (new ≡ old)
 
+-- the same, or memory ran out, and nothing changed
+abbrev pub TakesOrLacks : StoreState → Result Buffer Room → StoreState → Result (StoreState × Buffer) Room → Type 0
+TakesOrLacks old (Err NoMemory) new outcome = new ≡ old
+TakesOrLacks old result new outcome = Takes old result new outcome
+
 -- pages after a mark
 
 -- a page after a mark: an open one without a lent buffer closes (ours), and a protected one is unused again (the
@@ -207,10 +217,24 @@ abbrev pub owner_after_mark : StoreState → Option ℕ → Option ℕ
 owner_after_mark s None = None
 owner_after_mark s (Some n) = if is_protected (state_at s n) then None else Some n
 
+-- the words of a frame that has this owner
+abbrev pub words_owned : Option ℕ → List ℕ → List ℕ
+words_owned None ws = []
+words_owned (Some n) ws = ws
+
+-- the words of frames that have these owners
+abbrev pub frames_owned : List (Option ℕ) → List (List ℕ) → List (List ℕ)
+frames_owned [] frames = frames
+frames_owned (o ∷ os) [] = []
+frames_owned (o ∷ os) (ws ∷ frames) = words_owned o ws ∷ frames_owned os frames
+
 -- the store after a mark
 unfoldable pub store_after_mark : (ℕ → Bool) → StoreState → StoreState
-store_after_mark lent s =
-    record s { pages = pages_after_mark lent 1 s.pages; owners = map (owner_after_mark s) s.owners }
+store_after_mark lent s = record s {
+  pages = pages_after_mark lent 1 s.pages;
+  frames = frames_owned (map (owner_after_mark s) s.owners) s.frames;
+  owners = map (owner_after_mark s) s.owners;
+}
 
 -- a store as it begins
 
@@ -222,12 +246,12 @@ blank_page = record { state = Unused; frame = None; top = 0 }
 abbrev pub record_count : ℕ → ℕ → ℕ
 record_count frames pages = if nat_le pages (2 * frames) then pages else 2 * frames
 
--- all pages unused, all frames free
+-- all pages unused, all frames free and without words
 unfoldable pub first_store : ℕ → ℕ → ℕ → StoreState
 first_store words frames pages = record {
   words = words;
   count = pages;
   pages = replicate (record_count frames pages) blank_page;
-  frames = replicate frames (replicate words 0);
+  frames = replicate frames [];
   owners = replicate frames None;
 }

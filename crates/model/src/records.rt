@@ -51,6 +51,8 @@ pub enum Room {
     NoFrames,
     /// No page has room, and no page number is unused.
     NoPages,
+    /// No page has room, and memory for a fresh one was refused.
+    NoMemory,
 }
 
 /// Where the collector is in its cycle (the paper's phases, with their checkpoints). The paper's
