@@ -3,6 +3,7 @@ use Rattle.std.proofs.Common.{◌≡◌, ◌≢◌, ◌⊎◌, inl, inr, ℕ, ze
 use Rattle.std.proofs.Common.{cond, List, [], ◌∷◌, map, length, Option, Some, None, set, refl, sym, ◌∙◌, ap, subst}
 use Rattle.std.proofs.Common.{arith}
 use Rattle.std.specs.List.{slice_get}
+use Rattle.std.specs.Option.{option_and_then}
 use Rattle.std.proofs.Math.ListN.{length-set}
 use Rattle.std.proofs.lemmas.Option.{same_Some, none-some, slice_get_within}
 use Rattle.std.proofs.lemmas.Bool.{cases_eq}
@@ -11,11 +12,11 @@ use Rattle.model.specs.declared.records.PageState.{PageState}
 use Rattle.model.specs.declared.records.PageState.TheVariants.{Unused, Open, Closed, From, Gone}
 use Rattle.model.specs.declared.records.Buffer.{Buffer}
 use Rattle.model.specs.Stores.{StoreState, is_protected, is_open, state_at, state_in, page_after_mark, pages_after_mark}
-use Rattle.model.specs.Stores.{owner_after_mark, store_after_mark}
+use Rattle.model.specs.Stores.{owner_after_mark, store_after_mark, frames_owned, words_owned, with_empty}
 use Rattle.model.specs.States.{change_at, change_found}
-use Rattle.model.specs.Owning.{Each, IsStore, LiesIn, AreSized, NoneProtected}
+use Rattle.model.specs.Owning.{Each, IsStore, LiesIn, AreSized, NoneProtected, owned_size}
 use Rattle.model.proofs.Lists.{get_set, get_set_same, get_set_other}
-use Rattle.page.specs.Ending.{with_mark_ended_at}
+use Rattle.page.specs.Ending.{with_mark_ended_at, given_up}
 use Rattle.page.proofs.Keeping.{page_at_record}
 use Rattle.page.proofs.Lying.{lies_at, lies_by}
 use Rattle.page.proofs.Retiring.{retired_page, closed_page, kept_at, closed_at, retired_gone_at, retired_from_at}
@@ -207,7 +208,11 @@ ended_owners s i lent h = by_page (slice_get s.pages i) refl
         (owners_gone s i p h e frame (record s { pages = set s.pages i (retired_page p) }) refl refl)
     by_frame p e protected lent (Some g) frame = subst (LeavesAlike s) (retired_from_at s i g lent p e frame protected)
         (owners_from s i p h e g frame protected
-        (record s { pages = set s.pages i (retired_page p); owners = set s.owners g None }) refl refl)
+        (record s {
+          pages = set s.pages i (retired_page p);
+          frames = set s.frames g [];
+          owners = set s.owners g None;
+        }) refl refl)
 
     by_state : (p : Page) → slice_get s.pages i ≡ Some p → (x : PageState) → p.state ≡ x → (lent : Bool)
         → LeavesAlike s (with_mark_ended_at s i lent)
@@ -227,6 +232,76 @@ ended_owners s i lent h = by_page (slice_get s.pages i) refl
     by_page None e = subst (LeavesAlike s) (sym (missing_at s i lent e)) refl
     by_page (Some p) e = by_state p e p.state refl lent
 
+-- frames
+
+-- a frame that will be free may lose its words before
+owned_empty : (os : List (Option ℕ)) (frames : List (List ℕ)) (g : ℕ) → slice_get os g ≡ Some None
+    → frames_owned os (set frames g []) ≡ frames_owned os frames
+owned_empty [] frames g e = absurd (cc)
+owned_empty (o ∷ os) [] g e = refl
+owned_empty (o ∷ os) (ws ∷ frames) zero e =
+    let free : o ≡ None = same_Some _ _ e in
+    ap (λ x. words_owned x [] ∷ frames_owned os frames) free
+    ∙ sym (ap (λ x. words_owned x ws ∷ frames_owned os frames) free)
+owned_empty (o ∷ os) (ws ∷ frames) (suc g) e = ap (λ fs. words_owned o ws ∷ fs) (owned_empty os frames g e)
+
+-- frames stay that have words only where they have owners
+owned_same : (words : ℕ) (os : List (Option ℕ)) (frames : List (List ℕ)) → ((f : ℕ) (o : Option ℕ) (ws : List ℕ)
+    → slice_get os f ≡ Some o → slice_get frames f ≡ Some ws → length ws ≡ owned_size words o)
+    → frames_owned os frames ≡ frames
+owned_same words [] frames h = refl
+owned_same words (o ∷ os) [] h = refl
+owned_same words (o ∷ os) (ws ∷ frames) h =
+    ap (λ x. x ∷ frames_owned os frames) (here o ws (h zero o ws refl refl))
+    ∙ ap (λ fs. ws ∷ fs) (owned_same words os frames (λ f q xs a b. h (suc f) q xs a b))
+  where
+    here : (o : Option ℕ) (ws : List ℕ) → length ws ≡ owned_size words o → words_owned o ws ≡ ws
+    here None [] e = refl
+    here None (x ∷ xs) e = absurd (cc)
+    here (Some n) ws e = refl
+
+length_owned : (os : List (Option ℕ)) (frames : List (List ℕ)) → length (frames_owned os frames) ≡ length frames
+length_owned [] frames = refl
+length_owned (o ∷ os) [] = refl
+length_owned (o ∷ os) (ws ∷ frames) = ap suc (length_owned os frames)
+
+get_map : {X Y : Type 0} (f : X → Y) (xs : List X) (i : ℕ) (x : X) → slice_get xs i ≡ Some x
+    → slice_get (map f xs) i ≡ Some (f x)
+get_map f [] i x e = absurd (cc)
+get_map f (y ∷ ys) zero x e = ap (λ z. Some (f z)) (same_Some _ _ e)
+get_map f (y ∷ ys) (suc i) x e = get_map f ys i x e
+
+-- a frame that a page gives up is free after the mark
+given_free : (s : StoreState) (i g : ℕ) (p : Page) → IsStore s → slice_get s.pages i ≡ Some p → given_up p ≡ Some g
+    → slice_get (map (owner_after_mark s) s.owners) g ≡ Some None
+given_free s i g p h at e = by_test (is_protected p.state) refl e
+  where
+    by_test : (b : Bool) → is_protected p.state ≡ b → cond b p.frame None ≡ Some g
+        → slice_get (map (owner_after_mark s) s.owners) g ≡ Some None
+    by_test false a k = absurd (cc)
+    by_test true a k = get_map (owner_after_mark s) s.owners g (Some (i + 1)) (h.owning.owned i g p at k)
+        ∙ ap Some (ap (λ x. owner_if (i + 1) (is_protected x)) (page_at_number s i ∙ ap state_in at)
+        ∙ ap (owner_if (i + 1)) a)
+
+-- what frames are after a mark is the same before and after it came to a page
+ended_frames : (s : StoreState) (i : ℕ) → IsStore s
+    → frames_owned (map (owner_after_mark s) s.owners)
+    (with_empty s.frames (option_and_then given_up (slice_get s.pages i)))
+    ≡ frames_owned (map (owner_after_mark s) s.owners) s.frames
+ended_frames s i h = by_page (slice_get s.pages i) refl
+  where
+    by_frame : (p : Page) → slice_get s.pages i ≡ Some p → (o : Option ℕ) → given_up p ≡ o
+        → frames_owned (map (owner_after_mark s) s.owners) (with_empty s.frames o)
+        ≡ frames_owned (map (owner_after_mark s) s.owners) s.frames
+    by_frame p at None e = refl
+    by_frame p at (Some g) e = owned_empty _ s.frames g (given_free s i g p h at e)
+
+    by_page : (o : Option Page) → slice_get s.pages i ≡ o
+        → frames_owned (map (owner_after_mark s) s.owners) (with_empty s.frames (option_and_then given_up o))
+        ≡ frames_owned (map (owner_after_mark s) s.owners) s.frames
+    by_page None at = refl
+    by_page (Some p) at = by_frame p at (given_up p) refl
+
 -- a mark's end may come to a page before it comes to all
 pub ended_step : (s : StoreState) (lent : ℕ → Bool) (i : ℕ) → IsStore s
     → store_after_mark lent (with_mark_ended_at s i (lent (i + 1))) ≡ store_after_mark lent s
@@ -234,7 +309,9 @@ unfolding store_after_mark with_mark_ended_at
 ended_step s lent i h =
     let pages = pages_again lent 1 (i + 1) s.pages i (omega arith) in
     let owners = ended_owners s i (lent (i + 1)) h in
-    λ z. record s { pages = pages z; owners = owners z }
+    let frames = ap (λ os. frames_owned os (with_empty s.frames
+    (option_and_then given_up (slice_get s.pages i)))) owners ∙ ended_frames s i h in
+    λ z. record s { pages = pages z; frames = frames z; owners = owners z }
 
 -- where it came to all pages, it is done
 pub ended_all : (s : StoreState) (lent : ℕ → Bool) (i : ℕ) → IsStore s → length s.pages ≤ i → AreEnded lent i s
@@ -243,7 +320,9 @@ unfolding store_after_mark
 ended_all s lent i h k all =
     let pages = pages_stay lent 1 s.pages (λ j k p a e. ended_at j k p (omega (arith, a)) e) in
     let owners = map_same (owner_after_mark s) s.owners (λ f o e. by_owner_of f o e) in
-    λ z. record s { pages = pages z; owners = owners z }
+    let frames = ap (λ os. frames_owned os s.frames) owners
+    ∙ owned_same s.words s.owners s.frames h.sized.frames in
+    λ z. record s { pages = pages z; frames = frames z; owners = owners z }
   where
     ended_at : (j m : ℕ) (p : Page) → m ≡ j + 1 → slice_get s.pages j ≡ Some p → page_after_mark (lent m) p ≡ p
     ended_at j m p a e = let within = slice_get_within s.pages j p e in rw a (all j p (omega (arith, within)) e)
@@ -330,7 +409,8 @@ ended_shut s i lent e = ap (λ b. with_mark_ended_at s i (b && lent)) (sym e) �
 -- the sizes stay
 pub ended_sized : (s : StoreState) (lent : ℕ → Bool) → AreSized s (store_after_mark lent s)
 unfolding store_after_mark
-ended_sized s lent = record { words = refl; count = refl; frames = refl }
+ended_sized s lent =
+    record { words = refl; count = refl; frames = length_owned (map (owner_after_mark s) s.owners) s.frames }
 
 -- buffers lie where they did, if their pages count as lent
 pub ended_lies : (s : StoreState) (lent : ℕ → Bool) (b : Buffer) → lent b.page ≡ true → LiesIn s b

@@ -1,5 +1,5 @@
 -- What is done to a store keeps its invariant.
-use Rattle.std.proofs.Common.{◌≡◌, ◌≢◌, ◌⊎◌, inl, inr, ℕ, zero, ◌+◌, ◌*◌, ◌-◌, ◌<◌, ◌≤◌, true, false, ◌||◌, List}
+use Rattle.std.proofs.Common.{◌≡◌, ◌≢◌, ◌⊎◌, inl, inr, ℕ, zero, ◌+◌, ◌*◌, ◌-◌, ◌<◌, ◌≤◌, true, false, ◌||◌, List, []}
 use Rattle.std.proofs.Common.{take, drop, length, length-drop, Option, Some, None, is_some, is_none, replicate}
 use Rattle.std.proofs.Common.{set, count_by, cond, position, ne_eqb, nat_lt, refl, sym, ◌∙◌, ap, arith, rules}
 use Rattle.std.specs.List.{slice_get}
@@ -16,7 +16,7 @@ use Rattle.model.specs.declared.records.PageState.TheVariants.{Unused, Open, Clo
 use Rattle.model.specs.Stores.{StoreState, has_memory, is_protected, is_open, is_unused, page_at, state_in}
 use Rattle.model.specs.Stores.{frame_in, record_count, fresh_page, open_fresh, first_store, blank_page}
 use Rattle.model.specs.Stores.{unused_page, unused_in, give_words, buffer_of, with_words, top_in, words_at}
-use Rattle.model.specs.Owning.{IsPage, IsStore}
+use Rattle.model.specs.Owning.{IsPage, IsStore, owned_size}
 use Rattle.model.proofs.Lists.{get_set, get_set_same, get_set_other, each_set}
 use Rattle.model.proofs.Lists.{each_replicate, get_replicate, count_set, count_replicate}
 use Rattle.model.proofs.Lists.{position_none, length_counted, get_within, as_number, no_some}
@@ -36,10 +36,35 @@ used_is Gone e = refl
 none_below : (a b : ℕ) → b ≤ a → cond (nat_lt a b) (Some a) None ≡ None
 none_below a b h = grind (arith, nat_tests)
 
+-- a frame gets an owner, or is free, and has its words
+pub sized_by : (s : StoreState) (f : ℕ) (o : Option ℕ) (ws : List ℕ) → IsStore s → length ws ≡ owned_size s.words o
+    → (k : ℕ) (q : Option ℕ) (xs : List ℕ) → slice_get (set s.owners f o) k ≡ Some q
+    → slice_get (set s.frames f ws) k ≡ Some xs → length xs ≡ owned_size s.words q
+sized_by s f o ws h e k q xs a b = by_both (get_set s.owners f k o q a) (get_set s.frames f k ws xs b)
+  where
+    by_both : ((k ≡ f) × (o ≡ q)) ⊎ ((k ≢ f) × (slice_get s.owners k ≡ Some q))
+        → ((k ≡ f) × (ws ≡ xs)) ⊎ ((k ≢ f) × (slice_get s.frames k ≡ Some xs)) → length xs ≡ owned_size s.words q
+    by_both (inl x) (inl y) = ap length (sym y.1) ∙ e ∙ ap (owned_size s.words) x.1
+    by_both (inl x) (inr y) = absurd (y.0 x.0)
+    by_both (inr x) (inl y) = absurd (x.0 y.0)
+    by_both (inr x) (inr y) = h.sized.frames k q xs x.1 y.1
+
+-- no frame has more words than a page
+pub frame_short : (s : StoreState) (f : ℕ) (ws : List ℕ) → IsStore s → slice_get s.frames f ≡ Some ws
+    → length ws ≤ s.words
+frame_short s f ws h e =
+    let o = get_within s.owners f (rw h.sized.owners (slice_get_within s.frames f ws e)) in
+    by_owner o.0 (h.sized.frames f o.0 ws o.1 e)
+  where
+    by_owner : (o : Option ℕ) → length ws ≡ owned_size s.words o → length ws ≤ s.words
+    by_owner None k = omega (arith, k)
+    by_owner (Some n) k = omega (arith, k)
+
 -- a frame gets other words, as many as before
-pub frame_keeps : (s : StoreState) (f : ℕ) (ws : List ℕ) → IsStore s → length ws ≡ s.words
+pub frame_keeps : (s : StoreState) (f : ℕ) (old ws : List ℕ) → IsStore s → slice_get s.frames f ≡ Some old
+    → length ws ≡ length old
     → IsStore (record s { frames = set s.frames f ws })
-frame_keeps s f ws h e =
+frame_keeps s f old ws h at e =
     let same : length (set s.frames f ws) ≡ length s.frames = simp length-set in
     record {
       sized = record {
@@ -49,12 +74,17 @@ frame_keeps s f ws h e =
         count = h.sized.count;
         owners = h.sized.owners ∙ sym same;
         pages = h.sized.pages ∙ ap (λ n. record_count n s.count) (sym same);
-        frames = each_set (λ xs. length xs ≡ s.words) s.frames f ws h.sized.frames e;
+        frames = λ k o xs a b. sized k o xs a (get_set s.frames f k ws xs b);
       };
       pages = h.pages;
       owning = record { owned = h.owning.owned; owner = h.owning.owner };
       balanced = record { frames = h.balanced.frames ∙ sym same; leaving = rw same h.balanced.leaving };
     }
+  where
+    sized : (k : ℕ) (o : Option ℕ) (xs : List ℕ) → slice_get s.owners k ≡ Some o
+        → ((k ≡ f) × (ws ≡ xs)) ⊎ ((k ≢ f) × (slice_get s.frames k ≡ Some xs)) → length xs ≡ owned_size s.words o
+    sized k o xs a (inl b) = ap length (sym b.1) ∙ e ∙ h.sized.frames f o old (rw (sym b.0) a) at
+    sized k o xs a (inr b) = h.sized.frames k o xs a b.1
 
 -- a page's record becomes another one, with the same frame, and with memory if it had some
 pub record_keeps : (s : StoreState) (i : ℕ) (p q : Page) → IsStore s → slice_get s.pages i ≡ Some p → q.frame ≡ p.frame
@@ -149,8 +179,7 @@ open_keeps s i f p h e u g =
         count = h.sized.count;
         owners = owners_same ∙ h.sized.owners ∙ sym frames_same;
         pages = pages_same ∙ h.sized.pages ∙ ap (λ n. record_count n s.count) (sym frames_same);
-        frames = each_set (λ xs. length xs ≡ s.words) s.frames f (replicate s.words 0) h.sized.frames
-            (simp length-replicate);
+        frames = sized_by s f (Some (i + 1)) (replicate s.words 0) h (simp length-replicate);
       };
       pages = each_set (IsPage s.words) s.pages i (fresh_page f) h.pages (record { memory = refl; top = omega arith });
       owning = record {
@@ -213,7 +242,7 @@ pub first_is_store : (words frames pages : ℕ) → 0 < words → words ≤ MOST
     → IsStore (first_store words frames pages)
 unfolding first_store
 first_is_store words frames pages low high frames_high pages_high =
-    let frame_count : length (replicate {A = List ℕ} frames (replicate words 0)) ≡ frames = simp length-replicate in
+    let frame_count : length (replicate {A = List ℕ} frames []) ≡ frames = simp length-replicate in
     let n = record_count frames pages in
     record {
       sized = record {
@@ -223,7 +252,8 @@ first_is_store words frames pages low high frames_high pages_high =
         count = pages_high;
         owners = simp length-replicate;
         pages = simp length-replicate;
-        frames = each_replicate (λ xs. length xs ≡ words) frames (replicate words 0) (simp length-replicate);
+        frames = λ f o ws a b. ap length (sym (get_replicate frames [] f ws b))
+            ∙ ap (owned_size words) (get_replicate frames None f o a);
       };
       pages = each_replicate (IsPage words) n blank_page (record { memory = refl; top = omega arith });
       owning = record {
@@ -382,7 +412,7 @@ some_is (Some x) f e = search rules
 pub first_inside : (words frames pages : ℕ) (ps : List Page) (fs : List (List ℕ)) (os : List (Option ℕ)) → 0 < words
     → words ≤ MOST_WORDS → frames ≤ MOST_FRAMES → pages ≤ MOST_PAGES
     → ps ≡ replicate (record_count frames pages) blank_page
-    → fs ≡ replicate frames (replicate words 0) → os ≡ replicate frames None
+    → fs ≡ replicate frames [] → os ≡ replicate frames None
     → IsStore (record { words = words; count = pages; pages = ps; frames = fs; owners = os })
 unfolding first_store
 first_inside words frames pages ps fs os low high frames_high pages_high p f o =

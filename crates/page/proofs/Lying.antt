@@ -19,7 +19,7 @@ use Rattle.model.specs.declared.records.Room.TheVariants.{NoFrames, NoPages}
 use Rattle.model.specs.declared.records.Buffer.{Buffer}
 use Rattle.model.specs.Stores.{StoreState, is_open, is_unused, is_protected, state_in, open_fresh, give_words}
 use Rattle.model.specs.Stores.{buffer_of}
-use Rattle.model.specs.Stores.{Takes, with_words, with_word, fresh_page, take_buffer}
+use Rattle.model.specs.Stores.{Takes, TakesOrLacks, with_words, with_word, fresh_page, take_buffer}
 use Rattle.model.specs.Stores.{page_with_room, free_frame, unused_page, record_count, take_fresh, take_at}
 use Rattle.model.specs.Protections.{take_target}
 use Rattle.model.specs.Owning.{IsStore, LiesIn, AreSized, TakesWell, NoneProtected}
@@ -189,7 +189,7 @@ target_by s t (Ok b) h e = fresh_well s t s.words b h (omega arith) e
 target_by s t (Err x) h e = search rules
 
 pub takes_by : (s t : StoreState) (n : ℕ) (r : Result Buffer Room) → IsStore s → 0 < n → n ≤ s.words
-    → Takes s r t (take_buffer s n) → IfOk r (TakesWell s t)
+    → TakesOrLacks s r t (take_buffer s n) → IfOk r (TakesWell s t)
 takes_by s t n (Ok b) h low high e = takes_well s t n b h low high e
 takes_by s t n (Err x) h low high e = search rules
 

@@ -56,7 +56,11 @@ protect_keeps s i p h e closed kept =
 
 pub release_keeps : (s : StoreState) (i g : ℕ) (p : Page) → IsStore s → slice_get s.pages i ≡ Some p
     → p.state ≡ From → p.frame ≡ Some g
-    → IsStore (record s { pages = set s.pages i (set_gone_of p); owners = set s.owners g None })
+    → IsStore (record s {
+      pages = set s.pages i (set_gone_of p);
+      frames = set s.frames g [];
+      owners = set s.owners g None;
+    })
 release_keeps s i g p h e from frame = freed_keeps s i g p (set_gone_of p) h e frame refl refl (h.pages i p e).top
     (omega (
       arith,

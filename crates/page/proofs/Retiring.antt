@@ -9,13 +9,13 @@ use Rattle.model.specs.declared.limits.TheConstants.{MOST_FRAMES}
 use Rattle.model.specs.declared.records.Page.{Page}
 use Rattle.model.specs.declared.records.PageState.{PageState}
 use Rattle.model.specs.declared.records.PageState.TheVariants.{Unused, Open, Closed, From, Gone}
-use Rattle.model.specs.Stores.{StoreState, has_memory, is_protected, is_open, is_unused, state_in}
+use Rattle.model.specs.Stores.{StoreState, has_memory, is_protected, is_open, is_unused, state_in, record_count}
 use Rattle.model.specs.Owning.{IsPage, IsStore}
 use Rattle.model.proofs.Lists.{get_within, get_set, get_set_other, each_set, count_set, as_number}
 use Rattle.page.specs.Ending.{with_mark_ended_at}
 use Rattle.page.specs.Views.{left_in}
 use Rattle.page.proofs.Found.{count_owned}
-use Rattle.page.proofs.Keeping.{page_keeps}
+use Rattle.page.proofs.Keeping.{page_keeps, sized_by}
 
 -- a page that is unused again
 abbrev pub retired_page : Page → Page
@@ -96,8 +96,9 @@ retire_gone_keeps s i p h e none protected =
 pub freed_keeps : (s : StoreState) (i g : ℕ) (p q : Page) → IsStore s → slice_get s.pages i ≡ Some p
     → p.frame ≡ Some g → q.frame ≡ None → has_memory q.state ≡ false → q.top ≤ s.words
     → count_by (λ x. is_protected x.state) (set s.pages i q) ≤ length s.frames
-    → IsStore (record s { pages = set s.pages i q; owners = set s.owners g None })
+    → IsStore (record s { pages = set s.pages i q; frames = set s.frames g []; owners = set s.owners g None })
 freed_keeps s i g p q h e frame none empty top leaving =
+    let frames_same : length (set s.frames g []) ≡ length s.frames = simp length-set in
     let pages_same : length (set s.pages i q) ≡ length s.pages = simp length-set in
     let owners_same : length (set s.owners g None) ≡ length s.owners = simp length-set in
     let memory : has_memory p.state ≡ true = sym (h.pages i p e).memory ∙ ap is_some frame in
@@ -105,11 +106,11 @@ freed_keeps s i g p q h e frame none empty top leaving =
       sized = record {
         words_low = h.sized.words_low;
         words = h.sized.words;
-        frame_count = h.sized.frame_count;
+        frame_count = rw frames_same h.sized.frame_count;
         count = h.sized.count;
-        owners = owners_same ∙ h.sized.owners;
-        pages = pages_same ∙ h.sized.pages;
-        frames = h.sized.frames;
+        owners = owners_same ∙ h.sized.owners ∙ sym frames_same;
+        pages = pages_same ∙ h.sized.pages ∙ ap (λ n. record_count n s.count) (sym frames_same);
+        frames = sized_by s g None [] h refl;
       };
       pages = each_set (IsPage s.words) s.pages i q h.pages
           (record { memory = ap is_some none ∙ sym empty; top = top });
@@ -118,15 +119,15 @@ freed_keeps s i g p q h e frame none empty top leaving =
         owner = λ f n a. owner f n (get_set s.owners g f None (Some n) a);
       };
       balanced = record {
-        frames = omega (
+        frames = rw frames_same (omega (
           arith,
           h.balanced.frames,
           count_set (λ x. has_memory x.state) s.pages i p q e,
           count_set is_none s.owners g (Some (i + 1)) None owns,
           ap as_number memory,
           ap as_number empty,
-        );
-        leaving = leaving;
+        ));
+        leaving = rw frames_same leaving;
       };
     }
   where
@@ -163,7 +164,11 @@ freed_keeps s i g p q h e frame none empty top leaving =
 -- a page with a frame is unused again, and its frame is free
 pub retire_from_keeps : (s : StoreState) (i g : ℕ) (p : Page) → IsStore s → slice_get s.pages i ≡ Some p
     → p.frame ≡ Some g → is_protected p.state ≡ true
-    → IsStore (record s { pages = set s.pages i (retired_page p); owners = set s.owners g None })
+    → IsStore (record s {
+      pages = set s.pages i (retired_page p);
+      frames = set s.frames g [];
+      owners = set s.owners g None;
+    })
 retire_from_keeps s i g p h e frame protected = freed_keeps s i g p (retired_page p) h e frame refl refl
     (h.pages i p e).top
     (omega (arith, h.balanced.leaving, count_set (λ x. is_protected x.state) s.pages i p (retired_page p) e))
@@ -186,7 +191,11 @@ retired_gone_at s i lent p e none protected = rw (e, protected, none) refl
 
 pub retired_from_at : (s : StoreState) (i g : ℕ) (lent : Bool) (p : Page) → slice_get s.pages i ≡ Some p
     → p.frame ≡ Some g → is_protected p.state ≡ true
-    → record s { pages = set s.pages i (retired_page p); owners = set s.owners g None } ≡ with_mark_ended_at s i lent
+    → record s {
+      pages = set s.pages i (retired_page p);
+      frames = set s.frames g [];
+      owners = set s.owners g None;
+    } ≡ with_mark_ended_at s i lent
 unfolding with_mark_ended_at
 retired_from_at s i g lent p e frame protected = rw (e, protected, frame) refl
 

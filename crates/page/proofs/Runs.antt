@@ -154,7 +154,7 @@ words_keep s n f same h = by_frame (frame_in (page_at s n))
     by_words : (i : ℕ) (o : Option (List ℕ)) → slice_get s.frames i ≡ o
         → IsStore (record s { frames = changed_frame s.frames i o f })
     by_words i None z = h
-    by_words i (Some ws) z = frame_keeps s i (f ws) h (same ws ∙ h.sized.frames i ws z)
+    by_words i (Some ws) z = frame_keeps s i ws (f ws) h z (same ws)
 
     by_frame : (o : Option ℕ) → IsStore (record s { frames = changed_in s.frames o f })
     by_frame None = h

@@ -20,6 +20,7 @@ use Rattle.refword.specs.Words.{IsAddress}
 use Rattle.page.specs.Usable.{usable_by_number, usable_frame, usable_in}
 use Rattle.page.proofs.Behind.{further_on, same_page, spot_behind}
 use Rattle.page.proofs.Indexes.{copies_mapped, length_mapped, set_mapped}
+use Rattle.page.proofs.Keeping.{frame_short}
 use Rattle.page.proofs.Retiring.{closed_page}
 use Rattle.page.proofs.Runs.{frame_there, words_keep}
 
@@ -122,7 +123,7 @@ on_frame s f o k low h = by_frame (slice_get s.frames f) refl h
   where
     by_frame : (x : Option (List ℕ)) → slice_get s.frames f ≡ x → IfSome x (λ ws. o < length ws) → o < s.words
     by_frame None e l = absurd (none_there s.frames f low e)
-    by_frame (Some ws) e l = omega (arith, k.sized.frames f ws e, l)
+    by_frame (Some ws) e l = omega (arith, frame_short s f ws k e, l)
 
 -- what is found on the frame of a usable page is the word behind the address
 pub usable_read : (s : StoreState) (a k f o : ℕ) (r : Option ℕ) → IsStore s → usable_frame s (a / s.words) ≡ Some f
@@ -138,7 +139,7 @@ usable_read s a k f o (Some v) st h e w = usable_word s a k f h near ∙ there
         → option_and_then (λ ws. slice_get ws (a % s.words + k)) x ≡ Some v → a % s.words + k < s.words
     by_frame None p q = absurd (cc)
     by_frame (Some ws) p q =
-        omega (arith, st.sized.frames f ws p, slice_get_within ws (a % s.words + k) v q)
+        omega (arith, frame_short s f ws st p, slice_get_within ws (a % s.words + k) v q)
 
     near : a % s.words + k < s.words
     near = by_frame (slice_get s.frames f) refl there

@@ -1,7 +1,7 @@
 //! All frames of a store, of which two can be lent at once.
 
 ghost use Rattle.std.specs.Prelude.{◌≡◌, ◌≢◌, ◌≤◌, ◌<◌, length, slice_get, slice_set, replicate, IfOk, IfSome, Some};
-ghost use Rattle.std.specs.Prelude.{if◌then◌else◌, true};
+ghost use Rattle.std.specs.Prelude.{if◌then◌else◌, true, []};
 ghost use Rattle.std.specs.Option.{option_copied};
 ghost use Rattle.std.specs.Borrow.{sem};
 ghost use Rattle.model.specs.Stores.{changed_in, word_in};
@@ -12,16 +12,21 @@ use crate::frame::Frame;
 use std::alloc::{AllocError, Global};
 use std::marker::Model;
 
-/// The frames, by number from 0. One of them may be held aside, so that it is read while another is
-/// written: this takes no time and no memory, and shows in no contract. It comes back to its place
-/// when the next frame is lent. Until then an empty frame stands there, so who looks for a word asks
-/// whether a frame is aside only where there is none.
+/// The frames, by number from 0; a free one has no words. One of them may be held aside, so that it is
+/// read while another is written: this takes no time and no memory, and shows in no contract. It comes
+/// back to its place when the next frame is lent. Until then an empty frame stands there, so who looks
+/// for a word asks whether a frame is aside only where there is none.
+///
+/// The memory of a frame that became free is kept for the next one that is used, and shows in no
+/// contract either, until `trim` gives it back.
 #[derive(Drop)]
 pub struct Frames {
     held: Frame,
     /// The number of the frame that is held; none, where there is no such number.
     held_at: usize,
     frames: Vec<Frame, Global>,
+    /// Memory of frames that became free.
+    kept: Vec<Frame, Global>,
 }
 
 impl Model for Frames {
@@ -35,13 +40,13 @@ impl Model for Frames {
     ghost invariant = { λ s. left_in s.frames.items s.held_at s.held ≡ [] };
 }
 
-/// So many frames of so many words, all 0. Fails only by memory.
-fn blank_frames(alloc: Global, count: u32, words: u32) -> Result<Vec<Frame, Global>, AllocError>
-    ensures { IfOk result (λ v. v.items ≡ replicate count (replicate words 0)) }
+/// So many frames without words. Fails only by memory.
+fn empty_frames(alloc: Global, count: u32) -> Result<Vec<Frame, Global>, AllocError>
+    ensures { IfOk result (λ v. v.items ≡ replicate count []) }
 {
     let mut frames = Vec::with_capacity(alloc, count as usize)?;
     for _frame in 0..count {
-        frames.push(Frame::new(alloc, words)?)?;
+        frames.push(Frame::empty(alloc))?;
     }
     Ok(frames)
 }
@@ -66,15 +71,16 @@ fn take_out(held: &mut Frame, frames: &mut Vec<Frame, Global>, at: usize)
 }
 
 impl Frames {
-    /// So many frames of so many words, all 0. Fails only by memory.
-    pub(crate) fn new(alloc: Global, count: u32, words: u32) -> Result<Frames, AllocError>
-        ensures { IfOk result (λ f. f ≡ replicate count (replicate words 0)) }
+    /// So many frames without words. Fails only by memory.
+    pub(crate) fn new(alloc: Global, count: u32) -> Result<Frames, AllocError>
+        ensures { IfOk result (λ f. f ≡ replicate count []) }
     {
-        let frames = blank_frames(alloc, count, words)?;
+        let frames = empty_frames(alloc, count)?;
         Ok(Frames {
             held: Frame::empty(alloc),
             held_at: frames.len(),
             frames,
+            kept: Vec::new(alloc),
         })
     }
 
@@ -139,6 +145,65 @@ impl Frames {
         ensures { slice_get self.now number ≡ Some result.now }
     {
         self.get(number).unwrap().words()
+    }
+
+    /// Memory for a frame of so many words, all 0: what was kept, else new memory. Fails only by
+    /// memory.
+    pub(crate) fn blank(&mut self, words: u32) -> Result<Frame, AllocError>
+        ensures value { IfOk result (λ f. f ≡ replicate words 0) }
+        ensures stays { self.new ≡ self.old }
+    {
+        if let Some(frame) = self.kept.pop() {
+            let mut frame = frame;
+            if frame.words().len() == words as usize {
+                frame.clear();
+                return Ok(frame);
+            }
+        }
+        Frame::new(*self.frames.allocator(), words)
+    }
+
+    /// How many frames' memory is kept.
+    pub(crate) fn kept(&self) -> usize {
+        self.kept.len()
+    }
+
+    /// Gives kept memory back, but for that of so many frames.
+    pub(crate) fn trim(&mut self, most: usize)
+        ensures { self.new ≡ self.old }
+    {
+        self.kept.truncate(most);
+    }
+
+    /// Puts a frame in the place of another, which it gives.
+    fn exchange(&mut self, number: usize, frame: Frame) -> Frame
+        requires { number < length self.old }
+        ensures { self.new ≡ slice_set self.old number frame }
+    {
+        let at = self.held_at;
+        put_back(&mut self.held, &mut self.frames, at);
+        self.held_at = self.frames.len();
+        let mut other = frame;
+        std::mem::swap(&mut other, &mut self.frames[number]);
+        other
+    }
+
+    /// A frame gets its memory.
+    pub(crate) fn place(&mut self, number: usize, frame: Frame)
+        requires { number < length self.old }
+        ensures { self.new ≡ slice_set self.old number frame }
+    {
+        let _ = self.exchange(number, frame);
+    }
+
+    /// A frame has no words any more. Its memory is kept; where there is no memory to note that, it is given back.
+    pub(crate) fn empty(&mut self, number: usize)
+        requires { number < length self.old }
+        ensures { self.new ≡ slice_set self.old number [] }
+    {
+        let none = Frame::empty(*self.frames.allocator());
+        let frame = self.exchange(number, none);
+        let _ = self.kept.push(frame);
     }
 
     /// Lends a frame to be written.

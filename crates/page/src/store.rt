@@ -77,9 +77,9 @@ pub fn record_count(frames: u32, pages: u32) -> u32
 }
 
 impl Store {
-    /// A store of so many frames and page numbers: all pages unused, all frames free. A page has
-    /// 16 to 32,768 words, a power of two, and there are at most 1,048,575 frames and as many pages.
-    /// Fails only by memory.
+    /// A store of so many frames and page numbers: all pages unused, all frames free, which have memory
+    /// only when they are used. A page has 16 to 32,768 words, a power of two, and there are at most
+    /// 1,048,575 frames and as many pages. Fails only by memory.
     #[tactic(auto, unfolding(model::specs::Stores::first_store))]
     pub fn new(alloc: Global, words: u32, frames: u32, pages: u32) -> Result<Store, AllocError>
         requires page_size { is_page_size words ≡ true }
@@ -101,7 +101,7 @@ impl Store {
             count: pages,
             pages: many(alloc, records, blank)?,
             usable: many(alloc, records + 1, None)?,
-            frames: Frames::new(alloc, frames, words)?,
+            frames: Frames::new(alloc, frames)?,
             owners: many(alloc, frames, None)?,
             free: frames,
             rooms: Tournament::new(alloc, records, 0)?,
@@ -141,14 +141,14 @@ impl Store {
         &self.pages
     }
 
-    /// The number of frames: at most 1,048,575. A frame has the words of a page.
+    /// The number of frames, used and free: at most 1,048,575.
     pub fn frame_count(&self) -> usize
         ensures { result ≡ length self.now.frames }
     {
         self.frames().len()
     }
 
-    /// The frames, by number from 0: at most 1,048,575. Each has the words of a page.
+    /// The frames, by number from 0: at most 1,048,575. Each has the words of a page, or is free and has none.
     pub fn frames(&self) -> &Frames
         ensures { result.now ≡ self.now.frames }
     {

@@ -1,16 +1,19 @@
 //! Buffers: the words that a thread takes to put objects in.
 
 ghost use Rattle.std.specs.Prelude.{◌≡◌, ◌≤◌, ◌<◌, ◌+◌, ◌-◌, length, slice_get, slice_range};
-ghost use Rattle.std.specs.Prelude.{IfOk, IfSome, count_by, is_none, Some, None, true};
+ghost use Rattle.std.specs.Prelude.{IfOk, IfSome, count_by, is_none, Some, None, Err, true, ℕ, replicate};
 ghost use Rattle.std.specs.Borrow.{sem};
-ghost use Rattle.model.specs.Stores.{page_at, state_in, words_at, take_buffer, Takes, give_words, open_fresh, top_in};
+ghost use Rattle.model.specs.Stores.{page_at, state_in, words_at, take_buffer, give_words, open_fresh, top_in};
+ghost use Rattle.model.specs.Stores.{Takes, TakesOrLacks};
 ghost use Rattle.model.specs.Stores.{is_open, page_with_room, free_frame, unused_page, frame_in, take_fresh};
 ghost use Rattle.model.specs.Owning.{LiesIn, TakesWell};
 ghost use Rattle.page.specs.Lending.{LendsPart};
 ghost use Rattle.page.specs.Records.{is_unused_in};
 
+use crate::frame::Frame;
 use crate::store::Store;
 use model::{Buffer, Page, PageState, Room};
+use std::alloc::AllocError;
 
 impl Store {
     /// Lends the free rest of a buffer that lies in an open page, to be written.
@@ -46,13 +49,14 @@ impl Store {
         }
     }
 
-    /// Opens the page of an index on a frame, and makes its words zero.
+    /// Opens the page of an index on a frame, which gets this memory.
     #[tactic(auto, unfolding(model::specs::Stores::open_fresh))]
-    fn open(&mut self, index: usize, frame: usize)
+    fn open(&mut self, index: usize, frame: usize, memory: Frame)
         requires unused { is_unused_in (slice_get self.old.pages index) ≡ true }
         requires page_there { index < length self.old.pages }
         requires free { slice_get self.old.owners frame ≡ Some None }
         requires frame_there { frame < length self.old.owners }
+        requires blank { memory ≡ replicate self.old.words 0 }
         ensures { self.new ≡ open_fresh self.old index frame }
     {
         self.free -= 1;
@@ -66,8 +70,7 @@ impl Store {
         self.rooms.set(index, self.words);
         self.unused.set(index, 0);
         self.spare.set(frame, 0);
-        let words = self.frames.frame_mut(frame);
-        words.clear();
+        self.frames.place(frame, memory);
     }
 
     /// The index of the lowest open page with room for `n` words.
@@ -104,14 +107,14 @@ impl Store {
     /// A buffer of `n` words: in the lowest open page that has room, else in the lowest unused
     /// page, opened on the lowest free frame. `n` is 1 to the words of a page. It finds them
     /// in some 14 steps at most, as many as the number of records has binary digits; where it opens
-    /// a page it also writes the page's words.
+    /// a page it also takes the page's memory, and writes its words.
     ///
-    /// Answers `NoFrames` where no frame is free, else `NoPages` where no page is unused; the
-    /// store is then as it was.
+    /// Answers `NoFrames` where no frame is free, else `NoPages` where no page is unused, else
+    /// `NoMemory` where memory was refused; the store is then as it was.
     pub fn take(&mut self, n: u32) -> Result<Buffer, Room>
         requires low { 0 < n }
         requires high { n ≤ self.old.words }
-        ensures takes { Takes self.old result self.new (take_buffer self.old n) }
+        ensures takes { TakesOrLacks self.old result self.new (take_buffer self.old n) }
         ensures buffers { IfOk result (TakesWell self.old self.new) }
     {
         self.law();
@@ -123,7 +126,7 @@ impl Store {
     fn take_lowest(&mut self, n: u32) -> Result<Buffer, Room>
         requires low { 0 < n }
         requires high { n ≤ self.old.words }
-        ensures { Takes self.old result self.new (take_buffer self.old n) }
+        ensures { TakesOrLacks self.old result self.new (take_buffer self.old n) }
     {
         match self.page_with_room(n) {
             Some(index) => Ok(self.give(index, n)),
@@ -131,11 +134,16 @@ impl Store {
         }
     }
 
-    /// The first `n` words of a fresh page.
-    pub(super) fn take_fresh(&mut self, n: u32) -> Result<Buffer, Room>
-        requires { n ≤ self.old.words }
-        ensures { Takes self.old result self.new (take_fresh self.old n (free_frame self.old.owners)
-            (unused_page self.old.count self.old.pages)) }
+    /// The number of the lowest free frame, and the index of the lowest unused page, where there are both.
+    fn free_room(&self) -> Result<(usize, usize), Room>
+        ensures none { (e : Room) → result ≡ Err e → (n : ℕ) → take_fresh self.now n (free_frame self.now.owners)
+            (unused_page self.now.count self.now.pages) ≡ Err e }
+        ensures frame { IfOk result (λ r. free_frame self.now.owners ≡ Some r.0) }
+        ensures page { IfOk result (λ r. unused_page self.now.count self.now.pages ≡ Some r.1) }
+        ensures frame_there { IfOk result (λ r. r.0 < length self.now.owners) }
+        ensures free { IfOk result (λ r. slice_get self.now.owners r.0 ≡ Some None) }
+        ensures page_there { IfOk result (λ r. r.1 < length self.now.pages) }
+        ensures unused { IfOk result (λ r. is_unused_in (slice_get self.now.pages r.1) ≡ true) }
     {
         let Some(frame) = self.free_frame() else {
             return Err(Room::NoFrames);
@@ -143,8 +151,54 @@ impl Store {
         let Some(index) = self.unused_page() else {
             return Err(Room::NoPages);
         };
-        self.open(index, frame);
+        Ok((frame, index))
+    }
+
+    /// The first `n` words of a fresh page.
+    fn take_fresh(&mut self, n: u32) -> Result<Buffer, Room>
+        requires { n ≤ self.old.words }
+        ensures { TakesOrLacks self.old result self.new (take_fresh self.old n (free_frame self.old.owners)
+            (unused_page self.old.count self.old.pages)) }
+    {
+        let (frame, index) = self.free_room()?;
+        let Ok(memory) = self.blank() else {
+            return Err(Room::NoMemory);
+        };
+        self.open(index, frame, memory);
         Ok(self.give(index, n))
+    }
+
+    /// The first `n` words of a fresh page, which gets this memory.
+    pub(super) fn take_fresh_on(&mut self, n: u32, memory: Frame) -> Result<Buffer, Room>
+        requires size { n ≤ self.old.words }
+        requires blank { memory ≡ replicate self.old.words 0 }
+        ensures { Takes self.old result self.new (take_fresh self.old n (free_frame self.old.owners)
+            (unused_page self.old.count self.old.pages)) }
+    {
+        let (frame, index) = self.free_room()?;
+        self.open(index, frame, memory);
+        Ok(self.give(index, n))
+    }
+
+    /// Memory for a page: its words, all 0. It was kept, or is new. Fails only by memory.
+    pub fn blank(&mut self) -> Result<Frame, AllocError>
+        ensures value { IfOk result (λ f. f ≡ replicate self.old.words 0) }
+        ensures stays { self.new ≡ self.old }
+    {
+        self.frames.blank(self.words)
+    }
+
+    /// How many pages' memory is kept of frames that became free, for the next pages that are opened:
+    /// at most as many as frames are free.
+    pub fn kept_frames(&self) -> usize {
+        self.frames.kept()
+    }
+
+    /// Gives the memory of frames that became free back to the allocator, but for that of so many.
+    pub fn trim(&mut self, most: usize)
+        ensures { self.new ≡ self.old }
+    {
+        self.frames.trim(most);
     }
 
     /// Takes a buffer back. Its rest is lost until the page is released, so the store stays.

@@ -66,6 +66,7 @@ impl Store {
         self.unused.set(index, 1);
         if let Some(frame) = page.frame {
             self.owners[frame as usize] = None;
+            self.frames.empty(frame as usize);
             self.spare.set(frame as usize, 1);
             self.free += 1;
         }

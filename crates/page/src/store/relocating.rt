@@ -1,16 +1,17 @@
 //! Targets are opened, and pages protected and released (the paper's Relocate phase; targets are
 //! ours).
 
-ghost use Rattle.std.specs.Prelude.{◌≡◌, ◌-◌, ◌<◌, false, length, slice_get, count_by, IfOk};
+ghost use Rattle.std.specs.Prelude.{◌≡◌, ◌-◌, ◌<◌, false, length, slice_get, count_by, IfOk, replicate};
 ghost use Rattle.model.specs.Moves.{set_gone_of, with_free, with_released};
 ghost use Rattle.model.specs.Owning.{Each, LiesIn, TakesWell};
 ghost use Rattle.model.specs.Protections.{has_twice, set_from_of, take_target, unused_count, with_from_pages};
 ghost use Rattle.model.specs.States.{change_at};
-ghost use Rattle.model.specs.Stores.{state_at, state_in, frame_in, is_unused, Takes};
+ghost use Rattle.model.specs.Stores.{state_at, state_in, frame_in, is_unused, with_empty, Takes};
 ghost use Rattle.model.specs.declared.records.Buffer.{Buffer};
 ghost use Rattle.model.specs.declared.records.PageState.TheVariants.{Closed, From};
 ghost use Rattle.page.specs.Relocating.{NoneGone};
 
+use crate::frame::Frame;
 use crate::store::Store;
 use model::{Buffer, Page, PageState, Room};
 
@@ -30,17 +31,18 @@ fn unused_in(pages: &[Page]) -> usize
 
 impl Store {
     /// A fresh page as one buffer of all its words: the lowest unused page, opened on the lowest
-    /// free frame.
+    /// free frame, which gets this memory.
     ///
     /// Answers `NoFrames` where no frame is free, else `NoPages` where no page is unused; the
     /// store is then as it was.
     #[tactic(auto, unfolding(model::specs::Protections::take_target), using(crate::proofs::Lying::target_by))]
-    pub fn take_target(&mut self) -> Result<Buffer, Room>
+    pub fn take_target(&mut self, memory: Frame) -> Result<Buffer, Room>
+        requires { memory ≡ replicate self.old.words 0 }
         ensures takes { Takes self.old result self.new (take_target self.old) }
         ensures buffers { IfOk result (TakesWell self.old self.new) }
     {
         self.law();
-        self.take_fresh(self.words)
+        self.take_fresh_on(self.words, memory)
     }
 
     /// How many pages are unused, those without a record too: 0 to the number of pages. It looks at
@@ -103,6 +105,8 @@ impl Store {
         requires from { state_in (slice_get self.old.pages index) ≡ From }
         ensures { self.new ≡ record self.old {
           pages = change_at self.old.pages index set_gone_of;
+          frames = with_empty
+              self.old.frames (frame_in (slice_get self.old.pages index));
           owners = with_free
               self.old.owners (frame_in (slice_get self.old.pages index));
         } }
@@ -115,6 +119,7 @@ impl Store {
         };
         if let Some(frame) = page.frame {
             self.owners[frame as usize] = None;
+            self.frames.empty(frame as usize);
             self.spare.set(frame as usize, 1);
             self.free += 1;
         }

@@ -21,13 +21,12 @@ invariant_of-self-lent c = λ w.
     let target = c.memory-target.result in
     let ws = c.lend.result.1.now in
     let at = c.lend.ensures.to in
-    let sized = c.self.invariant.store.sized.frames target ws at in
     record {
       size = c.self.invariant.size;
       store = subst (λ (o : Option (List ℕ)). IsStore (record s {
         frames = changed_frame s.frames target o (λ v. overlay v 0 w);
       })) (sym at)
-          (frame_keeps s target (overlay ws 0 w) c.self.invariant.store (length_overlaid ws 0 w ∙ sized));
+          (frame_keeps s target ws (overlay ws 0 w) c.self.invariant.store at (length_overlaid ws 0 w));
       free = c.self.invariant.free;
       rooms = c.self.invariant.rooms;
       unused = c.self.invariant.unused;

@@ -4,10 +4,11 @@ use Rattle.std.specs.List.{slice_get}
 use Rattle.model.specs.declared.records.Page.{Page}
 use Rattle.model.specs.Stores.{StoreState, open_fresh, is_unused, fresh_page}
 use Rattle.model.proofs.Lists.{count_positive, count_set}
+use Rattle.model.specs.Owning.{IsStore}
 use Rattle.page.specs.Views.{store_of, left_in, mark}
 use Rattle.page.proofs.Indexes.{set_mapped}
 use Rattle.page.specs.Records.{is_unused_in}
-use Rattle.page.proofs.Keeping.{opened_with, opened_as, frame_of_owner}
+use Rattle.page.proofs.Keeping.{opened_with, opened_as}
 use Rattle.page.proofs.Usable.{usable_changed}
 use Rattle.page.proofs.store.Store.open.Goals as goal
 
@@ -27,13 +28,16 @@ invariant_of-self c =
     let page = subst (λ (s : StoreState). c.args.index < length s.pages) (sym c.self.view_is) c.requires.page_there in
     let owner =
     subst (λ (s : StoreState). c.args.frame < length s.owners) (sym c.self.view_is) c.requires.frame_there in
-    let frame = frame_of_owner s c.args.frame c.self.invariant.store owner in
-    let words = c.frame_mut-words.ensures.value in
-    let zeros : c.clear.new.self ≡ replicate s.words 0 =
-    c.clear.ensures ∙ ap (λ n. replicate n 0) (c.self.invariant.store.sized.frames c.args.frame _ words) in
+    let zeros : c.args.memory ≡ replicate s.words 0 =
+    c.requires.blank ∙ ap (λ (t : StoreState). replicate t.words 0) (sym c.self.view_is) in
     record {
       size = c.self.invariant.size;
-      store = opened_with s c.args.index c.args.frame c.clear.new.self c.self.invariant.store page unused free zeros;
+      store = subst (λ fs. IsStore (record s {
+        pages = set s.pages c.args.index (fresh_page c.args.frame);
+        frames = fs;
+        owners = set s.owners c.args.frame (Some (c.args.index + 1));
+      })) (sym c.place.ensures)
+          (opened_with s c.args.index c.args.frame c.args.memory c.self.invariant.store page unused free zeros);
       free = omega (
         arith,
         c.self.invariant.free,
@@ -54,9 +58,11 @@ returns c =
     let s = store_of c.self.inside in
     let owner =
     subst (λ (s : StoreState). c.args.frame < length s.owners) (sym c.self.view_is) c.requires.frame_there in
-    let frame = frame_of_owner s c.args.frame c.self.invariant.store owner in
-    let words = c.frame_mut-words.ensures.value in
-    let zeros : c.clear.new.self ≡ replicate s.words 0 =
-    c.clear.ensures ∙ ap (λ n. replicate n 0) (c.self.invariant.store.sized.frames c.args.frame _ words) in
-    opened_as s c.args.index c.args.frame c.clear.new.self zeros
+    let zeros : c.args.memory ≡ replicate s.words 0 =
+    c.requires.blank ∙ ap (λ (t : StoreState). replicate t.words 0) (sym c.self.view_is) in
+    ap (λ fs. record s {
+      pages = set s.pages c.args.index (fresh_page c.args.frame);
+      frames = fs;
+      owners = set s.owners c.args.frame (Some (c.args.index + 1));
+    }) c.place.ensures ∙ opened_as s c.args.index c.args.frame c.args.memory zeros
     ∙ ap (λ t. open_fresh t c.args.index c.args.frame) c.self.view_is

@@ -3,10 +3,11 @@ use Rattle.std.proofs.Common.{subst, ap, ap₂, ◌∙◌, arith, rules}
 use Rattle.std.specs.List.{slice_get}
 use Rattle.model.specs.declared.records.Page.{Page}
 use Rattle.model.specs.declared.records.PageState.TheVariants.{From}
-use Rattle.model.specs.Stores.{StoreState, is_protected, is_unused, state_in, frame_in}
+use Rattle.model.specs.Stores.{StoreState, is_protected, is_unused, state_in, frame_in, with_empty}
 use Rattle.model.specs.States.{change_at}
 use Rattle.model.specs.Moves.{set_gone_of, with_free}
 use Rattle.model.proofs.Lists.{get_read, count_set}
+use Rattle.model.specs.Owning.{IsStore}
 use Rattle.page.specs.Usable.{usable_in}
 use Rattle.page.specs.Views.{store_of, left_in, mark}
 use Rattle.page.proofs.Indexes.{set_mapped, kept_mapped, length_index}
@@ -33,6 +34,26 @@ overflow_cast-frame-in-Some c =
     let at = get_read s.pages i p there c.index-page.ensures in
     let within = frame_within s i c.in-Some.frame p c.self.invariant.store at c.in-Some.is in
     omega (arith, within, owners_few s c.self.invariant.store)
+
+pub overflow_cast-frame-in-Some-2 : goal.overflow_cast-frame-in-Some-2
+overflow_cast-frame-in-Some-2 c =
+    let s = store_of c.self.inside in
+    let i = c.args.index in
+    let p = c.index-page.result.now in
+    let there = subst (λ (s : StoreState). i < length s.pages) (sym c.self.view_is) c.requires.there in
+    let at = get_read s.pages i p there c.index-page.ensures in
+    let within = frame_within s i c.in-Some.frame p c.self.invariant.store at c.in-Some.is in
+    omega (arith, within, owners_few s c.self.invariant.store)
+
+pub empty-requires : goal.empty-requires
+empty-requires c =
+    let s = store_of c.self.inside in
+    let i = c.args.index in
+    let p = c.index-page.result.now in
+    let there = subst (λ (s : StoreState). i < length s.pages) (sym c.self.view_is) c.requires.there in
+    let at = get_read s.pages i p there c.index-page.ensures in
+    let within = frame_within s i c.in-Some.frame p c.self.invariant.store at c.in-Some.is in
+    omega (arith, within, c.self.invariant.store.sized.owners)
 
 pub set-requires : goal.set-requires
 set-requires c =
@@ -74,7 +95,11 @@ invariant_of-self c =
     let owns = old.store.owning.owned i g p at c.in-Some.is in
     record {
       size = old.size;
-      store = release_keeps s i g p old.store at from c.in-Some.is;
+      store = subst (λ fs. IsStore (record s {
+        pages = set s.pages i (set_gone_of p);
+        frames = fs;
+        owners = set s.owners g None;
+      })) (sym c.empty.ensures) (release_keeps s i g p old.store at from c.in-Some.is);
       free = omega (arith, old.free, count_set is_none s.owners g (Some (i + 1)) None owns);
       rooms = old.rooms ∙ kept_mapped (left_in s.words) s.pages i p (set_gone_of p) at (gone_left s.words p from);
       unused = old.unused ∙ kept_mapped (λ (p : Page). mark (is_unused p.state)) s.pages i p (set_gone_of p) at
@@ -103,10 +128,16 @@ returns-in-Some c =
     let p = c.index-page.result.now in
     let there = subst (λ (s : StoreState). i < length s.pages) (sym c.self.view_is) c.requires.there in
     let at = get_read s.pages i p there c.index-page.ensures in
-    ap₂ (λ ps os. record s { pages = ps; owners = os }) (changed_there s.pages i set_gone_of p at)
-    (sym (ap (with_free s.owners) (ap frame_in at ∙ c.in-Some.is)))
+    ap (λ fs. record s {
+      pages = set s.pages i (set_gone_of p);
+      frames = fs;
+      owners = set s.owners c.in-Some.frame None;
+    }) c.empty.ensures
+    ∙ ap₂ (λ ps o. record s { pages = ps; frames = with_empty s.frames o; owners = with_free s.owners o })
+    (changed_there s.pages i set_gone_of p at) (sym (ap frame_in at ∙ c.in-Some.is))
     ∙ ap (λ (t : StoreState). record t {
       pages = change_at t.pages i set_gone_of;
+      frames = with_empty t.frames (frame_in (slice_get t.pages i));
       owners = with_free t.owners (frame_in (slice_get t.pages i));
     }) c.self.view_is
 

@@ -4,6 +4,7 @@ use Rattle.std.specs.List.{slice_get}
 use Rattle.model.specs.declared.records.Page.{Page}
 use Rattle.model.specs.Stores.{StoreState, is_protected, is_unused, state_in}
 use Rattle.model.proofs.Lists.{get_read, count_set}
+use Rattle.model.specs.Owning.{IsStore}
 use Rattle.page.specs.Ending.{with_mark_ended_at}
 use Rattle.page.specs.Usable.{usable_in}
 use Rattle.page.specs.Views.{store_of, left_in, mark}
@@ -31,6 +32,26 @@ overflow_cast-frame-in-Some c =
     let at = get_read s.pages i p there c.index-page.ensures in
     let within = frame_within s i c.in-Some.frame p c.self.invariant.store at c.in-Some.is in
     omega (arith, within, owners_few s c.self.invariant.store)
+
+pub overflow_cast-frame-in-Some-2 : goal.overflow_cast-frame-in-Some-2
+overflow_cast-frame-in-Some-2 c =
+    let s = store_of c.self.inside in
+    let i = c.args.index in
+    let p = c.index-page.result.now in
+    let there = subst (λ (s : StoreState). i < length s.pages) (sym c.self.view_is) c.requires.there in
+    let at = get_read s.pages i p there c.index-page.ensures in
+    let within = frame_within s i c.in-Some.frame p c.self.invariant.store at c.in-Some.is in
+    omega (arith, within, owners_few s c.self.invariant.store)
+
+pub empty-requires : goal.empty-requires
+empty-requires c =
+    let s = store_of c.self.inside in
+    let i = c.args.index in
+    let p = c.index-page.result.now in
+    let there = subst (λ (s : StoreState). i < length s.pages) (sym c.self.view_is) c.requires.there in
+    let at = get_read s.pages i p there c.index-page.ensures in
+    let within = frame_within s i c.in-Some.frame p c.self.invariant.store at c.in-Some.is in
+    omega (arith, within, c.self.invariant.store.sized.owners)
 
 pub set-requires-in-Some : goal.set-requires-in-Some
 set-requires-in-Some c =
@@ -62,7 +83,11 @@ invariant_of-self c =
     let owns = old.store.owning.owned i g p at c.in-Some.is in
     record {
       size = old.size;
-      store = retire_from_keeps s i g p old.store at c.in-Some.is before;
+      store = subst (λ fs. IsStore (record s {
+        pages = set s.pages i (retired_page p);
+        frames = fs;
+        owners = set s.owners g None;
+      })) (sym c.empty.ensures) (retire_from_keeps s i g p old.store at c.in-Some.is before);
       free = omega (arith, old.free, count_set is_none s.owners g (Some (i + 1)) None owns);
       rooms = old.rooms
           ∙ kept_mapped (left_in s.words) s.pages i p (retired_page p) at (protected_left s.words p before);
@@ -108,7 +133,11 @@ returns-in-Some c =
     let is_so = subst (λ (s : StoreState). is_protected (state_in (slice_get s.pages i)) ≡ true)
     (sym c.self.view_is) c.requires.protected in
     let before = sym (ap (λ o. is_protected (state_in o)) at) ∙ is_so in
-    retired_from_at s i c.in-Some.frame false p at c.in-Some.is before
+    ap (λ fs. record s {
+      pages = set s.pages i (retired_page p);
+      frames = fs;
+      owners = set s.owners c.in-Some.frame None;
+    }) c.empty.ensures ∙ retired_from_at s i c.in-Some.frame false p at c.in-Some.is before
     ∙ ap (λ t. with_mark_ended_at t i false) c.self.view_is
 
 pub returns-in_default : goal.returns-in_default

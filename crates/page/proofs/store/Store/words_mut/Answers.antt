@@ -10,10 +10,10 @@ invariant_of-self-lent c = λ w.
     let s = store_of c.self.inside in
     let frame = c.memory-frame.result in
     let ws = c.frame_mut-words.result.now in
-    let sized = c.self.invariant.store.sized.frames frame ws c.frame_mut-words.ensures.value in
     record {
       size = c.self.invariant.size;
-      store = frame_keeps s frame (overlay ws 0 w) c.self.invariant.store (length_overlaid ws 0 w ∙ sized);
+      store = frame_keeps s frame ws (overlay ws 0 w) c.self.invariant.store c.frame_mut-words.ensures.value
+          (length_overlaid ws 0 w);
       free = c.self.invariant.free;
       rooms = c.self.invariant.rooms;
       unused = c.self.invariant.unused;
