@@ -20,7 +20,7 @@ use Rattle.model.specs.Moves.{set_copied_of, with_copied_words, with_released}
 use Rattle.model.proofs.Lists.{each_set, each_changed}
 use Rattle.model.proofs.Tables.{length_changed, rows_put}
 use Rattle.page.proofs.Lying.{words_sized_alike, words_lie, words_unprotected}
-use Rattle.page.proofs.Protecting.{released_lies, some_protected}
+use Rattle.page.proofs.Protecting.{released_lies, released_sized, some_protected}
 use Rattle.heap.proofs.Keeping.{fills_in, store_keeps}
 use Rattle.heap.proofs.Cycling.{each_mapped}
 use Rattle.thread_records.proofs.Looping.{length_mapped}
@@ -152,6 +152,6 @@ pub release_keeps : (h : HeapState) (s : StoreState) (n : ℕ) → IsHeap h → 
     → s ≡ with_released h.store n → IsHeap (record h { store = s })
 unfolding with_released
 release_keeps h s n i from is = store_keeps h s i
-    (subst (AreSized h.store) (sym is) (record { words = refl; count = refl; frames = refl }))
+    (subst (AreSized h.store) (sym is) (released_sized h.store n))
     (λ b lies. subst (λ (r : StoreState). LiesIn r b) (sym is) (released_lies h.store n b from lies))
     (λ none. absurd (some_protected h.store n from none))

@@ -265,7 +265,16 @@ length_owned [] frames = refl
 length_owned (o ∷ os) [] = refl
 length_owned (o ∷ os) (ws ∷ frames) = ap suc (length_owned os frames)
 
-get_map : {X Y : Type 0} (f : X → Y) (xs : List X) (i : ℕ) (x : X) → slice_get xs i ≡ Some x
+-- a frame that has an owner keeps its words
+pub kept_owned : (os : List (Option ℕ)) (frames : List (List ℕ)) (f n : ℕ) → slice_get os f ≡ Some (Some n)
+    → slice_get (frames_owned os frames) f ≡ slice_get frames f
+kept_owned [] frames f n e = absurd (cc)
+kept_owned (o ∷ os) [] f n e = refl
+kept_owned (o ∷ os) (ws ∷ frames) zero n e =
+    let owner : o ≡ Some n = same_Some _ _ e in ap (λ x. Some (words_owned x ws)) owner
+kept_owned (o ∷ os) (ws ∷ frames) (suc f) n e = kept_owned os frames f n e
+
+pub get_map : {X Y : Type 0} (f : X → Y) (xs : List X) (i : ℕ) (x : X) → slice_get xs i ≡ Some x
     → slice_get (map f xs) i ≡ Some (f x)
 get_map f [] i x e = absurd (cc)
 get_map f (y ∷ ys) zero x e = ap (λ z. Some (f z)) (same_Some _ _ e)

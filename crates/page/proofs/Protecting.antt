@@ -3,13 +3,14 @@ use Rattle.std.proofs.Common.{◌≡◌, ◌≢◌, ℕ, zero, suc, ◌+◌, ◌
 use Rattle.std.proofs.Common.{List, [], ◌∷◌, ◌++◌, length, take, ◌==◌, eq-eqb, Option, Some, None}
 use Rattle.std.proofs.Common.{refl, sym, ◌∙◌, ap, arith}
 use Rattle.std.specs.List.{slice_get, list_any}
+use Rattle.std.proofs.Math.ListN.{length-set}
 use Rattle.std.proofs.lemmas.Option.{same_Some}
 use Rattle.std.proofs.lemmas.Bool.{or_parts, true≢false}
 use Rattle.model.specs.declared.records.Buffer.{Buffer}
 use Rattle.model.specs.declared.records.Page.{Page}
 use Rattle.model.specs.declared.records.PageState.TheVariants.{Unused, Closed, From, Gone}
-use Rattle.model.specs.Stores.{StoreState, state_at, state_in, is_open, is_protected}
-use Rattle.model.specs.Owning.{Each, LiesIn, NoneProtected}
+use Rattle.model.specs.Stores.{StoreState, page_at, frame_in, state_at, state_in, is_open, is_protected, with_empty}
+use Rattle.model.specs.Owning.{Each, LiesIn, NoneProtected, AreSized}
 use Rattle.model.specs.States.{change_at, change_found}
 use Rattle.model.specs.Protections.{has_twice, set_from_of, with_from_pages}
 use Rattle.std.proofs.Common.{get_or}
@@ -154,6 +155,15 @@ released_lies s n b from lies =
     differs one p at is_so state z =
         let is : p.state ≡ From = ap state_in (sym at ∙ ap (slice_get s.pages) z) ∙ state in
         true≢false (sym is_so ∙ ap is_open is)
+
+-- the sizes stay
+pub released_sized : (s : StoreState) (n : ℕ) → AreSized s (with_released s n)
+unfolding with_released
+released_sized s n = record { words = refl; count = refl; frames = by_frame (frame_in (page_at s n)) }
+  where
+    by_frame : (o : Option ℕ) → length (with_empty s.frames o) ≡ length s.frames
+    by_frame None = refl
+    by_frame (Some f) = length-set s.frames f []
 
 pub some_protected : (s : StoreState) (n : ℕ) → state_at s n ≡ From → NoneProtected s → ⊥
 some_protected s n from none = by_page (slice_get s.pages (n - 1)) refl (used_there s n From from not_unused).1

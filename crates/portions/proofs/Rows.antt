@@ -10,7 +10,7 @@ use Rattle.model.specs.declared.records.Counter.TheVariants as counters
 use Rattle.model.specs.declared.records.Place.{Place}
 use Rattle.model.specs.declared.records.Place.TheVariants as places
 use Rattle.model.specs.declared.records.Room.{Room}
-use Rattle.model.specs.declared.records.Room.TheVariants.{NoFrames, NoPages}
+use Rattle.model.specs.declared.records.Room.TheVariants.{NoFrames, NoPages, NoMemory}
 use Rattle.model.specs.declared.records.Scan.{Scan}
 use Rattle.model.specs.declared.steps.Actor.{Actor}
 use Rattle.model.specs.declared.steps.Actor.TheVariants.{Thread, Worker}
@@ -129,6 +129,7 @@ module _ (h : HeapState) (t : ℕ) where
       }
       by_room (Err NoFrames) = tt
       by_room (Err NoPages) = tt
+      by_room (Err NoMemory) = tt
 
   give_row : Keep h (give_back_outcome h t)
   unfolding give_back_outcome with_buffer

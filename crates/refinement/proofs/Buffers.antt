@@ -12,7 +12,7 @@ use Rattle.model.specs.declared.steps.Answer.TheVariants as answers
 use Rattle.model.specs.declared.records.Page.{Page}
 use Rattle.model.specs.declared.records.Buffer.{Buffer}
 use Rattle.model.specs.declared.records.Room.{Room}
-use Rattle.model.specs.declared.records.Room.TheVariants.{NoFrames, NoPages}
+use Rattle.model.specs.declared.records.Room.TheVariants.{NoFrames, NoPages, NoMemory}
 use Rattle.model.specs.Stores.{StoreState, take_buffer, open_fresh, fresh_page, buffer_of}
 use Rattle.model.specs.Owning.{Each, IsStore}
 use Rattle.model.specs.Holding.{IsHeap}
@@ -114,6 +114,7 @@ on_took : (h : HeapState) (t : ℕ) (r : Result (StoreState × Buffer) Room) (P 
 on_took h t (Ok z) P f = f z refl
 on_took h t (Err NoFrames) P f = tt
 on_took h t (Err NoPages) P f = tt
+on_took h t (Err NoMemory) P f = tt
 
 module _ {h : HeapState} {p p0 : PlainHeap} (s : IsStore h.store) (d : IsHeap h) (k : Holds h p p0) (t : ℕ) where
   lent_holds : (n : ℕ) (x : ThreadState) → slice_get h.threads t ≡ Some x → x.buffer ≡ None → 0 < n

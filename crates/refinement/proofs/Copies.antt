@@ -62,7 +62,7 @@ words_keep s n o xs h = by_frame (frame_in (page_at s n))
         → IsStore (record s { frames = changed_frame s.frames f x (λ ws. overlay ws o xs) })
     by_words f None e = h
     by_words f (Some ws) e =
-        frame_keeps s f (overlay ws o xs) h (length_overlaid ws o xs ∙ h.sized.frames f ws e)
+        frame_keeps s f ws (overlay ws o xs) h e (length_overlaid ws o xs)
 
     by_frame : (x : Option ℕ) → IsStore (record s { frames = changed_in s.frames x (λ ws. overlay ws o xs) })
     by_frame None = h

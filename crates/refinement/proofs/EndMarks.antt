@@ -23,6 +23,7 @@ use Rattle.model.specs.declared.records.Global.{Global}
 use Rattle.model.specs.declared.records.Phase.TheVariants.{Idle}
 use Rattle.model.specs.Stores.{StoreState, words_at, page_at, frame_in, state_at, state_in, is_open, is_protected}
 use Rattle.model.specs.Stores.{has_memory, page_after_mark, pages_after_mark, store_after_mark}
+use Rattle.model.specs.Stores.{owner_after_mark, frames_owned}
 use Rattle.model.specs.Owning.{Each, IsStore}
 use Rattle.model.specs.Holding.{AreRows, AreRising}
 use Rattle.model.specs.States.{HeapState, ThreadState}
@@ -33,6 +34,8 @@ use Rattle.model.specs.Cycles.{has_todo, first_pending, none_pending, is_lent, e
 use Rattle.model.specs.Refusing.{refuse_if}
 use Rattle.model.specs.Plain.{PlainHeap, plain_step, plain_answer}
 use Rattle.model.proofs.Lists.{none_counted, none_passes, position_none, each_replicate, no_some}
+use Rattle.model.proofs.Memory.{words_in, page_record}
+use Rattle.page.proofs.Ended.{ended_sized, get_map, kept_owned}
 use Rattle.page.proofs.Keeping.{page_at_record, page_at_zero}
 use Rattle.laws.specs.Edits.{state_after_mark}
 use Rattle.laws.specs.Edits as edits
@@ -192,6 +195,18 @@ none_set rows e (suc i) o = ap (λ r. get_or r o false) (list_read rows i) ∙ a
     at (r ∷ rows) e zero = none_counted r (omega (arith, e, bits_more r rows)) o
     at (r ∷ rows) e (suc i) = at rows (omega (arith, e, bits_more r rows)) i
 
+-- a page that isn't protected keeps its words
+kept_words : (s : StoreState) (n f : ℕ) → IsStore s → is_protected (state_in (page_at s n)) ≡ false
+    → frame_in (page_at s n) ≡ Some f
+    → slice_get (frames_owned (map (owner_after_mark s) s.owners) s.frames) f ≡ slice_get s.frames f
+unfolding state_at
+kept_words s n f h free frame =
+    let (i, p, number, at, has) = page_record s n f frame in
+    let owner : slice_get s.owners f ≡ Some (Some n) =
+    h.owning.owned i f p at has ∙ ap (λ m. Some (Some m)) (sym number) in
+    kept_owned (map (owner_after_mark s) s.owners) s.frames f n
+    (get_map (owner_after_mark s) s.owners f (Some n) owner ∙ ap (λ b. Some (cond b None (Some n))) free)
+
 module _ {h : HeapState} {p p0 : PlainHeap} (s : IsStore h.store) (k : Holds h p p0)
     (may : MayEndMark (world_of h)) where
   l : IsLaid h
@@ -209,13 +224,22 @@ module _ {h : HeapState} {p p0 : PlainHeap} (s : IsStore h.store) (k : Holds h p
   words : (n : ℕ) → words_at (store_after_mark lent h.store) n
       ≡ cond (is_protected (state_at h.store n)) None (words_at h.store n)
   unfolding words_at state_at store_after_mark
-  words n = ap (option_and_then (slice_get h.store.frames)) (ap frame_in (page_after lent h.store n)
-      ∙ frame_of (lent n) (page_at h.store n)) ∙ by_bit (is_protected (state_in (page_at h.store n)))
+  words n = ap (words_in after) (ap frame_in (page_after lent h.store n)
+      ∙ frame_of (lent n) (page_at h.store n)) ∙ by_bit (is_protected (state_in (page_at h.store n))) refl
     where
-      by_bit : (b : Bool) → option_and_then (slice_get h.store.frames) (cond b None (frame_in (page_at h.store n)))
-          ≡ cond b None (option_and_then (slice_get h.store.frames) (frame_in (page_at h.store n)))
-      by_bit true = refl
-      by_bit false = refl
+      after : List (List ℕ)
+      after = frames_owned (map (owner_after_mark h.store) h.store.owners) h.store.frames
+
+      by_frame : (o : Option ℕ) → frame_in (page_at h.store n) ≡ o → is_protected (state_in (page_at h.store n)) ≡ false
+          → words_in after o ≡ words_in h.store.frames o
+      by_frame None a f = refl
+      by_frame (Some g) a f = kept_words h.store n g s f a
+
+      by_bit : (b : Bool) → is_protected (state_in (page_at h.store n)) ≡ b
+          → words_in after (cond b None (frame_in (page_at h.store n)))
+          ≡ cond b None (words_in h.store.frames (frame_in (page_at h.store n)))
+      by_bit true f = refl
+      by_bit false f = by_frame (frame_in (page_at h.store n)) refl f
 
   -- what the objects become
   objects : (a : ℕ) → object_at (end_mark h) a
@@ -362,7 +386,7 @@ module _ {h : HeapState} {p p0 : PlainHeap} (s : IsStore h.store) (k : Holds h p
   end_carries : Carries h (end_mark h) (edits.end_mark (λ a. lent (a / h.store.words)))
   unfolding end_mark store_after_mark
   end_carries = record {
-    size = alike h (end_mark h) refl refl refl refl refl refl refl;
+    size = alike h (end_mark h) refl refl (ended_sized h.store lent).frames refl refl refl refl;
     laid = λ z. ended_laid;
     given = given;
     words = λ z. record { threads = z.threads; globals = z.globals };

@@ -1,6 +1,6 @@
 -- A page whose objects are all copied gives its memory up: its objects go, and nothing else changes.
 use Rattle.std.proofs.Common.{◌≡◌, ◌≢◌, inl, inr, ℕ, ◌+◌, ◌-◌, ◌/◌, ◌%◌, Bool, true, false}
-use Rattle.std.proofs.Common.{cond, not, nat_eq, List, length, Option, Some, None, refl, sym, ◌∙◌, ap}
+use Rattle.std.proofs.Common.{cond, not, nat_eq, List, [], length, Option, Some, None, refl, sym, ◌∙◌, ap}
 use Rattle.std.proofs.Common.{subst, arith, eq-eqb, ne_eqb}
 use mathlib.Core.Path.{fun_ext}
 use Rattle.std.specs.List.{slice_get, list_any}
@@ -16,6 +16,7 @@ use Rattle.model.specs.declared.steps.Actor.TheVariants.{Worker}
 use Rattle.model.specs.declared.steps.Step.TheVariants as steps
 use Rattle.model.specs.Phases.{is_idle}
 use Rattle.model.specs.Stores.{StoreState, page_at, state_at, state_in, frame_in, words_at, has_memory, is_from}
+use Rattle.model.specs.Stores.{with_empty}
 use Rattle.model.specs.Owning.{Each, IsStore}
 use Rattle.model.specs.States.{HeapState, change_found}
 use Rattle.model.specs.Registers.{register_of}
@@ -24,8 +25,9 @@ use Rattle.model.specs.Cycles.{is_uncopied}
 use Rattle.model.specs.Plain.{PlainHeap, plain_step, plain_answer}
 use Rattle.model.specs.Moves.{set_gone_of, with_released}
 use Rattle.model.specs.Emptying.{crossed_if_protecting, release_outcome}
-use Rattle.model.proofs.Memory.{page_there, words_in}
-use Rattle.model.proofs.Lists.{each_set}
+use Rattle.model.proofs.Memory.{page_there, words_in, own_frame}
+use Rattle.model.proofs.Lists.{each_set, get_set_other}
+use Rattle.page.proofs.Protecting.{released_sized}
 use Rattle.model.proofs.Tables.{length_changed}
 use Rattle.laws.specs.AddressHeap.{HeapObject, SideEntry, NoEntry, Planned, Copied, put}
 use Rattle.laws.specs.Edits.{release_page}
@@ -70,6 +72,19 @@ emptying s n e = by_page (page_at s n) refl e
     by_page (Some q) f k =
         let (one, at) = page_there s n q f in record { page = q; was = f; from = k; number = sym one; at = at }
 
+-- where the frame of a page has no words any more, other pages have theirs
+others_words : (s : StoreState) (n m : ℕ) → IsStore s → m ≢ n
+    → words_in (with_empty s.frames (frame_in (page_at s n))) (frame_in (page_at s m))
+    ≡ words_in s.frames (frame_in (page_at s m))
+others_words s n m h d = by_frame (frame_in (page_at s n)) refl (frame_in (page_at s m)) refl
+  where
+    by_frame : (x : Option ℕ) → frame_in (page_at s n) ≡ x → (y : Option ℕ) → frame_in (page_at s m) ≡ y
+        → words_in (with_empty s.frames x) y ≡ words_in s.frames y
+    by_frame None a y b = refl
+    by_frame (Some f) a None b = refl
+    by_frame (Some f) a (Some g) b =
+        get_set_other s.frames f g [] (λ z. d (own_frame s m n f h (b ∙ ap Some z) a))
+
 module _ {h : HeapState} {p p0 : PlainHeap} (s : IsStore h.store) (k : Holds h p p0) (n : ℕ)
     (e : IsEmptying h.store n) where
   pages : (m : ℕ) → page_at (with_released h.store n) m ≡ put (page_at h.store) n (Some (set_gone_of e.page)) m
@@ -88,13 +103,14 @@ module _ {h : HeapState} {p p0 : PlainHeap} (s : IsStore h.store) (k : Holds h p
 
   words_here : words_at (with_released h.store n) n ≡ None
   unfolding words_at with_released
-  words_here = ap (λ o. words_in h.store.frames (frame_in o))
+  words_here = ap (λ o. words_in (with_empty h.store.frames (frame_in (page_at h.store n))) (frame_in o))
       (pages n ∙ put_same (page_at h.store) n (Some (set_gone_of e.page)))
 
   words_other : (m : ℕ) → m ≢ n → words_at (with_released h.store n) m ≡ words_at h.store m
   unfolding words_at with_released
-  words_other m d = ap (λ o. words_in h.store.frames (frame_in o))
+  words_other m d = ap (λ o. words_in (with_empty h.store.frames (frame_in (page_at h.store n))) (frame_in o))
       (pages m ∙ put_other (page_at h.store) n (Some (set_gone_of e.page)) m d)
+      ∙ others_words h.store n m s d
 
   inside : ℕ → Bool
   inside a = nat_eq (a / h.store.words) n
@@ -229,7 +245,8 @@ module _ {h : HeapState} {p p0 : PlainHeap} (s : IsStore h.store) (k : Holds h p
   released_carries : Carries h (record h { store = with_released h.store n }) (release_page inside)
   unfolding with_released
   released_carries = record {
-    size = alike h (record h { store = with_released h.store n }) refl refl refl refl refl refl refl;
+    size = alike h (record h { store = with_released h.store n }) refl refl (released_sized h.store n).frames refl
+        refl refl refl;
     laid = λ z. released_laid;
     given = λ z. subst (λ ps. Each ps HasGiven)
         (sym (ap (λ o. change_found h.store.pages (n - 1) o set_gone_of) e.at))

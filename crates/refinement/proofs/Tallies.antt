@@ -13,7 +13,7 @@ use Rattle.model.specs.declared.records.Forwarding.{Forwarding}
 use Rattle.model.specs.declared.records.Place.{Place}
 use Rattle.model.specs.declared.records.Place.TheVariants as places
 use Rattle.model.specs.declared.records.Room.{Room}
-use Rattle.model.specs.declared.records.Room.TheVariants.{NoFrames, NoPages}
+use Rattle.model.specs.declared.records.Room.TheVariants.{NoFrames, NoPages, NoMemory}
 use Rattle.model.specs.declared.records.Scan.{Scan}
 use Rattle.model.specs.declared.records.Tally.{Tally}
 use Rattle.model.specs.declared.steps.Actor.{Actor}
@@ -152,6 +152,7 @@ module _ (h : HeapState) (t : ℕ) where
       by_result (Ok x) = stay h.threads t (set_buffer_of (Some x.1)) (λ x. refl)
       by_result (Err NoFrames) = tt
       by_result (Err NoPages) = tt
+      by_result (Err NoMemory) = tt
 
   give_stays : Stays h (give_back_outcome h t)
   unfolding give_back_outcome with_buffer

@@ -11,14 +11,16 @@ ghost use Rattle.model.specs.Stores.{state_at};
 ghost use Rattle.model.specs.declared.records.PageState.TheVariants.{Closed};
 ghost use Rattle.model.specs.declared.records.Phase.TheVariants.{Idle};
 ghost use Rattle.relocate.specs.Drafts.{draft_of};
+ghost use Rattle.relocate.specs.Targets.{AreBlank};
 
 use crate::drafting::draft_pages;
 use crate::ripe::{all_ripe, room_for};
 use crate::settling::settle_pages;
-use crate::targets::open_targets;
+use crate::targets::{blank_targets, open_targets};
 use forward::{Plan, Side};
 use heap::Heap;
 use model::{Answer, Phase, Refusal, Reply};
+use page::Frame;
 use std::alloc::{AllocError, Global};
 
 /// All that a protection needs memory for.
@@ -51,9 +53,9 @@ fn prepare(alloc: Global, heap: &Heap, pages: &[u32]) -> Result<Preparation, All
     })
 }
 
-/// Opens the targets of a plan, gives the pages their side arrays, and protects them. It takes no
-/// memory.
-fn protect_prepared(heap: &mut Heap, pages: &[u32], prepared: Preparation)
+/// Opens the targets of a plan on their memory, gives the pages their side arrays, and protects them.
+/// It takes no memory.
+fn protect_prepared(heap: &mut Heap, pages: &[u32], prepared: Preparation, memory: Vec<Frame>)
     requires idle { heap.old.phase ≡ Idle }
     requires closed { Each pages.now (λ n. state_at heap.old.store n ≡ Closed) }
     requires once { has_twice pages.now ≡ false }
@@ -61,6 +63,7 @@ fn protect_prepared(heap: &mut Heap, pages: &[u32], prepared: Preparation)
     requires sides { prepared.sides.items ≡ map (draft_of heap.old) pages.now }
     requires empty { prepared.targets.items ≡ [] }
     requires room { target_count (plan_of heap.old pages.now) ≤ vec_capacity prepared.targets }
+    requires blank { AreBlank heap.old.store.words (target_count (plan_of heap.old pages.now)) memory.items }
     requires frames { target_count (plan_of heap.old pages.now) ≤ free_count heap.old.store }
     requires unused { target_count (plan_of heap.old pages.now) ≤ unused_count heap.old.store }
     ensures { heap.new ≡ protect heap.old pages.now }
@@ -68,7 +71,8 @@ fn protect_prepared(heap: &mut Heap, pages: &[u32], prepared: Preparation)
     heap.law();
     let mut sides = prepared.sides;
     let mut targets = prepared.targets;
-    open_targets(heap, prepared.plan.targets(), &mut targets);
+    let mut memory = memory;
+    open_targets(heap, prepared.plan.targets(), &mut memory, &mut targets);
     settle_pages(heap, pages, &prepared.plan, &targets, &mut sides);
     heap.raw_start_protection(pages);
 }
@@ -94,10 +98,13 @@ pub fn protect(heap: &mut Heap, worker: u32, pages: &[u32]) -> Reply
         return Err(Refusal::Memory);
     };
     room_for(heap, prepared.plan.targets())?;
+    let Ok(memory) = blank_targets(heap, prepared.plan.targets()) else {
+        return Err(Refusal::Memory);
+    };
     let answer = Answer::Protected {
         objects: prepared.plan.len() as u64,
         targets: prepared.plan.targets() as u64,
     };
-    protect_prepared(heap, pages, prepared);
+    protect_prepared(heap, pages, prepared, memory);
     Ok(answer)
 }

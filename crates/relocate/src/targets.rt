@@ -1,17 +1,41 @@
 //! Targets are opened: pages for objects that move, which are given out to nobody (ours).
 
 ghost use Rattle.std.specs.Prelude.{◌≡◌, ◌+◌, ◌<◌, ◌≤◌, ◌++◌, ◌∷◌, [], ℕ, suc, length, vec_len, vec_capacity};
+ghost use Rattle.std.specs.Prelude.{replicate, IfOk};
 ghost use Rattle.model.specs.Owning.{Each};
 ghost use Rattle.model.specs.Protections.{free_count, unused_count, with_targets};
-ghost use Rattle.relocate.specs.Targets.{KeepsClosed};
+ghost use Rattle.relocate.specs.Targets.{AreBlank, KeepsClosed};
 
 use heap::Heap;
+use page::Frame;
+use std::alloc::AllocError;
 
-/// Opens the next target, for which a frame is free and a page unused: its page, by its number from
-/// 1.
-fn open_next(heap: &mut Heap) -> u32
+/// Memory for so many targets, all 0. Fails only by memory.
+pub(crate) fn blank_targets(heap: &mut Heap, count: usize) -> Result<Vec<Frame>, AllocError>
+    ensures blank { IfOk result (λ v. AreBlank heap.old.store.words count v.items) }
+    ensures stays { heap.new ≡ heap.old }
+{
+    let mut memory = Vec::with_capacity(heap.allocator(), count)?;
+    for _ in 0..count {
+        memory.push(heap.raw_blank()?)?;
+    }
+    Ok(memory)
+}
+
+/// Takes the memory of one target.
+fn take_blank(memory: &mut Vec<Frame>) -> Frame
+    requires { 0 < vec_len memory.old }
+    ensures { memory.old.items ≡ memory.new.items ++ result ∷ [] }
+{
+    memory.pop().unwrap()
+}
+
+/// Opens the next target, for which a frame is free and a page unused, on this memory: its page, by
+/// its number from 1.
+fn open_next(heap: &mut Heap, memory: Frame) -> u32
     requires frame { 0 < free_count heap.old.store }
     requires page { 0 < unused_count heap.old.store }
+    requires blank { memory ≡ replicate heap.old.store.words 0 }
     ensures first { (k : ℕ) → with_targets (suc k) heap.old
         ≡ ((with_targets k heap.new).0, result ∷ (with_targets k heap.new).1) }
     ensures frames { free_count heap.new.store + 1 ≡ free_count heap.old.store }
@@ -21,7 +45,7 @@ fn open_next(heap: &mut Heap) -> u32
     ensures stays { KeepsClosed heap.old heap.new }
 {
     heap.law();
-    match heap.raw_open_target() {
+    match heap.raw_open_target(memory) {
         Ok(buffer) => buffer.page,
         Err(_) => unreachable!(),
     }
@@ -36,9 +60,10 @@ fn add(pages: &mut Vec<u32>, page: u32)
     let _ = pages.push(page);
 }
 
-/// Opens so many targets, for which frames are free and pages unused, and lists their pages, by
-/// their numbers from 1, in an empty list that has room for them.
-pub(crate) fn open_targets(heap: &mut Heap, count: usize, targets: &mut Vec<u32>)
+/// Opens so many targets, for which frames are free and pages unused, on so much memory, and lists
+/// their pages, by their numbers from 1, in an empty list that has room for them.
+pub(crate) fn open_targets(heap: &mut Heap, count: usize, memory: &mut Vec<Frame>, targets: &mut Vec<u32>)
+    requires blank { AreBlank heap.old.store.words count memory.old.items }
     requires empty { targets.old.items ≡ [] }
     requires room { count ≤ vec_capacity targets.old }
     requires frames { count ≤ free_count heap.old.store }
@@ -51,7 +76,8 @@ pub(crate) fn open_targets(heap: &mut Heap, count: usize, targets: &mut Vec<u32>
     ensures stays { KeepsClosed heap.old heap.new }
 {
     for _ in 0..count {
-        let page = open_next(heap);
+        let blank = take_blank(memory);
+        let page = open_next(heap, blank);
         add(targets, page);
     }
 }

@@ -4,7 +4,7 @@ ghost use Rattle.std.specs.Prelude.{◌≡◌, ◌≤◌, ◌<◌, length, slice
 ghost use Rattle.model.specs.Owning.{LiesIn};
 ghost use Rattle.model.specs.Buffers.{buffer_of_thread, opened_rows, with_opened_rows, with_buffer, lend_buffer};
 ghost use Rattle.model.specs.Buffers.{take_outcome, give_back_outcome};
-ghost use Rattle.model.specs.Refusing.{Does};
+ghost use Rattle.model.specs.Refusing.{Does, DoesOrLacks};
 ghost use Rattle.model.specs.Saying.{said, done, lent};
 ghost use Rattle.model.specs.Outcome.{Passes};
 ghost use Rattle.model.specs.declared.steps.Step.TheVariants as steps;
@@ -66,11 +66,12 @@ impl Heap {
     /// else in a fresh page. Gives the buffer, which is the thread's then.
     ///
     /// Refused where it has one (`HasBuffer`); where no page has room and no frame is free
-    /// (`NoFrames`); where no page number is unused (`NoPages`).
+    /// (`NoFrames`); where no page number is unused (`NoPages`); where memory for a fresh page was
+    /// refused (`Memory`).
     #[tactic(auto, unfolding(model::specs::Buffers::take_outcome, model::specs::Buffers::lend_buffer), using(model::proofs::Passing::take_low, model::proofs::Passing::take_high, crate::proofs::TakenBuffers::thread_there))]
     pub fn take_row(&mut self, thread: u32, words: u32) -> Result<Buffer, Refusal>
         requires { Passes self.old thread (steps.Take words) }
-        ensures does { Does self.old (said lent result) self.new (take_outcome self.old thread words) }
+        ensures does { DoesOrLacks self.old (said lent result) self.new (take_outcome self.old thread words) }
         ensures buffer { IfOk result (λ buffer. buffer_of_thread self.new thread ≡ Some buffer) }
     {
         if self.buffer(thread).is_some() {
@@ -83,6 +84,7 @@ impl Heap {
             }
             Err(Room::NoFrames) => Err(Refusal::NoFrames { need: 1, free: 0 }),
             Err(Room::NoPages) => Err(Refusal::NoPages),
+            Err(Room::NoMemory) => Err(Refusal::Memory),
         }
     }
 

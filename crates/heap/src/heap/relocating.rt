@@ -3,7 +3,7 @@
 //!
 //! They are for the crate that does rows of moving. Pages count from 1.
 
-ghost use Rattle.std.specs.Prelude.{◌≡◌, ◌-◌, ◌<◌, ◌^◌, false, slice_set};
+ghost use Rattle.std.specs.Prelude.{◌≡◌, ◌-◌, ◌<◌, ◌^◌, false, slice_set, replicate, IfOk};
 ghost use Rattle.model.specs.Holding.{AreRising, GoesToPage};
 ghost use Rattle.model.specs.Moves.{with_released};
 ghost use Rattle.model.specs.Owning.{Each};
@@ -17,7 +17,9 @@ ghost use Rattle.heap.specs.Relocating.{OpensTarget, start_protection};
 use crate::heap::Heap;
 use forward::Side;
 use model::{Buffer, Phase, Room};
+use page::Frame;
 use refword::Addr;
+use std::alloc::AllocError;
 
 impl Heap {
     /// How many words the object at an address has: 1 to 2,047. One that can't be read counts as its
@@ -33,13 +35,23 @@ impl Heap {
         }
     }
 
-    /// Opens a page for objects that move, of which all words are given out, to nobody. It says why there
-    /// is no room for one, where there is none.
+    /// Memory for a page: its words, all 0. It was kept of a page that gave it up, or is new. Fails only
+    /// by memory.
+    pub fn raw_blank(&mut self) -> Result<Frame, AllocError>
+        ensures value { IfOk result (λ f. f ≡ replicate self.old.store.words 0) }
+        ensures stays { self.new ≡ self.old }
+    {
+        self.store.blank()
+    }
+
+    /// Opens a page for objects that move, of which all words are given out, to nobody. It gets this memory.
+    /// It says why there is no room for one, where there is none.
     #[tactic(auto, unfolding(model::specs::Protections::with_target))]
-    pub fn raw_open_target(&mut self) -> Result<Buffer, Room>
+    pub fn raw_open_target(&mut self, memory: Frame) -> Result<Buffer, Room>
+        requires { memory ≡ replicate self.old.store.words 0 }
         ensures { OpensTarget self.old result self.new }
     {
-        let buffer = self.store.take_target()?;
+        let buffer = self.store.take_target(memory)?;
         self.open_rows(buffer);
         Ok(buffer)
     }
@@ -65,6 +77,20 @@ impl Heap {
         self.store.protect(pages);
         self.threads.uncross_all();
         self.phase = Phase::ProtectCrossing;
+    }
+
+    /// How many pages' memory is kept of pages that gave it up, for the next pages that are opened: at
+    /// most as many as frames are free.
+    pub fn kept_frames(&self) -> usize {
+        self.store.kept_frames()
+    }
+
+    /// Gives memory of pages that gave it up back to the allocator, but for that of so many pages.
+    /// Nothing else changes.
+    pub fn trim(&mut self, most: usize)
+        ensures { self.new ≡ self.old }
+    {
+        self.store.trim(most);
     }
 
     /// A page that is being emptied gives its memory up.
