@@ -1,7 +1,7 @@
 -- Targets are opened one after another.
 use Rattle.std.proofs.Common.{◌≡◌, ℕ, zero, suc, ◌+◌, ◌-◌, ◌<◌, ◌≤◌, List, [], ◌∷◌, ◌++◌, length, sym, ◌∙◌, ap}
-use Rattle.std.proofs.Common.{subst, arith}
-use Rattle.std.proofs.lemmas.List.{append_assoc, length-append}
+use Rattle.std.proofs.Common.{subst, arith, refl, ap₂, replicate}
+use Rattle.std.proofs.lemmas.List.{append_assoc, length-append, length-replicate}
 use Rattle.std.proofs.lemmas.Option.{same_Some}
 use Rattle.model.specs.declared.records.Buffer.{Buffer}
 use Rattle.model.specs.Owning.{Each}
@@ -21,6 +21,38 @@ target_keeps h g b next is = record {
   count = next.count;
   closed = next.closed;
 }
+
+same_head : {X : Type 0} (x y : X) (xs ys : List X) → x ∷ xs ≡ y ∷ ys → x ≡ y
+same_head x y xs ys e = cc
+
+same_tail : {X : Type 0} (x y : X) (xs ys : List X) → x ∷ xs ≡ y ∷ ys → xs ≡ ys
+same_tail x y xs ys e = cc
+
+-- the last of so many that are alike, and the others
+pub last_alike : {X : Type 0} (xs : List X) (x b : X) (n : ℕ) → xs ++ x ∷ [] ≡ replicate (suc n) b
+    → (x ≡ b) × (xs ≡ replicate n b)
+last_alike [] x b zero e = (same_head x b [] [] e, refl)
+last_alike [] x b (suc n) e = absurd (omega (arith, ap length e, length-replicate n b))
+last_alike (y ∷ ys) x b zero e = absurd (omega (arith, ap length e, length-append ys (x ∷ [])))
+last_alike (y ∷ ys) x b (suc n) e =
+    let (last, rest) = last_alike ys x b n (same_tail y b (ys ++ x ∷ []) (replicate (suc n) b) e) in
+    (last, ap₂ (λ z zs. z ∷ zs) (same_head y b (ys ++ x ∷ []) (replicate (suc n) b) e) rest)
+
+-- what is left of the memory of k targets, where i are opened
+abbrev pub IsLeft : ℕ → ℕ → ℕ → List (List ℕ) → Type 0
+IsLeft words k i memory = memory ≡ replicate (k - i) (replicate words 0)
+
+-- the memory of one of them is taken
+pub one_taken : (words k i : ℕ) (old new : List (List ℕ)) (x : List ℕ) → IsLeft words k i old → i < k
+    → old ≡ new ++ x ∷ [] → (x ≡ replicate words 0) × IsLeft words k (i + 1) new
+one_taken words k i old new x left low is =
+    let more : k - i ≡ suc (k - (i + 1)) = omega (arith, low) in
+    last_alike new x (replicate words 0) (k - (i + 1))
+    (sym is ∙ left ∙ ap (λ j. replicate j (replicate words 0)) more)
+
+pub some_left : (words k i : ℕ) (memory : List (List ℕ)) → IsLeft words k i memory → i < k → 0 < length memory
+some_left words k i memory left low =
+    omega (arith, ap length left, length-replicate (k - i) (replicate {A = ℕ} words 0), low)
 
 -- i of k targets are opened, with these pages: the others give what all give
 pub record HasOpened (h g : HeapState) (k i : ℕ) (ns : List ℕ) : Type 0 where

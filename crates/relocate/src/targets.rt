@@ -24,7 +24,7 @@ pub(crate) fn blank_targets(heap: &mut Heap, count: usize) -> Result<Vec<Frame>,
 
 /// Takes the memory of one target.
 fn take_blank(memory: &mut Vec<Frame>) -> Frame
-    requires { 0 < vec_len memory.old }
+    requires { 0 < length memory.old.items }
     ensures { memory.old.items ≡ memory.new.items ++ result ∷ [] }
 {
     memory.pop().unwrap()
