@@ -1,7 +1,7 @@
 -- The index of rows that have a bit.
-use Rattle.std.proofs.Common.{◌≡◌, ℕ, zero, suc, ◌+◌, ◌*◌, ◌<◌, Bool, false, not, cond, List, [], ◌∷◌, map}
+use Rattle.std.proofs.Common.{◌≡◌, ℕ, zero, suc, ◌+◌, ◌<◌, Bool, false, not, cond, List, [], ◌∷◌, map}
 use Rattle.std.proofs.Common.{replicate, set}
-use Rattle.std.proofs.Common.{count_by, Option, Some, None, refl, sym, ◌∙◌, ap, ap₂, subst, arith}
+use Rattle.std.proofs.Common.{count_by, Option, Some, None, refl, sym, ◌∙◌, ap, subst, arith}
 use Rattle.std.specs.List.{slice_get, slice_index_or}
 use Rattle.std.specs.Prelude.{◌==◌}
 use Rattle.std.proofs.lemmas.List.{map-set, set-get_or}
@@ -9,7 +9,7 @@ use Rattle.std.proofs.lemmas.List.Sums.{sum_by-cons}
 use Rattle.std.proofs.lemmas.Bool.Decides.{nat_tests}
 use Rattle.model.specs.States.{change_at, change_found}
 use Rattle.model.specs.Bits.{bit_count, put_bit}
-use Rattle.model.proofs.Lists.{get_set_same, count_replicate, as_number}
+use Rattle.model.proofs.Lists.{get_set_same, as_number}
 use Rattle.markbits.specs.Indexing.{has_bits, settle}
 
 -- the index of rows of which one is changed
@@ -24,6 +24,25 @@ settled rows new busy i f e k = subst (λ n. settle busy i (slice_get n i) ≡ m
     by_row None g = ap (settle (map has_bits rows) i) g
     by_row (Some row) g = ap (settle (map has_bits rows) i) (get_set_same rows i row (f row) g)
         ∙ sym (map-set has_bits rows i (f row))
+
+set_missing : (xs : List (List Bool)) (i : ℕ) (x : List Bool) → slice_get xs i ≡ None → set xs i x ≡ xs
+set_missing [] i x g = refl
+set_missing (y ∷ xs) zero x g = absurd (cc)
+set_missing (y ∷ xs) (suc i) x g = ap (λ zs. y ∷ zs) (set_missing xs i x g)
+
+-- the index of rows of which one is put in the place of another
+pub settled_placed : (rows new : List (List Bool)) (busy row : List Bool) (i : ℕ) → busy ≡ map has_bits rows
+    → new ≡ set rows i row → settle busy i (slice_get new i) ≡ map has_bits new
+settled_placed rows new busy row i e k = subst (λ n. settle busy i (slice_get n i) ≡ map has_bits n) (sym k)
+    (subst (λ b. settle b i (slice_get (set rows i row) i) ≡ map has_bits (set rows i row)) (sym e)
+    (by_row (slice_get rows i) refl))
+  where
+    by_row : (o : Option (List Bool)) → slice_get rows i ≡ o
+        → settle (map has_bits rows) i (slice_get (set rows i row) i) ≡ map has_bits (set rows i row)
+    by_row None g = ap (λ xs. settle (map has_bits rows) i (slice_get xs i)) (set_missing rows i row g)
+        ∙ ap (settle (map has_bits rows) i) g ∙ sym (ap (map has_bits) (set_missing rows i row g))
+    by_row (Some old) g = ap (settle (map has_bits rows) i) (get_set_same rows i old row g)
+        ∙ sym (map-set has_bits rows i row)
 
 -- an entry that is as it is to be
 pub settled_before : (busy : List Bool) (i : ℕ) (row : List Bool) → slice_index_or busy i false ≡ has_bits row
@@ -44,19 +63,10 @@ put_again rows i o bit row e is = ap (λ r. change_found rows i r (put_bit o bit
         some_is y x e = cc
     set_back (y ∷ xs) (suc i) x e = ap (λ zs. y ∷ zs) (set_back xs i x e)
 
--- rows that are clear have no bit
-pub none_busy : (count words : ℕ) → replicate count false ≡ map has_bits (replicate count (replicate words false))
-none_busy zero words = refl
-none_busy (suc count) words = ap₂ (λ b bs. b ∷ bs) (clear words) (none_busy count words)
-  where
-    no_times : (n : ℕ) → n * 0 ≡ 0
-    no_times n = omega arith
-
-    clear : (words : ℕ) → false ≡ has_bits (replicate words false)
-    clear words =
-        let none : count_by (λ b. b) (replicate words false) ≡ 0 =
-        count_replicate (λ b. b) words false ∙ no_times words in
-        ap (λ n. not (n == 0)) (sym none)
+-- empty rows have no bit
+pub none_busy : (count : ℕ) → replicate count false ≡ map has_bits (replicate count [])
+none_busy zero = refl
+none_busy (suc count) = ap (λ bs. false ∷ bs) (none_busy count)
 
 -- where no row has a bit, none is set
 pub none_counted : (rows : List (List Bool))

@@ -1,9 +1,9 @@
 //! Rows with an index of those that have a bit set.
 
-ghost use Rattle.std.specs.Prelude.{◌≡◌, replicate, slice_get, map, false, IfOk, ◌==◌};
+ghost use Rattle.std.specs.Prelude.{◌≡◌, replicate, slice_get, slice_set, map, false, [], IfOk, ◌==◌};
 ghost use Rattle.std.specs.Option.{option_copied};
 ghost use Rattle.model.specs.States.{change_at};
-ghost use Rattle.model.specs.Bits.{blank_row, put_bit, bit_on, bit_count};
+ghost use Rattle.model.specs.Bits.{put_bit, bit_on, bit_count};
 ghost use Rattle.markbits.specs.Words.{IsNextPlace};
 ghost use Rattle.markbits.specs.Indexing.{has_bits, settle};
 
@@ -48,13 +48,12 @@ fn settle(busy: &mut IndexedRow, rows: &Rows, index: usize)
 }
 
 impl IndexedRows {
-    /// So many rows of so many bits, all clear: in a heap at most 1,048,575 rows, of 16 to 32,768
-    /// bits. Fails only by memory.
+    /// So many empty rows: in a heap at most 1,048,575. Fails only by memory.
     #[tactic(auto, using(crate::proofs::Busy::none_busy))]
-    pub fn new(alloc: Global, count: u32, words: u32) -> Result<IndexedRows, AllocError>
-        ensures { IfOk result (λ r. r ≡ replicate count (replicate words false)) }
+    pub fn new(alloc: Global, count: u32) -> Result<IndexedRows, AllocError>
+        ensures { IfOk result (λ r. r ≡ replicate count []) }
     {
-        let rows = Rows::new(alloc, count, words)?;
+        let rows = Rows::new(alloc, count)?;
         let busy = IndexedRow::new(alloc, count)?;
         Ok(IndexedRows { rows, busy })
     }
@@ -115,12 +114,21 @@ impl IndexedRows {
         }
     }
 
-    /// Clears a row, if it is there.
-    #[tactic(auto, using(crate::proofs::Busy::settled))]
-    pub fn clear(&mut self, index: usize)
-        ensures { self.new ≡ change_at self.old index blank_row }
+    /// Puts a row in the place of another, if there is one of this index.
+    #[tactic(auto, using(crate::proofs::Busy::settled_placed))]
+    pub fn place(&mut self, index: usize, row: Row)
+        ensures { self.new ≡ slice_set self.old index row }
     {
-        self.rows.clear(index);
+        self.rows.place(index, row);
+        settle(&mut self.busy, &self.rows, index);
+    }
+
+    /// Gives up the bits of a row, if it is there: it is empty then, and takes no memory.
+    #[tactic(auto, using(crate::proofs::Busy::settled_placed))]
+    pub fn give_up(&mut self, index: usize)
+        ensures { self.new ≡ slice_set self.old index [] }
+    {
+        self.rows.give_up(index);
         settle(&mut self.busy, &self.rows, index);
     }
 }

@@ -1,7 +1,7 @@
 //! Rows of bits, one bit for each word of a page.
 
 ghost use Rattle.std.specs.Prelude.{◌≡◌, ℕ, ◌+◌, ◌-◌, ◌*◌, ◌/◌, ◌<◌, ◌≤◌, ◌^◌, length, replicate, take, slice_get};
-ghost use Rattle.std.specs.Prelude.{slice_index_or, Some, map, true, false, [], IfOk, count_by};
+ghost use Rattle.std.specs.Prelude.{slice_index_or, slice_set, Some, map, true, false, [], IfOk, count_by};
 ghost use Rattle.std.specs.Int.{div_ceil};
 ghost use Rattle.std.specs.Option.{option_copied};
 ghost use Rattle.model.specs.States.{change_at};
@@ -280,7 +280,8 @@ impl Row {
     }
 }
 
-/// A row for each page that has a record, by the record's index.
+/// A row for each page that has a record, by the record's index. The row of a page that isn't used is
+/// empty, and takes no memory.
 #[derive(Debug, Drop)]
 pub struct Rows {
     rows: Vec<Row>,
@@ -295,14 +296,13 @@ impl Model for Rows {
 }
 
 impl Rows {
-    /// So many rows of so many bits, all clear: in a heap at most 1,048,575 rows, of 16 to 32,768
-    /// bits. Fails only by memory.
-    pub fn new(alloc: Global, count: u32, words: u32) -> Result<Rows, AllocError>
-        ensures { IfOk result (λ r. r ≡ replicate count (replicate words false)) }
+    /// So many empty rows: in a heap at most 1,048,575. Fails only by memory.
+    pub fn new(alloc: Global, count: u32) -> Result<Rows, AllocError>
+        ensures { IfOk result (λ r. r ≡ replicate count []) }
     {
         let mut rows = Vec::with_capacity(alloc, count as usize)?;
         for _row in 0..count {
-            rows.push(Row::new(alloc, words)?)?;
+            rows.push(Row::empty(alloc))?;
         }
         Ok(Rows { rows })
     }
@@ -399,13 +399,21 @@ impl Rows {
         &mut self.rows[index]
     }
 
-    /// Clears a row, if it is there.
-    pub fn clear(&mut self, index: usize)
-        ensures { self.new ≡ change_at self.old index blank_row }
+    /// Puts a row in the place of another, if there is one of this index.
+    pub fn place(&mut self, index: usize, row: Row)
+        ensures { self.new ≡ slice_set self.old index row }
     {
         if index < self.rows.len() {
-            self.rows[index].clear();
+            self.rows[index] = row;
         }
+    }
+
+    /// Gives up the bits of a row, if it is there: it is empty then, and takes no memory.
+    pub fn give_up(&mut self, index: usize)
+        ensures { self.new ≡ slice_set self.old index [] }
+    {
+        let empty = Row::empty(*self.rows.allocator());
+        self.place(index, empty);
     }
 
     /// Clears all rows. Rows without a bit cost one test each, and nothing where all are clear.

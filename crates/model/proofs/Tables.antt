@@ -1,19 +1,20 @@
 -- Rows and side arrays of pages: what keeps them as many and as long as they are.
-use Rattle.std.proofs.Common.{◌≡◌, ℕ, ◌-◌, ◌==◌, Bool, true, false, List, [], length, replicate, refl, ◌∙◌}
+use Rattle.std.proofs.Common.{◌≡◌, ◌≤◌, ℕ, zero, suc, Bool, true, false, cond, List, [], ◌∷◌, map, length}
+use Rattle.std.proofs.Common.{replicate, set, refl, sym, ap, ◌∙◌, arith}
 use Rattle.std.specs.List.{slice_get}
 use Rattle.std.proofs.Math.ListN.{length-set}
-use Rattle.std.proofs.lemmas.List.{length-replicate}
-use Rattle.std.specs.Prelude.{Option, Some, None, if◌then◌else◌}
+use Rattle.std.proofs.lemmas.List.{length-replicate, length-map}
+use Rattle.std.proofs.lemmas.Option.{same_Some, slice_get_within}
+use Rattle.std.specs.Prelude.{Option, Some, None}
 use Rattle.model.specs.declared.config.Config.{Config}
-use Rattle.model.specs.declared.records.Buffer.{Buffer}
-use Rattle.model.specs.Stores.{record_count}
+use Rattle.model.specs.declared.records.Page.{Page}
+use Rattle.model.specs.Stores.{StoreState, record_count, is_unused, first_store, blank_page}
 use Rattle.model.specs.States.{change_at, change_found}
-use Rattle.model.specs.Buffers.{opened_rows}
-use Rattle.model.specs.Bits.{blank_row, put_bit}
+use Rattle.model.specs.Bits.{blank_all, put_bit}
 use Rattle.model.specs.First.{blank_rows, no_sides}
-use Rattle.model.specs.Holding.{AreRows, AreRowsFor, AreRising, AreSidesFor, GoesToPage}
-use Rattle.model.specs.Owning.{Each}
-use Rattle.model.proofs.Lists.{each_changed, each_replicate}
+use Rattle.model.specs.Holding.{AreRowsOf, AreRising, AreSidesFor, GoesToPage}
+use Rattle.model.specs.Owning.{Each, row_size}
+use Rattle.model.proofs.Lists.{each_replicate, get_within}
 
 pub length_changed : {X : Type 0} (xs : List X) (i : ℕ) (f : X → X) → length (change_at xs i f) ≡ length xs
 length_changed {X} xs i f = go (slice_get xs i)
@@ -22,37 +23,84 @@ length_changed {X} xs i f = go (slice_get xs i)
     go None = refl
     go (Some x) = length-set xs i (f x)
 
--- one row is changed to another of its length
-pub rows_changed : (count size : ℕ) (rows : List (List Bool)) (i : ℕ) (f : List Bool → List Bool)
-    → AreRows count size rows → ((row : List Bool) → length (f row) ≡ length row)
-    → AreRows count size (change_at rows i f)
-rows_changed count size rows i f r h = record {
-  pages = length_changed rows i f ∙ r.pages;
-  words = each_changed (λ row. length row ≡ size) rows i f r.words (λ row e. h row ∙ e);
-}
+-- a row is changed to another of its length
+pub lengths_changed : (rows : List (List Bool)) (i : ℕ) (f : List Bool → List Bool)
+    → ((row : List Bool) → length (f row) ≡ length row) → map length (change_at rows i f) ≡ map length rows
+lengths_changed rows i f h = go rows i (slice_get rows i) refl
+  where
+    go : (rows : List (List Bool)) (i : ℕ) (o : Option (List Bool)) → slice_get rows i ≡ o
+        → map length (change_found rows i o f) ≡ map length rows
+    go rows i None e = refl
+    go [] i (Some row) e = absurd (cc)
+    go (r ∷ rows) zero (Some row) e =
+        let here : r ≡ row = same_Some _ _ e in ap (λ n. n ∷ map length rows) (h row ∙ ap length (sym here))
+    go (r ∷ rows) (suc i) (Some row) e = ap (λ ns. length r ∷ ns) (go rows i (Some row) e)
+
+pub rows_changed : (s : StoreState) (rows : List (List Bool)) (i : ℕ) (f : List Bool → List Bool)
+    → AreRowsOf s rows → ((row : List Bool) → length (f row) ≡ length row) → AreRowsOf s (change_at rows i f)
+rows_changed s rows i f r h = lengths_changed rows i f h ∙ r
 
 -- a bit is put
-pub rows_put : (count size : ℕ) (rows : List (List Bool)) (i o : ℕ) (bit : Bool) → AreRows count size rows
-    → AreRows count size (change_at rows i (put_bit o bit))
-rows_put count size rows i o bit r =
-    rows_changed count size rows i (put_bit o bit) r (λ row. length-set row o bit)
+pub rows_put : (s : StoreState) (rows : List (List Bool)) (i o : ℕ) (bit : Bool) → AreRowsOf s rows
+    → AreRowsOf s (change_at rows i (put_bit o bit))
+rows_put s rows i o bit r = rows_changed s rows i (put_bit o bit) r (λ row. length-set row o bit)
 
--- a row is blanked, where its page is opened
-pub rows_opened : (count size : ℕ) (rows : List (List Bool)) (b : Buffer) → AreRows count size rows
-    → AreRows count size (opened_rows b rows)
-rows_opened count size rows b r = by_test (b.next == 0)
+-- a row is put in the place of another
+pub lengths_set : (rows : List (List Bool)) (i : ℕ) (row : List Bool)
+    → map length (set rows i row) ≡ set (map length rows) i (length row)
+lengths_set [] i row = refl
+lengths_set (r ∷ rows) zero row = refl
+lengths_set (r ∷ rows) (suc i) row = ap (λ ns. length r ∷ ns) (lengths_set rows i row)
+
+-- all rows are blanked
+pub lengths_blank : (rows : List (List Bool)) → map length (blank_all rows) ≡ map length rows
+lengths_blank [] = refl
+lengths_blank (r ∷ rows) =
+    ap (λ n. n ∷ map length (blank_all rows)) (length-replicate (length r) false)
+    ∙ ap (λ ns. length r ∷ ns) (lengths_blank rows)
+
+-- there are as many rows as records
+pub rows_many : (s : StoreState) (rows : List (List Bool)) → AreRowsOf s rows → length rows ≡ length s.pages
+rows_many s rows r =
+    sym (length-map rows (λ (row : List Bool). length row)) ∙ ap length r ∙ length-map s.pages (row_size s.words)
+
+pub get_map : {X Y : Type 0} (f : X → Y) (xs : List X) (i : ℕ) (x : X) → slice_get xs i ≡ Some x
+    → slice_get (map f xs) i ≡ Some (f x)
+get_map f [] i x e = absurd (cc)
+get_map f (y ∷ ys) zero x e = ap (λ z. Some (f z)) (same_Some _ _ e)
+get_map f (y ∷ ys) (suc i) x e = get_map f ys i x e
+
+-- the size of a page's row
+pub row_at : (s : StoreState) (rows : List (List Bool)) (i : ℕ) (p : Page) (row : List Bool) → AreRowsOf s rows
+    → slice_get s.pages i ≡ Some p → slice_get rows i ≡ Some row → length row ≡ row_size s.words p
+row_at s rows i p row r a b = same_Some _ _ (sym (get_map (λ (x : List Bool). length x) rows i row b)
+    ∙ ap (λ ns. slice_get ns i) r ∙ get_map (row_size s.words) s.pages i p a)
+
+-- the row of a page that is used
+pub row_used : (s : StoreState) (rows : List (List Bool)) (i : ℕ) (p : Page) (row : List Bool) → AreRowsOf s rows
+    → slice_get s.pages i ≡ Some p → is_unused p.state ≡ false → slice_get rows i ≡ Some row
+    → length row ≡ s.words
+row_used s rows i p row r a used b = row_at s rows i p row r a b ∙ ap (λ b. cond b 0 s.words) used
+
+-- no row has more bits than a page has words
+pub row_short : (s : StoreState) (rows : List (List Bool)) (i : ℕ) (row : List Bool) → AreRowsOf s rows
+    → slice_get rows i ≡ Some row → length row ≤ s.words
+row_short s rows i row r b =
+    let there = slice_get_within rows i row b in
+    let (p, a) = get_within s.pages i (omega (arith, there, rows_many s rows r)) in
+    by_use (is_unused p.state) (row_at s rows i p row r a b)
   where
-    by_test : (c : Bool) → AreRows count size (if c then change_at rows (b.page - 1) blank_row else rows)
-    by_test true =
-        rows_changed count size rows (b.page - 1) blank_row r (λ row. length-replicate (length row) false)
-    by_test false = r
+    by_use : (b : Bool) → length row ≡ cond b 0 s.words → length row ≤ s.words
+    by_use true e = omega (arith, e)
+    by_use false e = omega (arith, e)
 
-pub first_rows : (c : Config) → AreRowsFor c (blank_rows c)
-first_rows c = record {
-  pages = length-replicate (record_count c.frames c.pages) (replicate c.words false);
-  words = each_replicate (λ row. length row ≡ c.words) (record_count c.frames c.pages) (replicate c.words false)
-      (length-replicate c.words false);
-}
+pub first_rows : (c : Config) → AreRowsOf (first_store c.words c.frames c.pages) (blank_rows c)
+unfolding first_store
+first_rows c = go (record_count c.frames c.pages)
+  where
+    go : (n : ℕ) → map length (replicate {A = List Bool} n []) ≡ map (row_size c.words) (replicate n blank_page)
+    go zero = refl
+    go (suc n) = ap (λ ns. 0 ∷ ns) (go n)
 
 -- no entry goes anywhere where there is none
 pub none_goes : (c : Config) → Each [] (GoesToPage c)

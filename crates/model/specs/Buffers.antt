@@ -1,5 +1,5 @@
 -- Buffers that are taken and given back.
-use Rattle.std.specs.Prelude.{ℕ, ◌-◌, ◌==◌, Bool, List, Option, Some, None, slice_get}
+use Rattle.std.specs.Prelude.{ℕ, ◌-◌, ◌==◌, Bool, false, List, Option, Some, None, slice_get, slice_set, replicate}
 use Rattle.std.specs.Prelude.{if◌then◌else◌, is_some, Result, Ok, Err}
 use Rattle.model.specs.declared.records.Buffer.{Buffer}
 use Rattle.model.specs.Stores.{StoreState, take_buffer}
@@ -10,7 +10,6 @@ use Rattle.model.specs.declared.records.Room.TheVariants.{NoFrames, NoPages, NoM
 use Rattle.model.specs.Refusing.{Outcome}
 use Rattle.model.specs.States.{HeapState, change_at}
 use Rattle.model.specs.Threads.{set_buffer_of, buffer_in}
-use Rattle.model.specs.Bits.{blank_row}
 
 -- the heap with another buffer of a thread
 unfoldable pub with_buffer : HeapState → ℕ → Option Buffer → HeapState
@@ -20,27 +19,18 @@ with_buffer h t b = record h { threads = change_at h.threads t (set_buffer_of b)
 abbrev pub buffer_of_thread : HeapState → ℕ → Option Buffer
 buffer_of_thread h t = buffer_in (slice_get h.threads t)
 
--- the rows of a page that a buffer is the first of are blank
-abbrev pub opened_rows : Buffer → List (List Bool) → List (List Bool)
-opened_rows b rows = if b.next == 0 then change_at rows (b.page - 1) blank_row else rows
-
--- the heap with all rows of a page blank that a buffer is the first of
-abbrev pub with_opened_rows : HeapState → Buffer → HeapState
-with_opened_rows h b = record h {
-  starts = opened_rows b h.starts;
-  live = opened_rows b h.live;
-  mark = opened_rows b h.mark;
-  todo = opened_rows b h.todo;
-}
+-- a page that a buffer is the first of has a row of so many bits, all clear
+abbrev pub opened_rows : ℕ → Buffer → List (List Bool) → List (List Bool)
+opened_rows words b rows = if b.next == 0 then slice_set rows (b.page - 1) (replicate words false) else rows
 
 -- the heap after a thread took a buffer of the store
 unfoldable pub lend_buffer : HeapState → ℕ → StoreState → Buffer → HeapState
 lend_buffer h t s b = record h {
   store = s;
-  starts = opened_rows b h.starts;
-  live = opened_rows b h.live;
-  mark = opened_rows b h.mark;
-  todo = opened_rows b h.todo;
+  starts = opened_rows s.words b h.starts;
+  live = opened_rows s.words b h.live;
+  mark = opened_rows s.words b h.mark;
+  todo = opened_rows s.words b h.todo;
   threads = change_at h.threads t (set_buffer_of (Some b));
 }
 

@@ -1,6 +1,6 @@
 -- A mark starts and ends (the paper's Mark phase).
 use Rattle.std.specs.List.{list_any}
-use Rattle.std.specs.Prelude.{ℕ, ◌==◌, ◌||◌, not, Bool, true, false, List, [], map, replicate}
+use Rattle.std.specs.Prelude.{ℕ, ◌==◌, ◌||◌, not, Bool, true, false, List, [], ◌∷◌, map, replicate}
 use Rattle.std.specs.Prelude.{length, count_by, position, Option, Some, None, is_some, if◌then◌else◌, Result, Ok, Err}
 use Rattle.model.specs.declared.records.Buffer.{Buffer}
 use Rattle.model.specs.declared.records.Forwarding.{Forwarding}
@@ -65,12 +65,20 @@ is_buffer_on n (Some b) = b.page == n
 unfoldable pub is_lent : List ThreadState → ℕ → Bool
 is_lent threads n = list_any (λ (t : ThreadState). is_buffer_on n t.buffer) threads
 
+-- the rows of pages after a mark, which protected pages give up
+abbrev pub rows_after_mark : List Page → List (List Bool) → List (List Bool)
+rows_after_mark [] rows = rows
+rows_after_mark (p ∷ ps) [] = []
+rows_after_mark (p ∷ ps) (row ∷ rows) = (if is_protected p.state then [] else row) ∷ rows_after_mark ps rows
+
 -- the heap after a mark ends (ours): what it marked is live, and pages are as `page_after_mark` says
 unfoldable pub end_mark : HeapState → HeapState
 end_mark h = record h {
   store = store_after_mark (is_lent h.threads) h.store;
-  live = h.mark;
-  mark = blank_all h.live;
+  starts = rows_after_mark h.store.pages h.starts;
+  live = rows_after_mark h.store.pages h.mark;
+  mark = blank_all (rows_after_mark h.store.pages h.live);
+  todo = rows_after_mark h.store.pages h.todo;
   sides = replicate (length h.sides) [];
   phase = Idle;
 }

@@ -18,9 +18,9 @@ blank_thread registers = record {
   tally = blank_tally;
 }
 
--- a row with all bits clear for each page record
+-- an empty row for each page record
 abbrev pub blank_rows : Config → List (List Bool)
-blank_rows c = replicate (record_count c.frames c.pages) (replicate c.words false)
+blank_rows c = replicate (record_count c.frames c.pages) []
 
 -- an empty side array for each page record
 abbrev pub no_sides : Config → List (List Forwarding)

@@ -1,10 +1,10 @@
 -- What the code of a heap keeps at all times.
-use Rattle.std.specs.Prelude.{◌≡◌, ℕ, ◌+◌, ◌*◌, ◌<◌, ◌≤◌, Bool, List, [], ◌∷◌, length, IfSome}
+use Rattle.std.specs.Prelude.{◌≡◌, ℕ, ◌+◌, ◌*◌, ◌<◌, ◌≤◌, Bool, List, [], ◌∷◌, length, map, IfSome}
 use Rattle.model.specs.declared.config.Config.{Config}
 use Rattle.model.specs.declared.records.Forwarding.{Forwarding}
 use Rattle.model.specs.Configs.{IsRanged}
 use Rattle.model.specs.declared.records.Phase.TheVariants.{Idle}
-use Rattle.model.specs.Owning.{Each, LiesIn, NoneProtected}
+use Rattle.model.specs.Owning.{Each, LiesIn, NoneProtected, row_sizes}
 use Rattle.model.specs.Stores.{StoreState, record_count}
 use Rattle.model.specs.States.{HeapState, ThreadState}
 
@@ -25,10 +25,9 @@ pub record HasSizes (h : HeapState) : Type 0 where
   pub workers : length h.workers ≡ h.config.workers
   pub globals : length h.globals ≡ h.config.globals
 
--- each of so many pages has a row, of a bit for each of its words
-pub record AreRows (count size : ℕ) (rows : List (List Bool)) : Type 0 where
-  pub pages : length rows ≡ count
-  pub words : Each rows (λ row. length row ≡ size)
+-- each page of a store has a row of this size
+abbrev pub AreRowsOf : StoreState → List (List Bool) → Type 0
+AreRowsOf s rows = map length rows ≡ row_sizes s
 
 -- offsets rise from a lowest one, and lie in a page of so many words
 abbrev pub AreRising : ℕ → ℕ → List Forwarding → Type 0
@@ -39,10 +38,6 @@ AreRising words low (f ∷ fs) = (low ≤ f.offset) × (f.offset < words) × Are
 pub record AreSides (count size : ℕ) (sides : List (List Forwarding)) : Type 0 where
   pub pages : length sides ≡ count
   pub rising : Each sides (AreRising size 0)
-
--- each page record of a configuration has a row
-abbrev pub AreRowsFor : Config → List (List Bool) → Type 0
-AreRowsFor c rows = AreRows (record_count c.frames c.pages) c.words rows
 
 -- an entry's object goes to a page that has a number
 abbrev pub GoesToPage : Config → Forwarding → Type 0
@@ -58,10 +53,10 @@ pub record AreSidesFor (c : Config) (sides : List (List Forwarding)) : Type 0 wh
 pub record IsHeap (h : HeapState) : Type 0 where
   pub config : IsRanged h.config
   pub sizes : HasSizes h
-  pub starts : AreRowsFor h.config h.starts
-  pub live : AreRowsFor h.config h.live
-  pub mark : AreRowsFor h.config h.mark
-  pub todo : AreRowsFor h.config h.todo
+  pub starts : AreRowsOf h.store h.starts
+  pub live : AreRowsOf h.store h.live
+  pub mark : AreRowsOf h.store h.mark
+  pub todo : AreRowsOf h.store h.todo
   pub sides : AreSidesFor h.config h.sides
   pub births : h.births ≤ h.config.births
   pub buffers : Each h.threads (FillsIn h.store)

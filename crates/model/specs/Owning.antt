@@ -1,11 +1,11 @@
 -- What holds of every store: each frame is the memory of one page, or free.
 use Rattle.std.specs.Prelude.{◌≡◌, ℕ, ◌+◌, ◌≤◌, ◌<◌, true, false, List, length, count_by, is_some, is_none, Some}
-use Rattle.std.specs.Prelude.{None, Option}
+use Rattle.std.specs.Prelude.{None, Option, map, ◌-◌, ◌==◌, slice_set, if◌then◌else◌}
 use Rattle.std.specs.Prelude.{slice_get}
 use Rattle.model.specs.declared.limits.TheConstants.{MOST_WORDS, MOST_FRAMES, MOST_PAGES}
 use Rattle.model.specs.declared.records.Page.{Page}
 use Rattle.model.specs.declared.records.Buffer.{Buffer}
-use Rattle.model.specs.Stores.{StoreState, has_memory, is_protected, is_open, page_at, state_in, record_count}
+use Rattle.model.specs.Stores.{StoreState, has_memory, is_protected, is_open, is_unused, page_at, state_in, record_count}
 
 -- each element has it
 abbrev pub Each : {X : Type 0} → List X → (X → Type 0) → Type 0
@@ -67,10 +67,23 @@ pub record AreSized (s t : StoreState) : Type 0 where
   pub count : t.count ≡ s.count
   pub frames : length t.frames ≡ length s.frames
 
--- a buffer that was taken lies in the new store, and so do those that lay in the old one; the sizes stay, and no page
--- becomes protected
+-- how many bits the row of a page has: one for each of its words, and none where it is unused
+abbrev pub row_size : ℕ → Page → ℕ
+row_size words p = if is_unused p.state then 0 else words
+
+-- how many bits the rows of a store's pages have
+abbrev pub row_sizes : StoreState → List ℕ
+row_sizes s = map (row_size s.words) s.pages
+
+-- sizes of rows where the page that a buffer is the first of has one of so many bits
+abbrev pub opened_sizes : ℕ → Buffer → List ℕ → List ℕ
+opened_sizes words b sizes = if b.next == 0 then slice_set sizes (b.page - 1) words else sizes
+
+-- a buffer that was taken lies in the new store, and so do those that lay in the old one; the sizes stay, those of rows
+-- but for that of a page that opens; and no page becomes protected
 pub record TakesWell (s t : StoreState) (b : Buffer) : Type 0 where
   pub sized : AreSized s t
+  pub rows : row_sizes t ≡ opened_sizes s.words b (row_sizes s)
   pub lies : LiesIn t b
   pub stays : (c : Buffer) → LiesIn s c → LiesIn t c
   pub unprotected : NoneProtected s → NoneProtected t

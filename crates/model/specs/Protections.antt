@@ -31,10 +31,10 @@ take_target s = take_fresh s s.words (free_frame s.owners) (unused_page s.count 
 unfoldable pub with_target : HeapState → StoreState × Buffer → HeapState
 with_target h x = record h {
   store = x.0;
-  starts = opened_rows x.1 h.starts;
-  live = opened_rows x.1 h.live;
-  mark = opened_rows x.1 h.mark;
-  todo = opened_rows x.1 h.todo;
+  starts = opened_rows x.0.words x.1 h.starts;
+  live = opened_rows x.0.words x.1 h.live;
+  mark = opened_rows x.0.words x.1 h.mark;
+  todo = opened_rows x.0.words x.1 h.todo;
 }
 
 -- a heap with a target, and then with those that come behind it; and their pages

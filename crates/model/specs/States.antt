@@ -25,7 +25,7 @@ pub record ThreadState : Type 0 where
   pub tally : Tally
 
 -- A heap: all that it keeps, and how many objects were born.
--- Rows have a bit for each word of a page; a page's row stands where its record does in the store.
+-- Rows have a bit for each word of a page that is used; a page's row stands where its record does in the store.
 pub record HeapState : Type 0 where
   pub config : Config
   pub store : StoreState

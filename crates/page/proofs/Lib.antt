@@ -11,5 +11,6 @@ pub mod Relocated
 pub mod Copied
 pub mod Protecting
 pub mod NextTargets
+pub mod RowSizes
 pub mod Runs
 pub mod Usable

@@ -5,7 +5,7 @@ use Rattle.std.proofs.Common.{length, position, Option, Some, None, set, replica
 use Rattle.std.proofs.Common.{arith, rules}
 use Rattle.std.specs.List.{slice_get}
 use Rattle.std.proofs.Math.ListN.{length-set}
-use Rattle.std.specs.Prelude.{Ok, Err, Result, IfOk}
+use Rattle.std.specs.Prelude.{Ok, Err, Result, IfOk, ◌==◌}
 use Rattle.std.proofs.Math.Nat.{mul-le-mul_left}
 use Rattle.std.proofs.lemmas.Nat.{mul-add-lt}
 use Rattle.std.proofs.lemmas.Bool.Decides.{nat_tests}
@@ -20,13 +20,15 @@ use Rattle.model.specs.declared.records.Buffer.{Buffer}
 use Rattle.model.specs.Stores.{StoreState, is_open, is_unused, is_protected, state_in, open_fresh, give_words}
 use Rattle.model.specs.Stores.{buffer_of}
 use Rattle.model.specs.Stores.{Takes, TakesOrLacks, with_words, with_word, fresh_page, take_buffer}
-use Rattle.model.specs.Stores.{page_with_room, free_frame, unused_page, record_count, take_fresh, take_at}
+use Rattle.model.specs.Stores.{page_with_room, free_frame, unused_page, record_count, take_fresh, take_at, top_in}
 use Rattle.model.specs.Protections.{take_target}
 use Rattle.model.specs.Owning.{IsStore, LiesIn, AreSized, TakesWell, NoneProtected}
 use Rattle.model.proofs.Memory.{frames_stay}
 use Rattle.model.proofs.Lists.{get_set_same, get_set_other, get_within, each_set}
 use Rattle.page.proofs.Found.{position_within, room_left, free_counts, free_within, room_within, room_passes}
 use Rattle.page.proofs.Keeping.{unused_as, page_at_record, page_at_zero, opened_words, opened_at, given_at}
+use Rattle.page.proofs.RowSizes.{given_rows, fresh_rows}
+use Rattle.page.specs.Records.{begins_in, begins_page}
 
 -- the page of a buffer has a record
 pub lies_at : (s : StoreState) (b : Buffer) → LiesIn s b
@@ -108,6 +110,7 @@ well_given : (s : StoreState) (i n : ℕ) (p : Page) → slice_get s.pages i ≡
     → p.top + n ≤ s.words → TakesWell s (give_words s i n).0 (give_words s i n).1
 well_given s i n p e o room = record {
   sized = given_sized s i n;
+  rows = given_rows s i n p e o;
   lies = given_lies s i n p e o room;
   stays = λ c h. given_stays s i n p c e o h;
   unprotected = λ k. subst NoneProtected (sym (ap (λ (x : StoreState × Buffer). x.0) (given_at s i n p e)))
@@ -121,6 +124,7 @@ well_opened s i f n p e room =
     let words = opened_words s i f in
     record {
       sized = opened_sized s i f n;
+      rows = fresh_rows s i f n p e;
       lies = given_lies (open_fresh s i f) i n (fresh_page f) at refl (rw words (omega arith));
       stays = λ c h. given_stays (open_fresh s i f) i n (fresh_page f) c at refl (opened_stays s i f p c e h);
       unprotected = λ k. subst NoneProtected
@@ -192,6 +196,21 @@ pub takes_by : (s t : StoreState) (n : ℕ) (r : Result Buffer Room) → IsStore
     → TakesOrLacks s r t (take_buffer s n) → IfOk r (TakesWell s t)
 takes_by s t n (Ok b) h low high e = takes_well s t n b h low high e
 takes_by s t n (Err x) h low high e = search rules
+
+given_next : (s : StoreState) (i n : ℕ) → top_in (slice_get s.pages i) ≡ (give_words s i n).1.next
+unfolding give_words
+given_next s i n = refl
+
+-- a buffer that begins its page was taken where the page to come begins
+pub page_begun : (s t : StoreState) (n : ℕ) (b : Buffer) → take_buffer s n ≡ Ok (t, b) → b.next ≡ 0
+    → begins_page s n ≡ true
+unfolding begins_page
+page_begun s t n b e z = by_room (page_with_room s.words n s.pages) refl
+  where
+    by_room : (o : Option ℕ) → page_with_room s.words n s.pages ≡ o → begins_in s.pages o ≡ true
+    by_room None a = refl
+    by_room (Some i) a = let is : give_words s i n ≡ (t, b) = same_ok _ _ (sym (taken_given s n i a) ∙ e) in
+        ap (λ m. m == 0) (given_next s i n ∙ ap (λ (x : StoreState × Buffer). x.1.next) is ∙ z)
 
 -- other words in a page's frame
 pub words_sized_alike : (s : StoreState) (n : ℕ) (change : List ℕ → List ℕ) → AreSized s (with_words s n change)

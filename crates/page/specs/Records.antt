@@ -1,9 +1,18 @@
 -- Records of pages that may be there.
-use Rattle.std.specs.Prelude.{Bool, false, Option, Some, None}
+use Rattle.std.specs.Prelude.{ℕ, ◌==◌, Bool, true, false, List, Option, Some, None, slice_get}
 use Rattle.model.specs.declared.records.Page.{Page}
-use Rattle.model.specs.Stores.{is_unused}
+use Rattle.model.specs.Stores.{StoreState, is_unused, page_with_room, top_in}
 
 -- the page has a record, and is unused
 abbrev pub is_unused_in : Option Page → Bool
 is_unused_in None = false
 is_unused_in (Some p) = is_unused p.state
+
+-- what is taken on the page of an index begins the page, and so it does on a fresh page
+abbrev pub begins_in : List Page → Option ℕ → Bool
+begins_in pages None = true
+begins_in pages (Some i) = top_in (slice_get pages i) == 0
+
+-- a buffer of n words that is taken now begins its page
+unfoldable pub begins_page : StoreState → ℕ → Bool
+begins_page s n = begins_in s.pages (page_with_room s.words n s.pages)

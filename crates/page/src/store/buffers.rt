@@ -8,7 +8,7 @@ ghost use Rattle.model.specs.Stores.{Takes, TakesOrLacks};
 ghost use Rattle.model.specs.Stores.{is_open, page_with_room, free_frame, unused_page, frame_in, take_fresh};
 ghost use Rattle.model.specs.Owning.{LiesIn, TakesWell};
 ghost use Rattle.page.specs.Lending.{LendsPart};
-ghost use Rattle.page.specs.Records.{is_unused_in};
+ghost use Rattle.page.specs.Records.{begins_page, is_unused_in};
 
 use crate::frame::Frame;
 use crate::store::Store;
@@ -82,6 +82,18 @@ impl Store {
         ensures room { IfSome result (λ i. top_in (slice_get self.now.pages i) + n ≤ self.now.words) }
     {
         self.rooms.first_at_least(n)
+    }
+
+    /// Whether a buffer of `n` words would be the first of its page: so it is where no open page has room.
+    #[tactic(auto, unfolding(crate::specs::Records::begins_page))]
+    pub fn begins_page(&self, n: u32) -> bool
+        requires { 0 < n }
+        ensures { result ≡ begins_page self.now n }
+    {
+        match self.page_with_room(n) {
+            None => true,
+            Some(index) => self.pages[index].top == 0,
+        }
     }
 
     /// The number, from 0, of the lowest free frame.
