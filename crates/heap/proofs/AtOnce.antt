@@ -25,8 +25,9 @@ use Rattle.model.specs.Holding.{IsHeap}
 use Rattle.model.specs.Loads.{with_barrier, with_loaded, new_barrier, trap_due, load_outcome, finish_outcome, end_load}
 use Rattle.model.specs.Outcome.{outcome, thread_gate, Passes, has_bad_index, is_for_workers, is_for_parked}
 use Rattle.model.specs.Outcome.{no_register}
-use Rattle.model.specs.Owning.{AreSized, IsStore, LiesIn, NoneProtected}
+use Rattle.model.specs.Owning.{AreSized, IsStore, LiesIn, NoneProtected, row_sizes}
 use Rattle.page.proofs.Lying.{word_lies, word_sized_alike, word_unprotected}
+use Rattle.page.proofs.RowSizes.{word_rows}
 use Rattle.model.specs.References.{read_reference, field_at, store_outcome}
 use Rattle.model.specs.Registers.{let_through, usable, usable_or_null, register_of, use_word, use_or_null}
 use Rattle.model.specs.States.{Reference, HeapState, ThreadState, change_at, flat}
@@ -456,6 +457,7 @@ datum_set h g t object j value a k u f e =
 pub written_keeps : (h : HeapState) (s : StoreState) (a v : ℕ) (done : Bool) → IsHeap h
     → s ≡ (if done then with_word h.store a v else h.store) → IsHeap (record h { store = s })
 written_keeps h s a v true k e = store_keeps h s k (subst (AreSized h.store) (sym e) (word_sized_alike h.store a v))
+    (ap row_sizes e ∙ word_rows h.store a v)
     (λ b lies. subst (λ t. LiesIn t b) (sym e) (word_lies h.store a v b lies))
     (λ n. subst NoneProtected (sym e) (word_unprotected h.store a v n))
 written_keeps h s a v false k e = subst (λ (t : StoreState). IsHeap (record h { store = t })) (sym e) k

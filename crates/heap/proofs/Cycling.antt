@@ -14,15 +14,16 @@ use Rattle.model.specs.declared.records.Forwarding.{Forwarding}
 use Rattle.model.specs.declared.records.Global.{Global}
 use Rattle.model.specs.declared.records.Phase.TheVariants.{Idle, MarkCrossing}
 use Rattle.model.specs.Stores.{StoreState, store_after_mark}
-use Rattle.model.specs.Owning.{Each, LiesIn, NoneProtected}
+use Rattle.model.specs.Owning.{Each, LiesIn, NoneProtected, row_sizes}
 use Rattle.model.specs.States.{HeapState, ThreadState}
 use Rattle.model.specs.Threads.{set_crossed_of}
-use Rattle.model.specs.Bits.{blank_row, blank_all}
-use Rattle.model.specs.Cycles.{is_lent, is_buffer_on, set_todo_of}
-use Rattle.model.specs.Holding.{IsHeap, FillsIn, HasRegisters, AreRising, AreRowsFor, AreSidesFor, GoesToPage}
-use Rattle.model.proofs.Tables.{none_goes}
+use Rattle.model.specs.Bits.{blank_all}
+use Rattle.model.specs.Cycles.{is_lent, is_buffer_on, rows_after_mark, set_todo_of}
+use Rattle.model.specs.Holding.{IsHeap, FillsIn, HasRegisters, AreRising, AreRowsOf, AreSidesFor, GoesToPage}
+use Rattle.model.proofs.Tables.{lengths_blank, none_goes}
 use Rattle.model.proofs.Lists.{each_replicate}
 use Rattle.page.proofs.Ended.{ended_sized, ended_lies, ended_unprotected}
+use Rattle.page.proofs.RowSizes.{ended_rows}
 use Rattle.thread_records.proofs.Looping.{length_mapped}
 
 -- each element of a list comes of one before it
@@ -32,12 +33,12 @@ each_mapped P Q f [] h k i y e = absurd (cc)
 each_mapped P Q f (x ∷ xs) h k zero y e = let here : f x ≡ y = cc in subst Q here (h x (k zero x refl))
 each_mapped P Q f (x ∷ xs) h k (suc i) y e = each_mapped P Q f xs h (λ j z a. k (suc j) z a) i y e
 
-rows_blanked : (c : Config) (rows : List (List Bool)) → AreRowsFor c rows → AreRowsFor c (blank_all rows)
-rows_blanked c rows r = record {
-  pages = length_mapped blank_row rows ∙ r.pages;
-  words = each_mapped (λ row. length row ≡ c.words) (λ row. length row ≡ c.words) blank_row rows
-      (λ row e. length-replicate (length row) false ∙ e) r.words;
-}
+-- protected pages give up their rows
+rows_ended : (h : HeapState) (s : StoreState) (rows new : List (List Bool)) → AreRowsOf h.store rows
+    → s ≡ store_after_mark (is_lent h.threads) h.store → new ≡ rows_after_mark h.store.pages rows → AreRowsOf s new
+unfolding store_after_mark
+rows_ended h s rows new r e f = ap (map length) f ∙ ended_rows h.store.words (is_lent h.threads) 1 h.store.pages rows r
+    ∙ sym (ap row_sizes e)
 
 -- a page with a thread's buffer counts as lent
 lent_by : (threads : List ThreadState) (i : ℕ) (t : ThreadState) (b : Buffer) → slice_get threads i ≡ Some t
@@ -60,11 +61,21 @@ sides_emptied c sides k = record {
   places = each_replicate (λ side. Each side (GoesToPage c)) (length sides) [] (none_goes c);
 }
 
-pub ended_keeps : (h : HeapState) (s : StoreState) (live mark : List (List Bool)) (sides : List (List Forwarding))
-    → IsHeap h → s ≡ store_after_mark (is_lent h.threads) h.store → live ≡ h.mark → mark ≡ blank_all h.live
+pub ended_keeps : (h : HeapState) (s : StoreState) (starts live mark todo : List (List Bool))
+    (sides : List (List Forwarding)) → IsHeap h → s ≡ store_after_mark (is_lent h.threads) h.store
+    → starts ≡ rows_after_mark h.store.pages h.starts → live ≡ rows_after_mark h.store.pages h.mark
+    → mark ≡ blank_all (rows_after_mark h.store.pages h.live) → todo ≡ rows_after_mark h.store.pages h.todo
     → sides ≡ replicate (length h.sides) []
-    → IsHeap (record h { store = s; live = live; mark = mark; sides = sides; phase = Idle })
-ended_keeps h s live mark sides i e f g r =
+    → IsHeap (record h {
+      store = s;
+      starts = starts;
+      live = live;
+      mark = mark;
+      todo = todo;
+      sides = sides;
+      phase = Idle;
+    })
+ended_keeps h s starts live mark todo sides i e a f g b r =
     let sized = ended_sized h.store (is_lent h.threads) in
     record {
       config = i.config;
@@ -76,10 +87,11 @@ ended_keeps h s live mark sides i e f g r =
         workers = i.sizes.workers;
         globals = i.sizes.globals;
       };
-      starts = i.starts;
-      live = subst (AreRowsFor h.config) (sym f) i.mark;
-      mark = subst (AreRowsFor h.config) (sym g) (rows_blanked h.config h.live i.live);
-      todo = i.todo;
+      starts = rows_ended h s h.starts starts i.starts e a;
+      live = rows_ended h s h.mark live i.mark e f;
+      mark = ap (map length) g ∙ lengths_blank (rows_after_mark h.store.pages h.live)
+          ∙ rows_ended h s h.live _ i.live e refl;
+      todo = rows_ended h s h.todo todo i.todo e b;
       sides = subst (AreSidesFor h.config) (sym r) (sides_emptied h.config h.sides i.sides);
       births = i.births;
       buffers = λ j t a. subst (λ (s : StoreState). FillsIn s t) (sym e)

@@ -9,3 +9,4 @@ pub mod Writing
 pub mod Moving
 pub mod Runs
 pub mod TakenBuffers
+pub mod GivenRows

@@ -10,12 +10,12 @@ use Rattle.std.proofs.lemmas.List.Sums.{sum_by-cons}
 use Rattle.std.specs.Option.{unwrap_or}
 use Rattle.std.specs.Prelude.{if◌then◌else◌}
 use Rattle.std.proofs.lemmas.Option.{unwrap_or-slice_get, same_Some}
-use Rattle.model.specs.declared.config.Config.{Config}
+use Rattle.model.specs.Stores.{StoreState}
 use Rattle.model.specs.declared.records.Phase.{Phase}
 use Rattle.model.specs.declared.records.Phase.TheVariants.{Idle, MarkCrossing, Scanning, ProtectCrossing, Relocating}
 use Rattle.model.specs.Checkpoints.{phase_behind}
 use Rattle.model.specs.States.{HeapState, change_at, change_found}
-use Rattle.model.specs.Holding.{IsHeap, AreRowsFor}
+use Rattle.model.specs.Holding.{IsHeap, AreRowsOf}
 use Rattle.model.proofs.Tables.{rows_put}
 use Rattle.model.proofs.Lists.{none_counted}
 use Rattle.model.specs.Bits.{of_page, bit_at, bit_count, put_bit, with_bit}
@@ -23,8 +23,8 @@ use Rattle.page.proofs.Copied.{same_set}
 use Rattle.heap.specs.Marking.{bit_in, noted, marked_at, MarksFirst}
 
 -- rows of marks are put in the place of others, as many and as long
-pub marks_keep : (h : HeapState) (live mark todo : List (List Bool)) → IsHeap h → AreRowsFor h.config live
-    → AreRowsFor h.config mark → AreRowsFor h.config todo
+pub marks_keep : (h : HeapState) (live mark todo : List (List Bool)) → IsHeap h → AreRowsOf h.store live
+    → AreRowsOf h.store mark → AreRowsOf h.store todo
     → IsHeap (record h { live = live; mark = mark; todo = todo })
 marks_keep h live mark todo i l m t = record {
   config = i.config;
@@ -48,16 +48,28 @@ marks_keep h live mark todo i l m t = record {
 }
 
 -- a bit is put by an address
-pub bit_keeps : (c : Config) (rows new : List (List Bool)) (words a : ℕ) (bit : Bool) → AreRowsFor c rows
-    → new ≡ with_bit rows words a bit → AreRowsFor c new
-bit_keeps c rows new words a bit r e =
-    subst (AreRowsFor c) (sym e) (rows_put _ _ rows (a / words - 1) (a % words) bit r)
+pub bit_keeps : (s : StoreState) (rows new : List (List Bool)) (words a : ℕ) (bit : Bool) → AreRowsOf s rows
+    → new ≡ with_bit rows words a bit → AreRowsOf s new
+bit_keeps s rows new words a bit r e =
+    subst (AreRowsOf s) (sym e) (rows_put s rows (a / words - 1) (a % words) bit r)
 
 -- a bit is put by an address, or not
-pub bit_kept : (c : Config) (rows new : List (List Bool)) (words a : ℕ) (bit unless : Bool) → AreRowsFor c rows
-    → new ≡ (if unless then rows else with_bit rows words a bit) → AreRowsFor c new
-bit_kept c rows new words a bit true r e = subst (AreRowsFor c) (sym e) r
-bit_kept c rows new words a bit false r e = bit_keeps c rows new words a bit r e
+pub bit_kept : (s : StoreState) (rows new : List (List Bool)) (words a : ℕ) (bit unless : Bool) → AreRowsOf s rows
+    → new ≡ (if unless then rows else with_bit rows words a bit) → AreRowsOf s new
+bit_kept s rows new words a bit true r e = subst (AreRowsOf s) (sym e) r
+bit_kept s rows new words a bit false r e = bit_keeps s rows new words a bit r e
+
+-- a bit of what is to be scanned is put
+pub todo_keeps : (h : HeapState) (todo : List (List Bool)) (a : ℕ) (bit : Bool) → IsHeap h
+    → todo ≡ with_bit h.todo h.store.words a bit → IsHeap (record h { todo = todo })
+todo_keeps h todo a bit i e = marks_keep h h.live h.mark todo i i.live i.mark
+    (bit_keeps h.store h.todo todo h.store.words a bit i.todo e)
+
+-- a bit of what is marked is
+pub mark_keeps : (h : HeapState) (mark : List (List Bool)) (a : ℕ) (bit : Bool) → IsHeap h
+    → mark ≡ with_bit h.mark h.store.words a bit → IsHeap (record h { mark = mark })
+mark_keeps h mark a bit i e = marks_keep h h.live mark h.todo i i.live
+    (bit_keeps h.store h.mark mark h.store.words a bit i.mark e) i.todo
 
 -- a checkpoint isn't followed by being idle
 was_idle : (last : Bool) (p q : Phase) → q ≡ (if last then phase_behind p else p) → q ≡ Idle → p ≡ Idle

@@ -6,13 +6,13 @@ use Rattle.model.specs.declared.config.Config.{Config}
 use Rattle.model.specs.declared.records.Buffer.{Buffer}
 use Rattle.model.specs.declared.records.Forwarding.{Forwarding}
 use Rattle.model.specs.declared.records.Phase.TheVariants.{Idle, ProtectCrossing}
-use Rattle.model.specs.declared.records.PageState.TheVariants.{From}
-use Rattle.model.specs.Stores.{StoreState, is_protected, state_at}
+use Rattle.model.specs.declared.records.PageState.TheVariants.{Unused, Closed, From}
+use Rattle.model.specs.Stores.{StoreState, is_protected, is_unused, state_at, state_in}
 use Rattle.model.specs.Protections.{with_from_pages}
 use Rattle.std.proofs.lemmas.Bool.{true≢false}
 use Rattle.page.specs.Relocating.{NoneGone}
-use Rattle.model.specs.Owning.{Each, LiesIn, AreSized, NoneProtected}
-use Rattle.model.specs.Holding.{IsHeap, FillsIn, HasRegisters, AreRising, AreRowsFor, AreSidesFor, GoesToPage}
+use Rattle.model.specs.Owning.{Each, LiesIn, AreSized, NoneProtected, row_sizes}
+use Rattle.model.specs.Holding.{IsHeap, FillsIn, HasRegisters, AreRising, AreRowsOf, AreSidesFor, GoesToPage}
 use Rattle.model.specs.States.{HeapState, ThreadState, change_at}
 use Rattle.model.specs.Threads.{set_crossed_of}
 use Rattle.model.specs.Bits.{with_bit}
@@ -21,6 +21,9 @@ use Rattle.model.proofs.Lists.{each_set, each_changed}
 use Rattle.model.proofs.Tables.{length_changed, rows_put}
 use Rattle.page.proofs.Lying.{words_sized_alike, words_lie, words_unprotected}
 use Rattle.page.proofs.Protecting.{released_lies, released_sized, some_protected}
+use Rattle.page.proofs.Relocated.{used_there}
+use Rattle.page.proofs.RowSizes.{protected_rows, released_rows, words_rows}
+use Rattle.std.specs.List.{slice_get}
 use Rattle.heap.proofs.Keeping.{fills_in, store_keeps}
 use Rattle.heap.proofs.Cycling.{each_mapped}
 use Rattle.thread_records.proofs.Looping.{length_mapped}
@@ -81,9 +84,10 @@ none_gone s h i p e k = true≢false (sym (ap is_protected k) ∙ h i p e)
 -- pages are protected
 pub protection_keeps : (h : HeapState) (s : StoreState) (threads : List ThreadState) (pages : List ℕ) → IsHeap h
     → s ≡ record h.store { pages = with_from_pages pages h.store.pages }
+    → Each pages (λ n. state_at h.store n ≡ Closed)
     → ((b : Buffer) → LiesIn h.store b → LiesIn s b) → threads ≡ map (set_crossed_of false) h.threads
     → IsHeap (record h { store = s; threads = threads; phase = ProtectCrossing })
-protection_keeps h s threads pages i is stays e = record {
+protection_keeps h s threads pages i is closed stays e = record {
   config = i.config;
   sizes = record {
     words = z.words ∙ i.sizes.words;
@@ -93,10 +97,10 @@ protection_keeps h s threads pages i is stays e = record {
     workers = i.sizes.workers;
     globals = i.sizes.globals;
   };
-  starts = i.starts;
-  live = i.live;
-  mark = i.mark;
-  todo = i.todo;
+  starts = i.starts ∙ sym rows;
+  live = i.live ∙ sym rows;
+  mark = i.mark ∙ sym rows;
+  todo = i.todo ∙ sym rows;
   sides = i.sides;
   births = i.births;
   buffers = subst (λ ts. Each ts (FillsIn s)) (sym e)
@@ -113,6 +117,16 @@ protection_keeps h s threads pages i is stays e = record {
 
     z : AreSized h.store s
     z = subst (AreSized h.store) (sym is) (record { words = refl; count = refl; frames = refl })
+
+    used : (n : ℕ) → state_at h.store n ≡ Closed → is_unused (state_in (slice_get h.store.pages (n - 1))) ≡ false
+    used n k = ap is_unused (used_there h.store n Closed k not_unused).1
+      where
+        not_unused : Closed ≡ Unused → ⊥
+        not_unused k = cc
+
+    rows : row_sizes s ≡ row_sizes h.store
+    rows = ap row_sizes is
+        ∙ protected_rows h.store.words pages h.store.pages (λ j n a. used n (closed j n a))
 
 -- an object is copied
 pub copy_keeps : (h : HeapState) (s : StoreState) (starts : List (List Bool)) (sides : List (List Forwarding))
@@ -131,11 +145,11 @@ copy_keeps h s starts sides words a to n place j o i is e f = record {
     workers = i.sizes.workers;
     globals = i.sizes.globals;
   };
-  starts = subst (AreRowsFor h.config) (sym e) (rows_put _ _ h.starts (place / words - 1) (place % words) true
-      i.starts);
-  live = i.live;
-  mark = i.mark;
-  todo = i.todo;
+  starts = subst (AreRowsOf h.store) (sym e) (rows_put h.store h.starts (place / words - 1) (place % words) true
+      i.starts) ∙ sym rows;
+  live = i.live ∙ sym rows;
+  mark = i.mark ∙ sym rows;
+  todo = i.todo ∙ sym rows;
   sides = subst (AreSidesFor h.config) (sym f) (sides_noted h.config h.sides j o i.sides);
   births = i.births;
   buffers = λ t x k. fills_in h.store s x.buffer
@@ -147,11 +161,15 @@ copy_keeps h s starts sides words a to n place j o i is e f = record {
     z : AreSized h.store s
     z = subst (AreSized h.store) (sym is) (words_sized_alike h.store _ _)
 
+    rows : row_sizes s ≡ row_sizes h.store
+    rows = ap row_sizes is ∙ words_rows h.store _ _
+
 -- a page gives its memory up
 pub release_keeps : (h : HeapState) (s : StoreState) (n : ℕ) → IsHeap h → state_at h.store n ≡ From
     → s ≡ with_released h.store n → IsHeap (record h { store = s })
 unfolding with_released
 release_keeps h s n i from is = store_keeps h s i
     (subst (AreSized h.store) (sym is) (released_sized h.store n))
+    (ap row_sizes is ∙ released_rows h.store n from)
     (λ b lies. subst (λ (r : StoreState). LiesIn r b) (sym is) (released_lies h.store n b from lies))
     (λ none. absurd (some_protected h.store n from none))

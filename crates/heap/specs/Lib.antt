@@ -2,6 +2,8 @@ pub mod AtOnce
 pub mod Globals
 pub mod Views
 pub mod Making
+pub mod Opening
+pub mod Taking
 pub mod Relocating
 pub mod Runs
 pub mod Marking

@@ -8,6 +8,7 @@ mod data;
 pub mod edits;
 mod making;
 mod marks;
+pub mod opening;
 pub mod references;
 mod registers;
 mod relocating;

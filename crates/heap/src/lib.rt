@@ -12,6 +12,7 @@ pub use fault::NewFault;
 pub use heap::Heap;
 pub use heap::collecting::RawCollectorEdits;
 pub use heap::edits::RawEdits;
+pub use heap::opening::PageMemory;
 pub use heap::references::read_reference;
 pub use markbits::{IndexedRows, Row, Rows};
 pub use model::{Config, ConfigFault, Refusal, Tally};

@@ -1,8 +1,11 @@
 //! Buffers of threads.
 
-ghost use Rattle.std.specs.Prelude.{◌≡◌, ◌≤◌, ◌<◌, length, slice_get, Some, None, IfOk, IfSome};
+ghost use Rattle.std.specs.Prelude.{◌≡◌, ◌≤◌, ◌<◌, length, slice_get, Some, None, true, IfOk, IfSome};
 ghost use Rattle.model.specs.Owning.{LiesIn};
-ghost use Rattle.model.specs.Buffers.{buffer_of_thread, opened_rows, with_opened_rows, with_buffer, lend_buffer};
+ghost use Rattle.model.specs.Buffers.{buffer_of_thread, with_buffer};
+ghost use Rattle.heap.specs.Opening.{AreClear};
+ghost use Rattle.heap.specs.Taking.{refusal_of};
+ghost use Rattle.page.specs.Records.{begins_page};
 ghost use Rattle.model.specs.Buffers.{take_outcome, give_back_outcome};
 ghost use Rattle.model.specs.Refusing.{Does, DoesOrLacks};
 ghost use Rattle.model.specs.Saying.{said, done, lent};
@@ -10,24 +13,18 @@ ghost use Rattle.model.specs.Outcome.{Passes};
 ghost use Rattle.model.specs.declared.steps.Step.TheVariants as steps;
 
 use crate::heap::Heap;
-use markbits::{IndexedRows, Rows};
+use crate::heap::opening::{PageRows, open_indexed_row, open_row};
 use model::{Buffer, Refusal, Room};
+use std::alloc::AllocError;
 
-/// Clears the row of a page of which a buffer is the first.
-fn open_row(rows: &mut Rows, buffer: Buffer)
-    ensures { rows.new ≡ opened_rows buffer rows.old }
+/// Why a thread gets no buffer.
+fn refusal_of(room: Room) -> Refusal
+    ensures { result ≡ refusal_of room }
 {
-    if buffer.next == 0 {
-        rows.clear(buffer.page.saturating_sub(1) as usize);
-    }
-}
-
-/// The same of rows with an index.
-fn open_indexed_row(rows: &mut IndexedRows, buffer: Buffer)
-    ensures { rows.new ≡ opened_rows buffer rows.old }
-{
-    if buffer.next == 0 {
-        rows.clear(buffer.page.saturating_sub(1) as usize);
+    match room {
+        Room::NoFrames => Refusal::NoFrames { need: 1, free: 0 },
+        Room::NoPages => Refusal::NoPages,
+        Room::NoMemory => Refusal::Memory,
     }
 }
 
@@ -40,26 +37,17 @@ impl Heap {
         self.threads.buffer(thread)
     }
 
-    /// Clears the rows of a page of which a buffer is the first.
-    pub(crate) fn open_rows(&mut self, buffer: Buffer)
-        ensures { self.new ≡ with_opened_rows self.old buffer }
+    /// Rows for the page of a buffer of so many words that is to be taken, if it is to open. Fails only by
+    /// memory.
+    fn rows_ahead(&self, words: u32) -> Result<PageRows, AllocError>
+        requires { 0 < words }
+        ensures { IfOk result (λ rows. begins_page self.now.store words ≡ true → AreClear self.now.store.words rows) }
     {
-        open_row(&mut self.starts, buffer);
-        open_row(&mut self.live, buffer);
-        open_row(&mut self.mark, buffer);
-        open_indexed_row(&mut self.todo, buffer);
-    }
-
-    /// Gives a thread a buffer that was taken of the store.
-    #[tactic(auto, unfolding(model::specs::Buffers::lend_buffer), using(crate::proofs::Keeping::thread_keeps, crate::proofs::TakenBuffers::threads_lent))]
-    fn lend(&mut self, thread: u32, buffer: Buffer)
-        requires lies { LiesIn self.old.store buffer }
-        requires there { thread < length self.old.threads }
-        ensures value { self.new ≡ lend_buffer self.old thread self.old.store buffer }
-        ensures lent { buffer_of_thread self.new thread ≡ Some buffer }
-    {
-        self.open_rows(buffer);
-        self.threads.set_buffer(thread, Some(buffer));
+        if self.store.begins_page(words) {
+            PageRows::new(self.allocator(), self.store.page_words())
+        } else {
+            Ok(PageRows::empty(self.allocator()))
+        }
     }
 
     /// A thread takes a buffer of 1 to the words of a page, in the lowest open page with room,
@@ -77,15 +65,19 @@ impl Heap {
         if self.buffer(thread).is_some() {
             return Err(Refusal::HasBuffer);
         }
-        match self.store.take(words) {
-            Ok(buffer) => {
-                self.lend(thread, buffer);
-                Ok(buffer)
-            }
-            Err(Room::NoFrames) => Err(Refusal::NoFrames { need: 1, free: 0 }),
-            Err(Room::NoPages) => Err(Refusal::NoPages),
-            Err(Room::NoMemory) => Err(Refusal::Memory),
-        }
+        let Ok(rows) = self.rows_ahead(words) else {
+            return Err(Refusal::Memory);
+        };
+        let buffer = match self.store.take(words) {
+            Ok(buffer) => buffer,
+            Err(room) => return Err(refusal_of(room)),
+        };
+        open_row(&mut self.starts, buffer, rows.starts);
+        open_row(&mut self.live, buffer, rows.live);
+        open_row(&mut self.mark, buffer, rows.mark);
+        open_indexed_row(&mut self.todo, buffer, rows.todo);
+        self.threads.set_buffer(thread, Some(buffer));
+        Ok(buffer)
     }
 
     /// A thread gives its buffer back, whose rest is lost. Refused where it has none (`NoRoom`).

@@ -6,11 +6,11 @@ ghost use Rattle.std.specs.Prelude.{if◌then◌else◌};
 ghost use Rattle.refword.specs.Words.{bits_of};
 ghost use Rattle.model.specs.Bits.{bit_at, of_page, with_bit};
 ghost use Rattle.model.specs.Checkpoints.{with_crossed, first_behind, phase_behind};
-ghost use Rattle.model.specs.Cycles.{is_lent, start_mark, end_mark};
+ghost use Rattle.model.specs.Cycles.{is_lent, rows_after_mark, start_mark, end_mark};
 ghost use Rattle.model.specs.Marks.{with_mark, marked_word};
 ghost use Rattle.model.specs.Scans.{with_scan, with_scan_end, set_marked_of};
 ghost use Rattle.model.specs.States.{change_at};
-ghost use Rattle.model.specs.Stores.{store_after_mark, with_word, is_open, state_in};
+ghost use Rattle.model.specs.Stores.{store_after_mark, with_word, is_open, is_protected, state_in};
 ghost use Rattle.model.specs.Threads.{set_crossed_of};
 ghost use Rattle.heap.specs.Marking.{bit_in, noted, MarksApart};
 ghost use Rattle.page.specs.Ending.{with_mark_ended_at};
@@ -101,6 +101,38 @@ fn end_pages(store: &mut Store, threads: &Threads)
         end_page(store, threads, index);
     }
     store.law();
+}
+
+/// Whether the page of an index is protected.
+fn is_protected_at(store: &Store, index: usize) -> bool
+    ensures { result ≡ is_protected (state_in (slice_get store.now.pages index)) }
+{
+    match store.pages().get(index) {
+        None => false,
+        Some(page) => matches!(page.state, PageState::From | PageState::Gone),
+    }
+}
+
+/// Protected pages give up their rows.
+fn give_up_rows(rows: &mut Rows, store: &Store)
+    ensures { rows.new ≡ rows_after_mark store.now.pages rows.old }
+{
+    for index in 0..store.pages().len() {
+        if is_protected_at(store, index) {
+            rows.give_up(index);
+        }
+    }
+}
+
+/// The same of rows with an index.
+fn give_up_indexed_rows(rows: &mut IndexedRows, store: &Store)
+    ensures { rows.new ≡ rows_after_mark store.now.pages rows.old }
+{
+    for index in 0..store.pages().len() {
+        if is_protected_at(store, index) {
+            rows.give_up(index);
+        }
+    }
 }
 
 /// The phase after a checkpoint (the paper's checkpoints).
@@ -241,6 +273,10 @@ impl RawCollectorEdits for Heap {
     fn end_mark(&mut self)
         ensures { self.new ≡ end_mark self.old }
     {
+        give_up_rows(&mut self.starts, &self.store);
+        give_up_rows(&mut self.live, &self.store);
+        give_up_rows(&mut self.mark, &self.store);
+        give_up_indexed_rows(&mut self.todo, &self.store);
         end_pages(&mut self.store, &self.threads);
         self.live.swap(&mut self.mark);
         self.mark.clear_all();

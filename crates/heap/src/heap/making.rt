@@ -49,7 +49,7 @@ struct BlankRows {
     todo: IndexedRows,
 }
 
-/// A row for each page record that the configuration needs, with all bits clear.
+/// An empty row for each page record that the configuration needs.
 fn blank_rows(alloc: Memory, config: &Config) -> Result<BlankRows, AllocError>
     requires { IsRanged config.now }
     ensures starts { IfOk result (λ rows. rows.starts ≡ blank_rows config.now) }
@@ -57,12 +57,11 @@ fn blank_rows(alloc: Memory, config: &Config) -> Result<BlankRows, AllocError>
     ensures mark { IfOk result (λ rows. rows.mark ≡ blank_rows config.now) }
     ensures todo { IfOk result (λ rows. rows.todo ≡ blank_rows config.now) }
 {
-    let words = config.words;
     let records = record_count(config.frames, config.pages);
-    let starts = Rows::new(alloc, records, words)?;
-    let live = Rows::new(alloc, records, words)?;
-    let mark = Rows::new(alloc, records, words)?;
-    let todo = IndexedRows::new(alloc, records, words)?;
+    let starts = Rows::new(alloc, records)?;
+    let live = Rows::new(alloc, records)?;
+    let mark = Rows::new(alloc, records)?;
+    let todo = IndexedRows::new(alloc, records)?;
     Ok(BlankRows {
         starts,
         live,

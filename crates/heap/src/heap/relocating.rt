@@ -3,7 +3,7 @@
 //!
 //! They are for the crate that does rows of moving. Pages count from 1.
 
-ghost use Rattle.std.specs.Prelude.{◌≡◌, ◌-◌, ◌<◌, ◌^◌, false, slice_set, replicate, IfOk};
+ghost use Rattle.std.specs.Prelude.{◌≡◌, ◌-◌, ◌<◌, ◌^◌, false, slice_set, IfOk};
 ghost use Rattle.model.specs.Holding.{AreRising, GoesToPage};
 ghost use Rattle.model.specs.Moves.{with_released};
 ghost use Rattle.model.specs.Owning.{Each};
@@ -12,12 +12,13 @@ ghost use Rattle.model.specs.Protections.{has_twice};
 ghost use Rattle.model.specs.Stores.{state_at};
 ghost use Rattle.model.specs.declared.records.PageState.TheVariants.{Closed, From};
 ghost use Rattle.model.specs.declared.records.Phase.TheVariants.{Idle};
+ghost use Rattle.heap.specs.Opening.{IsBlank};
 ghost use Rattle.heap.specs.Relocating.{OpensTarget, start_protection};
 
 use crate::heap::Heap;
+use crate::heap::opening::{PageMemory, PageRows, open_indexed_row, open_row};
 use forward::Side;
 use model::{Buffer, Phase, Room};
-use page::Frame;
 use refword::Addr;
 use std::alloc::AllocError;
 
@@ -35,24 +36,33 @@ impl Heap {
         }
     }
 
-    /// Memory for a page: its words, all 0. It was kept of a page that gave it up, or is new. Fails only
-    /// by memory.
-    pub fn raw_blank(&mut self) -> Result<Frame, AllocError>
-        ensures value { IfOk result (λ f. f ≡ replicate self.old.store.words 0) }
+    /// Memory for a page that is to open. Its words may have been kept of a page that gave them up. Fails
+    /// only by memory.
+    pub fn raw_blank(&mut self) -> Result<PageMemory, AllocError>
+        ensures value { IfOk result (IsBlank self.old.store.words) }
         ensures stays { self.new ≡ self.old }
     {
-        self.store.blank()
+        let frame = self.store.blank()?;
+        let rows = PageRows::new(self.allocator(), self.store.page_words())?;
+        Ok(PageMemory { frame, rows })
     }
 
     /// Opens a page for objects that move, of which all words are given out, to nobody. It gets this memory.
     /// It says why there is no room for one, where there is none.
     #[tactic(auto, unfolding(model::specs::Protections::with_target))]
-    pub fn raw_open_target(&mut self, memory: Frame) -> Result<Buffer, Room>
-        requires { memory ≡ replicate self.old.store.words 0 }
+    pub fn raw_open_target(&mut self, memory: PageMemory) -> Result<Buffer, Room>
+        requires { IsBlank self.old.store.words memory }
         ensures { OpensTarget self.old result self.new }
     {
-        let buffer = self.store.take_target(memory)?;
-        self.open_rows(buffer);
+        let PageMemory { frame, rows } = memory;
+        let buffer = match self.store.take_target(frame) {
+            Ok(buffer) => buffer,
+            Err(room) => return Err(room),
+        };
+        open_row(&mut self.starts, buffer, rows.starts);
+        open_row(&mut self.live, buffer, rows.live);
+        open_row(&mut self.mark, buffer, rows.mark);
+        open_indexed_row(&mut self.todo, buffer, rows.todo);
         Ok(buffer)
     }
 

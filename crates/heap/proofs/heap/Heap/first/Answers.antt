@@ -1,17 +1,18 @@
-use Rattle.std.proofs.Common.{◌≡◌, ◌∙◌, Bool, false, List, ap, refl, sym, subst, arith, length}
+use Rattle.std.proofs.Common.{◌≡◌, ◌∙◌, Bool, false, List, map, ap, refl, sym, subst, arith, length}
 use Rattle.std.proofs.Math.ListN.{length-replicate}
 use Rattle.model.specs.Stores.{StoreState, first_store, record_count, blank_page, is_protected}
-use Rattle.model.specs.Owning.{NoneProtected}
+use Rattle.model.specs.Owning.{NoneProtected, row_sizes}
 use Rattle.model.proofs.Lists.{each_replicate}
 use Rattle.model.specs.declared.config.Config.{Config}
 use Rattle.model.specs.First.{blank_rows}
-use Rattle.model.specs.Holding.{AreRowsFor, AreSidesFor}
+use Rattle.model.specs.Holding.{AreRowsOf, AreSidesFor}
 use Rattle.model.proofs.Tables.{first_rows, first_sides}
 use Rattle.heap.proofs.Keeping.{first_fills, first_registers}
 use Rattle.heap.proofs.heap.Heap.first.Goals as goal
 
-rows_for : (c : Config) (new : List (List Bool)) → new ≡ blank_rows c → AreRowsFor c new
-rows_for c new e = subst (AreRowsFor c) (sym e) (first_rows c)
+rows_for : (c : Config) (s : StoreState) (new : List (List Bool)) → s ≡ first_store c.words c.frames c.pages
+    → new ≡ blank_rows c → AreRowsOf s new
+rows_for c s new e f = ap (map length) f ∙ first_rows c ∙ sym (ap row_sizes e)
 
 pub invariant_of-result : goal.invariant_of-result
 unfolding first_store
@@ -25,10 +26,10 @@ invariant_of-result c = record {
     workers = ap length c.requires.blank.workers ∙ length-replicate c.args.config.workers _;
     globals = ap length c.requires.blank.globals ∙ length-replicate c.args.config.globals _;
   };
-  starts = rows_for c.args.config _ c.requires.blank.starts;
-  live = rows_for c.args.config _ c.requires.blank.live;
-  mark = rows_for c.args.config _ c.requires.blank.mark;
-  todo = rows_for c.args.config _ c.requires.blank.todo;
+  starts = rows_for c.args.config _ _ c.requires.blank.store c.requires.blank.starts;
+  live = rows_for c.args.config _ _ c.requires.blank.store c.requires.blank.live;
+  mark = rows_for c.args.config _ _ c.requires.blank.store c.requires.blank.mark;
+  todo = rows_for c.args.config _ _ c.requires.blank.store c.requires.blank.todo;
   sides = subst (AreSidesFor c.args.config) (sym c.requires.blank.sides) (first_sides c.args.config);
   births = omega arith;
   buffers = first_fills _ c.args.config.threads c.args.config.registers

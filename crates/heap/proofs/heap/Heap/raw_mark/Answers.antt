@@ -1,8 +1,22 @@
-use Rattle.std.proofs.Common.{Bool, Some, ◌∙◌, sym, ap, subst}
+use Rattle.std.proofs.Common.{Bool, true, Some, ◌∙◌, sym, ap, subst}
 use Rattle.heap.specs.Marking.{marked_at, MarksFirst}
 use Rattle.heap.specs.Views.{heap_of}
-use Rattle.heap.proofs.Marking.{marked_first, marked_again, marked_nowhere}
+use Rattle.heap.proofs.Marking.{marked_first, marked_again, marked_nowhere, mark_keeps, todo_keeps}
 use Rattle.heap.proofs.heap.Heap.raw_mark.Goals as goal
+
+pub invariant_of-self : goal.invariant_of-self
+invariant_of-self c =
+    mark_keeps (heap_of c.self.inside) _ c.args.place true c.self.invariant c.set_first.ensures.mark
+
+pub invariant_of-self-in-Some-false : goal.invariant_of-self-in-Some-false
+invariant_of-self-in-Some-false c =
+    mark_keeps (heap_of c.self.inside) _ c.args.place true c.self.invariant c.set_first.ensures.mark
+
+pub invariant_of-self-in-None : goal.invariant_of-self-in-None
+invariant_of-self-in-None c =
+    let h = heap_of c.self.inside in
+    todo_keeps (record h { mark = c.set_first.new.mark }) _ c.args.place true
+    (mark_keeps h _ c.args.place true c.self.invariant c.set_first.ensures.mark) c.put_indexed_bit.ensures
 
 pub returns-in-Some-false : goal.returns-in-Some-false
 returns-in-Some-false c =

@@ -5,7 +5,7 @@ use Rattle.heap.proofs.heap.collecting.HeapRawCollectorEdits.set_mark.Goals as g
 pub invariant_of-self : goal.invariant_of-self
 invariant_of-self c =
     let old = c.self.invariant in
-    let config = c.self.inside.config in
+    let store = c.self.inside.store in
     marks_keep (heap_of c.self.inside) _ _ _ old old.live
-    (bit_keeps config _ _ _ _ _ old.mark c.mark_at.ensures.mark)
-    (bit_kept config _ _ _ _ _ _ old.todo c.mark_at.ensures.todo)
+    (bit_keeps store _ _ _ _ _ old.mark c.mark_at.ensures.mark)
+    (bit_kept store _ _ _ _ _ _ old.todo c.mark_at.ensures.todo)

@@ -1,0 +1,7 @@
+use Rattle.std.proofs.Common.{true}
+use Rattle.heap.specs.Views.{heap_of}
+use Rattle.heap.proofs.Marking.{todo_keeps}
+use Rattle.heap.proofs.heap.Heap.raw_set_todo.Goals as goal
+
+pub invariant_of-self : goal.invariant_of-self
+invariant_of-self c = todo_keeps (heap_of c.self.inside) _ c.args.address true c.self.invariant c.put_indexed_bit.ensures
