@@ -7,6 +7,7 @@ use Rattle.std.specs.List.{slice_get}
 use Rattle.std.proofs.Common.{Some, None}
 use Rattle.model.proofs.OfPages.{of_page_none, of_page_some}
 use Rattle.model.specs.Holding.{IsHeap}
+use Rattle.model.proofs.Tables.{row_short}
 use Rattle.model.specs.States.{HeapState}
 use Rattle.model.specs.Plans.{offsets_from, live_offsets}
 use Rattle.relocate.specs.Drafts.{draft_of, draft_entry, draft_size, draft_sizes}
@@ -84,6 +85,6 @@ module _ (h : HeapState) (n : ℕ) (low : 0 < n) where
         ap (λ row. map (draft_size h n) (offsets_from 0 row)) (sym is),
       )
 
-  -- the row of a page has its words, and the draft of it rises
-  pub row_sized : (r : List Bool) → IsHeap h → slice_get h.live (n - 1) ≡ Some r → length r ≡ h.store.words
-  row_sized r i e = i.live.words (n - 1) r e ∙ sym i.sizes.words
+  -- the row of a page has no more bits than the page has words, and the draft of it rises
+  pub row_sized : (r : List Bool) → IsHeap h → slice_get h.live (n - 1) ≡ Some r → length r ≤ h.store.words
+  row_sized r i e = row_short h.store h.live (n - 1) r i.live e

@@ -8,7 +8,9 @@ use Rattle.model.specs.Owning.{Each}
 use Rattle.model.specs.States.{HeapState}
 use Rattle.model.specs.Protections.{with_target, with_targets, free_count, unused_count}
 use Rattle.page.proofs.NextTargets.{OpensNext}
-use Rattle.relocate.specs.Targets.{KeepsClosed}
+use Rattle.heap.specs.Opening.{IsBlank}
+use Rattle.heap.specs.declared.heap.opening.PageMemory.{PageMemory}
+use Rattle.relocate.specs.Targets.{AreBlank, KeepsClosed}
 
 -- what a target leaves as it was
 pub target_keeps : (h g : HeapState) (b : Buffer) → OpensNext h.store g.store b.page → g ≡ with_target h (g.store, b)
@@ -22,37 +24,43 @@ target_keeps h g b next is = record {
   closed = next.closed;
 }
 
-same_head : {X : Type 0} (x y : X) (xs ys : List X) → x ∷ xs ≡ y ∷ ys → x ≡ y
-same_head x y xs ys e = cc
-
-same_tail : {X : Type 0} (x y : X) (xs ys : List X) → x ∷ xs ≡ y ∷ ys → xs ≡ ys
-same_tail x y xs ys e = cc
-
--- the last of so many that are alike, and the others
-pub last_alike : {X : Type 0} (xs : List X) (x b : X) (n : ℕ) → xs ++ x ∷ [] ≡ replicate (suc n) b
-    → (x ≡ b) × (xs ≡ replicate n b)
-last_alike [] x b zero e = (same_head x b [] [] e, refl)
-last_alike [] x b (suc n) e = absurd (omega (arith, ap length e, length-replicate n b))
-last_alike (y ∷ ys) x b zero e = absurd (omega (arith, ap length e, length-append ys (x ∷ [])))
-last_alike (y ∷ ys) x b (suc n) e =
-    let (last, rest) = last_alike ys x b n (same_tail y b (ys ++ x ∷ []) (replicate (suc n) b) e) in
-    (last, ap₂ (λ z zs. z ∷ zs) (same_head y b (ys ++ x ∷ []) (replicate (suc n) b) e) rest)
+-- each element, and one behind them
+pub each_behind : {X : Type 0} (P : X → Type 0) (ns : List X) (n : X) → Each ns P → P n → Each (ns ++ n ∷ []) P
+each_behind P [] n h p zero x e = subst P (same_Some _ _ e) p
+each_behind P [] n h p (suc i) x e = absurd (cc)
+each_behind P (m ∷ ns) n h p zero x e = h zero x e
+each_behind P (m ∷ ns) n h p (suc i) x e = each_behind P ns n (λ j. h (suc j)) p i x e
 
 -- what is left of the memory of k targets, where i are opened
-abbrev pub IsLeft : ℕ → ℕ → ℕ → List (List ℕ) → Type 0
-IsLeft words k i memory = memory ≡ replicate (k - i) (replicate words 0)
+abbrev pub IsLeft : ℕ → ℕ → ℕ → List PageMemory → Type 0
+IsLeft words k i memory = AreBlank words (k - i) memory
+
+each_last : {X : Type 0} (P : X → Type 0) (xs : List X) (x : X) → Each (xs ++ x ∷ []) P → P x × Each xs P
+each_last P [] x h = (h zero x refl, λ i y e. absurd (cc))
+each_last P (y ∷ ys) x h =
+    let (last, rest) = each_last P ys x (λ i. h (suc i)) in (last, first rest)
+  where
+    first : Each ys P → Each (y ∷ ys) P
+    first rest zero z e = h zero z e
+    first rest (suc i) z e = rest i z e
 
 -- the memory of one of them is taken
-pub one_taken : (words k i : ℕ) (old new : List (List ℕ)) (x : List ℕ) → IsLeft words k i old → i < k
-    → old ≡ new ++ x ∷ [] → (x ≡ replicate words 0) × IsLeft words k (i + 1) new
+pub one_taken : (words k i : ℕ) (old new : List PageMemory) (x : PageMemory) → IsLeft words k i old → i < k
+    → old ≡ new ++ x ∷ [] → IsBlank words x × IsLeft words k (i + 1) new
 one_taken words k i old new x left low is =
-    let more : k - i ≡ suc (k - (i + 1)) = omega (arith, low) in
-    last_alike new x (replicate words 0) (k - (i + 1))
-    (sym is ∙ left ∙ ap (λ j. replicate j (replicate words 0)) more)
+    let (last, rest) = each_last (IsBlank words) new x (subst (λ xs. Each xs (IsBlank words)) is left.1) in
+    (last, (omega (arith, left.0, ap length is, length-append new (x ∷ []), low), rest))
 
-pub some_left : (words k i : ℕ) (memory : List (List ℕ)) → IsLeft words k i memory → i < k → 0 < length memory
-some_left words k i memory left low =
-    omega (arith, ap length left, length-replicate (k - i) (replicate {A = ℕ} words 0), low)
+pub some_left : (words k i : ℕ) (memory : List PageMemory) → IsLeft words k i memory → i < k → 0 < length memory
+some_left words k i memory left low = omega (arith, left.0, low)
+
+-- the memory of one more is made ready
+pub one_more : (words i : ℕ) (old new : List PageMemory) (x : PageMemory) → AreBlank words i old → IsBlank words x
+    → new ≡ old ++ x ∷ [] → AreBlank words (i + 1) new
+one_more words i old new x left blank is = (
+  omega (arith, left.0, ap length is, length-append old (x ∷ [])),
+  subst (λ xs. Each xs (IsBlank words)) (sym is) (each_behind (IsBlank words) old x left.1 blank),
+)
 
 -- i of k targets are opened, with these pages: the others give what all give
 pub record HasOpened (h g : HeapState) (k i : ℕ) (ns : List ℕ) : Type 0 where
@@ -64,13 +72,6 @@ pub record HasOpened (h g : HeapState) (k i : ℕ) (ns : List ℕ) : Type 0 wher
   pub low : Each ns (λ n. 0 < n)
   pub high : Each ns (λ n. n ≤ h.store.count)
   pub stays : KeepsClosed h g
-
--- each element, and one behind them
-pub each_behind : (P : ℕ → Type 0) (ns : List ℕ) (n : ℕ) → Each ns P → P n → Each (ns ++ n ∷ []) P
-each_behind P [] n h p zero x e = subst P (same_Some _ _ e) p
-each_behind P [] n h p (suc i) x e = absurd (cc)
-each_behind P (m ∷ ns) n h p zero x e = h zero x e
-each_behind P (m ∷ ns) n h p (suc i) x e = each_behind P ns n (λ j. h (suc j)) p i x e
 
 module _ (h g m : HeapState) (k i n : ℕ) (ns : List ℕ) (o : HasOpened h g k i ns) (low : i < k)
     (first : (j : ℕ) → with_targets (suc j) g ≡ ((with_targets j m).0, n ∷ (with_targets j m).1))

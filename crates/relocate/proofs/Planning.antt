@@ -23,6 +23,7 @@ use Rattle.model.proofs.Plans.{places_length, side_rises}
 use Rattle.model.proofs.Plans as plans
 use Rattle.relocate.specs.Drafts.{draft_of, draft_entry, draft_sizes, draft_size, address_of, with_placed_sides}
 use Rattle.relocate.specs.Drafts.{with_placed_drafts, with_places}
+use Rattle.model.proofs.Tables.{row_short}
 use Rattle.relocate.proofs.Settled.{sides_placed}
 
 -- sizes
@@ -117,14 +118,15 @@ pub drafts_rise : (h : HeapState) (pages : List ℕ) → IsHeap h
 unfolding live_offsets
 drafts_rise h [] d i fs e = absurd (cc)
 drafts_rise h (n ∷ ns) d zero fs e = subst (AreRising h.config.words 0) (same_Some _ _ e)
-    (side_rises h.config.words 0 (of_page h.live n) (address_of h n) (row_short h.live n d.live.words))
+    (side_rises h.config.words 0 (of_page h.live n) (address_of h n) (row_on h.live n
+    (λ i row a. omega (arith, row_short h.store h.live i row d.live a, d.sizes.words))))
   where
-    row_short : (rows : List (List Bool)) (n : ℕ) → Each rows (λ row. length row ≡ h.config.words)
+    row_on : (rows : List (List Bool)) (n : ℕ) → Each rows (λ row. length row ≤ h.config.words)
         → 0 + length (of_page rows n) ≤ h.config.words
-    row_short rows zero k = omega arith
-    row_short [] (suc i) k = omega arith
-    row_short (row ∷ rows) (suc zero) k = omega (arith, k zero row refl)
-    row_short (row ∷ rows) (suc (suc i)) k = row_short rows (suc i) (λ j. k (suc j))
+    row_on rows zero k = omega arith
+    row_on [] (suc i) k = omega arith
+    row_on (row ∷ rows) (suc zero) k = omega (arith, k zero row refl)
+    row_on (row ∷ rows) (suc (suc i)) k = row_on rows (suc i) (λ j. k (suc j))
 drafts_rise h (n ∷ ns) d (suc i) fs e = drafts_rise h ns d i fs e
 
 -- what is put is what is settled
@@ -144,7 +146,7 @@ pub put_moves : (h : HeapState) (ts pages : List ℕ) (sides : List (List Forwar
     → with_placed_drafts h.store.words ts pages (map (draft_of h) pages) (plan_of h pages) sides
     ≡ with_sides h (moves_of h pages ts) pages sides
 put_moves h ts pages sides d once = put_is h ts pages (plan_of h pages) sides ∙ sym (sides_placed h ts pages sides
-    (λ i row e. d.live.words i row e ∙ sym d.sizes.words) once)
+    (λ i row e. row_short h.store h.live i row d.live e) once)
 
 -- pages are protected
 

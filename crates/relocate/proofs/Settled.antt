@@ -1,5 +1,5 @@
 -- Side arrays of which each entry is given the next place are those that are made of moves.
-use Rattle.std.proofs.Common.{◌≡◌, inl, inr, ℕ, zero, suc, ◌+◌, ◌-◌, ◌*◌, ◌<◌, Bool, true, false, cond}
+use Rattle.std.proofs.Common.{◌≡◌, ◌≤◌, inl, inr, ℕ, zero, suc, ◌+◌, ◌-◌, ◌*◌, ◌<◌, Bool, true, false, cond}
 use Rattle.std.proofs.Common.{List, [], ◌∷◌, ◌++◌, length, map, drop, set, ◌==◌, eq-eqb, ne_eqb, Some}
 use Rattle.std.proofs.Common.{refl, sym, ◌∙◌, ap, subst, arith}
 use Rattle.std.specs.List.{slice_get, flat_map, list_any}
@@ -53,7 +53,7 @@ distinct_offsets b (true ∷ bits) = (
 distinct_offsets b (false ∷ bits) = distinct_offsets (b + 1) bits
 
 -- what a page has a bit of is within the page
-row_within : (words : ℕ) (rows : List (List Bool)) (n j : ℕ) (bit : Bool) → Each rows (λ row. length row ≡ words)
+row_within : (words : ℕ) (rows : List (List Bool)) (n j : ℕ) (bit : Bool) → Each rows (λ row. length row ≤ words)
     → slice_get (of_page rows n) j ≡ Some bit → j < words
 row_within words rows zero j bit long at = absurd (cc)
 row_within words [] (suc i) j bit long at = absurd (cc)
@@ -62,7 +62,7 @@ row_within words (row ∷ rows) (suc (suc i)) j bit long at =
     row_within words rows (suc i) j bit (λ k. long (suc k)) at
 
 -- the live objects of a page are at its offsets
-live_at : (h : HeapState) (n a : ℕ) → Each h.live (λ row. length row ≡ h.store.words) → IsIn a (live_on h n)
+live_at : (h : HeapState) (n a : ℕ) → Each h.live (λ row. length row ≤ h.store.words) → IsIn a (live_on h n)
     → (o : ℕ) × (n * h.store.words + o ≡ a) × (o < h.store.words)
 unfolding live_offsets
 live_at h n a long there =
@@ -80,14 +80,14 @@ distinct_on h n = distinct_mapped (λ o. n * h.store.words + o) (offsets_from 0 
     same_offset start x y e = omega (arith, e)
 
 -- no object is on two pages
-one_page : (h : HeapState) (m n a : ℕ) → Each h.live (λ row. length row ≡ h.store.words) → IsIn a (live_on h m)
+one_page : (h : HeapState) (m n a : ℕ) → Each h.live (λ row. length row ≤ h.store.words) → IsIn a (live_on h m)
     → IsIn a (live_on h n) → m ≡ n
 one_page h m n a long first second =
     let (o, is, low) = live_at h m a long first in
     let (p, same, under) = live_at h n a long second in
     (same_from_place m o n p h.store.words low under (is ∙ sym same)).0
 
-distinct_objects : (h : HeapState) (pages : List ℕ) → Each h.live (λ row. length row ≡ h.store.words)
+distinct_objects : (h : HeapState) (pages : List ℕ) → Each h.live (λ row. length row ≤ h.store.words)
     → has_twice pages ≡ false → AreDistinct (flat_map (live_on h) pages)
 distinct_objects h [] long once = tt
 distinct_objects h (n ∷ ns) long once =
@@ -128,7 +128,7 @@ moved_beside (o ∷ os) (to ∷ tos) (fresh, once) same = (
   other_move (zip os tos) o to os tos fresh (moved_beside os tos once (omega (arith, same))),
 )
 
-planned_moves : (h : HeapState) (pages targets : List ℕ) → Each h.live (λ row. length row ≡ h.store.words)
+planned_moves : (h : HeapState) (pages targets : List ℕ) → Each h.live (λ row. length row ≤ h.store.words)
     → has_twice pages ≡ false
     → AreMoved (moves_of h pages targets) (flat_map (live_on h) pages)
     (map (address_in h.store.words targets) (plan_of h pages))
@@ -187,7 +187,7 @@ pages_settled h targets moves (n ∷ ns) ps sides k =
 
 -- to give each draft the next places of the plan is to make each side array of the moves
 pub sides_placed : (h : HeapState) (targets pages : List ℕ) (sides : List (List Forwarding))
-    → Each h.live (λ row. length row ≡ h.store.words) → has_twice pages ≡ false
+    → Each h.live (λ row. length row ≤ h.store.words) → has_twice pages ≡ false
     → with_sides h (moves_of h pages targets) pages sides ≡ with_placed_sides h targets pages (plan_of h pages) sides
 sides_placed h targets pages sides long once =
     pages_settled h targets (moves_of h pages targets) pages (plan_of h pages) sides

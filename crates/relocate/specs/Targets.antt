@@ -1,12 +1,15 @@
 -- What targets leave as it was.
-use Rattle.std.specs.Prelude.{◌≡◌, ℕ, List, replicate}
+use Rattle.std.specs.Prelude.{◌≡◌, ℕ, List, length}
+use Rattle.heap.specs.Opening.{IsBlank}
+use Rattle.heap.specs.declared.heap.opening.PageMemory.{PageMemory}
+use Rattle.model.specs.Owning.{Each}
 use Rattle.model.specs.declared.records.PageState.TheVariants.{Closed}
 use Rattle.model.specs.States.{HeapState}
 use Rattle.model.specs.Stores.{state_at}
 
--- so many pages' memory of so many words, all 0
-abbrev pub AreBlank : ℕ → ℕ → List (List ℕ) → Type 0
-AreBlank words count memory = memory ≡ replicate count (replicate words 0)
+-- memory of so many pages of so many words
+abbrev pub AreBlank : ℕ → ℕ → List PageMemory → Type 0
+AreBlank words count memory = (length memory ≡ count) × Each memory (IsBlank words)
 
 -- a heap has the phase, the configuration and the sizes of an old one, and its closed pages are closed still
 pub record KeepsClosed (old new : HeapState) : Type 0 where

@@ -23,7 +23,7 @@ fn draft_places(
 ) -> Result<Vec<Addr>, AllocError>
     requires low { 0 < page }
     requires high { page ≤ heap.now.store.count }
-    requires size { length row.now ≡ heap.now.store.words }
+    requires size { length row.now ≤ heap.now.store.words }
     ensures places { IfOk result (λ v. v.items ≡ map (address_of heap.now page) (offsets_from 0 row.now)) }
     ensures sizes { OnOk result (sizes.new.items ≡ sizes.old.items ++ map (draft_size heap.now page)
         (offsets_from 0 row.now)) }

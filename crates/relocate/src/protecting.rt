@@ -18,9 +18,8 @@ use crate::ripe::{all_ripe, room_for};
 use crate::settling::settle_pages;
 use crate::targets::{blank_targets, open_targets};
 use forward::{Plan, Side};
-use heap::Heap;
+use heap::{Heap, PageMemory};
 use model::{Answer, Phase, Refusal, Reply};
-use page::Frame;
 use std::alloc::{AllocError, Global};
 
 /// All that a protection needs memory for.
@@ -55,7 +54,7 @@ fn prepare(alloc: Global, heap: &Heap, pages: &[u32]) -> Result<Preparation, All
 
 /// Opens the targets of a plan on their memory, gives the pages their side arrays, and protects them.
 /// It takes no memory.
-fn protect_prepared(heap: &mut Heap, pages: &[u32], prepared: Preparation, memory: Vec<Frame>)
+fn protect_prepared(heap: &mut Heap, pages: &[u32], prepared: Preparation, memory: Vec<PageMemory>)
     requires idle { heap.old.phase ≡ Idle }
     requires closed { Each pages.now (λ n. state_at heap.old.store n ≡ Closed) }
     requires once { has_twice pages.now ≡ false }

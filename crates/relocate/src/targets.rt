@@ -1,17 +1,17 @@
 //! Targets are opened: pages for objects that move, which are given out to nobody (ours).
 
 ghost use Rattle.std.specs.Prelude.{◌≡◌, ◌+◌, ◌<◌, ◌≤◌, ◌++◌, ◌∷◌, [], ℕ, suc, length, vec_len, vec_capacity};
-ghost use Rattle.std.specs.Prelude.{replicate, IfOk};
+ghost use Rattle.std.specs.Prelude.{IfOk};
+ghost use Rattle.heap.specs.Opening.{IsBlank};
 ghost use Rattle.model.specs.Owning.{Each};
 ghost use Rattle.model.specs.Protections.{free_count, unused_count, with_targets};
 ghost use Rattle.relocate.specs.Targets.{AreBlank, KeepsClosed};
 
-use heap::Heap;
-use page::Frame;
+use heap::{Heap, PageMemory};
 use std::alloc::AllocError;
 
-/// Memory for so many targets, all 0. Fails only by memory.
-pub(crate) fn blank_targets(heap: &mut Heap, count: usize) -> Result<Vec<Frame>, AllocError>
+/// Memory for so many targets. Fails only by memory.
+pub(crate) fn blank_targets(heap: &mut Heap, count: usize) -> Result<Vec<PageMemory>, AllocError>
     ensures blank { IfOk result (λ v. AreBlank heap.old.store.words count v.items) }
     ensures stays { heap.new ≡ heap.old }
 {
@@ -23,7 +23,7 @@ pub(crate) fn blank_targets(heap: &mut Heap, count: usize) -> Result<Vec<Frame>,
 }
 
 /// Takes the memory of one target.
-fn take_blank(memory: &mut Vec<Frame>) -> Frame
+fn take_blank(memory: &mut Vec<PageMemory>) -> PageMemory
     requires { 0 < length memory.old.items }
     ensures { memory.old.items ≡ memory.new.items ++ result ∷ [] }
 {
@@ -32,10 +32,10 @@ fn take_blank(memory: &mut Vec<Frame>) -> Frame
 
 /// Opens the next target, for which a frame is free and a page unused, on this memory: its page, by
 /// its number from 1.
-fn open_next(heap: &mut Heap, memory: Frame) -> u32
+fn open_next(heap: &mut Heap, memory: PageMemory) -> u32
     requires frame { 0 < free_count heap.old.store }
     requires page { 0 < unused_count heap.old.store }
-    requires blank { memory ≡ replicate heap.old.store.words 0 }
+    requires blank { IsBlank heap.old.store.words memory }
     ensures first { (k : ℕ) → with_targets (suc k) heap.old
         ≡ ((with_targets k heap.new).0, result ∷ (with_targets k heap.new).1) }
     ensures frames { free_count heap.new.store + 1 ≡ free_count heap.old.store }
@@ -62,7 +62,7 @@ fn add(pages: &mut Vec<u32>, page: u32)
 
 /// Opens so many targets, for which frames are free and pages unused, on so much memory, and lists
 /// their pages, by their numbers from 1, in an empty list that has room for them.
-pub(crate) fn open_targets(heap: &mut Heap, count: usize, memory: &mut Vec<Frame>, targets: &mut Vec<u32>)
+pub(crate) fn open_targets(heap: &mut Heap, count: usize, memory: &mut Vec<PageMemory>, targets: &mut Vec<u32>)
     requires blank { AreBlank heap.old.store.words count memory.old.items }
     requires empty { targets.old.items ≡ [] }
     requires room { count ≤ vec_capacity targets.old }

@@ -1,4 +1,4 @@
-use Rattle.std.proofs.Common.{◌-◌, ◌++◌, ◌∙◌, ap, ap₂, sym, append-nil, length, replicate, false}
+use Rattle.std.proofs.Common.{◌-◌, ◌++◌, ◌∙◌, ap, ap₂, sym, append-nil, length, replicate, false, arith}
 use Rattle.std.specs.Prelude.{count_by}
 use Rattle.std.proofs.lemmas.List.{length-map}
 use Rattle.std.specs.List.{slice_get}
@@ -29,6 +29,14 @@ returns-in-None-clause-sizes c = sym (append-nil c.args.sizes.now.items)
     ∙ ap (λ xs. c.args.sizes.now.items ++ xs) (none_drafted c.args.heap.now c.args.page c.requires.low
     (ap (λ rows. slice_get rows (c.args.page - 1)) (sym c.live.ensures) ∙ sym c.get.ensures
     ∙ ap option_copied c.in-None.is)).1
+
+pub new-requires-clause-short : goal.new-requires-clause-short
+new-requires-clause-short c =
+    let h = c.args.heap.now in
+    let size = row_sized h c.args.page c.requires.low c.in-Some.row.now c.law.ensures.heap
+    (ap (λ rows. slice_get rows (c.args.page - 1)) (sym c.live.ensures) ∙ sym c.get.ensures
+    ∙ ap option_copied c.in-Some.is) in
+    omega (arith, ap length c.in_ok-live-in-Some.ensures, size, c.law.ensures.store.sized.words)
 
 pub new-requires-clause-many : goal.new-requires-clause-many
 new-requires-clause-many c =

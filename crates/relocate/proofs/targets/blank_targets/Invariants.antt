@@ -1,8 +1,9 @@
-use Rattle.std.proofs.Common.{◌≡◌, replicate}
+use Rattle.std.proofs.Common.{◌≡◌}
+use Rattle.relocate.specs.Targets.{AreBlank}
 use Rattle.relocate.proofs.targets.blank_targets.Given as goal
 
 abbrev pub invariant-loop : goal.invariant-loop
 invariant-loop l = record {
-  memory : l.memory.items ≡ replicate l.counter (replicate l.fn.heap.store.words 0);
+  memory : AreBlank l.fn.heap.store.words l.counter l.memory.items;
   heap : l.heap ≡ l.fn.heap;
 }
