@@ -6,6 +6,7 @@ use Rattle.std.specs.List.{slice_get}
 use Rattle.std.proofs.Math.ListN.{length-set}
 use Rattle.std.specs.Option.{option_and_then}
 use Rattle.std.proofs.lemmas.Option.{slice_get_within, same_Some}
+use Rattle.std.proofs.lemmas.Bool.{false≢true}
 use Rattle.std.proofs.lemmas.List.{length-take, length-take-le}
 use Rattle.model.specs.declared.records.Page.{Page}
 use Rattle.model.specs.declared.records.PageState.{PageState}
@@ -130,6 +131,24 @@ words_memory s n ws h e = by_page (page_at s n) refl e
         → has_memory (state_in o) ≡ true
     by_page None a k = absurd (cc)
     by_page (Some p) a k = by_frame p (page_there s n p a).1 p.frame refl k
+
+-- so it is used
+pub page_used : (s : StoreState) (n : ℕ) (ws : List ℕ) → IsStore s → words_at s n ≡ Some ws
+    → (p : Page) × (slice_get s.pages (n - 1) ≡ Some p) × (is_unused p.state ≡ false)
+unfolding state_at
+page_used s n ws h e = by_page (page_at s n) refl (words_memory s n ws h e)
+  where
+    used : (x : PageState) → has_memory x ≡ true → is_unused x ≡ false
+    used Unused k = absurd (cc)
+    used Open k = refl
+    used Closed k = refl
+    used From k = refl
+    used Gone k = refl
+
+    by_page : (o : Option Page) → page_at s n ≡ o → has_memory (state_in (page_at s n)) ≡ true
+        → (p : Page) × (slice_get s.pages (n - 1) ≡ Some p) × (is_unused p.state ≡ false)
+    by_page None a k = absurd (false≢true (sym (ap (λ o. has_memory (state_in o)) a) ∙ k))
+    by_page (Some p) a k = (p, (page_there s n p a).1, used p.state (sym (ap (λ o. has_memory (state_in o)) a) ∙ k))
 
 -- and one with memory has words
 pub memory_words : (s : StoreState) (n : ℕ) → IsStore s → has_memory (state_at s n) ≡ true

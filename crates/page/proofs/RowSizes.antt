@@ -51,7 +51,7 @@ given_rows s i n p e o =
         ∙ set_same (row_sizes s) i s.words
         (get_map (row_size s.words) s.pages i p e ∙ ap Some (open_sized s.words p o)))
 
-opened_rows : (s : StoreState) (i f : ℕ) → row_sizes (open_fresh s i f) ≡ set (row_sizes s) i s.words
+pub opened_rows : (s : StoreState) (i f : ℕ) → row_sizes (open_fresh s i f) ≡ set (row_sizes s) i s.words
 unfolding open_fresh
 opened_rows s i f = sym (set_mapped (row_size s.words) s.pages i (fresh_page f) s.words refl)
 

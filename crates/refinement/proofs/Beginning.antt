@@ -1,5 +1,5 @@
 -- The first heap stands for the first plain heap.
-use Rattle.std.proofs.Common.{nat_lt, ◌≡◌, ◌≢◌, ◌⊎◌, inl, inr, ℕ, zero, suc, ◌-◌, ◌/◌, ◌%◌, false, List}
+use Rattle.std.proofs.Common.{nat_lt, ◌≡◌, ◌≢◌, ◌⊎◌, inl, inr, ℕ, zero, suc, ◌-◌, ◌/◌, ◌%◌, Bool, false, List}
 use Rattle.std.proofs.Common.{[], length, get_or, replicate, Option, Some, None, refl, sym, ◌∙◌, ap, subst}
 use mathlib.Core.Path.{fun_ext}
 use Rattle.std.specs.List.{slice_get}
@@ -27,14 +27,14 @@ use Rattle.model.specs.Bits.{of_page, bit_at}
 use Rattle.refinement.specs.Worlds.{world_of, as_word, object_at, object_in}
 use Rattle.refinement.specs.Worlds.{entry_at, barrier_in, scan_in, global_in, todo_in}
 use Rattle.refinement.specs.PlainHeaps.{births_of, as_pair}
-use Rattle.refinement.specs.Claims.{IsLaid, AreRowsOf, HasGiven, Claim, OfObject}
+use Rattle.model.specs.Holding.{AreRowsOf}
+use Rattle.refinement.specs.Claims.{IsLaid, HasGiven, Claim, OfObject}
 use Rattle.model.proofs.Tables.{first_rows, first_sides}
 use Rattle.refinement.specs.Claims.{OfBuffer, OfPlan, OfEnd, extent, end_extent, sized_extent}
 use Rattle.refinement.specs.Claims.{planned_extent, size_at, buffer_extent, object_size}
 use Rattle.refword.specs.Words.{IsWord}
 use Rattle.refinement.specs.Roots.{HoldsWords}
 use Rattle.refinement.specs.Standing.{Holds}
-use Rattle.refinement.proofs.Changes.{blank_bit}
 use Rattle.refinement.proofs.Carrying.{moved}
 
 -- what is read of equal elements
@@ -44,19 +44,14 @@ read_of P zero x e i = e
 read_of P (suc n) x e zero = refl
 read_of P (suc n) x e (suc i) = read_of P n x e i
 
-clear_row : (n m i o : ℕ) → get_or (get_or (replicate n (replicate m false)) i []) o false ≡ false
-clear_row zero m i o = refl
-clear_row (suc n) m zero o = blank_bit m o
-clear_row (suc n) m (suc i) o = clear_row n m i o
-
-clear_page : (n m page o : ℕ) → get_or (of_page (replicate n (replicate m false)) page) o false ≡ false
-clear_page n m zero o = refl
-clear_page n m (suc i) o = clear_row n m i o
-
-no_side : (n i : ℕ) → get_or (replicate {A = List Forwarding} n []) i [] ≡ []
+no_side : {X : Type 0} (n i : ℕ) → get_or (replicate {A = List X} n []) i [] ≡ []
 no_side zero i = refl
 no_side (suc n) zero = refl
 no_side (suc n) (suc i) = no_side n i
+
+clear_page : (n page o : ℕ) → get_or (of_page (replicate {A = List Bool} n []) page) o false ≡ false
+clear_page n zero o = refl
+clear_page n (suc i) o = ap (λ r. get_or r o false) (no_side n i)
 
 no_entry : (n page o : ℕ) → entry_at (of_page (replicate {A = List Forwarding} n []) page) o ≡ NoEntry
 no_entry n zero o = refl
@@ -67,7 +62,7 @@ module _ (c : Config) where
   h = first_heap c
 
   no_bit : (a : ℕ) → bit_at (blank_rows c) c.words a ≡ false
-  no_bit a = clear_page (record_count c.frames c.pages) c.words (a / c.words) (a % c.words)
+  no_bit a = clear_page (record_count c.frames c.pages) (a / c.words) (a % c.words)
 
   page_none : (n : ℕ) → state_in (page_at (first_store c.words c.frames c.pages) n) ≡ Unused
   unfolding first_store
@@ -161,10 +156,7 @@ module _ (c : Config) where
 
   rows : AreRowsOf h.store (blank_rows c)
   unfolding first_heap first_store
-  rows = let r = first_rows c in record {
-    pages = r.pages ∙ sym (length-replicate (record_count c.frames c.pages) blank_page);
-    words = r.words;
-  }
+  rows = first_rows c
 
   first_laid : IsLaid h
   unfolding first_heap first_store state_at

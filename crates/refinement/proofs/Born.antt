@@ -23,7 +23,7 @@ use Rattle.model.specs.Registers.{register_of}
 use Rattle.model.specs.Bits.{put_bit}
 use Rattle.model.specs.Births.{fresh_object, place_object, hand_object, used_buffer}
 use Rattle.model.proofs.Lists.{get_within, each_changed}
-use Rattle.model.proofs.Memory.{open_state, words_sized, memory_words, page_there, length_overlaid, frames_stay}
+use Rattle.model.proofs.Memory.{open_state, words_sized, memory_words, page_there, page_used, length_overlaid, frames_stay}
 use Rattle.page.proofs.Lying.{buffer_address}
 use Rattle.laws.specs.AddressHeap.{HeapObject, Word, Null, SideEntry, NoEntry, Planned, Copied, put}
 use Rattle.laws.specs.Invariant.{SoundObjects}
@@ -31,15 +31,16 @@ use Rattle.laws.specs.Edits.{add_object}
 use Rattle.laws.proofs.Basics.{put_after, put_same, put_other}
 use Rattle.model.specs.Bits.{bit_at}
 use Rattle.refinement.specs.Worlds.{world_of, object_at, barrier_in}
-use Rattle.refinement.specs.Claims.{IsLaid, AreRowsOf, AreApart, Claim, OfObject, OfBuffer, OfPlan, OfEnd, Extent}
+use Rattle.model.specs.Holding.{AreRowsOf}
+use Rattle.refinement.specs.Claims.{IsLaid, AreApart, Claim, OfObject, OfBuffer, OfPlan, OfEnd, Extent}
 use Rattle.refinement.specs.Claims.{extent, object_size, size_at, sized_extent, planned_extent, buffer_extent}
 use Rattle.refinement.specs.Roots.{HoldsWords}
 use Rattle.refinement.proofs.Slices.{Agree, overlaid_before, overlaid_behind}
 use Rattle.refinement.proofs.ObjectWords.{IsRead, read_fits, read_fresh, new_object}
 use Rattle.refinement.proofs.Objects.{Rewrites, there, rewritten}
 use Rattle.refinement.proofs.Claims.{object_extent, Splits, split_apart}
-use Rattle.model.proofs.Tables.{rows_changed, length_changed}
-use Rattle.refinement.proofs.Changes.{read_changed, kept_of, length_put, bit_put}
+use Rattle.model.proofs.Tables.{length_changed, rows_many, rows_put, row_used}
+use Rattle.refinement.proofs.Changes.{read_changed, kept_of, bit_put}
 use Rattle.refinement.proofs.Carrying.{Carries, alike}
 use Rattle.refinement.proofs.Rooted.{handed_holds_words}
 use Rattle.refinement.proofs.Changes.{register_changed}
@@ -115,8 +116,9 @@ module _ {h : HeapState} (s : IsStore h.store) (l : IsLaid h) {t target number :
       → (r : List Bool) × (slice_get rows (b.page - 1) ≡ Some r) × (b.next < length r)
   row rows r =
       let within = slice_get_within h.store.pages (b.page - 1) record_there.0 record_there.2 in
-      let (y, e) = get_within rows (b.page - 1) (omega (arith, within, r.pages)) in
-      (y, e, omega (arith, next_in, r.words (b.page - 1) y e))
+      let (y, e) = get_within rows (b.page - 1) (omega (arith, within, rows_many h.store rows r)) in
+      let (p, at, used) = page_used h.store b.page ws.0 s ws.1 in
+      (y, e, omega (arith, next_in, row_used h.store rows (b.page - 1) p y r at used e))
 
   put_at_address : (rows : List (List Bool)) → AreRowsOf h.store rows → (bit : Bool) (y : ℕ) → bit_at
       (change_at rows (b.page - 1) (put_bit b.next bit)) h.store.words y ≡ put (bit_at rows h.store.words) address bit y
@@ -356,7 +358,7 @@ module _ {h : HeapState} (s : IsStore h.store) (l : IsLaid h) {t target number :
   unfolding place_object with_words state_at page_at register_of
   born_laid = record {
     starts = rows h.starts l.starts true;
-    live = record { pages = l.live.pages; words = l.live.words };
+    live = l.live;
     mark = rows h.mark l.mark (is_marking h.phase);
     todo = rows h.todo l.todo (is_mark_crossing h.phase);
     sides = record { pages = l.sides.pages; rising = l.sides.rising };
@@ -372,10 +374,7 @@ module _ {h : HeapState} (s : IsStore h.store) (l : IsLaid h) {t target number :
     where
       rows : (xs : List (List Bool)) → AreRowsOf h.store xs → (bit : Bool)
           → AreRowsOf after.store (change_at xs (b.page - 1) (put_bit b.next bit))
-      rows xs r bit = let k =
-          rows_changed (length h.store.pages) h.store.words xs (b.page - 1) (put_bit b.next bit) r
-          (length_put b.next bit) in
-          record { pages = k.pages; words = k.words }
+      rows xs r bit = rows_put h.store xs (b.page - 1) b.next bit r
 
   pub born_carries : Carries h after (add_object address fresh t target)
   unfolding place_object with_words

@@ -16,9 +16,8 @@ use Rattle.model.specs.declared.records.Room.TheVariants.{NoFrames, NoPages, NoM
 use Rattle.model.specs.Stores.{StoreState, take_buffer, open_fresh, fresh_page, buffer_of}
 use Rattle.model.specs.Owning.{Each, IsStore}
 use Rattle.model.specs.Holding.{IsHeap}
-use Rattle.model.specs.States.{HeapState, ThreadState, change_at}
+use Rattle.model.specs.States.{HeapState, ThreadState}
 use Rattle.model.specs.Threads.{buffer_in}
-use Rattle.model.specs.Bits.{blank_row}
 use Rattle.model.specs.Buffers.{buffer_of_thread, opened_rows, take_outcome, take_result, lend_buffer}
 use Rattle.model.specs.Buffers.{give_back_outcome}
 use Rattle.model.specs.Plain.{PlainHeap, plain_step, plain_answer}
@@ -48,23 +47,24 @@ each_set_again P xs i v w h q j y e = go (get_set (set xs i v) i j w y e)
     go (inr (a, b)) = h j y (sym (get_set_other xs i j v a) ∙ b)
 
 -- rows stay where the buffer isn't the first of its page
-same_rows : (b : Buffer) (rows : List (List Bool)) → 0 < b.next → opened_rows b rows ≡ rows
-same_rows b rows low =
-    ap (λ c. cond c (change_at rows (b.page - 1) blank_row) rows) (ne_eqb b.next 0
+same_rows : (words : ℕ) (b : Buffer) (rows : List (List Bool)) → 0 < b.next → opened_rows words b rows ≡ rows
+same_rows words b rows low =
+    ap (λ c. cond c (set rows (b.page - 1) (replicate words false)) rows) (ne_eqb b.next 0
     (λ e. absurd (omega (arith, e, low))))
 
 lent_open : (h : HeapState) (t i : ℕ) (p : Page) (n : ℕ) → 0 < p.top → lend_buffer h t
     (record h.store { pages = set h.store.pages i (with_more p n) }) (buffer_of i p.top n) ≡ granted h t i p n
 unfolding lend_buffer
 lent_open h t i p n low = λ z. record (granted h t i p n) {
-  starts = same_rows (buffer_of i p.top n) h.starts low z;
-  live = same_rows (buffer_of i p.top n) h.live low z;
-  mark = same_rows (buffer_of i p.top n) h.mark low z;
-  todo = same_rows (buffer_of i p.top n) h.todo low z;
+  starts = same_rows h.store.words (buffer_of i p.top n) h.starts low z;
+  live = same_rows h.store.words (buffer_of i p.top n) h.live low z;
+  mark = same_rows h.store.words (buffer_of i p.top n) h.mark low z;
+  todo = same_rows h.store.words (buffer_of i p.top n) h.todo low z;
 }
 
-pub blank_rows : (i n : ℕ) (rows : List (List Bool)) → opened_rows (buffer_of i 0 n) rows ≡ change_at rows i blank_row
-blank_rows i n rows = ap (λ j. change_at rows j blank_row) (omega arith)
+pub blank_rows : (words i n : ℕ) (rows : List (List Bool))
+    → opened_rows words (buffer_of i 0 n) rows ≡ set rows i (replicate words false)
+blank_rows words i n rows = ap (λ j. set rows j (replicate words false)) (omega arith)
 
 lent_fresh : (h : HeapState) (t i f n : ℕ)
     → lend_buffer h t (record (open_fresh h.store i f) {
@@ -72,12 +72,12 @@ lent_fresh : (h : HeapState) (t i f n : ℕ)
           set (open_fresh h.store i f).pages i (with_more (fresh_page f) n);
     })
     (buffer_of i 0 n) ≡ granted (opened_heap h i f) t i (fresh_page f) n
-unfolding lend_buffer
+unfolding lend_buffer open_fresh
 lent_fresh h t i f n = λ z. record (granted (opened_heap h i f) t i (fresh_page f) n) {
-  starts = blank_rows i n h.starts z;
-  live = blank_rows i n h.live z;
-  mark = blank_rows i n h.mark z;
-  todo = blank_rows i n h.todo z;
+  starts = blank_rows h.store.words i n h.starts z;
+  live = blank_rows h.store.words i n h.live z;
+  mark = blank_rows h.store.words i n h.mark z;
+  todo = blank_rows h.store.words i n h.todo z;
 }
 
 -- a thread gets words of an unused page, which opens

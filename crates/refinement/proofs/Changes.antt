@@ -153,16 +153,23 @@ blank_bit (suc n) zero = refl
 blank_bit (suc n) (suc i) = blank_bit n i
 
 -- a row is cleared
-pub blank_here : (w : ℕ) (rows : List (List Bool)) (i : ℕ) (row : List Bool) (x : ℕ) → slice_get rows i ≡ Some row
-    → x / w ≡ suc i → bit_at (change_at rows i blank_row) w x ≡ false
-blank_here w rows i row x e q = ap (λ r. get_or r (x % w) false) (page_changed rows i blank_row row e (x / w)
-    ∙ ap (put (of_page rows) (suc i) (blank_row row)) q ∙ put_same (of_page rows) (suc i) (blank_row row))
-    ∙ blank_bit (length row) (x % w)
+placed_as : (rows : List (List Bool)) (i : ℕ) (row new : List Bool) → slice_get rows i ≡ Some row
+    → change_at rows i (λ r. new) ≡ set rows i new
+placed_as rows i row new e = ap (λ o. change_found rows i o (λ r. new)) e
 
-pub blank_other : (w : ℕ) (rows : List (List Bool)) (i : ℕ) (row : List Bool) (x : ℕ) → slice_get rows i ≡ Some row
-    → x / w ≢ suc i → bit_at (change_at rows i blank_row) w x ≡ bit_at rows w x
-blank_other w rows i row x e q = ap (λ r. get_or r (x % w) false)
-    (page_changed rows i blank_row row e (x / w) ∙ put_other (of_page rows) (suc i) (blank_row row) (x / w) q)
+-- a page that got a new row has no bit there, and other pages have theirs
+pub new_here : (w n : ℕ) (rows : List (List Bool)) (i : ℕ) (row : List Bool) (x : ℕ) → slice_get rows i ≡ Some row
+    → x / w ≡ suc i → bit_at (set rows i (replicate n false)) w x ≡ false
+new_here w n rows i row x e q = ap (λ rs. bit_at rs w x) (sym (placed_as rows i row (replicate n false) e))
+    ∙ ap (λ r. get_or r (x % w) false) (page_changed rows i (λ r. replicate n false) row e (x / w)
+    ∙ ap (put (of_page rows) (suc i) (replicate n false)) q ∙ put_same (of_page rows) (suc i) (replicate n false))
+    ∙ blank_bit n (x % w)
+
+pub new_other : (w n : ℕ) (rows : List (List Bool)) (i : ℕ) (row : List Bool) (x : ℕ) → slice_get rows i ≡ Some row
+    → x / w ≢ suc i → bit_at (set rows i (replicate n false)) w x ≡ bit_at rows w x
+new_other w n rows i row x e q = ap (λ rs. bit_at rs w x) (sym (placed_as rows i row (replicate n false) e))
+    ∙ ap (λ r. get_or r (x % w) false) (page_changed rows i (λ r. replicate n false) row e (x / w)
+    ∙ put_other (of_page rows) (suc i) (replicate n false) (x / w) q)
 
 -- the registers of threads, of which one has its register r changed
 pub register_changed :

@@ -12,27 +12,27 @@ use Rattle.model.specs.declared.records.Forwarding.{Forwarding}
 use Rattle.model.specs.declared.records.PageState.TheVariants.{Open, From}
 use Rattle.model.specs.Stores.{words_at, with_words, state_at, page_at, has_memory, overlay}
 use Rattle.model.specs.Owning.{IsStore}
-use Rattle.model.specs.Holding.{AreRising}
+use Rattle.model.specs.Holding.{AreRising, AreRowsOf}
 use Rattle.model.specs.States.{HeapState, change_at}
 use Rattle.model.specs.Registers.{register_of}
-use Rattle.model.specs.Bits.{of_page, bit_at, with_bit, put_bit}
+use Rattle.model.specs.Bits.{of_page, bit_at, with_bit}
 use Rattle.model.specs.Plans.{object_words}
 use Rattle.model.specs.Moves.{with_copy, with_copied_words, words_from, set_copied_of}
 use Rattle.model.proofs.Lists.{same_lists, get_within, each_changed}
-use Rattle.model.proofs.Memory.{words_sized, memory_words, length_overlaid}
-use Rattle.model.proofs.Tables.{length_changed, rows_changed}
+use Rattle.model.proofs.Memory.{words_sized, memory_words, page_used, length_overlaid}
+use Rattle.model.proofs.Tables.{length_changed, rows_many, rows_put, row_used}
 use Rattle.laws.specs.AddressHeap.{HeapObject, SideEntry, NoEntry, Planned, Copied, put}
 use Rattle.laws.specs.Invariant.{SoundObjects}
 use Rattle.laws.specs.Edits.{copy_object}
 use Rattle.laws.proofs.Basics.{put_all, put_after, put_same, put_other}
 use Rattle.refinement.specs.Worlds.{world_of, object_at, entry_of, entry_at, run}
-use Rattle.refinement.specs.Claims.{IsLaid, AreRowsOf, AreApart, Claim, OfObject, OfBuffer, OfPlan, OfEnd}
+use Rattle.refinement.specs.Claims.{IsLaid, AreApart, Claim, OfObject, OfBuffer, OfPlan, OfEnd}
 use Rattle.refinement.specs.Claims.{Extent, extent, object_size, size_at, sized_extent, planned_extent}
 use Rattle.refinement.proofs.Slices.{Agree, get_run, length_run, overlaid_in, overlaid_before}
 use Rattle.refinement.proofs.Slices.{overlaid_behind}
 use Rattle.refinement.proofs.ObjectWords.{IsRead, read_fits, read_size, built}
 use Rattle.refinement.proofs.Objects.{Rewrites, IsThere, there, rewritten}
-use Rattle.refinement.proofs.Changes.{list_of, list_read, page_changed, length_put, bit_put, same_place}
+use Rattle.refinement.proofs.Changes.{list_of, list_read, page_changed, bit_put, same_place}
 use Rattle.refinement.proofs.Claims.{object_extent, Splits, split_apart, Within}
 use Rattle.refinement.proofs.Marks.{record_there}
 use Rattle.refinement.proofs.Planned as plans
@@ -182,10 +182,11 @@ module _ (h : HeapState) (s : IsStore h.store) (l : IsLaid h) (o : SoundObjects 
       ≡ put (bit_at h.starts h.store.words) n true x
   put_start x =
       let (page, low) = record_there h.store (n / h.store.words) target.0 target.1 in
-      let (row, at) = get_within h.starts (n / h.store.words - 1) (omega (arith, low, l.starts.pages)) in
+      let (row, at) = get_within h.starts (n / h.store.words - 1) (omega (arith, low, rows_many h.store h.starts l.starts)) in
+      let (p, found, used) = page_used h.store (n / h.store.words) target.0 s target.1 in
       let inside = read_size h.config.layouts c.words (a % h.store.words) q c.read in
       bit_put h.store.words h.starts (n / h.store.words - 1) n true row page at
-      (omega (arith, fits, inside, l.starts.words (n / h.store.words - 1) row at)) x
+      (omega (arith, fits, inside, row_used h.store h.starts (n / h.store.words - 1) p row l.starts found used at)) x
 
   place_free : object_at h n ≡ None
   place_free = o.planned_free a n plan
@@ -408,9 +409,9 @@ module _ (h : HeapState) (s : IsStore h.store) (l : IsLaid h) (o : SoundObjects 
   unfolding with_words state_at page_at register_of
   after_laid = record {
     starts = starts_rows;
-    live = record { pages = l.live.pages; words = l.live.words };
-    mark = record { pages = l.mark.pages; words = l.mark.words };
-    todo = record { pages = l.todo.pages; words = l.todo.words };
+    live = l.live;
+    mark = l.mark;
+    todo = l.todo;
     sides = record {
       pages = length_changed h.sides (a / h.store.words - 1) (map (set_copied_of (a % h.store.words))) ∙ l.sides.pages;
       rising = each_changed (AreRising h.store.words 0) h.sides (a / h.store.words - 1)
@@ -426,9 +427,7 @@ module _ (h : HeapState) (s : IsStore h.store) (l : IsLaid h) (o : SoundObjects 
   }
     where
       starts_rows : AreRowsOf after.store (with_bit h.starts h.store.words n true)
-      starts_rows = let k = rows_changed (length h.store.pages) h.store.words h.starts (n / h.store.words - 1)
-          (put_bit (n % h.store.words) true) l.starts (length_put (n % h.store.words) true) in
-          record { pages = k.pages; words = k.words }
+      starts_rows = rows_put h.store h.starts (n / h.store.words - 1) (n % h.store.words) true l.starts
 
   -- and memory stays in order
   pub copy_laid : IsLaid (with_copy h a n)

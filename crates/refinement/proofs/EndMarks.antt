@@ -6,10 +6,10 @@ use Rattle.std.proofs.Common.{Option, Some, None, is_some, refl, sym, ◌∙◌,
 use mathlib.Core.Path.{fun_ext}
 use Rattle.std.specs.List.{slice_get, list_any}
 use Rattle.std.specs.Prelude.{◌==◌}
-use Rattle.std.specs.Option.{option_map, option_and_then}
-use Rattle.std.proofs.lemmas.Bool.{cases_eq, or_parts, eqb-true, not-false}
+use Rattle.std.specs.Option.{option_map}
+use Rattle.std.proofs.lemmas.Bool.{cases_eq, or_parts, eqb-true, not-false, false≢true}
 use Rattle.std.proofs.lemmas.List.Sums.{sum_by-cons}
-use Rattle.std.proofs.lemmas.List.{length-map, length-replicate}
+use Rattle.std.proofs.lemmas.List.{length-replicate}
 use Rattle.std.proofs.lemmas.Option.{none-some, same_Some}
 use Rattle.model.specs.declared.steps.Actor.TheVariants.{Worker}
 use Rattle.model.specs.declared.steps.Step.TheVariants as steps
@@ -25,12 +25,15 @@ use Rattle.model.specs.Stores.{StoreState, words_at, page_at, frame_in, state_at
 use Rattle.model.specs.Stores.{has_memory, page_after_mark, pages_after_mark, store_after_mark}
 use Rattle.model.specs.Stores.{owner_after_mark, frames_owned}
 use Rattle.model.specs.Owning.{Each, IsStore}
-use Rattle.model.specs.Holding.{AreRows, AreRising}
+use Rattle.model.specs.Holding.{AreRising, AreRowsOf}
 use Rattle.model.specs.States.{HeapState, ThreadState}
 use Rattle.model.specs.Registers.{register_of}
 use Rattle.model.specs.Bits.{of_page, bit_at, blank_row, blank_all, bit_count}
 use Rattle.model.specs.Scans.{may_scan}
 use Rattle.model.specs.Cycles.{has_todo, first_pending, none_pending, is_lent, end_mark, end_mark_outcome}
+use Rattle.model.specs.Cycles.{rows_after_mark}
+use Rattle.model.proofs.Tables.{lengths_blank}
+use Rattle.page.proofs.RowSizes.{ended_rows}
 use Rattle.model.specs.Refusing.{refuse_if}
 use Rattle.model.specs.Plain.{PlainHeap, plain_step, plain_answer}
 use Rattle.model.proofs.Lists.{none_counted, none_passes, position_none, each_replicate, no_some}
@@ -45,7 +48,7 @@ use Rattle.laws.proofs.Promises.{reachable_is_live, live_was_reachable, planned_
 use Rattle.laws.specs.Transitions.{MayEndMark, EndMark}
 use Rattle.refinement.specs.Worlds.{world_of, object_at, object_in, entry_at, as_barrier, barrier_in, todo_in}
 use Rattle.refinement.specs.PlainHeaps.{births_of}
-use Rattle.refinement.specs.Claims.{IsLaid, AreRowsOf, HasGiven, Claim, OfObject, OfBuffer, OfPlan, OfEnd, Extent}
+use Rattle.refinement.specs.Claims.{IsLaid, HasGiven, Claim, OfObject, OfBuffer, OfPlan, OfEnd, Extent}
 use Rattle.refinement.specs.Claims.{extent}
 use Rattle.refinement.specs.Claims.{sized_extent, planned_extent, end_extent, object_size, size_at}
 use Rattle.refinement.specs.Standing.{Holds, StepHolds, FindsLive}
@@ -173,16 +176,6 @@ blank_everywhere rows (suc i) o = ap (λ r. get_or r o false) (list_read (blank_
     at (r ∷ rows) zero = blank_bit (length r) o
     at (r ∷ rows) (suc i) = at rows i
 
-rows_blank : (n m : ℕ) (rows : List (List Bool)) → AreRows n m rows → AreRows n m (blank_all rows)
-rows_blank n m rows r = record { pages = length-map rows blank_row ∙ r.pages; words = words rows r.words }
-  where
-    words : (rows : List (List Bool)) → Each rows (λ row. length row ≡ m)
-        → Each (map blank_row rows) (λ row. length row ≡ m)
-    words [] k i row e = absurd (cc)
-    words (r ∷ rows) k zero row e =
-        ap length (sym (same_Some _ _ e)) ∙ length-replicate (length r) false ∙ k zero r refl
-    words (r ∷ rows) k (suc i) row e = words rows (λ j x f. k (suc j) x f) i row e
-
 bits_more : (r : List Bool) (rows : List (List Bool)) → bit_count (r ∷ rows) ≡ count_by (λ b. b) r + bit_count rows
 bits_more r rows = sum_by-cons (count_by (λ b. b)) r rows
 
@@ -194,6 +187,60 @@ none_set rows e (suc i) o = ap (λ r. get_or r o false) (list_read rows i) ∙ a
     at [] e i = refl
     at (r ∷ rows) e zero = none_counted r (omega (arith, e, bits_more r rows)) o
     at (r ∷ rows) e (suc i) = at rows (omega (arith, e, bits_more r rows)) i
+
+-- the row of a page, which it gives up where it is protected
+row_ended : (ps : List Page) (rows : List (List Bool)) (i : ℕ)
+    → get_or (rows_after_mark ps rows) i [] ≡ cond (is_protected (state_in (slice_get ps i))) [] (get_or rows i [])
+row_ended [] rows i = refl
+row_ended (p ∷ ps) [] i = same (is_protected (state_in (slice_get (p ∷ ps) i)))
+  where
+    same : (b : Bool) → ◌≡◌ {A = List Bool} [] (cond b [] [])
+    same true = refl
+    same false = refl
+row_ended (p ∷ ps) (row ∷ rows) zero = refl
+row_ended (p ∷ ps) (row ∷ rows) (suc i) = row_ended ps rows i
+
+state_of_record : (s : StoreState) (i : ℕ) → state_at s (suc i) ≡ state_in (slice_get s.pages i)
+unfolding state_at
+state_of_record s i =
+    let back : suc i - 1 ≡ i = omega arith in
+    ap state_in (page_at_record s (suc i) (λ z. absurd (omega (arith, z))))
+    ∙ ap (λ j. state_in (slice_get s.pages j)) back
+
+-- a bit stays that isn't set on a protected page
+bit_ended : (s : StoreState) (rows : List (List Bool)) (a : ℕ)
+    → (is_protected (state_at s (a / s.words)) ≡ true → bit_at rows s.words a ≡ false)
+    → bit_at (rows_after_mark s.pages rows) s.words a ≡ bit_at rows s.words a
+bit_ended s rows a h = by_page (a / s.words) h
+  where
+    by_test : (i : ℕ) (b : Bool) → (b ≡ true → get_or (get_or rows i []) (a % s.words) false ≡ false)
+        → get_or (cond b [] (get_or rows i [])) (a % s.words) false ≡ get_or (get_or rows i []) (a % s.words) false
+    by_test i true k = sym (k refl)
+    by_test i false k = refl
+
+    by_page : (n : ℕ) → (is_protected (state_at s n) ≡ true
+        → get_or (of_page rows n) (a % s.words) false ≡ false)
+        → get_or (of_page (rows_after_mark s.pages rows) n) (a % s.words) false
+        ≡ get_or (of_page rows n) (a % s.words) false
+    by_page zero k = refl
+    by_page (suc i) k = ap (λ r. get_or r (a % s.words) false) (row_ended s.pages rows i)
+        ∙ by_test i (is_protected (state_in (slice_get s.pages i))) (λ e. k (ap is_protected (state_of_record s i) ∙ e))
+
+-- one that is set was
+bit_was : (s : StoreState) (rows : List (List Bool)) (a : ℕ) → bit_at (rows_after_mark s.pages rows) s.words a ≡ true
+    → bit_at rows s.words a ≡ true
+bit_was s rows a e = by_page (a / s.words) e
+  where
+    by_test : (row : List Bool) (b : Bool) → get_or (cond b [] row) (a % s.words) false ≡ true
+        → get_or row (a % s.words) false ≡ true
+    by_test row true k = absurd (false≢true k)
+    by_test row false k = k
+
+    by_page : (n : ℕ) → get_or (of_page (rows_after_mark s.pages rows) n) (a % s.words) false ≡ true
+        → get_or (of_page rows n) (a % s.words) false ≡ true
+    by_page zero k = k
+    by_page (suc i) k = by_test (get_or rows i []) (is_protected (state_in (slice_get s.pages i)))
+        (sym (ap (λ r. get_or r (a % s.words) false) (row_ended s.pages rows i)) ∙ k)
 
 -- a page that isn't protected keeps its words
 kept_words : (s : StoreState) (n f : ℕ) → IsStore s → is_protected (state_in (page_at s n)) ≡ false
@@ -245,17 +292,35 @@ module _ {h : HeapState} {p p0 : PlainHeap} (s : IsStore h.store) (k : Holds h p
   objects : (a : ℕ) → object_at (end_mark h) a
       ≡ cond (is_protected (state_at h.store (a / h.store.words))) None (object_at h a)
   unfolding end_mark store_after_mark
-  objects a = ap (λ o. object_in h.config.layouts (bit_at h.starts h.store.words a) o (a % h.store.words))
-      (words (a / h.store.words)) ∙ by_bits (bit_at h.starts h.store.words a)
-      (is_protected (state_at h.store (a / h.store.words)))
+  objects a = ap (λ o. object_in h.config.layouts (bit_at (rows_after_mark h.store.pages h.starts) h.store.words a) o
+      (a % h.store.words)) (words (a / h.store.words)) ∙ by_state (is_protected (state_at h.store (a / h.store.words)))
+      refl
     where
-      by_bits : (b c : Bool) → object_in h.config.layouts b (cond c None (words_at h.store (a / h.store.words)))
-          (a % h.store.words)
-          ≡ cond c None (object_in h.config.layouts b (words_at h.store (a / h.store.words)) (a % h.store.words))
-      by_bits true true = refl
-      by_bits false true = refl
-      by_bits true false = refl
-      by_bits false false = refl
+      nothing : (b : Bool) → object_in h.config.layouts b None (a % h.store.words) ≡ None
+      nothing true = refl
+      nothing false = refl
+
+      by_state : (c : Bool) → is_protected (state_at h.store (a / h.store.words)) ≡ c
+          → object_in h.config.layouts (bit_at (rows_after_mark h.store.pages h.starts) h.store.words a)
+          (cond c None (words_at h.store (a / h.store.words))) (a % h.store.words)
+          ≡ cond c None (object_in h.config.layouts (bit_at h.starts h.store.words a)
+          (words_at h.store (a / h.store.words)) (a % h.store.words))
+      by_state true e = nothing (bit_at (rows_after_mark h.store.pages h.starts) h.store.words a)
+      by_state false e =
+          ap (λ b. object_in h.config.layouts b (words_at h.store (a / h.store.words)) (a % h.store.words))
+          (bit_ended h.store h.starts a (λ f. absurd (false≢true (sym e ∙ f))))
+
+  -- nothing is marked on a protected page, so all that is marked stays so
+  marks_stay : (a : ℕ) → bit_at (rows_after_mark h.store.pages h.mark) h.store.words a ≡ bit_at h.mark h.store.words a
+  marks_stay a = bit_ended h.store h.mark a (λ f. by_bit (bit_at h.mark h.store.words a) refl f)
+    where
+      by_bit : (b : Bool) → bit_at h.mark h.store.words a ≡ b
+          → is_protected (state_at h.store (a / h.store.words)) ≡ true → b ≡ false
+      by_bit false e f = refl
+      by_bit true e f = absurd (false≢true (sym (k.invariant.marks.unprotected a e) ∙ f))
+
+  todo_none : (a : ℕ) → bit_at (rows_after_mark h.store.pages h.todo) h.store.words a ≡ false
+  todo_none a = bit_ended h.store h.todo a (λ f. may.todo a) ∙ may.todo a
 
   ended_world : world_of (end_mark h) ≡ edits.end_mark (λ a. lent (a / h.store.words)) (world_of h)
   unfolding end_mark store_after_mark register_of
@@ -264,9 +329,10 @@ module _ {h : HeapState} {p p0 : PlainHeap} (s : IsStore h.store) (k : Holds h p
     object_at = fun_ext objects z;
     side_entry = fun_ext (λ a. ap (λ fs. entry_at fs (a % h.store.words))
         (no_side (length h.sides) (a / h.store.words))) z;
-    live = bit_at h.mark h.store.words;
-    marked = fun_ext (λ a. blank_everywhere h.live (a / h.store.words) (a % h.store.words)) z;
-    todo = fun_ext may.todo z;
+    live = fun_ext marks_stay z;
+    marked = fun_ext (λ a. blank_everywhere (rows_after_mark h.store.pages h.live) (a / h.store.words)
+        (a % h.store.words)) z;
+    todo = fun_ext todo_none z;
     phase = Idle;
   }
 
@@ -322,9 +388,10 @@ module _ {h : HeapState} {p p0 : PlainHeap} (s : IsStore h.store) (k : Holds h p
       by_page (Some q) f g = ap (end_extent h.store.words n) f
           ∙ by_open q (is_open (page_after_mark (lent n) q).state) refl g
 
-  rows : (rows : List (List Bool)) → AreRowsOf h.store rows → AreRowsOf (store_after_mark lent h.store) rows
+  rows : (xs : List (List Bool)) → AreRowsOf h.store xs
+      → AreRowsOf (store_after_mark lent h.store) (rows_after_mark h.store.pages xs)
   unfolding store_after_mark
-  rows bits r = record { pages = r.pages ∙ sym (length_after lent 1 h.store.pages); words = r.words }
+  rows xs r = ended_rows h.store.words lent 1 h.store.pages xs r
 
   marked_there : (a : ℕ) → bit_at h.mark h.store.words a ≡ true
       → (o : HeapObject) × (object_at (end_mark h) a ≡ Some o)
@@ -355,19 +422,19 @@ module _ {h : HeapState} {p p0 : PlainHeap} (s : IsStore h.store) (k : Holds h p
   ended_laid = record {
     starts = rows h.starts l.starts;
     live = rows h.mark l.mark;
-    mark = rows (blank_all h.live) (rows_blank (length h.store.pages) h.store.words h.live l.live);
+    mark = lengths_blank (rows_after_mark h.store.pages h.live) ∙ rows h.live l.live;
     todo = rows h.todo l.todo;
     sides = record {
       pages = length-replicate (length h.sides) [] ∙ l.sides.pages ∙ sym (length_after lent 1 h.store.pages);
       rising = each_replicate (AreRising h.store.words 0) (length h.sides) [] tt;
     };
     registers = l.registers;
-    objects = λ a b f. started a b f;
+    objects = λ a b f. started a (bit_was h.store h.starts a b) f;
     apart = λ c d x y e g. l.apart c d x y (had c x e) (had d y g);
     planned = λ a n o e f. absurd (not_planned n (sym (ap (λ fs. entry_at fs (a % h.store.words))
         (no_side (length h.sides) (a / h.store.words))) ∙ e));
-    live_objects = λ a b f. marked_there a b;
-    unused = none_unused;
+    live_objects = λ a b f. marked_there a (bit_was h.store h.mark a b);
+    unused = λ a e. marks_stay a ∙ none_unused a e;
   }
     where
       not_planned : (n : ℕ) → NoEntry ≡ Planned n → ⊥

@@ -19,7 +19,9 @@ use Rattle.laws.specs.AddressHeap.{put}
 use Rattle.laws.proofs.Basics.{put_all, put_same, put_other}
 use Rattle.model.specs.Bits.{bit_at}
 use Rattle.refinement.specs.Worlds.{world_of, object_at, object_in, as_word, barrier_in}
-use Rattle.refinement.specs.Claims.{IsLaid, AreRowsOf, Claim, OfObject, OfBuffer, OfPlan, OfEnd, Extent, extent}
+use Rattle.model.specs.Holding.{AreRowsOf}
+use Rattle.page.proofs.RowSizes.{alike_rows}
+use Rattle.refinement.specs.Claims.{IsLaid, Claim, OfObject, OfBuffer, OfPlan, OfEnd, Extent, extent}
 use Rattle.refinement.specs.Claims.{object_size, sized_extent, planned_extent, buffer_extent, end_extent, size_at}
 use Rattle.refinement.specs.Claims.{HasGiven}
 use Rattle.refinement.specs.Roots.{HoldsWords}
@@ -183,7 +185,7 @@ module _ {h : HeapState} (l : IsLaid h) {t i : ℕ} {p : Page} {n : ℕ} {x : Th
           (sym (ap (λ (z : Extent). z.from) k), sym (ap (λ (z : Extent). z.upto) k))
 
   rows : (xs : List (List Bool)) → AreRowsOf h.store xs → AreRowsOf after.store xs
-  rows xs r = record { pages = r.pages ∙ sym (length-set h.store.pages i (with_more p n)); words = r.words }
+  rows xs r = r ∙ sym (alike_rows h.store _ i p (with_more p n) w.at refl refl)
 
   -- and memory is in order
   granted_laid : IsLaid (granted h t i p n)

@@ -15,8 +15,8 @@ use Rattle.model.specs.Registers.{register_of}
 use Rattle.model.specs.Bits.{of_page, bit_at, with_bit}
 use Rattle.model.specs.Marks.{entry_of, entry_at, forward_by, resolve, with_mark, mark_after, todo_after, marked_word}
 use Rattle.model.proofs.Lists.{get_within}
-use Rattle.model.proofs.Memory.{page_there, words_in, words_sized}
-use Rattle.model.proofs.Tables.{rows_put}
+use Rattle.model.proofs.Memory.{page_there, page_used, words_in, words_sized}
+use Rattle.model.proofs.Tables.{rows_many, rows_put, row_used}
 use Rattle.page.proofs.Lying.{records_few}
 use Rattle.laws.specs.AddressHeap.{HeapObject, SideEntry, NoEntry, put, resolve_by, names}
 use Rattle.laws.specs.AddressHeap as laws
@@ -26,7 +26,8 @@ use Rattle.laws.proofs.Basics.{put_id, current_there}
 use Rattle.laws.proofs.Reading.{named}
 use Rattle.refinement.specs.Worlds.{world_of, object_at, as_word}
 use Rattle.refinement.specs.Worlds as worlds
-use Rattle.refinement.specs.Claims.{IsLaid, AreRowsOf}
+use Rattle.model.specs.Holding.{AreRowsOf}
+use Rattle.refinement.specs.Claims.{IsLaid}
 use Rattle.refinement.proofs.ObjectWords.{read_fits}
 use Rattle.refinement.proofs.Objects.{there}
 use Rattle.refinement.proofs.Changes.{bit_put}
@@ -119,8 +120,7 @@ marked_is_word h (Some x) s n = object_address h (resolve h x.0) n.0 s n.1
 -- rows with a bit changed are rows
 pub rows_with : (h : HeapState) (rows : List (List Bool)) (a : ℕ) (b : Bool) → AreRowsOf h.store rows
     → AreRowsOf h.store (with_bit rows h.store.words a b)
-rows_with h rows a b r = rows_put (length h.store.pages) h.store.words rows (a / h.store.words - 1)
-    (a % h.store.words) b r
+rows_with h rows a b r = rows_put h.store rows (a / h.store.words - 1) (a % h.store.words) b r
 
 module _ (h : HeapState) (s : IsStore h.store) (l : IsLaid h) where
   -- the bit of an object's address
@@ -130,11 +130,12 @@ module _ (h : HeapState) (s : IsStore h.store) (l : IsLaid h) where
   bit_with rows r a q e b x =
       let c = there h a q e in
       let (page, low) = record_there h.store (a / h.store.words) c.words c.page in
-      let (row, at) = get_within rows (a / h.store.words - 1) (omega (arith, low, r.pages)) in
+      let (row, at) = get_within rows (a / h.store.words - 1) (omega (arith, low, rows_many h.store rows r)) in
+      let (p, found, used) = page_used h.store (a / h.store.words) c.words s c.page in
       let fits = read_fits h.config.layouts c.words (a % h.store.words) q c.read in
       let size = words_sized h.store (a / h.store.words) c.words s c.page in
       bit_put h.store.words rows (a / h.store.words - 1) a b row page at
-      (omega (arith, fits, size, r.words (a / h.store.words - 1) row at)) x
+      (omega (arith, fits, size, row_used h.store rows (a / h.store.words - 1) p row r found used at)) x
 
   marks : (v : Reference) → LeadsTo h v → (x : ℕ)
       → bit_at (mark_after h v) h.store.words x ≡ edits.marked_after (as_word v) (world_of h) x

@@ -1,12 +1,13 @@
 -- An unused page is opened: no object, mark or claim is on it, and its words are one claim.
 use Rattle.std.proofs.Common.{length, ◌≡◌, ◌≢◌, ◌⊎◌, inl, inr, ℕ, suc, ◌+◌, ◌*◌, ◌/◌, ◌%◌, ◌<◌, ◌≤◌, Bool, true}
-use Rattle.std.proofs.Common.{false, List}
+use Rattle.std.proofs.Common.{false, List, map}
 use Rattle.std.proofs.Common.{set, replicate, Option, Some, None, nat_eq, refl, sym, ◌∙◌, ap, ap₂, arith, cond}
 use Rattle.std.proofs.Common.{IfSome, div-add-mod', eq-eqb, ne_eqb, mul-le-mul_right}
 use Rattle.std.proofs.Math.Nat.{suc-mul}
 use Rattle.std.specs.List.{slice_get}
 use Rattle.std.specs.Option.{option_map}
 use Rattle.std.proofs.Math.ListN.{length-set}
+use Rattle.std.proofs.lemmas.List.{length-replicate}
 use Rattle.std.proofs.lemmas.Option.{slice_get_within, same_Some, none-some}
 use Rattle.std.proofs.lemmas.Bool.{cases_eq, eqb-true, false≢true}
 use mathlib.Core.Path.{fun_ext}
@@ -16,11 +17,10 @@ use Rattle.model.specs.declared.records.Buffer.{Buffer}
 use Rattle.model.specs.Stores.{words_at, state_at, state_in, frame_in, page_at, has_memory, is_open, is_unused}
 use Rattle.model.specs.Stores.{open_fresh, fresh_page}
 use Rattle.model.specs.Owning.{Each, IsStore, LiesIn}
-use Rattle.model.specs.Holding.{FillsIn}
-use Rattle.model.specs.States.{HeapState, ThreadState, change_at}
+use Rattle.model.specs.Holding.{FillsIn, AreRowsOf}
+use Rattle.model.specs.States.{HeapState, ThreadState}
 use Rattle.model.specs.Threads.{buffer_in}
 use Rattle.model.specs.Registers.{register_of}
-use Rattle.model.specs.Bits.{blank_row}
 use Rattle.model.proofs.Lists.{get_set_other, get_within, no_some}
 use Rattle.model.proofs.Memory.{open_state, unused_state, words_in, page_record, words_sized, words_memory}
 use Rattle.laws.specs.AddressHeap.{HeapObject, SideEntry, NoEntry, Planned, Copied, put}
@@ -29,13 +29,14 @@ use Rattle.laws.specs.Edits.{open_page}
 use Rattle.laws.proofs.Basics.{put_same, put_other}
 use Rattle.model.specs.Bits.{bit_at}
 use Rattle.refinement.specs.Worlds.{world_of, object_at, object_in}
-use Rattle.refinement.specs.Claims.{IsLaid, AreRowsOf, Apart, AreApart, Claim, OfObject, OfBuffer, OfPlan, OfEnd}
+use Rattle.refinement.specs.Claims.{IsLaid, Apart, AreApart, Claim, OfObject, OfBuffer, OfPlan, OfEnd}
 use Rattle.refinement.specs.Claims.{Extent, extent, object_size, sized_extent, planned_extent, buffer_extent}
 use Rattle.refinement.specs.Claims.{end_extent, size_at}
 use Rattle.refinement.proofs.ObjectWords.{read_fits}
 use Rattle.refinement.proofs.Objects.{there}
-use Rattle.model.proofs.Tables.{rows_changed}
-use Rattle.refinement.proofs.Changes.{blank_here, blank_other, length_blank}
+use Rattle.model.proofs.Tables.{lengths_set, rows_many}
+use Rattle.page.proofs.RowSizes.{opened_rows}
+use Rattle.refinement.proofs.Changes.{new_here, new_other}
 use Rattle.refinement.proofs.Granted.{page_set, page_here}
 
 mul_less : (a b w : ℕ) → a < b → a * w + w ≤ b * w
@@ -155,10 +156,10 @@ module _ (h : HeapState) (s : IsStore h.store) (k : Each h.threads (FillsIn h.st
 abbrev pub opened_heap : HeapState → ℕ → ℕ → HeapState
 opened_heap h i f = record h {
   store = open_fresh h.store i f;
-  starts = change_at h.starts i blank_row;
-  live = change_at h.live i blank_row;
-  mark = change_at h.mark i blank_row;
-  todo = change_at h.todo i blank_row;
+  starts = set h.starts i (replicate h.store.words false);
+  live = set h.live i (replicate h.store.words false);
+  mark = set h.mark i (replicate h.store.words false);
+  todo = set h.todo i (replicate h.store.words false);
 }
 
 -- the addresses of page i + 1
@@ -210,18 +211,18 @@ module _ {h : HeapState} (s : IsStore h.store) (k : Each h.threads (FillsIn h.st
           no n z = cc
 
   row : (xs : List (List Bool)) → AreRowsOf h.store xs → (r : List Bool) × (slice_get xs i ≡ Some r)
-  row xs r = let within = slice_get_within h.store.pages i p w.at in get_within xs i (omega (arith, within, r.pages))
+  row xs r = let within = slice_get_within h.store.pages i p w.at in get_within xs i (omega (arith, within, rows_many h.store xs r))
 
   page_suc : (n : ℕ) → n ≡ i + 1 → n ≡ suc i
   page_suc n e = omega (arith, e)
 
   blank : (xs : List (List Bool)) → AreRowsOf h.store xs → (a : ℕ) → a / h.store.words ≡ i + 1
-      → bit_at (change_at xs i blank_row) h.store.words a ≡ false
-  blank xs r a e = let (y, is) = row xs r in blank_here h.store.words xs i y a is (page_suc (a / h.store.words) e)
+      → bit_at (set xs i (replicate h.store.words false)) h.store.words a ≡ false
+  blank xs r a e = let (y, is) = row xs r in new_here h.store.words h.store.words xs i y a is (page_suc (a / h.store.words) e)
 
   other_bit : (xs : List (List Bool)) → AreRowsOf h.store xs → (a : ℕ) → a / h.store.words ≢ i + 1
-      → bit_at (change_at xs i blank_row) h.store.words a ≡ bit_at xs h.store.words a
-  other_bit xs r a d = let (y, is) = row xs r in blank_other h.store.words xs i y a is (λ e. d (omega (arith, e)))
+      → bit_at (set xs i (replicate h.store.words false)) h.store.words a ≡ bit_at xs h.store.words a
+  other_bit xs r a d = let (y, is) = row xs r in new_other h.store.words h.store.words xs i y a is (λ e. d (omega (arith, e)))
 
   -- there was no object on the page
   no_object : (a : ℕ) → a / h.store.words ≡ i + 1 → object_at h a ≡ None
@@ -250,11 +251,11 @@ module _ {h : HeapState} (s : IsStore h.store) (k : Each h.threads (FillsIn h.st
   -- a row that has no bit on the page stays
   stays : (xs : List (List Bool))
       → AreRowsOf h.store xs → ((a : ℕ) → a / h.store.words ≡ i + 1 → bit_at xs h.store.words a ≡ false) → (a : ℕ)
-      → bit_at (change_at xs i blank_row) h.store.words a ≡ bit_at xs h.store.words a
+      → bit_at (set xs i (replicate h.store.words false)) h.store.words a ≡ bit_at xs h.store.words a
   stays xs r none a = by_page (cases_eq (a / h.store.words) (i + 1))
     where
       by_page : (a / h.store.words ≡ i + 1) ⊎ (a / h.store.words ≢ i + 1)
-          → bit_at (change_at xs i blank_row) h.store.words a ≡ bit_at xs h.store.words a
+          → bit_at (set xs i (replicate h.store.words false)) h.store.words a ≡ bit_at xs h.store.words a
       by_page (inl e) = blank xs r a e ∙ sym (none a e)
       by_page (inr d) = other_bit xs r a d
 
@@ -375,10 +376,11 @@ module _ {h : HeapState} (s : IsStore h.store) (k : Each h.threads (FillsIn h.st
       ]
       go (inr a) (inr b) = l.apart c d x y (sym a ∙ e) (sym b ∙ g)
 
-  rows : (xs : List (List Bool)) → AreRowsOf h.store xs → AreRowsOf after.store (change_at xs i blank_row)
-  unfolding open_fresh
-  rows xs r = let z = rows_changed (length h.store.pages) h.store.words xs i blank_row r length_blank in
-      record { pages = z.pages ∙ sym (length-set h.store.pages i (fresh_page f)); words = z.words }
+  rows : (xs : List (List Bool)) → AreRowsOf h.store xs
+      → AreRowsOf (open_fresh h.store i f) (set xs i (replicate h.store.words false))
+  rows xs r = lengths_set xs i (replicate h.store.words false)
+      ∙ ap (set (map length xs) i) (length-replicate h.store.words false)
+      ∙ ap (λ ns. set ns i h.store.words) r ∙ sym (opened_rows h.store i f)
 
   -- and memory is in order
   pub opened_laid : IsLaid after
@@ -414,7 +416,7 @@ module _ {h : HeapState} (s : IsStore h.store) (k : Each h.threads (FillsIn h.st
           no z = cc
       by_page a (inr d) g = l.unused a (sym (old_state a d) ∙ g)
 
-      live : (a : ℕ) → bit_at (change_at h.live i blank_row) h.store.words a ≡ true
+      live : (a : ℕ) → bit_at (set h.live i (replicate h.store.words false)) h.store.words a ≡ true
           → has_memory (state_at after.store (a / h.store.words)) ≡ true
           → (q : HeapObject) × (object_at after a ≡ Some q)
       live a e g = go (cases_eq (a / h.store.words) (i + 1))
@@ -426,7 +428,7 @@ module _ {h : HeapState} (s : IsStore h.store) (k : Each h.threads (FillsIn h.st
               l.live_objects a (sym (other_bit h.live l.live a d) ∙ e) (ap has_memory (sym (old_state a d)) ∙ g) in
               (q, opened_objects a ∙ is)
 
-      objects : (a : ℕ) → bit_at (change_at h.starts i blank_row) h.store.words a ≡ true
+      objects : (a : ℕ) → bit_at (set h.starts i (replicate h.store.words false)) h.store.words a ≡ true
           → has_memory (state_at after.store (a / h.store.words)) ≡ true
           → (q : HeapObject) × (object_at after a ≡ Some q)
       objects a e g = go (cases_eq (a / h.store.words) (i + 1))

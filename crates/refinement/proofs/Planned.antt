@@ -20,6 +20,7 @@ use Rattle.model.proofs.Plans.{IsIn, places_length, places_behind, places_apart,
 use Rattle.model.proofs.Plans.{in_mapped, mapped_in, at_in, offset_told, objects_in, in_objects, placed}
 use Rattle.laws.specs.AddressHeap.{HeapObject}
 use Rattle.refinement.specs.Worlds.{object_at}
+use Rattle.model.proofs.Tables.{row_short}
 use Rattle.refinement.specs.Claims.{IsLaid, Extent, AreApart, object_size, sized_extent}
 use Rattle.refinement.proofs.ObjectWords.{read_fits, read_size}
 use Rattle.refinement.proofs.Objects.{there}
@@ -56,7 +57,7 @@ module _ (h : HeapState) (l : IsLaid h) where
           none [] e y = cc
           none (b ∷ bits) e y = cc
       by_row (Some row) z =
-          let long : length row ≡ h.store.words = l.live.words i row z in
+          let long : length row ≤ h.store.words = row_short h.store h.live i row l.live z in
           omega (
             arith,
             long,

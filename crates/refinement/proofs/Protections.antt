@@ -22,9 +22,9 @@ use Rattle.model.specs.declared.steps.Refusal.TheVariants as refusals
 use Rattle.model.specs.Phases.{is_idle}
 use Rattle.model.specs.Refusing.{refuse_if}
 use Rattle.model.specs.Cycles.{is_lent}
-use Rattle.model.specs.Stores.{state_at, state_in, has_memory, is_open, is_protected}
+use Rattle.model.specs.Stores.{state_at, state_in, has_memory, is_open, is_protected, is_unused}
 use Rattle.model.specs.Owning.{Each, IsStore}
-use Rattle.model.specs.Holding.{IsHeap, AreRising}
+use Rattle.model.specs.Holding.{IsHeap, AreRising, AreRowsOf}
 use Rattle.model.specs.States.{HeapState, ThreadState}
 use Rattle.model.specs.Threads.{register_in, buffer_in, has_crossed, is_parked_in, set_crossed_of}
 use Rattle.model.specs.Registers.{register_of}
@@ -39,7 +39,10 @@ use Rattle.laws.specs.AddressHeap.{HeapObject, NoEntry, Planned, Copied}
 use Rattle.laws.specs.Edits.{protect_pages}
 use Rattle.laws.specs.Transitions.{MayProtect, Protect}
 use Rattle.refinement.specs.Worlds.{world_of, object_at, as_word, barrier_in}
-use Rattle.refinement.specs.Claims.{IsLaid, AreRowsOf, Apart, AreApart, Claim, OfObject, OfBuffer, OfPlan, OfEnd}
+use Rattle.model.proofs.Tables.{row_short}
+use Rattle.page.proofs.Relocated.{used_there}
+use Rattle.page.proofs.RowSizes.{protected_rows}
+use Rattle.refinement.specs.Claims.{IsLaid, Apart, AreApart, Claim, OfObject, OfBuffer, OfPlan, OfEnd}
 use Rattle.refinement.specs.Claims.{Extent, extent, object_size, sized_extent, planned_extent, buffer_extent}
 use Rattle.refinement.specs.Claims.{end_extent}
 use Rattle.refinement.specs.Claims.{size_at, HasGiven}
@@ -301,7 +304,14 @@ module _ (h g : HeapState) (p p0 : PlainHeap) (ts pages : List ℕ) (d : IsHeap 
 
   rows : (xs : List (List Bool)) → AreRowsOf g.store xs → AreRowsOf after.store xs
   unfolding with_protected
-  rows xs r = record { pages = r.pages ∙ sym (pages_many pages g.store.pages); words = r.words }
+  rows xs r = r ∙ sym (protected_rows g.store.words pages g.store.pages
+      (λ i n e. ap is_unused (used_there g.store n Closed (still n (at_in n pages i e)) closed_unused).1))
+    where
+      still : (n : ℕ) → IsIn n pages → state_at g.store n ≡ Closed
+      still n there = elim (m.targets.old n) [
+        | inl new ↦ absurd (closed_unused (sym (m.closed n there) ∙ (m.targets.new n new).0))
+        | inr same ↦ same ∙ m.closed n there
+      ]
 
   memory : (a : ℕ) → has_memory ((world_of after).page_state a) ≡ has_memory ((world_of g).page_state a)
   unfolding state_at with_protected
@@ -326,7 +336,7 @@ module _ (h g : HeapState) (p p0 : PlainHeap) (ts pages : List ℕ) (d : IsHeap 
       long : (o : Option (List Bool)) → slice_get h.live i ≡ o → 0 + length (of_page h.live (suc i)) ≤ h.store.words
       long None z = omega (arith, ap length (list_read h.live i ∙ ap list_of z))
       long (Some row) z =
-          omega (arith, ap length (list_read h.live i ∙ ap list_of z), laid.live.words i row z)
+          omega (arith, ap length (list_read h.live i ∙ ap list_of z), row_short h.store h.live i row laid.live z)
 
       by_old : (o : Option (List Forwarding)) → slice_get g.sides i ≡ o → fs ≡ list_of (slice_get g.sides i)
           → AreRising g.store.words 0 fs

@@ -16,7 +16,9 @@ use Rattle.model.proofs.Lists.{each_set}
 use Rattle.laws.specs.AddressHeap.{put}
 use Rattle.laws.proofs.Basics.{put_same, put_other}
 use Rattle.refinement.specs.Worlds.{world_of, object_at, object_in}
-use Rattle.refinement.specs.Claims.{IsLaid, AreRowsOf, Claim, OfObject, OfBuffer, OfPlan, OfEnd, Extent, extent}
+use Rattle.model.specs.Holding.{AreRowsOf}
+use Rattle.page.proofs.RowSizes.{alike_rows}
+use Rattle.refinement.specs.Claims.{IsLaid, Claim, OfObject, OfBuffer, OfPlan, OfEnd, Extent, extent}
 use Rattle.refinement.specs.Claims.{object_size, sized_extent, planned_extent, end_extent, size_at, HasGiven}
 use Rattle.refinement.proofs.Claims.{Within, shrunk_apart}
 use Rattle.refinement.proofs.Carrying.{Carries, alike}
@@ -98,7 +100,7 @@ module _ (h : HeapState) (i : ℕ) (p : Page) (n : ℕ) (at : slice_get h.store.
   ]
 
   rows : (xs : List (List Bool)) → AreRowsOf h.store xs → AreRowsOf after.store xs
-  rows xs r = record { pages = r.pages ∙ sym (length-set h.store.pages i (with_more p n)); words = r.words }
+  rows xs r = r ∙ sym (alike_rows h.store _ i p (with_more p n) at refl refl)
 
   raised_laid : IsLaid h → IsLaid after
   raised_laid l = record {

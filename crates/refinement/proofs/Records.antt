@@ -11,7 +11,8 @@ use Rattle.model.specs.States.{HeapState, ThreadState}
 use Rattle.model.specs.Threads.{buffer_in}
 use Rattle.laws.specs.AddressHeap.{AddressHeap}
 use Rattle.refinement.specs.Worlds.{world_of}
-use Rattle.refinement.specs.Claims.{IsLaid, AreRowsOf, Claim, OfObject, OfBuffer, OfPlan, OfEnd, extent, buffer_extent}
+use Rattle.model.specs.Holding.{AreRowsOf}
+use Rattle.refinement.specs.Claims.{IsLaid, Claim, OfObject, OfBuffer, OfPlan, OfEnd, extent, buffer_extent}
 use Rattle.refinement.specs.Roots.{HasWords}
 use Rattle.refinement.proofs.Claims.{extents_same}
 use Rattle.refinement.proofs.Carrying.{Carries, alike}

@@ -28,6 +28,7 @@ use Rattle.model.specs.Emptying.{crossed_if_protecting, release_outcome}
 use Rattle.model.proofs.Memory.{page_there, words_in, own_frame}
 use Rattle.model.proofs.Lists.{each_set, get_set_other}
 use Rattle.page.proofs.Protecting.{released_sized}
+use Rattle.page.proofs.RowSizes.{released_rows}
 use Rattle.model.proofs.Tables.{length_changed}
 use Rattle.laws.specs.AddressHeap.{HeapObject, SideEntry, NoEntry, Planned, Copied, put}
 use Rattle.laws.specs.Edits.{release_page}
@@ -35,7 +36,8 @@ use Rattle.laws.specs.Transitions.{MayRelease, Release}
 use Rattle.laws.proofs.Basics.{put_same, put_other}
 use Rattle.refinement.specs.Worlds.{world_of, object_at, object_in}
 use Rattle.refinement.specs.Worlds as worlds
-use Rattle.refinement.specs.Claims.{IsLaid, AreRowsOf, Claim, OfObject, OfBuffer, OfPlan, OfEnd, Extent, extent}
+use Rattle.model.specs.Holding.{AreRowsOf}
+use Rattle.refinement.specs.Claims.{IsLaid, Claim, OfObject, OfBuffer, OfPlan, OfEnd, Extent, extent}
 use Rattle.refinement.specs.Claims.{object_size, sized_extent, planned_extent, end_extent, HasGiven}
 use Rattle.refinement.specs.Standing.{Holds}
 use Rattle.refinement.proofs.Accepted.{on_has, on_unless}
@@ -92,6 +94,10 @@ module _ {h : HeapState} {p p0 : PlainHeap} (s : IsStore h.store) (k : Holds h p
   pages m = page_set h.store (with_released h.store n) (n - 1) e.page (set_gone_of e.page) e.at
       (ap (λ o. change_found h.store.pages (n - 1) o set_gone_of) e.at) m
       ∙ ap (λ j. put (page_at h.store) j (Some (set_gone_of e.page)) m) e.number
+
+  from_there : state_at h.store n ≡ From
+  unfolding state_at
+  from_there = ap state_in e.was ∙ e.from
 
   state_here : state_at (with_released h.store n) n ≡ Gone
   unfolding state_at
@@ -235,7 +241,7 @@ module _ {h : HeapState} {p p0 : PlainHeap} (s : IsStore h.store) (k : Holds h p
       no z = cc
 
       rows : (xs : List (List Bool)) → AreRowsOf h.store xs → AreRowsOf (with_released h.store n) xs
-      rows xs r = record { pages = r.pages ∙ sym many; words = r.words }
+      rows xs r = r ∙ sym (released_rows h.store n from_there)
 
       memory : (a : ℕ) → a / h.store.words ≢ n
           → has_memory (state_at (with_released h.store n) (a / h.store.words)) ≡ true

@@ -47,7 +47,7 @@ target_heap h i f = raised (opened_heap h i f) i (fresh_page f) h.store.words
 -- it is what the store gave out
 as_target : (h : HeapState) (i f : ℕ) (p : Page) → slice_get h.store.pages i ≡ Some p
     → with_target h (give_words (open_fresh h.store i f) i h.store.words) ≡ target_heap h i f
-unfolding with_target
+unfolding with_target open_fresh
 as_target h i f p at = ap (with_target h)
     (given_at (open_fresh h.store i f) i h.store.words (fresh_page f) (opened_at h.store i f p at)) ∙ whole
   where
@@ -58,10 +58,10 @@ as_target h i f p at = ap (with_target h)
       buffer_of i 0 h.store.words,
     ) ≡ target_heap h i f
     whole = λ z. record (target_heap h i f) {
-      starts = blank_rows i h.store.words h.starts z;
-      live = blank_rows i h.store.words h.live z;
-      mark = blank_rows i h.store.words h.mark z;
-      todo = blank_rows i h.store.words h.todo z;
+      starts = blank_rows h.store.words i h.store.words h.starts z;
+      live = blank_rows h.store.words i h.store.words h.live z;
+      mark = blank_rows h.store.words i h.store.words h.mark z;
+      todo = blank_rows h.store.words i h.store.words h.todo z;
     }
 
 -- g is h with pages ts opened as targets, which were unused: all claims of g were there before, or are the ends of

@@ -151,10 +151,10 @@ module _ (h : HeapState) (s : IsStore h.store) (l : IsLaid h) (a : ℕ) (q : Hea
     written_laid : IsLaid after
     unfolding with_word with_words state_at page_at
     written_laid = record {
-      starts = record { pages = l.starts.pages; words = l.starts.words };
-      live = record { pages = l.live.pages; words = l.live.words };
-      mark = record { pages = l.mark.pages; words = l.mark.words };
-      todo = record { pages = l.todo.pages; words = l.todo.words };
+      starts = l.starts;
+      live = l.live;
+      mark = l.mark;
+      todo = l.todo;
       sides = record { pages = l.sides.pages; rising = l.sides.rising };
       registers = l.registers;
       objects = objects;

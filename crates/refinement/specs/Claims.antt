@@ -1,6 +1,6 @@
 -- What lies where in memory: the runs of addresses that objects, buffers, planned places and the free ends of open
 -- pages have, of which no two overlap.
-use Rattle.std.specs.Prelude.{◌≡◌, ◌⊎◌, ◌<◌, ◌≤◌, ◌+◌, ◌*◌, ◌%◌, ℕ, Bool, true, false, List, length, Option, Some}
+use Rattle.std.specs.Prelude.{◌≡◌, ◌⊎◌, ◌<◌, ◌≤◌, ◌+◌, ◌*◌, ◌%◌, ℕ, true, false, List, length, Option, Some}
 use Rattle.std.specs.Prelude.{None, option_map, if◌then◌else◌}
 use Rattle.model.specs.declared.records.Forwarding.{Forwarding}
 use Rattle.model.specs.declared.records.Page.{Page}
@@ -8,7 +8,7 @@ use Rattle.model.specs.declared.records.PageState.TheVariants.{Unused}
 use Rattle.model.specs.declared.records.Buffer.{Buffer}
 use Rattle.model.specs.Stores.{StoreState, page_at, is_open, has_memory}
 use Rattle.model.specs.Owning.{Each}
-use Rattle.model.specs.Holding.{AreRows, AreSides}
+use Rattle.model.specs.Holding.{AreRowsOf, AreSides}
 use Rattle.model.specs.States.{HeapState}
 use Rattle.model.specs.Buffers.{buffer_of_thread}
 use Rattle.laws.specs.AddressHeap.{HeapObject, SideEntry, Planned}
@@ -68,10 +68,6 @@ AreApart x y = (x.upto ≤ y.from) ⊎ (y.upto ≤ x.from)
 -- no two claims overlap
 abbrev pub Apart : (Claim → Option Extent) → Type 0
 Apart e = (c d : Claim) (x y : Extent) → e c ≡ Some x → e d ≡ Some y → (c ≡ d) ⊎ AreApart x y
-
--- each page of a store has a row
-abbrev pub AreRowsOf : StoreState → List (List Bool) → Type 0
-AreRowsOf s rows = AreRows (length s.pages) s.words rows
 
 -- each page of a store has a side array
 abbrev pub AreSidesOf : StoreState → List (List Forwarding) → Type 0
