@@ -24,6 +24,7 @@ use Rattle.model.specs.Bits.{bit_on, bit_at}
 use Rattle.model.specs.Checkpoints.{all_crossed}
 use Rattle.model.specs.Emptying.{heap_after}
 use Rattle.model.specs.Holding.{IsHeap}
+use Rattle.model.proofs.Tables.{rows_many}
 use Rattle.model.specs.Outcome.{outcome, worker_gate, no_page}
 use Rattle.model.specs.Owning.{IsStore}
 use Rattle.model.specs.Refusing.{◌>>=◌, or_refuse, Outcome}
@@ -130,13 +131,17 @@ bit_there rows (suc i) o e = (omega arith, by_place (cases_lt i (length rows)))
 few : (frames count : ℕ) → record_count frames count ≤ count
 few frames count = grind (arith, nat_tests)
 
-page_there : (h : HeapState) (n o : ℕ) → IsHeap h → bit_on h.todo n o ≡ true
+page_there : (h : HeapState) (n o : ℕ) → IsStore h.store → IsHeap h → bit_on h.todo n o ≡ true
     → (nat_eq n 0 || nat_lt h.store.count n) ≡ false
-page_there h n o i e =
+page_there h n o s i e =
     let (low, high) = bit_there h.todo n o e in
-    let many : length h.todo ≡ record_count h.config.frames h.config.pages = i.todo.pages in
-    by_bounds n h.store.count low
-    (omega (arith, high, many, few h.config.frames h.config.pages, i.sizes.pages))
+    by_bounds n h.store.count low (omega (
+      arith,
+      high,
+      rows_many h.store h.todo i.todo,
+      s.sized.pages,
+      few (length h.store.frames) h.store.count,
+    ))
   where
     by_bounds : (n m : ℕ) → 0 < n → n ≤ m → (nat_eq n 0 || nat_lt m n) ≡ false
     by_bounds n m a b = grind (arith, nat_tests)
@@ -195,7 +200,7 @@ pick_is h w a i m free =
     (gate_is (nat_le (length h.workers) w)
     (nat_eq (a / h.store.words) 0 || nat_lt h.store.count (a / h.store.words))
     (lt-not-le w (length h.workers) (slice_get_within h.workers w None m.worker))
-    (page_there h (a / h.store.words) (a % h.store.words) i bit))
+    (page_there h (a / h.store.words) (a % h.store.words) m.store i bit))
     m.scan
     (both_true _ _ (lt-is (a % h.store.words) h.store.words (mod-lt a m.store.sized.words_low)) bit)
     (neither _ _ (ap (λ o. is_some (flat o)) m.worker) (ap (is_taken h) back ∙ not_is (is_taken h a) apart))

@@ -18,6 +18,7 @@ use Rattle.model.specs.Holding.{IsHeap}
 use Rattle.heap.proofs.Keeping.{store_keeps}
 use Rattle.heap.proofs.Marking.{marks_keep, bit_keeps, bit_kept}
 use Rattle.page.proofs.Lying.{word_sized_alike, word_lies, word_unprotected}
+use Rattle.page.proofs.RowSizes.{word_rows}
 use Rattle.model.specs.Checkpoints.{all_crossed}
 use Rattle.model.specs.Data.{layout_at, layout_in, header_layout}
 use Rattle.model.specs.Emptying.{heap_after}
@@ -109,14 +110,15 @@ pub mark_heap : (h : HeapState) (v : Reference) → IsHeap h → IsHeap (with_ma
 unfolding with_mark
 mark_heap h None i = marks_keep h h.live h.mark h.todo i i.live i.mark i.todo
 mark_heap h (Some x) i = marks_keep h h.live _ _ i i.live
-    (bit_keeps h.config h.mark _ h.store.words (resolve h x.0) true i.mark refl)
-    (bit_kept h.config h.todo _ h.store.words (resolve h x.0) true (bit_at h.mark h.store.words (resolve h x.0)) i.todo
+    (bit_keeps h.store h.mark _ h.store.words (resolve h x.0) true i.mark refl)
+    (bit_kept h.store h.todo _ h.store.words (resolve h x.0) true (bit_at h.mark h.store.words (resolve h x.0)) i.todo
     refl)
 
 marked_heap : (h : HeapState) (place : ℕ) → IsHeap h → IsHeap (marked_field h place)
 unfolding marked_field with_marked_place with_mark
 marked_heap h place i = store_keeps (with_mark h v) (with_word h.store place bits) (mark_heap h v i)
-    (word_sized_alike h.store place bits) (λ b. word_lies h.store place bits b) (word_unprotected h.store place bits)
+    (word_sized_alike h.store place bits) (word_rows h.store place bits) (λ b. word_lies h.store place bits b)
+    (word_unprotected h.store place bits)
   where
     v : Reference
     v = reference_in (word_at h.store place)

@@ -13,17 +13,18 @@ use Rattle.std.proofs.lemmas.Option.{slice_get-get_or, slice_get_within, same_So
 use Rattle.refword.specs.Words.{bits_of, address_in, IsAddress}
 use Rattle.heap.specs.Marking.{bit_in, noted, marked_at, MarksFirst, MarksApart}
 use Rattle.heap.proofs.Marking.{marks_keep, bit_keeps}
-use Rattle.model.specs.declared.config.Config.{Config}
 use Rattle.model.specs.declared.records.Scan.{Scan}
 use Rattle.model.specs.Bits.{of_page, bit_at, with_bit}
 use Rattle.model.specs.Data.{layout_at}
-use Rattle.model.specs.Holding.{IsHeap, AreRows, AreRowsFor}
+use Rattle.model.specs.Holding.{IsHeap, AreRowsOf}
 use Rattle.model.specs.Marks.{with_mark, marked_word, resolve, entry_at}
 use Rattle.model.specs.Owning.{IsStore}
 use Rattle.model.specs.References.{field_address}
 use Rattle.model.specs.Scans.{is_scan_of, is_taken, is_free_todo, next_todo, with_marked_place, reference_in}
 use Rattle.model.specs.States.{Reference, HeapState}
-use Rattle.model.specs.Stores.{word_at, with_word, with_words}
+use Rattle.model.specs.Stores.{StoreState, word_at, with_word, with_words}
+use Rattle.model.proofs.Lists.{get_within}
+use Rattle.model.proofs.Tables.{rows_many, row_at}
 use Rattle.drains.specs.Drains.{marked_field, marked_fields, without_todo, refs_at, scanned, IsReady, ObjectsDone}
 use Rattle.drains.specs.Waiting.{noting, all_noted, AreWaiting, WaitBeside, Waits, IsAlone, IsNextObject, IsNext}
 use Rattle.drains.proofs.Bits.{bit_again, noting_two, page_there, noting_apart, bit_here, bit_read}
@@ -167,16 +168,19 @@ scan_leaves g k a ys zs e =
 
 -- ---- what is picked
 
--- rows of one size have the same bits
-bit_there : (count size w a : ℕ) (mark todo : List (List Bool)) (b : Bool) → AreRows count size mark
-    → AreRows count size todo → bit_in mark w a ≡ Some b → (c : Bool) × (bit_in todo w a ≡ Some c)
-bit_there count size w a mark todo b m t e = by_page (a / w) e
+-- rows of the same pages have the same bits
+bit_there : (s : StoreState) (w a : ℕ) (mark todo : List (List Bool)) (b : Bool) → AreRowsOf s mark
+    → AreRowsOf s todo → bit_in mark w a ≡ Some b → (c : Bool) × (bit_in todo w a ≡ Some c)
+bit_there s w a mark todo b m t e = by_page (a / w) e
   where
     by_row : (n : ℕ) (row : List Bool) → slice_get mark n ≡ Some row → slice_get row (a % w) ≡ Some b
         → (other : List Bool) → slice_get todo n ≡ Some other → (c : Bool) × (slice_get other (a % w) ≡ Some c)
     by_row n row p f other q =
         let low : a % w < length row = slice_get_within row (a % w) b f in
-        let here : a % w < length other = omega (arith, low, m.words n row p, t.words n other q) in
+        let there = slice_get_within mark n row p in
+        let (page, at) = get_within s.pages n (omega (arith, there, rows_many s mark m)) in
+        let here : a % w < length other =
+        omega (arith, low, row_at s mark n page row m at p, row_at s todo n page other t at q) in
         (get_or other (a % w) false, slice_get-get_or other (a % w) false here)
 
     read : (rows : List (List Bool)) (n : ℕ) → n < length rows → slice_get rows n ≡ Some (get_or rows n [])
@@ -192,14 +196,14 @@ bit_there count size w a mark todo b m t e = by_page (a / w) e
     by_page zero f = absurd (cc)
     by_page (suc n) f =
         let low : n < length mark = within mark n (a % w) b f in
-        let there : n < length todo = omega (arith, low, m.pages, t.pages) in
+        let there : n < length todo = omega (arith, low, rows_many s mark m, rows_many s todo t) in
         by_row n (get_or mark n []) (read mark n low) f (get_or todo n []) (read todo n there)
 
-noting_rows : (c : Config) (rows : List (List Bool)) (w : ℕ) (xs : List ℕ) → AreRowsFor c rows
-    → AreRowsFor c (noting rows w xs)
-noting_rows c rows w [] r = r
-noting_rows c rows w (a ∷ xs) r =
-    bit_keeps c (noting rows w xs) (noting rows w (a ∷ xs)) w a true (noting_rows c rows w xs r) refl
+noting_rows : (s : StoreState) (rows : List (List Bool)) (w : ℕ) (xs : List ℕ) → AreRowsOf s rows
+    → AreRowsOf s (noting rows w xs)
+noting_rows s rows w [] r = r
+noting_rows s rows w (a ∷ xs) r =
+    bit_keeps s (noting rows w xs) (noting rows w (a ∷ xs)) w a true (noting_rows s rows w xs r) refl
 
 pub noted_store : (h : HeapState) (xs : List ℕ) → IsStore h.store → IsStore (all_noted h xs).store
 unfolding all_noted
@@ -208,7 +212,7 @@ noted_store h xs s = s
 pub noted_heap : (h : HeapState) (xs : List ℕ) → IsHeap h → IsHeap (all_noted h xs)
 unfolding all_noted
 noted_heap h xs i = marks_keep h h.live h.mark (noting h.todo h.store.words xs) i i.live i.mark
-    (noting_rows h.config h.todo h.store.words xs i.todo)
+    (noting_rows h.store h.todo h.store.words xs i.todo)
 
 not_false : (b : Bool) → b ≡ false → not b ≡ true
 not_false false e = refl
@@ -224,8 +228,8 @@ pub first_free : (h : HeapState) (a : ℕ) (xs : List ℕ) → IsHeap h → AreW
     → is_taken h a ≡ false → is_free_todo (all_noted h (a ∷ xs)) a ≡ true
 unfolding is_free_todo is_taken all_noted
 first_free h a xs i wait free =
-    let rows = noting_rows h.config h.todo h.store.words xs i.todo in
-    let (b, there) = bit_there _ _ h.store.words a h.mark (noting h.todo h.store.words xs) true i.mark rows wait.1 in
+    let rows = noting_rows h.store h.todo h.store.words xs i.todo in
+    let (b, there) = bit_there h.store h.store.words a h.mark (noting h.todo h.store.words xs) true i.mark rows wait.1 in
     both _ _
     (bit_read (noting h.todo h.store.words (a ∷ xs)) h.store.words a true
     (bit_here (noting h.todo h.store.words xs) h.store.words a b there))

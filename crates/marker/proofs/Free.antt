@@ -12,6 +12,8 @@ use Rattle.model.specs.declared.limits.TheConstants.{MOST_PAGES}
 use Rattle.model.specs.Stores.{record_count}
 use Rattle.model.specs.Owning.{IsStore}
 use Rattle.model.specs.Holding.{IsHeap}
+use Rattle.model.proofs.Tables.{row_short}
+use Rattle.model.proofs.Tables as tables
 use Rattle.model.proofs.Lists.{get_within, none_counted}
 use Rattle.std.proofs.lemmas.Nat.{div-mul-add}
 use Rattle.std.proofs.lemmas.Bool.Decides.{nat_tests}
@@ -76,7 +78,7 @@ none_more h page before here x low high = by_place (cases_lt x (page * h.store.w
         ap (is_free_todo h) (sym back) ∙ free_on_page h page o within ∙ here o
 
 pub next_is : (h : HeapState) (page k : ℕ) → 0 < page → page ≤ length h.todo
-    → length (of_page h.todo page) ≡ h.store.words → NoneBefore h page
+    → length (of_page h.todo page) ≤ h.store.words → NoneBefore h page
     → IsFirstFree h (of_page h.todo page) page k → Some (page * h.store.words + k) ≡ next_todo h
 unfolding next_todo
 next_is h page k low high size before first =
@@ -84,7 +86,7 @@ next_is h page k low high size before first =
     (omega (arith, from)) (omega (arith, to, k_low)) (free_on_page h page k k_low ∙ first.here) earlier)
   where
     k_low : k < h.store.words
-    k_low = rw (← size) first.within
+    k_low = omega (arith, size, first.within)
 
     from : 1 * h.store.words ≤ page * h.store.words
     from = mul-le-mul_right h.store.words low
@@ -174,17 +176,19 @@ none_skipped h from (suc n) to e before blank =
     (none_more h (from + 1) before (λ j. none_on_blank h from j (blank from (omega arith) (omega (arith, e)))))
     (λ i low high. blank i (omega (arith, low)) high)
 
--- there is a row for each record, of a bit for each word
+-- there is a row for each record, of no more bits than a page has words
 pub rows_many : (h : HeapState) → IsStore h.store → IsHeap h → length h.todo ≡ length h.store.pages
-rows_many h s i = i.todo.pages ∙ ap (λ n. record_count n h.config.pages) (sym i.sizes.frames)
-    ∙ ap (record_count (length h.store.frames)) (sym i.sizes.pages) ∙ sym s.sized.pages
+rows_many h s i = tables.rows_many h.store h.todo i.todo
 
 pub row_size : (h : HeapState) (page : ℕ) → IsHeap h → 0 < page → page ≤ length h.todo
-    → length (of_page h.todo page) ≡ h.store.words
+    → length (of_page h.todo page) ≤ h.store.words
 row_size h page i low high =
     let found = get_within h.todo (page - 1) (omega (arith, low, high)) in
-    ap length (row_is h.todo page (Some found.0) (λ e. absurd (omega (arith, e, low))) found.1)
-    ∙ i.todo.words (page - 1) found.0 found.1 ∙ sym i.sizes.words
+    omega (
+      arith,
+      ap length (row_is h.todo page (Some found.0) (λ e. absurd (omega (arith, e, low))) found.1),
+      row_short h.store h.todo (page - 1) found.0 i.todo found.1,
+    )
 
 -- the next row that has a bit
 
@@ -221,17 +225,18 @@ found_on h from i k d before busy first =
     )
 
 -- its page may have a number
-pub on_page : (h : HeapState) (from i k a : ℕ) → IsHeap h → IsFirstFrom (map has_bits h.todo) from i
+pub on_page : (h : HeapState) (from i k a : ℕ) → IsStore h.store → IsHeap h
+    → IsFirstFrom (map has_bits h.todo) from i
     → k < h.store.words → a ≡ (i + 1) * h.store.words + k → a / h.store.words ≤ MOST_PAGES
-on_page h from i k a d busy within is =
+on_page h from i k a s d busy within is =
     let e : a / h.store.words ≡ i + 1 = ap (λ n. n / h.store.words) is ∙ div-mul-add (i + 1) h.store.words k within in
     omega (
       arith,
       e,
       busy_there h.todo i busy.here,
-      d.todo.pages,
-      few h.config.frames h.config.pages
-          d.config.pages_high,
+      rows_many h s d,
+      s.sized.pages,
+      few (length h.store.frames) h.store.count s.sized.count,
     )
   where
     few : (frames count : ℕ) → count ≤ MOST_PAGES → record_count frames count ≤ MOST_PAGES

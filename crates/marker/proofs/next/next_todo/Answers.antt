@@ -23,8 +23,8 @@ returns-in-Some-next_on-clause-page c =
     let within = (found_on h c.loop-index.from c.in-Some.index c.in-Some-next_on.place c.law.ensures.heap
     c.loop-index.invariant busy
     (subst (IsNextFree h (of_page h.todo page) page) c.in-Some-next_on.is c.next_on.ensures)).0 in
-    on_page h c.loop-index.from c.in-Some.index c.in-Some-next_on.place c.address_on.result c.law.ensures.heap
-    busy within c.address_on.ensures
+    on_page h c.loop-index.from c.in-Some.index c.in-Some-next_on.place c.address_on.result c.law.ensures.store
+    c.law.ensures.heap busy within c.address_on.ensures
 
 pub returns-in-Some-next_on-clause-first : goal.returns-in-Some-next_on-clause-first
 returns-in-Some-next_on-clause-first c =
