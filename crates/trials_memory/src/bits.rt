@@ -1,5 +1,6 @@
 //! Rows of bits beside plain flags, one `bool` a place.
 
+use crate::rows::clear_rows;
 use crate::same::{same, same_at};
 use markbits::{Row, Rows};
 use samples::scatter;
@@ -115,15 +116,15 @@ fn change_tables(rt: &impl Abort, rows: &mut Rows, other: &mut Rows) {
 
 #[test]
 fn tables_of_rows(rt: HostRuntime) -> Result<(), AllocError> {
-    let mut rows = Rows::new(rt.alloc(), 3, 100)?;
-    let mut other = Rows::new(rt.alloc(), 3, 100)?;
+    let mut rows = clear_rows(rt.alloc(), 3, 100)?;
+    let mut other = clear_rows(rt.alloc(), 3, 100)?;
     change_tables(&rt, &mut rows, &mut other);
     Ok(())
 }
 
 #[test]
 fn a_row_is_lent(rt: HostRuntime) -> Result<(), AllocError> {
-    let mut rows = Rows::new(rt.alloc(), 3, 100)?;
+    let mut rows = clear_rows(rt.alloc(), 3, 100)?;
     rows.row_mut(2).put(7, true);
     same(&rt, firsts(&rows), [None, None, Some(7)]);
     Ok(())

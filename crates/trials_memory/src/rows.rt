@@ -3,6 +3,7 @@
 use crate::same::{same, same_at};
 use markbits::{IndexedRow, IndexedRows, Row, Rows};
 use page::many;
+use std::alloc::{AllocError, Global};
 use std::process::Abort;
 use std::test::Fail;
 
@@ -25,15 +26,49 @@ fn has_counts(rt: &impl Abort, rows: &Rows, counts: &[usize]) {
     assert!(rt; rows.get(counts.len()).is_none());
 }
 
+/// So many rows of so many bits, all clear.
+pub(crate) fn clear_rows(alloc: Global, count: u32, words: u32) -> Result<Rows, AllocError> {
+    let mut rows = Rows::new(alloc, count)?;
+    for index in 0..count {
+        rows.place(index as usize, Row::new(alloc, words)?);
+    }
+    Ok(rows)
+}
+
+/// The same with an index.
+fn clear_indexed_rows(alloc: Global, count: u32, words: u32) -> Result<IndexedRows, AllocError> {
+    let mut rows = IndexedRows::new(alloc, count)?;
+    for index in 0..count {
+        rows.place(index as usize, Row::new(alloc, words)?);
+    }
+    Ok(rows)
+}
+
+#[test]
+fn rows_that_are_empty_first(rt: HostRuntime) -> Result<(), Fail> {
+    let mut rows = Rows::new(rt.alloc(), 2)?;
+    rows.put(0, 0, true);
+    has_counts(&rt, &rows, &[0, 0]);
+    rows.place(1, Row::new(rt.alloc(), 16)?);
+    rows.place(2, Row::new(rt.alloc(), 16)?);
+    rows.put(1, 15, true);
+    has_counts(&rt, &rows, &[0, 1]);
+    rows.give_up(1);
+    rows.give_up(2);
+    rows.put(1, 15, true);
+    has_counts(&rt, &rows, &[0, 0]);
+    Ok(())
+}
+
 #[test]
 fn rows_of_clear_bits(rt: HostRuntime) -> Result<(), Fail> {
-    let mut rows = Rows::new(rt.alloc(), 3, 16)?;
+    let mut rows = clear_rows(rt.alloc(), 3, 16)?;
     has_counts(&rt, &rows, &[0, 0, 0]);
     for (index, offset) in [(0, 0), (1, 0), (1, 15), (1, 16), (2, 20), (3, 0)] {
         rows.put(index, offset, true);
     }
     has_counts(&rt, &rows, &[1, 2, 0]);
-    rows.clear(1);
+    rows.give_up(1);
     has_counts(&rt, &rows, &[1, 0, 0]);
     Ok(())
 }
@@ -62,7 +97,7 @@ fn changes_rows(rt: &impl Abort, rows: &mut IndexedRows) {
     }
     has_indexed_counts(rt, rows, &[1, 0, 1]);
     finds_busy_rows(rt, rows, &[Some(0), Some(2), Some(2), None]);
-    rows.clear(2);
+    rows.give_up(2);
     finds_busy_rows(rt, rows, &[Some(0), None, None, None]);
     rows.put(0, 0, false);
     assert!(rt; rows.is_empty());
@@ -98,7 +133,7 @@ fn a_long_row_with_an_index(rt: HostRuntime) -> Result<(), Fail> {
 
 #[test]
 fn rows_with_an_index(rt: HostRuntime) -> Result<(), Fail> {
-    let mut rows = IndexedRows::new(rt.alloc(), 3, 16)?;
+    let mut rows = clear_indexed_rows(rt.alloc(), 3, 16)?;
     changes_rows(&rt, &mut rows);
     Ok(())
 }
@@ -142,7 +177,7 @@ fn loses_rows(rt: &impl Abort, rows: &mut IndexedRows) {
     same(rt, rows.next_busy(8_192), None);
     same(rt, rows.next_busy(usize::MAX), None);
     for index in [0, 1, 63, 64, 4_096] {
-        rows.clear(index);
+        rows.give_up(index);
     }
     same(rt, rows.next_busy(0), Some(127));
     same(rt, rows.next_busy(4_096), Some(4_159));
@@ -150,7 +185,7 @@ fn loses_rows(rt: &impl Abort, rows: &mut IndexedRows) {
 
 #[test]
 fn busy_rows_of_a_large_table(rt: HostRuntime) -> Result<(), Fail> {
-    let mut rows = IndexedRows::new(rt.alloc(), 8_192, 16)?;
+    let mut rows = clear_indexed_rows(rt.alloc(), 8_192, 16)?;
     let busy = [0, 1, 63, 64, 127, 128, 4_095, 4_096, 4_159, 8_191];
     finds_rows(&rt, &mut rows, &busy);
     loses_rows(&rt, &mut rows);
