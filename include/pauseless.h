@@ -157,9 +157,9 @@ typedef struct pauseless_counts {
  * globals, and as many births as there may be. */
 void pauseless_usual(uint32_t words, uint32_t frames, pauseless_sizes *sizes);
 
-/* Makes a heap with layouts numbered from 0: 1 to 256 of them. All its memory is asked for here, by malloc: the frames,
- * and some bits for each word of each page number. RANGE_OF_.. for the first size that is out of its range, HAS_HEAP,
- * MEMORY. */
+/* Makes a heap with layouts numbered from 0: 1 to 256 of them. All that it needs besides pages is asked for here, by
+ * malloc, of which some bits for each word of each page number are most; the memory of a page is asked for when it is
+ * first used. RANGE_OF_.. for the first size that is out of its range, HAS_HEAP, MEMORY. */
 pauseless_code pauseless_new(pauseless_heap *heap, const pauseless_sizes *sizes, const pauseless_layout *layouts,
                              size_t count);
 
@@ -171,7 +171,8 @@ void pauseless_free(pauseless_heap *heap);
 
 /* Makes an object in a register, with null references and data of 0. Where the thread's buffer has no room for it, it
  * gets a fresh one first, for which the heap is collected by the policy. NO_FRAMES or NO_PAGES: the heap is full;
- * NO_ROOM: the object is larger than the policy's buffers; BIRTHS; MEMORY. */
+ * NO_ROOM: the object is larger than the policy's buffers; BIRTHS; MEMORY, also if memory for a fresh page was refused.
+ */
 pauseless_code pauseless_make(pauseless_heap *heap, const pauseless_policy *policy, uint32_t thread, uint32_t target,
                               uint32_t layout);
 
@@ -186,7 +187,7 @@ pauseless_code pauseless_make_with(pauseless_heap *heap, const pauseless_policy 
 pauseless_code pauseless_new_object(pauseless_heap *heap, uint32_t thread, uint32_t target, uint32_t layout);
 
 /* Takes a buffer of words for a thread, without a collection. BAD_INDEX also for words that no page has; HAS_BUFFER;
- * NO_FRAMES, NO_PAGES. */
+ * NO_FRAMES, NO_PAGES; MEMORY if memory for a fresh page was refused. */
 pauseless_code pauseless_take(pauseless_heap *heap, uint32_t thread, uint32_t words);
 
 /* Gives a thread's buffer back, whose rest is lost until its page is emptied. NO_ROOM where there is none. */
@@ -262,6 +263,13 @@ pauseless_code pauseless_view_look(pauseless_heap *heap, uint64_t place, pausele
 /* Looking at the heap */
 
 pauseless_code pauseless_count(pauseless_heap *heap, pauseless_counts *counts);
+
+/* Memory of frames that became free is kept for the next pages. Tells of how many frames that is: at most as many as
+ * are free. */
+pauseless_code pauseless_kept(pauseless_heap *heap, uint64_t *frames);
+
+/* Gives memory of free frames back to malloc, but for that of so many frames. Nothing of the heap changes. */
+pauseless_code pauseless_trim(pauseless_heap *heap, uint32_t frames);
 
 /* Whether the heap is sound as it stands; its time is linear in the words of all frames and pages. DONE by contract,
  * unless MEMORY was refused: UNSOUND says that memory was overwritten from outside, or that a proof doesn't hold. */

@@ -6,7 +6,7 @@ use Rattle.std.specs.List.{slice_get}
 use Rattle.std.proofs.lemmas.Bool.{true≢false}
 use Rattle.model.specs.declared.records.Buffer.{Buffer}
 use Rattle.model.specs.declared.records.Room.{Room}
-use Rattle.model.specs.declared.records.Room.TheVariants.{NoFrames, NoPages}
+use Rattle.model.specs.declared.records.Room.TheVariants.{NoFrames, NoPages, NoMemory}
 use Rattle.model.specs.declared.steps.Actor.TheVariants.{Thread}
 use Rattle.model.specs.declared.steps.Step.TheVariants as steps
 use Rattle.model.specs.declared.steps.Answer.{Answer}
@@ -87,6 +87,7 @@ take_held h t n none = then_held (thread_gate h t (steps.Take n)) _ (gate_held h
     by_buffer false e (Ok x) = tt
     by_buffer false e (Err NoFrames) = refl
     by_buffer false e (Err NoPages) = refl
+    by_buffer false e (Err NoMemory) = refl
 
 -- who has given it back has none
 back_none : (h : HeapState) (t : ℕ) → OnAccepted (λ (z : HeapState × Answer). is_some (buffer_of_thread z.0 t) ≡ false)

@@ -1,5 +1,5 @@
 -- Buffers and objects, from one part to the next.
-use Rattle.std.proofs.Common.{◌≡◌, ◌∙◌, ℕ, false, length, List, [], ◌∷◌, refl, sym, subst, inl, inr, Some}
+use Rattle.std.proofs.Common.{◌≡◌, ◌⊎◌, ◌∙◌, ℕ, false, length, List, [], ◌∷◌, refl, sym, subst, ap, inl, inr, Some}
 use Rattle.std.specs.Prelude.{Result, Ok, Err, IfOk}
 use Rattle.std.proofs.lemmas.Bool.{or_parts, true≢false}
 use Rattle.layout.specs.declared.shape.Layout.{Layout}
@@ -10,6 +10,7 @@ use Rattle.model.specs.declared.steps.Step.{Step}
 use Rattle.model.specs.declared.steps.Step.TheVariants as steps
 use Rattle.model.specs.declared.steps.Answer.TheVariants as answers
 use Rattle.model.specs.declared.steps.Refusal.{Refusal}
+use Rattle.model.specs.declared.steps.Refusal.TheVariants as refusals
 use Rattle.model.specs.declared.config.Config.{Config}
 use Rattle.model.specs.Buffers.{buffer_of_thread}
 use Rattle.model.specs.Outcome.{outcome}
@@ -20,6 +21,7 @@ use Rattle.refinement.specs.Standing.{Holds}
 use Rattle.entries.specs.declared.entry.Entry.{Entry}
 use Rattle.cycle.specs.Mutating.{DoesThread, ThreadStands}
 use Rattle.cycle.specs.Replays.{Replayed, after_entry, after_entries}
+use Rattle.cycle.proofs.Stepped.{step_refused}
 use Rattle.managed.specs.Goings.{EachIs}
 use Rattle.managed.specs.Collecting.{IsCollecting, StandsUnseen}
 use Rattle.managed.proofs.Going.{goes_none, goes_then, goes_thread}
@@ -29,7 +31,7 @@ use Rattle.collecting.specs.declared.collecting.Collected.{Collected}
 use Rattle.collecting.specs.Collections.{WORKER, Collects, CollectsWhole, EndsCollecting, MarksWhole}
 use Rattle.collecting.specs.Collections.{has_buffer, is_of_rooms, lacks_room}
 use Rattle.collecting.specs.Rooms.{IsRefill, Refills, EndsRefill, RefillsBy, HasMarkedSince, HasTriedAll, IsAny}
-use Rattle.collecting.specs.Rooms.{IsNotHeld, EndsMaking, MakingStands}
+use Rattle.collecting.specs.Rooms.{IsNotHeld, EndsMaking, EndsTaking, LacksPage, MakingStands}
 use Rattle.collecting.proofs.NotRoom.{collecting_not}
 use Rattle.collecting.proofs.Given.{never_held}
 
@@ -72,6 +74,9 @@ tried_reaches t percent = λ h m g a k. record {
   marks = k.marks;
 }
 
+lacks_after : (t : ℕ) (e : Refusal) (h m g : HeapState) → Refills t h m → LacksPage t m e g → LacksPage t h e g
+lacks_after t e h m g a k = (k.0, refill_then t h m k.0 a k.1, k.2)
+
 -- what comes before
 after_by : (Q : HeapState → HeapState → Type 0) (t n percent : ℕ) → Reaches t Q → (h m g : HeapState)
     (r : Result Buffer Refusal) → Refills t h m → RefillsBy Q t n percent m r g → RefillsBy Q t n percent h r g
@@ -79,8 +84,10 @@ after_by Q t n percent reach h m g (Ok b) a k =
     (refill_then t h m g a k.0, (k.1.0, (k.1.1.0, refill_then t h m k.1.1.0 a k.1.1.1, k.1.1.2)))
 after_by Q t n percent reach h m g (Err e) a (k, inl refused) =
     (refill_then t h m g a k, inl (refused.0, refused.1, λ l. reach h m g a (refused.2 l)))
-after_by Q t n percent reach h m g (Err e) a (k, inr ends) =
-    (refill_then t h m g a k, inr (ends.0, refill_then t h m ends.0 a ends.1, ends.2))
+after_by Q t n percent reach h m g (Err e) a (k, inr (inl lacks)) =
+    (refill_then t h m g a k, inr (inl (lacks_after t e h m g a lacks)))
+after_by Q t n percent reach h m g (Err e) a (k, inr (inr ends)) =
+    (refill_then t h m g a k, inr (inr (ends.0, refill_then t h m ends.0 a ends.1, ends.2)))
 
 pub ends_after : (t n percent : ℕ) (h m g : HeapState) (r : Result Buffer Refusal) → Refills t h m
     → RefillsBy (HasTriedAll t percent) t n percent m r g → RefillsBy (HasTriedAll t percent) t n percent h r g
@@ -104,14 +111,21 @@ taken t n percent h m g q (Ok b) back kept does keeps has =
       goes_thread (IsRefill t) lent h m g t (steps.Take n) (Ok b) refl does keeps a,
       (has, (m, a, runs_one m g (Thread t) (steps.Take n) (lent b) does keeps)),
     )
-taken t n percent h m g q (Err e) back kept does keeps has = (
-  goes_thread (IsRefill t) lent h m g t (steps.Take n) (Err e) refl does keeps (given t h m q back kept),
-  inl (
-    subst (λ (x : HeapState). outcome x (Thread t) (steps.Take n) ≡ Err e) (sym does.1) does.0,
-    never_held t n h m q e back does.0,
-    λ l. tt,
-  ),
-)
+taken t n percent h m g q (Err e) back kept does keeps has =
+    let k = step_refused m g (steps.Take n) e (outcome m (Thread t) (steps.Take n)) does in
+    (goes_thread (IsRefill t) lent h m g t (steps.Take n) (Err e) refl does keeps goes, by_case k.0 k.1)
+  where
+    goes : Refills t h m
+    goes = given t h m q back kept
+
+    by_case : (e ≡ refusals.Memory) ⊎ (outcome m (Thread t) (steps.Take n) ≡ Err e) → g ≡ m
+        → EndsTaking IsAny t n percent h (Err e) g
+    by_case (inl memory) same = inr (inl (m, goes, (memory, same)))
+    by_case (inr refused) same = inl (
+      subst (λ (x : HeapState). outcome x (Thread t) (steps.Take n) ≡ Err e) (sym same) refused,
+      never_held t n h m q e back refused,
+      λ l. tt,
+    )
 
 -- a collection, and then a buffer
 pub collected_then : (t n percent : ℕ) (h m g : HeapState) (c : Result Collected Refusal) (x : Collected)
@@ -141,19 +155,21 @@ collected_then t n percent h m g c x r is a k = by_result r k
         },
       ),
     )
-    by_result (Err e) (k, inr ends) =
-        (refill_then t h m g goes k, inr (ends.0, refill_then t h m ends.0 goes ends.1, ends.2))
+    by_result (Err e) (k, inr (inl lacks)) =
+        (refill_then t h m g goes k, inr (inl (lacks_after t e h m g goes lacks)))
+    by_result (Err e) (k, inr (inr ends)) =
+        (refill_then t h m g goes k, inr (inr (ends.0, refill_then t h m ends.0 goes ends.1, ends.2)))
 
 -- a collection that stopped
 pub collected_stops : (t n percent : ℕ) (h g : HeapState) (c : Result Collected Refusal) (e : Refusal) → c ≡ Err e
     → CollectsWhole percent h c g → RefillsBy (HasTriedAll t percent) t n percent h (Err e) g
 collected_stops t n percent h g c e is a = (
   collects_refill t h g a.0,
-  inr (
+  inr (inr (
     h,
     goes_none (IsRefill t) h,
     subst (λ (x : Result Collected Refusal). EndsCollecting percent h x g) is a.1,
-  ),
+  )),
 )
 
 -- a mark, and then a buffer
@@ -187,15 +203,17 @@ marked_then t n percent h m g c live r is a k = by_result r k
         },
       ),
     )
-    by_result (Err e) (k, inr ends) =
-        (refill_then t h m g goes k, inr (ends.0, refill_then t h m ends.0 goes ends.1, ends.2))
+    by_result (Err e) (k, inr (inl lacks)) =
+        (refill_then t h m g goes k, inr (inl (lacks_after t e h m g goes lacks)))
+    by_result (Err e) (k, inr (inr ends)) =
+        (refill_then t h m g goes k, inr (inr (ends.0, refill_then t h m ends.0 goes ends.1, ends.2)))
 
 -- a mark that stopped
 pub marked_stops : (t n percent : ℕ) (h g : HeapState) (c : Result ℕ Refusal) (e : Refusal) → c ≡ Err e
     → MarksWhole h c g → RefillsBy (HasMarkedSince t) t n percent h (Err e) g
 marked_stops t n percent h g c e is a =
     let k : MarksWhole h (Err e) g = subst (λ (x : Result ℕ Refusal). MarksWhole h x g) is a in
-    (collects_refill t h g k.0, inr (h, goes_none (IsRefill t) h, k.1 percent))
+    (collects_refill t h g k.0, inr (inr (h, goes_none (IsRefill t) h, k.1 percent)))
 
 -- what was taken at once, or refused for something else than room
 pub at_once : (Q : HeapState → HeapState → Type 0) (t n percent : ℕ) (h g : HeapState) (q : Result Buffer Refusal)
@@ -233,7 +251,8 @@ pub refill_not : (t n percent : ℕ) (h : HeapState) (r : Result Buffer Refusal)
     → EndsRefill t n percent h r g → IsNotHeld r
 refill_not t n percent h (Ok b) g k = tt
 refill_not t n percent h (Err e) g (inl refused) = refused.1
-refill_not t n percent h (Err e) g (inr ends) = of_rooms e (collecting_not percent ends.0 (Err e) g ends.2)
+refill_not t n percent h (Err e) g (inr (inl lacks)) = ap has_buffer lacks.2.0
+refill_not t n percent h (Err e) g (inr (inr ends)) = of_rooms e (collecting_not percent ends.0 (Err e) g ends.2)
 
 -- ---- objects
 
@@ -253,8 +272,10 @@ making_after t n percent target layout h m g (Ok b) a k = (k.0, refill_then t h 
 making_after t n percent target layout h m g (Err e) a (k, inl refused) = (refill_then t h m g a k, inl refused)
 making_after t n percent target layout h m g (Err e) a (k, inr (inl refused)) =
     (refill_then t h m g a k, inr (inl (refused.0, refused.1, λ l. tried_reaches t percent h m g a (refused.2 l))))
-making_after t n percent target layout h m g (Err e) a (k, inr (inr ends)) =
-    (refill_then t h m g a k, inr (inr (ends.0, refill_then t h m ends.0 a ends.1, ends.2)))
+making_after t n percent target layout h m g (Err e) a (k, inr (inr (inl lacks))) =
+    (refill_then t h m g a k, inr (inr (inl (lacks_after t e h m g a lacks))))
+making_after t n percent target layout h m g (Err e) a (k, inr (inr (inr ends))) =
+    (refill_then t h m g a k, inr (inr (inr (ends.0, refill_then t h m ends.0 a ends.1, ends.2))))
 
 -- an object is made
 pub made : (t n percent target layout : ℕ) (h g : HeapState) (r : Result ℕ Refusal)

@@ -51,7 +51,7 @@ abbrev pub EndsPortion : {A : Type 0} → HeapState → Result A Refusal → Hea
 EndsPortion h (Ok x) g = Collects h g
 EndsPortion h (Err e) g = Stops h e g
 
--- memory for a list of pages, or for their plan, was refused, and nothing was done
+-- memory for a list of pages, for their plan, or for a fresh page was refused, and nothing was done
 abbrev pub LacksMemory : HeapState → Refusal → HeapState → Type 0
 LacksMemory h e g = (e ≡ refusals.Memory) × (g ≡ h)
 

@@ -17,6 +17,7 @@ use Rattle.managed.specs.Goings.{Goes, Steps}
 use Rattle.managed.specs.Collecting.{IsCollecting}
 use Rattle.collecting.specs.declared.collecting.Collected.{Collected}
 use Rattle.collecting.specs.Collections.{WORKER, EndsCollecting, HasMarked, has_buffer, lacks_room}
+use Rattle.collecting.specs.Parts.{LacksMemory}
 
 -- thread t gives its buffer back, or takes one; or it is a step of a collection
 abbrev pub IsRefill : ℕ → Actor → Step → Type 0
@@ -56,17 +57,22 @@ abbrev pub RefusesTake : (HeapState → HeapState → Type 0) → ℕ → ℕ �
 RefusesTake Q t n h e g =
     (outcome g (Thread t) (steps.Take n) ≡ Err e) × (has_buffer e ≡ false) × (lacks_room e ≡ true → Q h g)
 
+-- such steps were done, and memory for a fresh page of thread t was refused then: nothing more was done
+abbrev pub LacksPage : ℕ → HeapState → Refusal → HeapState → Type 0
+LacksPage t h e g = (m : HeapState) × Refills t h m × LacksMemory m e g
+
 -- a collection that was begun for thread t has ended so
 abbrev pub StopsCollecting : ℕ → ℕ → HeapState → Refusal → HeapState → Type 0
 StopsCollecting t percent h e g = (m : HeapState) × Refills t h m × EndsCollecting percent m (Err e) g
 
--- how it ended that thread t was to get n words. It has them, by a Take as the last step; or Take is refused, or a
--- collection has stopped
+-- how it ended that thread t was to get n words. It has them, by a Take as the last step; or Take is refused, or memory
+-- for a fresh page was, or a collection has stopped
 abbrev pub EndsTaking : (HeapState → HeapState → Type 0) → ℕ → ℕ → ℕ → HeapState → Result Buffer Refusal → HeapState
     → Type 0
 EndsTaking Q t n percent h (Ok b) g =
     (buffer_of_thread g t ≡ Some b) × ((m : HeapState) × Refills t h m × Steps (Thread t) (steps.Take n) (lent b) m g)
-EndsTaking Q t n percent h (Err e) g = RefusesTake Q t n h e g ⊎ StopsCollecting t percent h e g
+EndsTaking Q t n percent h (Err e) g =
+    RefusesTake Q t n h e g ⊎ (LacksPage t h e g ⊎ StopsCollecting t percent h e g)
 
 -- the same, where there is no room for n words only if a collection and a mark were done in vain
 abbrev pub EndsRefill : ℕ → ℕ → ℕ → HeapState → Result Buffer Refusal → HeapState → Type 0

@@ -125,14 +125,15 @@ pub trait Holding: Mutating {
     /// `policy.free` frames are free, or there is no room, the heap is collected before; and where there is
     /// no room then, a mark runs once more, which frees the numbers of the pages that were emptied.
     ///
-    /// Refused as `take` is, or as `collect` is.
+    /// Refused as `take` is, or as `collect` is: as `Memory` where memory for a fresh page was refused, for which
+    /// nothing is collected.
     fn refill(&mut self, alloc: Global, policy: Policy, thread: u32) -> Result<Buffer, Refusal>;
 
     /// Makes an object as `new_object` does; where the thread has no buffer with room for it, `refill` gets
     /// it one before. Gives the object's birth number.
     ///
     /// Refused as `new_object` is, as `NoRoom` for an object that is larger than `policy.words`, or as
-    /// `refill` is.
+    /// `refill` is, as `Memory` where memory for a fresh page was refused.
     fn make(
         &mut self,
         alloc: Global,
@@ -189,6 +190,14 @@ pub trait Holding: Mutating {
         sources: &[u32],
         nums: &[u64],
     ) -> Result<u64, Refusal>;
+
+    /// How many frames' memory is kept for the next pages: of frames that became free, at most as many as are
+    /// free.
+    fn kept_frames(&self) -> usize;
+
+    /// Gives memory of free frames back to the allocator, but for that of `most` frames. Memory of frames that
+    /// became free is kept for the next pages until then. Nothing of the heap changes.
+    fn trim(&mut self, most: usize);
 }
 
 impl Holding for ManagedHeap {
@@ -355,6 +364,16 @@ impl Holding for ManagedHeap {
         pacing::make_with_paced(
             self, alloc, parts, policy, budget, thread, target, layout, sources, nums,
         )
+    }
+
+    fn kept_frames(&self) -> usize {
+        ManagedHeap::kept_frames(self)
+    }
+
+    fn trim(&mut self, most: usize)
+        ensures { self.new ≡ self.old }
+    {
+        ManagedHeap::trim(self, most);
     }
 }
 

@@ -4,15 +4,17 @@ use Rattle.model.specs.declared.steps.Actor.TheVariants.{Thread}
 use Rattle.model.specs.declared.steps.Step.{Step}
 use Rattle.model.specs.declared.steps.Answer.{Answer}
 use Rattle.model.specs.declared.steps.Refusal.{Refusal}
-use Rattle.model.specs.Refusing.{Does}
+use Rattle.model.specs.Refusing.{DoesStep}
 use Rattle.model.specs.Saying.{said}
 use Rattle.model.specs.Outcome.{outcome}
 use Rattle.model.specs.States.{HeapState}
 use Rattle.refinement.specs.Standing.{KeepsStanding}
 
--- a call for a thread's step, whose value stands for the answer, did what the step's outcome says
+-- a call for a thread's step, whose value stands for the answer, did what the step's outcome says; for Take, which may
+-- open a page, memory for that may have run out, and then it changed nothing
 abbrev pub DoesThread : {A : Type 0} → (A → Answer) → HeapState → ℕ → Step → Result A Refusal → HeapState → Type 0
-DoesThread answer old t step result new = Does old (said answer result) new (outcome old (Thread t) step)
+DoesThread answer old t step result new =
+    DoesStep old step (said answer result) new (outcome old (Thread t) step)
 
 -- where the heap stood for a plain heap, it does after the call, whose value is the plain heap's
 abbrev pub ThreadStands : {A : Type 0} → (A → Answer) → HeapState → ℕ → Step → Result A Refusal → HeapState → Type 0

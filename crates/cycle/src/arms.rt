@@ -1,7 +1,7 @@
 //! The steps of threads, each with its reply, out of line.
 
 ghost use Rattle.std.specs.Prelude.{◌≡◌};
-ghost use Rattle.model.specs.Refusing.{Does};
+ghost use Rattle.model.specs.Refusing.{Does, DoesStep};
 ghost use Rattle.model.specs.declared.steps.Step.TheVariants as steps;
 ghost use Rattle.model.specs.declared.steps.Actor.TheVariants.{Thread};
 ghost use Rattle.model.specs.Outcome.{outcome};
@@ -12,7 +12,8 @@ use heap::Heap;
 use model::{Answer, Reply};
 
 pub(crate) fn take(heap: &mut Heap, thread: u32, words: u32) -> Reply
-    ensures { Does heap.old result heap.new (outcome heap.old (Thread thread) (steps.Take words)) }
+    ensures { DoesStep heap.old (steps.Take words) result heap.new
+        (outcome heap.old (Thread thread) (steps.Take words)) }
 {
     Ok(lent(calls::take(heap, thread, words)?))
 }

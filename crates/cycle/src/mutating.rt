@@ -31,7 +31,8 @@ pub trait Mutating {
     /// page, and gives it: it is the thread's then.
     ///
     /// Refused as `BadIndex` for a number of words that no page has; `HasBuffer` where there is one;
-    /// `NoFrames` and `NoPages` where neither a page nor a frame has room.
+    /// `NoFrames` and `NoPages` where neither a page nor a frame has room; `Memory` where memory for
+    /// a fresh page was refused. No other call here answers `Memory`.
     fn take(&mut self, thread: u32, words: u32) -> Result<Buffer, Refusal>;
 
     /// Gives the buffer back, whose rest is lost. Refused as `NoRoom` where there is none.

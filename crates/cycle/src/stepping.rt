@@ -23,8 +23,8 @@ pub trait Stepping {
 
 impl Stepping for Heap {
     /// Does exactly what the step's row says: refuses it by the first test that holds, and else
-    /// gives its answer and has its effect. It answers `Memory` for `Protect` alone, where a growth
-    /// was refused, and changes nothing then.
+    /// gives its answer and has its effect. It answers `Memory` for `Take` and `Protect` alone, where
+    /// memory for a fresh page or for a growth was refused, and changes nothing then.
     ///
     /// Where the heap stands for a plain heap, which never moves or frees an object, it does so
     /// after an accepted step, and the answer is the plain heap's.
@@ -58,7 +58,7 @@ fn actor_row(heap: &mut Heap, actor: Actor, step: &Step) -> Reply
 #[inline(always)]
 #[tactic(auto, unfolding(model::specs::Outcome::outcome, model::specs::Outcome::thread_gate))]
 fn thread_step(heap: &mut Heap, thread: u32, step: &Step) -> Reply
-    ensures { Does heap.old result heap.new (outcome heap.old (Thread thread) step.now) }
+    ensures { DoesStep heap.old step.now result heap.new (outcome heap.old (Thread thread) step.now) }
 {
     match step {
         Step::Take(words) => arms::take(heap, thread, *words),

@@ -26,3 +26,13 @@ Verifies code = (code ≡ 0) ⊎ (code ≡ NO_MEMORY)
 abbrev pub VerifiesHeld : Option Held → ℕ → Type 0
 VerifiesHeld None code = code ≡ NO_HEAP
 VerifiesHeld (Some h) code = Verifies code
+
+-- a call that every heap allows was done if there is one
+abbrev pub IsDone : Option Held → ℕ → Type 0
+IsDone None code = code ≡ NO_HEAP
+IsDone (Some h) code = code ≡ 0
+
+-- what C is told stays as it was if there is no heap
+abbrev pub KeepsUntold : Option Held → ℕ → ℕ → Type 0
+KeepsUntold None old new = new ≡ old
+KeepsUntold (Some h) old new = Unit {0}

@@ -18,6 +18,7 @@ mod hidden;
 mod lending;
 mod looking;
 mod making;
+mod memory;
 mod objects;
 mod references;
 mod slot;

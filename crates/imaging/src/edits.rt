@@ -14,12 +14,30 @@ pub fn set_free(image: &mut Image, index: usize, frame: u32) {
     }
 }
 
-/// A page is used so, and has this frame.
+/// A frame that has no words gets 16. Where memory is refused it stays.
+fn fill_frame(image: &mut Image, frame: usize) {
+    let alloc = *image.pages.allocator();
+    if frame < image.frames.len() && image.frames[frame].words.is_empty() {
+        if let Ok(words) = zeros(alloc) {
+            image.frames[frame].words = words;
+        }
+    }
+}
+
+/// The words of a page.
+fn zeros(alloc: Global) -> Result<Vec<u64>, AllocError> {
+    vec![in alloc; 0; 16]
+}
+
+/// A page is used so, and has this frame, which has words then.
 pub fn set_page(image: &mut Image, number: usize, state: PageState, frame: Option<u32>) {
     if number > 0 && number <= image.pages.len() {
         let page = &mut image.pages[number - 1];
         page.state = state;
         page.frame = frame;
+        if let Some(frame) = frame {
+            fill_frame(image, frame as usize);
+        }
     }
 }
 

@@ -63,11 +63,22 @@ fn blank(alloc: Global, pages: Vec<PageImage>) -> Image {
     }
 }
 
+/// Three frames, of which the first has words.
+fn frames(alloc: Global) -> Result<Vec<Words>, AllocError> {
+    let mut frames = zeros(alloc, 1, 16)?;
+    for _ in 0..2 {
+        frames.push(Words {
+            words: Vec::new(alloc),
+        })?;
+    }
+    Ok(frames)
+}
+
 /// Such an image gets three frames, of which 1 and 2 are free, two threads with two registers, a global, and
 /// layouts.
 fn fill(alloc: Global, image: &mut Image) -> Result<(), AllocError> {
     image.free = vec![in alloc; 1, 2]?;
-    image.frames = zeros(alloc, 3, 16)?;
+    image.frames = frames(alloc)?;
     image.registers = zeros(alloc, 2, 2)?;
     image.loads = vec![in alloc; None; 2]?;
     image.globals = vec![in alloc; 0; 1]?;

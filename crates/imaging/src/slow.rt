@@ -108,17 +108,31 @@ fn none_from(image: &Image, count: u32) -> bool {
     owned && image.free.iter().all(|free| *free < count)
 }
 
+/// Whether a frame, if it is there, has so many words.
+fn has_words(image: &Image, frame: u32, words: u32) -> bool {
+    match image.frames.get(frame as usize) {
+        None => true,
+        Some(memory) => memory.words.len() == words as usize,
+    }
+}
+
+/// Whether the frame of a page, if it has one, has the words of a page.
+fn is_filled(image: &Image, page: &PageImage) -> bool {
+    match page.frame {
+        None => true,
+        Some(frame) => has_words(image, frame, image.words),
+    }
+}
+
 fn has_frames(image: &Image) -> bool {
     let words = image.words;
     let sized = words.is_power_of_two() && words >= 16 && words <= 32768;
-    let filled = image
-        .frames
-        .iter()
-        .all(|frame| frame.words.len() == words as usize);
+    let filled = image.pages.iter().all(|page| is_filled(image, page));
+    let empty = image.free.iter().all(|frame| has_words(image, *frame, 0));
     let framed = image.pages.iter().all(|page| has_its_frame(page));
     let there = image.frame_count as usize <= image.frames.len();
     let once = (0..image.frame_count).all(|frame| uses(image, frame) == 1);
-    sized && filled && framed && there && once && none_from(image, image.frame_count)
+    sized && filled && empty && framed && there && once && none_from(image, image.frame_count)
 }
 
 /// The first register of a thread whose value isn't good.

@@ -22,7 +22,7 @@ use Rattle.entries.specs.declared.entry.Entry.{Entry}
 use Rattle.cycle.specs.Mutating.{DoesThread, ThreadStands}
 use Rattle.cycle.specs.Replays.{Replayed, after_entry, after_entries}
 use Rattle.cycle.proofs.Stepped.{step_accepted, step_refused}
-use Rattle.managed.specs.Goings.{EachIs, Goes, StandsForSame, IsInBarrier, Scans, IsScan, IsDrain, EndsLoad}
+use Rattle.managed.specs.Goings.{EachIs, Goes, StandsForSame, IsInBarrier, Scans, IsScan, IsDrain, EndsLoad, Steps}
 use Rattle.managed.specs.Goings.{LoadsWhole, LoadStands, EndsScan, IsCrossing, entry}
 use Rattle.managed.proofs.Running.{runs_none, runs_then, runs_one}
 
@@ -63,9 +63,11 @@ goes_thread P answer h m g t step (Ok a) is does keeps k = record {
   entries = k.entries ++ entry (Thread t) step (answer a) ∷ [];
   each = each_append P k.entries (entry (Thread t) step (answer a) ∷ []) k.each (is, tt);
   runs = runs_then h m g k.entries (entry (Thread t) step (answer a) ∷ []) k.runs
-      (runs_one m g (Thread t) step (answer a) does keeps);
+      (runs_one m g (Thread t) step (answer a)
+      (step_accepted m g step (answer a) (outcome m (Thread t) step) does) keeps);
 }
-goes_thread P answer h m g t step (Err e) is does keeps k = subst (Goes P h) (sym does.1) k
+goes_thread P answer h m g t step (Err e) is does keeps k =
+    subst (Goes P h) (sym (step_refused m g step e (outcome m (Thread t) step) does).1) k
 
 -- steps that the plain heap doesn't see
 quiet_entries : (P : Actor → Step → Type 0)
@@ -206,8 +208,15 @@ ends_after h m g t (Err e) a b = (goes_then (IsInBarrier t) h m g a b.0, b.1)
 pub whole : (h m g : HeapState) (t : ℕ) (begin : Step) (u : Unit {0}) (result : Result Unit Refusal)
     → DoesThread loaded h t begin (Ok u) m → ThreadStands loaded h t begin (Ok u) m → EndsLoad m t result g
     → LoadsWhole h t begin result g
-whole h m g t begin u (Ok v) does keeps ends = (m, runs_one h m (Thread t) begin answers.Loaded does keeps, ends)
-whole h m g t begin u (Err e) does keeps ends = inr (m, runs_one h m (Thread t) begin answers.Loaded does keeps, ends)
+whole h m g t begin u result does keeps ends = by_result result ends
+  where
+    first : Steps (Thread t) begin answers.Loaded h m
+    first = runs_one h m (Thread t) begin answers.Loaded
+        (step_accepted h m begin answers.Loaded (outcome h (Thread t) begin) does) keeps
+
+    by_result : (r : Result Unit Refusal) → EndsLoad m t r g → LoadsWhole h t begin r g
+    by_result (Ok v) ends = (m, first, ends)
+    by_result (Err e) ends = inr (m, first, ends)
 
 -- what it leaves stands for the plain heap whose register has the reference
 pub whole_stands : (h g : HeapState) (t : ℕ) (begin : Step) (result : Result Unit Refusal)

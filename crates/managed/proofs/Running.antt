@@ -6,10 +6,12 @@ use Rattle.model.specs.declared.config.Config.{Config}
 use Rattle.model.specs.declared.steps.Actor.{Actor}
 use Rattle.model.specs.declared.steps.Actor.TheVariants.{Thread}
 use Rattle.model.specs.declared.steps.Step.{Step}
+use Rattle.model.specs.declared.steps.Step.TheVariants as steps
 use Rattle.model.specs.declared.steps.Answer.{Answer}
 use Rattle.model.specs.declared.steps.Refusal.{Refusal}
-use Rattle.model.specs.Refusing.{DoesStep}
+use Rattle.model.specs.Refusing.{Does, DoesStep}
 use Rattle.model.specs.Outcome.{outcome}
+use Rattle.model.specs.Saying.{said}
 use Rattle.model.specs.States.{HeapState}
 use Rattle.model.specs.First.{first_heap}
 use Rattle.laws.proofs.Promises.{stands, usable_has_memory}
@@ -93,10 +95,19 @@ managed_step old new actor step (Ok a) does keeps k =
 managed_step old new actor step (Err e) does keeps k =
     subst IsManaged (sym (step_refused old new step e (outcome old actor step) does).1) k
 
--- the same, of a call for a thread's step
-pub managed_thread : {A : Type 0} (answer : A → Answer) (old new : HeapState) (t : ℕ) (step : Step)
-    (result : Result A Refusal) → DoesThread answer old t step result new → ThreadStands answer old t step result new
+-- the same, of a call for a Take
+pub managed_take : {A : Type 0} (answer : A → Answer) (old new : HeapState) (t words : ℕ) (result : Result A Refusal)
+    → DoesThread answer old t (steps.Take words) result new → ThreadStands answer old t (steps.Take words) result new
     → IsManaged old → IsManaged new
+managed_take answer old new t words (Ok a) does keeps k =
+    managed_step old new (Thread t) (steps.Take words) (Ok (answer a)) does keeps k
+managed_take answer old new t words (Err e) does keeps k =
+    managed_step old new (Thread t) (steps.Take words) (Err e) does keeps k
+
+-- and of a call for any other step of a thread
+pub managed_thread : {A : Type 0} (answer : A → Answer) (old new : HeapState) (t : ℕ) (step : Step)
+    (result : Result A Refusal) → Does old (said answer result) new (outcome old (Thread t) step)
+    → ThreadStands answer old t step result new → IsManaged old → IsManaged new
 managed_thread answer old new t step (Ok a) does keeps k =
     managed_then old new (entry (Thread t) step (answer a) ∷ []) k
     (runs_one old new (Thread t) step (answer a) does keeps)

@@ -9,8 +9,8 @@ use Rattle.model.specs.declared.steps.Refusal.{Refusal}
 use Rattle.model.specs.declared.steps.Step.{Step}
 use Rattle.model.specs.declared.steps.Step.TheVariants as steps
 use Rattle.model.specs.Outcome.{outcome}
-use Rattle.model.specs.Refusing.{◌>>=◌}
-use Rattle.model.specs.Saying.{done}
+use Rattle.model.specs.Refusing.{◌>>=◌, Does}
+use Rattle.model.specs.Saying.{done, said}
 use Rattle.model.specs.States.{HeapState}
 use Rattle.cycle.specs.Mutating.{DoesThread, ThreadStands}
 use Rattle.managed.specs.declared.batches.FieldLoad.{FieldLoad}
@@ -67,23 +67,24 @@ IsRestOfSteps t all h rest m = (r : Result Unit Refusal) (g : HeapState)
 
 -- a step that is done or refused, before others
 step_then : (t : ℕ) (s : Step) (m k : HeapState) (r : Result Unit Refusal) (u : Unit {0}) → r ≡ Ok u
-    → DoesThread done m t s r k → ThreadStands done m t s r k → Steps (Thread t) s answers.Done m k
+    → Does m (said done r) k (outcome m (Thread t) s) → ThreadStands done m t s r k
+    → Steps (Thread t) s answers.Done m k
 step_then t s m k (Ok v) u is does stands = runs_one m k (Thread t) s answers.Done does stands
 step_then t s m k (Err e) u is does stands = absurd (cc)
 
 step_stops : (t : ℕ) (s : Step) (m g : HeapState) (r : Result Unit Refusal) (e : Refusal) → r ≡ Err e
-    → DoesThread done m t s r g → (outcome m (Thread t) s ≡ Err e) × (g ≡ m)
+    → Does m (said done r) g (outcome m (Thread t) s) → (outcome m (Thread t) s ≡ Err e) × (g ≡ m)
 step_stops t s m g (Ok v) e is does = absurd (cc)
 step_stops t s m g (Err x) e is does = let same : x ≡ e = cc in (does.0 ∙ ap Err same, does.1)
 
 steps_more : (t : ℕ) (all : List Step) (h m k : HeapState) (s : Step) (rest : List Step) (r : Result Unit Refusal)
-    (u : Unit {0}) → r ≡ Ok u → DoesThread done m t s r k → ThreadStands done m t s r k
+    (u : Unit {0}) → r ≡ Ok u → Does m (said done r) k (outcome m (Thread t) s) → ThreadStands done m t s r k
     → IsRestOfSteps t all h (s ∷ rest) m → IsRestOfSteps t all h rest k
 steps_more t all h m k s rest r u is does stands all_end q g b =
     all_end q g (inl (k, step_then t s m k r u is does stands, b))
 
 steps_stop : (t : ℕ) (all : List Step) (h m g : HeapState) (s : Step) (rest : List Step) (r : Result Unit Refusal)
-    (e : Refusal) → r ≡ Err e → DoesThread done m t s r g → IsRestOfSteps t all h (s ∷ rest) m
+    (e : Refusal) → r ≡ Err e → Does m (said done r) g (outcome m (Thread t) s) → IsRestOfSteps t all h (s ∷ rest) m
     → EndsFilling t all h (Err e) g
 steps_stop t all h m g s rest r e is does all_end =
     let k = step_stops t s m g r e is does in all_end (Err e) g (inr (e, k.0, refl, k.1))

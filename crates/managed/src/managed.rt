@@ -60,7 +60,22 @@ impl ManagedHeap {
         &self.heap
     }
 
-    /// One step of an actor, as `Stepping::step` does it.
+    /// How many frames' memory is kept for the next pages: of frames that became free, at most as many as are
+    /// free.
+    pub fn kept_frames(&self) -> usize {
+        self.heap.kept_frames()
+    }
+
+    /// Gives memory of free frames back to the allocator, but for that of `most` frames. Memory of frames that
+    /// became free is kept for the next pages until then. Nothing of the heap changes.
+    pub fn trim(&mut self, most: usize)
+        ensures { self.new ≡ self.old }
+    {
+        self.heap.trim(most);
+    }
+
+    /// One step of an actor, as `Stepping::step` does it. It answers `Memory` for `Take` and `Protect` alone, where
+    /// memory for a fresh page or for a growth was refused, and changes nothing then.
     #[inline(always)]
     pub fn step(&mut self, actor: Actor, step: &Step) -> Reply
         ensures does { DoesStep self.old step.now result self.new (outcome self.old actor step.now) }

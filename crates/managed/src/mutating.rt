@@ -13,7 +13,7 @@ use model::{Buffer, Refusal, Trap};
 
 impl Mutating for ManagedHeap {
     #[inline(always)]
-    #[tactic(auto, using(crate::proofs::Running::managed_thread))]
+    #[tactic(auto, using(crate::proofs::Running::managed_take))]
     fn take(&mut self, thread: u32, words: u32) -> Result<Buffer, Refusal>
         ensures does { DoesThread lent self.old thread (steps.Take words) result self.new }
         ensures stands { ThreadStands lent self.old thread (steps.Take words) result self.new }

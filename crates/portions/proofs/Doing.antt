@@ -10,11 +10,13 @@ use Rattle.model.specs.declared.steps.Answer.{Answer}
 use Rattle.model.specs.declared.steps.Refusal.{Refusal}
 use Rattle.model.specs.declared.steps.Step.{Step}
 use Rattle.model.specs.declared.steps.Step.TheVariants as steps
+use Rattle.model.specs.Outcome.{outcome}
 use Rattle.model.specs.Phases.{is_crossing, is_protect_crossing}
 use Rattle.model.specs.States.{HeapState}
 use Rattle.model.specs.Threads.{is_parked_in}
 use Rattle.entries.specs.declared.entry.Entry.{Entry}
 use Rattle.cycle.specs.Mutating.{DoesThread}
+use Rattle.cycle.proofs.Stepped.{step_accepted, step_refused}
 use Rattle.managed.specs.Goings.{EachIs, Goes, IsScrub}
 use Rattle.managed.specs.Runs.{Leads}
 use Rattle.managed.specs.Scrubbing.{AreScrubbed}
@@ -63,9 +65,10 @@ scrubs_use h g t k a runs s = record {
 pub does_apart : {A : Type 0} (answer : A → Answer) (h g : HeapState) (t : ℕ) (step : Step) (r : Result A Refusal)
     → turns step ≡ false → DoesThread answer h t step r g → IsApart h t → IsApart g t
 does_apart answer h g t step (Ok a) e does k =
-    let z = step_keeps h t step g (answer a) e does in
+    let z = step_keeps h t step g (answer a) e (step_accepted h g step (answer a) (outcome h (Thread t) step) does) in
     apart_stays h g t z.stay z.phase k
-does_apart answer h g t step (Err n) e does k = subst (λ (x : HeapState). IsApart x t) (sym does.1) k
+does_apart answer h g t step (Err n) e does k =
+    subst (λ (x : HeapState). IsApart x t) (sym (step_refused h g step n (outcome h (Thread t) step) does).1) k
 
 -- where no checkpoint is open, none of protected pages is
 pub not_protecting : (f : Phase) → is_crossing f ≡ false → is_protect_crossing f ≡ false

@@ -240,4 +240,14 @@ impl MutatorCalls for Mutator {
         settle(&mut self.heap, self.thread);
         result
     }
+
+    fn kept_frames(&self) -> usize {
+        self.heap.kept_frames()
+    }
+
+    fn trim(&mut self, most: usize)
+        ensures { self.new ≡ self.old }
+    {
+        self.heap.trim(most);
+    }
 }

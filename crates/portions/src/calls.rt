@@ -12,7 +12,7 @@ use std::alloc::Global;
 /// In a portion its thread runs, and between two calls neither a load nor a checkpoint is open, as `Mutator::law` says:
 /// so a step of the thread never stalls, and no thread has still to cross.
 pub trait MutatorCalls {
-    /// Takes a buffer, as `Mutating::take`.
+    /// Takes a buffer, as `Mutating::take`: `Memory` if memory for a fresh page was refused.
     fn take(&mut self, words: u32) -> Result<Buffer, Refusal>;
 
     /// Returns the buffer, as `Mutating::give_back`.
@@ -63,8 +63,8 @@ pub trait MutatorCalls {
     /// Writes data words of an object, from word `first` on, as `Holding::set_many`.
     fn set_many(&mut self, object: u32, first: u32, values: &[u64]) -> Result<(), Refusal>;
 
-    /// Makes an object, with the room that it needs, as `Holding::make`. All threads cross the checkpoint that
-    /// its collection has left open, if there is one.
+    /// Makes an object, with the room that it needs, as `Holding::make`: `Memory` if memory for a fresh page was
+    /// refused. All threads cross the checkpoint that its collection has left open, if there is one.
     fn make(
         &mut self,
         alloc: Global,
@@ -85,11 +85,19 @@ pub trait MutatorCalls {
         nums: &[u64],
     ) -> Result<u64, Refusal>;
 
-    /// Takes a fresh buffer, for which the heap is collected if frames run low, as `Holding::refill`. All threads
-    /// cross the checkpoint that its collection has left open, if there is one.
+    /// Takes a fresh buffer, for which the heap is collected if frames run low, as `Holding::refill`: `Memory` if
+    /// memory for a fresh page was refused. All threads cross the checkpoint that its collection has left open, if there
+    /// is one.
     fn refill(&mut self, alloc: Global, policy: Policy) -> Result<Buffer, Refusal>;
 
     /// Collects the heap, as `Holding::collect`. All threads cross the checkpoint that it has left open, if
     /// there is one.
     fn collect(&mut self, alloc: Global, percent: u32) -> Result<Collected, Refusal>;
+
+    /// Returns how many frames' memory is kept for the next pages, as `Holding::kept_frames`.
+    fn kept_frames(&self) -> usize;
+
+    /// Gives memory of free frames back to the allocator, but for that of `most` frames, as `Holding::trim`. Nothing of
+    /// the heap changes.
+    fn trim(&mut self, most: usize);
 }

@@ -1,23 +1,25 @@
 -- The frames of a heap's image: each has one owner, or is free once.
-use Rattle.std.proofs.Common.{◌≡◌, inl, inr, ◌≤◌, ℕ, ◌+◌, true, ltb, length}
+use Rattle.std.proofs.Common.{◌≡◌, inl, inr, ◌≤◌, ℕ, ◌+◌, true, ltb, List, length}
 use Rattle.std.proofs.Common.{Option, Some, None, is_some, refl, sym, ap, ◌∙◌, subst, arith}
-use Rattle.std.specs.List.{slice_get}
+use Rattle.std.specs.List.{slice_get, range_with_len}
 use Rattle.std.specs.Option.{option_map}
 use Rattle.std.proofs.lemmas.Option.{none-some, same_Some, slice_get_within, slice_get_past}
 use Rattle.std.proofs.lemmas.Bool.{cases_lt, eq-eqb, eqb-true, lt-ltb, le-ltb, false≢true, false_from_ne_true}
 use Rattle.model.specs.declared.records.Page.{Page}
 use Rattle.model.specs.Configs.{is_page_size}
 use Rattle.model.specs.Stores.{StoreState, page_at as store_page, frame_in, state_at, state_in, has_memory}
-use Rattle.model.specs.Owning.{Each, IsStore}
+use Rattle.model.specs.Owning.{Each, IsStore, owned_size}
 use Rattle.model.specs.Holding.{IsHeap}
 use Rattle.model.specs.States.{HeapState}
 use Rattle.model.proofs.Lists.{get_within}
 use Rattle.model.proofs.Memory.{page_record}
 use Rattle.refinement.proofs.Granted.{page_here}
 use Rattle.verify.specs.Images.{PageData}
-use Rattle.verify.specs.Soundness.{is_frame, owners_in, times_in, as_number, HasItsFrame, HasFrames}
+use Rattle.verify.specs.Soundness.{is_filled, is_frame, is_sized, has_words, owners_in, times_in, as_number}
+use Rattle.verify.specs.Soundness.{HasItsFrame, HasFrames}
 use Rattle.verify.specs.Pictures.{image_of, page_data, pages_of, is_free, free_of}
-use Rattle.soundness.proofs.Lists.{numbered, mapped_first, count_none, count_one, once_filtered, never_filtered}
+use Rattle.soundness.proofs.Lists.{numbered, mapped_first, count_none, count_one}
+use Rattle.soundness.proofs.Lists.{filtered_passes, once_filtered, never_filtered}
 
 -- free frames
 
@@ -29,6 +31,12 @@ free_times s f = elim (cases_lt f (length s.owners)) [
       never_filtered (λ f. is_free (slice_get s.owners f)) f 0 (length s.owners) (inr (omega arith))
       ∙ ap (λ o. as_number (is_free o)) (sym (slice_get_past s.owners f l))
 ]
+
+-- a free frame has no owner
+no_owner : (o : Option (Option ℕ)) → is_free o ≡ true → o ≡ Some None
+no_owner None e = absurd (false≢true e)
+no_owner (Some None) e = refl
+no_owner (Some (Some n)) e = absurd (false≢true e)
 
 -- pages
 
@@ -102,12 +110,34 @@ module _ (h : HeapState) (s : IsStore h.store) (d : IsHeap h) where
       (subst (λ (o : Option Page). is_some (frame_in o) ≡ has_memory (state_in o)) (sym (page_here h.store j p at))
       (s.pages j p at).memory)
 
+  -- a frame has the words of a page if it has an owner, and else none
+  sized_frame : (f : ℕ) (o : Option ℕ) → slice_get h.store.owners f ≡ Some o
+      → has_words h.store.frames (owned_size h.store.words o) f ≡ true
+  sized_frame f o e = by_frame (slice_get h.store.frames f) refl
+    where
+      by_frame : (q : Option (List ℕ)) → slice_get h.store.frames f ≡ q
+          → is_sized (owned_size h.store.words o) q ≡ true
+      by_frame None z = refl
+      by_frame (Some ws) z = eq-eqb (length ws) (owned_size h.store.words o) (s.sized.frames f o ws e z)
+
+  filled : Each (pages_of h) (λ p. is_filled h.store.frames h.store.words p.frame ≡ true)
+  filled j y e = by_frame y.frame refl
+    where
+      by_frame : (q : Option ℕ) → y.frame ≡ q → is_filled h.store.frames h.store.words q ≡ true
+      by_frame None z = refl
+      by_frame (Some f) z = sized_frame f (Some (j + 1)) (owner_of f j y e (ap (is_frame f) z ∙ eq-eqb f f refl))
+
+  empty : Each (free_of h.store) (λ f. has_words h.store.frames 0 f ≡ true)
+  empty j f e = sized_frame f None (no_owner (slice_get h.store.owners f)
+      (filtered_passes (λ f. is_free (slice_get h.store.owners f)) (range_with_len 0 (length h.store.owners)) j f e))
+
   -- the frames of a heap's image are in order
   pub has_frames : HasFrames (image_of h)
   unfolding image_of
   has_frames = record {
     size = ap is_page_size d.sizes.words ∙ d.config.page_size;
-    words = s.sized.frames;
+    words = filled;
+    empty = empty;
     there = omega (arith, d.sizes.frames);
     states = framed_by_state;
     once = λ f.

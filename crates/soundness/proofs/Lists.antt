@@ -91,3 +91,15 @@ once_filtered p f o (suc n) l m = elim (cases_eq o f) [
   | inr d ↦
       before_other f o (p o) _ (ne_eqb o f d) ∙ once_filtered p f (o + 1) n (omega (arith, d)) (omega arith)
 ]
+
+-- what is among those that pass passes
+kept_by : (p : ℕ → Bool) (y : ℕ) (b : Bool) → p y ≡ b → (ys : List ℕ)
+    → ((i x : ℕ) → slice_get ys i ≡ Some x → p x ≡ true)
+    → (i x : ℕ) → slice_get (cond b (y ∷ ys) ys) i ≡ Some x → p x ≡ true
+kept_by p y true e ys k zero x f = ap p (sym (same_Some y x f)) ∙ e
+kept_by p y true e ys k (suc i) x f = k i x f
+kept_by p y false e ys k i x f = k i x f
+
+pub filtered_passes : (p : ℕ → Bool) (xs : List ℕ) (i x : ℕ) → slice_get (filter p xs) i ≡ Some x → p x ≡ true
+filtered_passes p [] i x e = absurd (none-some x e)
+filtered_passes p (y ∷ ys) i x e = kept_by p y (p y) refl (filter p ys) (filtered_passes p ys) i x e

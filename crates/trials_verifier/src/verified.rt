@@ -118,8 +118,8 @@ fn the_image_of_a_heap(rt: HostRuntime) -> Result<(), Fail> {
         page 5 unused frame - starts side\n\
         page 6 unused frame - starts side\n\
         frame 0 0 10 ff 0 0 0 0 0 0 0 0 0 0 0 0 0\n\
-        frame 1 0 0 0 0 0 0 0 0 0 0 0 0 0 0 0 0\n\
-        frame 2 0 0 0 0 0 0 0 0 0 0 0 0 0 0 0 0\n\
+        frame 1\n\
+        frame 2\n\
         thread 0 load - registers 10 0\n\
         global 0 10\n";
     looks_at_an_object(&rt, alloc, book(alloc)?, wanted)?;
@@ -155,7 +155,7 @@ fn the_image_of_an_object_that_moves(rt: HostRuntime) -> Result<(), Fail> {
         page 6 unused frame - starts side\n\
         frame 0 0 8000000000000010 ff 0 0 0 0 0 0 0 0 0 0 0 0 0\n\
         frame 1 0 8000000000000010 ff 0 0 0 0 0 0 0 0 0 0 0 0 0\n\
-        frame 2 0 0 0 0 0 0 0 0 0 0 0 0 0 0 0 0\n\
+        frame 2\n\
         thread 0 load 8000000000000010 registers 8000000000000010 0\n\
         global 0 8000000000000010\n";
     looks_at_a_move(&rt, alloc, book(alloc)?, pages, wanted)

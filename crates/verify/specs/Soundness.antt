@@ -37,6 +37,20 @@ abbrev pub as_number : Bool → ℕ
 as_number true = 1
 as_number false = 0
 
+-- what is there has so many words
+abbrev pub is_sized : ℕ → Option (List ℕ) → Bool
+is_sized words None = true
+is_sized words (Some ws) = length ws == words
+
+-- frame f, if it is there, has so many words
+abbrev pub has_words : List (List ℕ) → ℕ → ℕ → Bool
+has_words frames words f = is_sized words (slice_get frames f)
+
+-- so does the frame of a page, if it has one
+abbrev pub is_filled : List (List ℕ) → ℕ → Option ℕ → Bool
+is_filled frames words None = true
+is_filled frames words (Some f) = has_words frames words f
+
 -- a page has a frame exactly where its state says so
 abbrev pub HasItsFrame : PageData → Type 0
 HasItsFrame p = is_some p.frame ≡ has_memory p.state
@@ -46,11 +60,12 @@ HasItsFrame p = is_some p.frame ≡ has_memory p.state
 abbrev pub IsOnce : ImageData → Type 0
 IsOnce i = (f : ℕ) → uses_of i f ≡ as_number (nat_lt f i.frame_count)
 
--- pages are of a size within the limits, each frame has the words of a page, as many frames as configured are there,
--- and each of these has one owner or is free, once
+-- pages are of a size within the limits, the frame of each page has the words of a page, a free one has none, as many
+-- frames as configured are there, and each of these has one owner or is free, once
 pub record HasFrames (i : ImageData) : Type 0 where
   pub size : is_page_size i.words ≡ true
-  pub words : Each i.frames (λ ws. length ws ≡ i.words)
+  pub words : Each i.pages (λ p. is_filled i.frames i.words p.frame ≡ true)
+  pub empty : Each i.free (λ f. has_words i.frames 0 f ≡ true)
   pub there : i.frame_count ≤ length i.frames
   pub states : Each i.pages HasItsFrame
   pub once : IsOnce i

@@ -1,10 +1,10 @@
-//! Whether the frames of an image are in order: each the memory of one page, or free.
+//! Whether the frames of an image are in order: each the memory of one page, or free and without words.
 
 ghost use Rattle.std.specs.Prelude.{if◌then◌else◌, ◌≡◌, ◌≢◌, ◌<◌, ◌≤◌, ◌⊎◌, ◌+◌, ◌==◌, ℕ, false, true, length};
 ghost use Rattle.std.specs.Prelude.{get_or, slice_set, vec_len, IfOk, MatchBool, count_by, nat_lt};
 ghost use Rattle.model.specs.Configs.{is_page_size};
 ghost use Rattle.model.specs.Owning.{Each};
-ghost use Rattle.verify.specs.Soundness.{HasFrames, HasItsFrame, IsOnce, owners_in, times_in};
+ghost use Rattle.verify.specs.Soundness.{HasFrames, HasItsFrame, IsOnce, has_words, is_filled, owners_in, times_in};
 ghost use Rattle.verify.specs.Claims.{AreNoted, IsOverclaimed, TellsIf, noted};
 
 use crate::image::{Image, PageImage, Words};
@@ -49,12 +49,44 @@ fn is_page_size(words: u32) -> bool
     )
 }
 
-/// Whether all frames have so many words.
-fn all_sized(frames: &[Words], words: u32) -> bool
-    ensures { TellsIf result (Each frames.now (λ ws. length ws ≡ words)) }
+/// Whether a frame, if it is there, has so many words.
+fn has_words(frames: &[Words], words: u32, frame: u32) -> bool
+    ensures { result ≡ has_words frames.now words frame }
 {
-    for frame in frames {
-        if frame.len() != u64::from(words) {
+    match frames.get(frame as usize) {
+        None => true,
+        Some(memory) => memory.len() == u64::from(words),
+    }
+}
+
+/// Whether the frame of a page, if it has one, has so many words.
+fn is_filled(frames: &[Words], words: u32, page: &PageImage) -> bool
+    ensures { result ≡ is_filled frames.now words page.now.frame }
+{
+    match page.frame() {
+        None => true,
+        Some(frame) => has_words(frames, words, frame),
+    }
+}
+
+/// Whether the frames of all pages have so many words.
+fn all_filled(frames: &[Words], words: u32, pages: &[PageImage]) -> bool
+    ensures { TellsIf result (Each pages.now (λ p. is_filled frames.now words p.frame ≡ true)) }
+{
+    for page in pages {
+        if !is_filled(frames, words, page) {
+            return false;
+        }
+    }
+    true
+}
+
+/// Whether all free frames have no words.
+fn all_empty(frames: &[Words], free: &[u32]) -> bool
+    ensures { TellsIf result (Each free.now (λ f. has_words frames.now 0 f ≡ true)) }
+{
+    for frame in free {
+        if !has_words(frames, 0, *frame) {
             return false;
         }
     }
@@ -156,7 +188,10 @@ pub(crate) fn has_frames(alloc: Global, image: &Image) -> Result<bool, AllocErro
     if !is_page_size(image.words) {
         return Ok(false);
     }
-    if !all_sized(&image.frames, image.words) {
+    if !all_filled(&image.frames, image.words, &image.pages) {
+        return Ok(false);
+    }
+    if !all_empty(&image.frames, &image.free) {
         return Ok(false);
     }
     if image.frame_count as usize > image.frames.len() {

@@ -15,7 +15,7 @@ pub enum Root {
 /// if it is null, or a word that leads to an object's start in a page with a frame.
 #[derive(Clone, Copy, Debug, PartialEq, Eq)]
 pub enum Fault {
-    /// The page size, the frames' words, or which page owns which frame.
+    /// The page size, how many words the frames of pages and free frames have, or which page owns which frame.
     Frames,
     /// A root's value isn't good.
     Root(Root),

@@ -1,0 +1,34 @@
+//! The memory of frames that no page has.
+
+ghost use Rattle.std.specs.Prelude.{◌≡◌};
+ghost use Rattle.foreign.specs.Looking.{IsDone, KeepsUntold};
+
+use crate::codes::{DONE, NO_HEAP};
+use crate::handle::Handle;
+
+/// Tells how many frames' memory is kept for the next pages, of frames that became free.
+#[unsafe(no_mangle)]
+pub extern "C" fn pauseless_kept(heap: &mut Handle, frames: &mut u64) -> u32
+    ensures done { IsDone heap.old.slot.held result }
+    ensures untold { KeepsUntold heap.old.slot.held frames.old frames.new }
+    ensures same { heap.new.slot.held ≡ heap.old.slot.held }
+{
+    let Some(held) = heap.lend() else {
+        return NO_HEAP;
+    };
+    *frames = held.heap.kept_frames() as u64;
+    DONE
+}
+
+/// Gives memory of free frames back to the allocator, but for that of so many frames. Nothing of the heap changes.
+#[unsafe(no_mangle)]
+pub extern "C" fn pauseless_trim(heap: &mut Handle, frames: u32) -> u32
+    ensures done { IsDone heap.old.slot.held result }
+    ensures same { heap.new.slot.held ≡ heap.old.slot.held }
+{
+    let Some(held) = heap.lend() else {
+        return NO_HEAP;
+    };
+    held.heap.trim(frames as usize);
+    DONE
+}
