@@ -60,7 +60,7 @@ fn pack_one(words: u32, before: Packing, size: u32) -> Packing
 fn pack_row(heap: &Heap, page: u32, row: &Row, before: Packing) -> Packing
     requires low { 0 < page }
     requires high { page ≤ heap.now.store.count }
-    requires size { length row.now ≡ heap.now.store.words }
+    requires size { length row.now ≤ heap.now.store.words }
     requires targets { before.target ≤ 2 ^ 32 }
     requires offset { before.offset < 2 ^ 17 }
     ensures value { result ≡ pack heap.now.store.words before (map (size_on heap.now page) (offsets_from 0 row.now)) }

@@ -13,7 +13,7 @@ use std::alloc::{AllocError, Global};
 fn row_words(heap: &Heap, page: u32, row: &Row) -> u64
     requires low { 0 < page }
     requires high { page ≤ heap.now.store.count }
-    requires size { length row.now ≡ heap.now.store.words }
+    requires size { length row.now ≤ heap.now.store.words }
     ensures value { result ≡ sum_by (size_on heap.now page) (offsets_from 0 row.now) }
     ensures range { result ≤ 131071 * 32768 }
 {

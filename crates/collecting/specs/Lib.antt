@@ -6,3 +6,4 @@ pub mod Objects
 pub mod Parts
 pub mod Stages
 pub mod Pacing
+pub mod Targets

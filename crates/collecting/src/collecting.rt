@@ -1,6 +1,6 @@
 //! Collections by one call.
 
-ghost use Rattle.std.specs.Prelude.{◌≡◌, IfOk, false, length};
+ghost use Rattle.std.specs.Prelude.{◌≡◌, IfOk, false, length, if◌then◌else◌, nat_lt};
 ghost use Rattle.model.specs.declared.steps.Step.TheVariants as steps;
 ghost use Rattle.model.specs.Phases.{is_protect_crossing};
 ghost use Rattle.managed.specs.Batches.{EndsLoads};
@@ -15,12 +15,14 @@ ghost use Rattle.collecting.specs.Pacing.{MakesPaced};
 ghost use Rattle.collecting.specs.Parts.{EndsPart};
 ghost use Rattle.collecting.specs.Stages.{PartGoesOn};
 ghost use Rattle.collecting.specs.Rooms.{EndsMaking, EndsRefill, IsNotHeld, MakingStands, Refills};
+ghost use Rattle.collecting.specs.Targets.{grown, in_use};
 
 use crate::cycles::run_cycle;
 use crate::leftovers::settle;
 use crate::parts::Parts;
 use crate::policy::Policy;
 use crate::seeing::Object;
+use crate::target::Target;
 use crate::{filling, pacing, parts, rooms, seeing};
 use cycle::Mutating;
 use managed::{FieldLoad, LoadsFault, ManagedHeap};
@@ -198,6 +200,11 @@ pub trait Holding: Mutating {
     /// Gives memory of free frames back to the allocator, but for that of `most` frames. Memory of frames that
     /// became free is kept for the next pages until then. Nothing of the heap changes.
     fn trim(&mut self, most: usize);
+
+    /// Tells a target how many frames are used, as `Target::follow`; where that sets it, memory of free frames that the
+    /// target doesn't allow is given back. A program does this behind each call that may collect, and gives the next
+    /// ones `target.policy(..)`. Nothing of the heap changes.
+    fn follow(&mut self, target: &mut Target);
 }
 
 impl Holding for ManagedHeap {
@@ -374,6 +381,21 @@ impl Holding for ManagedHeap {
         ensures { self.new ≡ self.old }
     {
         ManagedHeap::trim(self, most);
+    }
+
+    #[inline(always)]
+    fn follow(&mut self, target: &mut Target)
+        ensures heap { self.new ≡ self.old }
+        ensures used { target.new.used ≡ in_use self.old }
+        ensures frames { target.new.frames ≡ (if nat_lt (in_use self.old) target.old.used
+            then grown target.old.least target.old.growth (in_use self.old) else target.old.frames) }
+    {
+        let heap = self.heap();
+        let used = heap.config().frames.saturating_sub(heap.memory().free_frames());
+        if target.follow(used) {
+            let allowed = target.frames().saturating_sub(used);
+            ManagedHeap::trim(self, allowed as usize);
+        }
     }
 }
 

@@ -15,9 +15,11 @@ mod policy;
 mod portions;
 mod rooms;
 mod seeing;
+mod target;
 
 pub use collecting::{Collected, Holding};
 pub use faults::CallFault;
 pub use parts::Parts;
 pub use policy::Policy;
 pub use seeing::Object;
+pub use target::Target;

@@ -15,6 +15,7 @@ use Rattle.foreign.specs.Batches.{LoadsEach, code_of_loads, done_of_loads}
 use Rattle.foreign.specs.Codes.{code_of}
 use Rattle.foreign.specs.Calls.{Calls, Gives, GivesHeld, Loaded, Stepped}
 use Rattle.foreign.specs.Lending.{replaced}
+use Rattle.foreign.specs.Looking.{Keeps}
 
 -- of a handle that has a heap
 there : (Q : Option Held → Option Held → Type 0) (b g : Held) (old new : Option Held) → Some b ≡ old
@@ -67,3 +68,9 @@ pub loaded_each : (t object : ℕ) (ls : List FieldLoad) (b : Held) (old : Optio
     → new ≡ replaced old g → LoadsEach t object ls old code done new
 loaded_each t object ls b old r code done g new was loads says many is =
     there (λ o n. LoadsEach t object ls o code done n) b g old new was is (λ same. (r, g, loads, says, many, same))
+
+-- the same of a call that leaves the heap
+pub kept : (b : Held) (old : Option Held) (code : ℕ) (g : Held) (new : Option Held) → Some b ≡ old → g.heap ≡ b.heap
+    → g.parts ≡ b.parts → code ≡ 0 → new ≡ replaced old g → Keeps old code new
+kept b old code g new was heap parts done is =
+    there (λ o n. Keeps o code n) b g old new was is (λ same. (g, heap, parts, done, same))

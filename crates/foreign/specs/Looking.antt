@@ -36,3 +36,8 @@ IsDone (Some h) code = code ≡ 0
 abbrev pub KeepsUntold : Option Held → ℕ → ℕ → Type 0
 KeepsUntold None old new = new ≡ old
 KeepsUntold (Some h) old new = Unit {0}
+
+-- the heap is as it was, and a collection in parts has come as far, if there is a heap; else the code says so
+abbrev pub Keeps : Option Held → ℕ → Option Held → Type 0
+Keeps None code new = (code ≡ NO_HEAP) × (new ≡ None)
+Keeps (Some h) code new = (g : Held) × (g.heap ≡ h.heap) × (g.parts ≡ h.parts) × (code ≡ 0) × (new ≡ Some g)

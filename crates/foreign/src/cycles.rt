@@ -52,6 +52,7 @@ pub extern "C" fn pauseless_collect(
         return NO_HEAP;
     };
     let answer = held.heap.collect(alloc, percent);
+    held.follow();
     give_collected(answer, done)
 }
 
@@ -59,8 +60,10 @@ pub extern "C" fn pauseless_collect(
 fn collect_part(alloc: Global, held: &mut Held, percent: u32, budget: u32) -> Result<bool, Refusal>
     ensures { PartOf percent budget held.old result held.new }
 {
-    held.heap
-        .collect_some(alloc, &mut held.parts, percent, budget)
+    let parts = &mut held.parts;
+    let answer = held.heap.collect_some(alloc, parts, percent, budget);
+    held.follow();
+    answer
 }
 
 /// Does the next part of a collection, with a budget of so many objects. Fails as `Holding::collect_some` does.

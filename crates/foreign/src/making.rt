@@ -6,7 +6,7 @@ ghost use Rattle.foreign.specs.Making.{Makes, MadeOf, config_of, layout_of, usua
 use crate::codes::{DONE, HAS_HEAP, NO_MEMORY, config_code};
 use crate::handle::Handle;
 use crate::held::Held;
-use collecting::Parts;
+use collecting::{Parts, Target};
 use heap::{Config, NewFault};
 use layout::{Layout, Layouts};
 use managed::ManagedHeap;
@@ -111,7 +111,8 @@ fn make_of(alloc: Global, config: Config) -> Result<Box<Held>, u32>
     match ManagedHeap::new(alloc, config) {
         Ok(heap) => {
             let parts = Parts::new(alloc);
-            Box::new(alloc, Held { heap, parts }).ok().ok_or(NO_MEMORY)
+            let target = Target::open();
+            Box::new(alloc, Held { heap, parts, target }).ok().ok_or(NO_MEMORY)
         }
         Err(NewFault::Config(fault)) => Err(config_code(fault)),
         Err(NewFault::Memory) => Err(NO_MEMORY),

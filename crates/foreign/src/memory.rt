@@ -1,10 +1,11 @@
 //! The memory of frames that no page has.
 
 ghost use Rattle.std.specs.Prelude.{◌≡◌};
-ghost use Rattle.foreign.specs.Looking.{IsDone, KeepsUntold};
+ghost use Rattle.foreign.specs.Looking.{IsDone, Keeps, KeepsUntold};
 
 use crate::codes::{DONE, NO_HEAP};
 use crate::handle::Handle;
+use collecting::{Holding, Target};
 
 /// Tells how many frames' memory is kept for the next pages, of frames that became free.
 #[unsafe(no_mangle)]
@@ -30,5 +31,19 @@ pub extern "C" fn pauseless_trim(heap: &mut Handle, frames: u32) -> u32
         return NO_HEAP;
     };
     held.heap.trim(frames as usize);
+    DONE
+}
+
+/// Lets the memory of the heap follow what lives in it: from now on it is also collected where it uses `least` frames,
+/// and, after a collection, as many as it used then and `growth` of a hundred besides; and memory beyond goes back.
+#[tactic(auto, using(crate::proofs::Calling::kept))]
+#[unsafe(no_mangle)]
+pub extern "C" fn pauseless_set_growth(heap: &mut Handle, least: u32, growth: u32) -> u32
+    ensures { Keeps heap.old.slot.held result heap.new.slot.held }
+{
+    let Some(held) = heap.lend() else {
+        return NO_HEAP;
+    };
+    held.target = Target::new(least, growth);
     DONE
 }

@@ -1,5 +1,5 @@
 -- The frames of a heap's image: each has one owner, or is free once.
-use Rattle.std.proofs.Common.{◌≡◌, inl, inr, ◌≤◌, ℕ, ◌+◌, true, ltb, List, length}
+use Rattle.std.proofs.Common.{◌≡◌, ◌||◌, inl, inr, ◌≤◌, ℕ, ◌+◌, true, ltb, List, length}
 use Rattle.std.proofs.Common.{Option, Some, None, is_some, refl, sym, ap, ◌∙◌, subst, arith}
 use Rattle.std.specs.List.{slice_get, range_with_len}
 use Rattle.std.specs.Option.{option_map}
@@ -15,7 +15,7 @@ use Rattle.model.proofs.Lists.{get_within}
 use Rattle.model.proofs.Memory.{page_record}
 use Rattle.refinement.proofs.Granted.{page_here}
 use Rattle.verify.specs.Images.{PageData}
-use Rattle.verify.specs.Soundness.{is_filled, is_frame, is_sized, has_words, owners_in, times_in, as_number}
+use Rattle.verify.specs.Soundness.{is_filled, is_frame, is_sized, has_words, owners_in, times_in, as_number, may_be_free}
 use Rattle.verify.specs.Soundness.{HasItsFrame, HasFrames}
 use Rattle.verify.specs.Pictures.{image_of, page_data, pages_of, is_free, free_of}
 use Rattle.soundness.proofs.Lists.{numbered, mapped_first, count_none, count_one}
@@ -127,9 +127,9 @@ module _ (h : HeapState) (s : IsStore h.store) (d : IsHeap h) where
       by_frame None z = refl
       by_frame (Some f) z = sized_frame f (Some (j + 1)) (owner_of f j y e (ap (is_frame f) z ∙ eq-eqb f f refl))
 
-  empty : Each (free_of h.store) (λ f. has_words h.store.frames 0 f ≡ true)
-  empty j f e = sized_frame f None (no_owner (slice_get h.store.owners f)
-      (filtered_passes (λ f. is_free (slice_get h.store.owners f)) (range_with_len 0 (length h.store.owners)) j f e))
+  free : Each (free_of h.store) (λ f. may_be_free h.store.frames h.config.words f ≡ true)
+  free j f e = ap (λ b. b || has_words h.store.frames h.config.words f) (sized_frame f None (no_owner (slice_get h.store.owners f)
+      (filtered_passes (λ f. is_free (slice_get h.store.owners f)) (range_with_len 0 (length h.store.owners)) j f e)))
 
   -- the frames of a heap's image are in order
   pub has_frames : HasFrames (image_of h)
@@ -137,7 +137,7 @@ module _ (h : HeapState) (s : IsStore h.store) (d : IsHeap h) where
   has_frames = record {
     size = ap is_page_size d.sizes.words ∙ d.config.page_size;
     words = filled;
-    empty = empty;
+    free = free;
     there = omega (arith, d.sizes.frames);
     states = framed_by_state;
     once = λ f.

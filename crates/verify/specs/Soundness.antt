@@ -1,6 +1,6 @@
 -- When the image of a heap is sound.
 use Rattle.std.specs.Prelude.{◌≡◌, ◌≢◌, ◌⊎◌, ◌≤◌, ℕ, ◌+◌, ◌==◌, Bool, true, false, List, length, Option, Some}
-use Rattle.std.specs.Prelude.{None, is_some, option_map, slice_get, count_by, nat_lt}
+use Rattle.std.specs.Prelude.{None, is_some, option_map, slice_get, count_by, nat_lt, ◌||◌}
 use Rattle.std.specs.Option.{option_flatten}
 use Rattle.model.specs.Configs.{is_page_size}
 use Rattle.model.specs.Stores.{has_memory}
@@ -46,7 +46,11 @@ is_sized words (Some ws) = length ws == words
 abbrev pub has_words : List (List ℕ) → ℕ → ℕ → Bool
 has_words frames words f = is_sized words (slice_get frames f)
 
--- so does the frame of a page, if it has one
+-- frame f is as a free one may be: it has no words, or those of a page
+abbrev pub may_be_free : List (List ℕ) → ℕ → ℕ → Bool
+may_be_free frames words f = has_words frames 0 f || has_words frames words f
+
+-- the frame of a page, if it has one, has so many words
 abbrev pub is_filled : List (List ℕ) → ℕ → Option ℕ → Bool
 is_filled frames words None = true
 is_filled frames words (Some f) = has_words frames words f
@@ -60,12 +64,12 @@ HasItsFrame p = is_some p.frame ≡ has_memory p.state
 abbrev pub IsOnce : ImageData → Type 0
 IsOnce i = (f : ℕ) → uses_of i f ≡ as_number (nat_lt f i.frame_count)
 
--- pages are of a size within the limits, the frame of each page has the words of a page, a free one has none, as many
--- frames as configured are there, and each of these has one owner or is free, once
+-- pages are of a size within the limits, the frame of each page has the words of a page, a free one has them or none, as
+-- many frames as configured are there, and each of these has one owner or is free, once
 pub record HasFrames (i : ImageData) : Type 0 where
   pub size : is_page_size i.words ≡ true
   pub words : Each i.pages (λ p. is_filled i.frames i.words p.frame ≡ true)
-  pub empty : Each i.free (λ f. has_words i.frames 0 f ≡ true)
+  pub free : Each i.free (λ f. may_be_free i.frames i.words f ≡ true)
   pub there : i.frame_count ≤ length i.frames
   pub states : Each i.pages HasItsFrame
   pub once : IsOnce i

@@ -1,10 +1,10 @@
-//! Whether the frames of an image are in order: each the memory of one page, or free and without words.
+//! Whether the frames of an image are in order: each the memory of one page, or free.
 
 ghost use Rattle.std.specs.Prelude.{if◌then◌else◌, ◌≡◌, ◌≢◌, ◌<◌, ◌≤◌, ◌⊎◌, ◌+◌, ◌==◌, ℕ, false, true, length};
 ghost use Rattle.std.specs.Prelude.{get_or, slice_set, vec_len, IfOk, MatchBool, count_by, nat_lt};
 ghost use Rattle.model.specs.Configs.{is_page_size};
 ghost use Rattle.model.specs.Owning.{Each};
-ghost use Rattle.verify.specs.Soundness.{HasFrames, HasItsFrame, IsOnce, has_words, is_filled, owners_in, times_in};
+ghost use Rattle.verify.specs.Soundness.{HasFrames, HasItsFrame, IsOnce, has_words, is_filled, may_be_free, owners_in, times_in};
 ghost use Rattle.verify.specs.Claims.{AreNoted, IsOverclaimed, TellsIf, noted};
 
 use crate::image::{Image, PageImage, Words};
@@ -59,6 +59,13 @@ fn has_words(frames: &[Words], words: u32, frame: u32) -> bool
     }
 }
 
+/// Whether a frame, if it is there, has no words, or so many.
+fn may_be_free(frames: &[Words], words: u32, frame: u32) -> bool
+    ensures { result ≡ may_be_free frames.now words frame }
+{
+    has_words(frames, 0, frame) || has_words(frames, words, frame)
+}
+
 /// Whether the frame of a page, if it has one, has so many words.
 fn is_filled(frames: &[Words], words: u32, page: &PageImage) -> bool
     ensures { result ≡ is_filled frames.now words page.now.frame }
@@ -81,12 +88,12 @@ fn all_filled(frames: &[Words], words: u32, pages: &[PageImage]) -> bool
     true
 }
 
-/// Whether all free frames have no words.
-fn all_empty(frames: &[Words], free: &[u32]) -> bool
-    ensures { TellsIf result (Each free.now (λ f. has_words frames.now 0 f ≡ true)) }
+/// Whether each free frame has no words, or so many.
+fn all_free(frames: &[Words], words: u32, free: &[u32]) -> bool
+    ensures { TellsIf result (Each free.now (λ f. may_be_free frames.now words f ≡ true)) }
 {
     for frame in free {
-        if !has_words(frames, 0, *frame) {
+        if !may_be_free(frames, words, *frame) {
             return false;
         }
     }
@@ -191,7 +198,7 @@ pub(crate) fn has_frames(alloc: Global, image: &Image) -> Result<bool, AllocErro
     if !all_filled(&image.frames, image.words, &image.pages) {
         return Ok(false);
     }
-    if !all_empty(&image.frames, &image.free) {
+    if !all_free(&image.frames, image.words, &image.free) {
         return Ok(false);
     }
     if image.frame_count as usize > image.frames.len() {

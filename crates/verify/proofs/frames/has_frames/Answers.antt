@@ -1,7 +1,7 @@
 use Rattle.std.proofs.Common.{◌≡◌, ℕ, true, sym, ap, ◌∙◌, subst, List}
 use Rattle.model.specs.Owning.{Each}
 use Rattle.verify.specs.Images.{PageData}
-use Rattle.verify.specs.Soundness.{HasItsFrame, has_words, is_filled}
+use Rattle.verify.specs.Soundness.{HasItsFrame, is_filled, may_be_free}
 use Rattle.verify.proofs.frames.has_frames.Goals as goal
 
 filled : (fs gs : List (List ℕ)) (v w : ℕ) (ps qs : List PageData) → fs ≡ gs → v ≡ w → ps ≡ qs
@@ -11,21 +11,22 @@ filled fs gs v w ps qs a b c k =
     (subst (λ (u : ℕ). Each ps (λ p. is_filled gs u p.frame ≡ true)) (sym b)
     (subst (λ (xs : List PageData). Each xs (λ p. is_filled gs w p.frame ≡ true)) (sym c) k))
 
-empty : (fs gs : List (List ℕ)) (xs ys : List ℕ) → fs ≡ gs → xs ≡ ys
-    → Each ys (λ f. has_words gs 0 f ≡ true) → Each xs (λ f. has_words fs 0 f ≡ true)
-empty fs gs xs ys a b k =
-    subst (λ (zs : List (List ℕ)). Each xs (λ f. has_words zs 0 f ≡ true)) (sym a)
-    (subst (λ (zs : List ℕ). Each zs (λ f. has_words gs 0 f ≡ true)) (sym b) k)
+free : (fs gs : List (List ℕ)) (v w : ℕ) (xs ys : List ℕ) → fs ≡ gs → v ≡ w → xs ≡ ys
+    → Each ys (λ f. may_be_free gs w f ≡ true) → Each xs (λ f. may_be_free fs v f ≡ true)
+free fs gs v w xs ys a b c k =
+    subst (λ (zs : List (List ℕ)). Each xs (λ f. may_be_free zs v f ≡ true)) (sym a)
+    (subst (λ (u : ℕ). Each xs (λ f. may_be_free gs u f ≡ true)) (sym b)
+    (subst (λ (zs : List ℕ). Each zs (λ f. may_be_free gs w f ≡ true)) (sym c) k))
 
 pub returns-then-not-all_filled : goal.returns-then-not-all_filled
 returns-then-not-all_filled c = λ h. c.if-not-all_filled.ensures (filled _ _ _ _ _ _
     (c.deref.ensures.value ∙ ap (λ x. x.frames) c.image.view_is) (ap (λ x. x.words) c.image.view_is)
     (c.deref-2.ensures.value ∙ ap (λ x. x.pages) c.image.view_is) h.words)
 
-pub returns-then-not-all_empty : goal.returns-then-not-all_empty
-returns-then-not-all_empty c = λ h. c.if-not-all_empty.ensures (empty _ _ _ _
-    (c.deref-3.ensures.value ∙ ap (λ x. x.frames) c.image.view_is)
-    (c.deref-4.ensures.value ∙ ap (λ x. x.free) c.image.view_is) h.empty)
+pub returns-then-not-all_free : goal.returns-then-not-all_free
+returns-then-not-all_free c = λ h. c.if-not-all_free.ensures (free _ _ _ _ _ _
+    (c.deref-3.ensures.value ∙ ap (λ x. x.frames) c.image.view_is) (ap (λ x. x.words) c.image.view_is)
+    (c.deref-4.ensures.value ∙ ap (λ x. x.free) c.image.view_is) h.free)
 
 pub returns-then-not-all_framed : goal.returns-then-not-all_framed
 returns-then-not-all_framed c = λ h.

@@ -1,0 +1,23 @@
+-- How many frames a heap may use until it is collected.
+use Rattle.std.specs.Prelude.{ℕ, ◌+◌, ◌-◌, ◌*◌, ◌/◌, ◌==◌, nat_lt, count_by, is_none, if◌then◌else◌}
+use Rattle.model.specs.States.{HeapState}
+
+-- the larger of two numbers
+abbrev pub larger : ℕ → ℕ → ℕ
+larger a b = if nat_lt a b then b else a
+
+-- at least one
+abbrev pub some_of : ℕ → ℕ
+some_of n = if n == 0 then 1 else n
+
+-- a number that has at most 32 bits
+abbrev pub capped : ℕ → ℕ → ℕ
+capped least n = if nat_lt 4294967295 n then 4294967295 else larger least n
+
+-- the frames that are used after a collection, so many of a hundred besides, and no fewer than the least
+abbrev pub grown : ℕ → ℕ → ℕ → ℕ
+grown least growth used = capped least (used + some_of (used * growth / 100))
+
+-- how many frames a heap uses
+abbrev pub in_use : HeapState → ℕ
+in_use h = h.config.frames - count_by is_none h.store.owners

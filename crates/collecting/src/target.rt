@@ -1,0 +1,111 @@
+//! How many frames a heap may use until it is collected, by how many it used after its last collection.
+
+ghost use Rattle.std.specs.Prelude.{◌≡◌, ◌-◌, ◌==◌, if◌then◌else◌, nat_lt};
+ghost use Rattle.collecting.specs.Targets.{grown, larger};
+
+use crate::policy::Policy;
+
+/// How many frames a heap may use until it is collected: those that it used after its last collection, and so many of
+/// a hundred besides. So its memory follows what lives in it, and not what it may use at most.
+#[derive(Clone, Copy, Debug, PartialEq, Eq)]
+pub struct Target {
+    /// The frames that it may use in any case.
+    least: u32,
+    /// How many it may use besides, of a hundred that it used after its last collection.
+    growth: u32,
+    /// How many it may use.
+    frames: u32,
+    /// How many it used when the target was last told.
+    used: u32,
+}
+
+/// The larger of two numbers.
+fn larger(one: u32, other: u32) -> u32
+    ensures { result ≡ larger one other }
+{
+    if one < other { other } else { one }
+}
+
+/// How many frames may be used where so many are used after a collection: `growth` of a hundred besides, at least one,
+/// and at least `least` in all.
+fn grown(least: u32, growth: u32, used: u32) -> u32
+    ensures { result ≡ grown least growth used }
+{
+    let more = u64::from(used) * u64::from(growth) / 100;
+    let more = if more == 0 { 1 } else { more };
+    let all = u64::from(used) + more;
+    if all > u64::from(u32::MAX) {
+        u32::MAX
+    } else {
+        larger(least, all as u32)
+    }
+}
+
+impl Target {
+    /// A heap may use all its frames.
+    pub fn open() -> Target
+        ensures { result.frames ≡ 4294967295 }
+    {
+        Target::new(u32::MAX, 0)
+    }
+
+    /// Whether a heap may use all its frames.
+    #[inline(always)]
+    pub fn is_open(&self) -> bool
+        ensures { result ≡ (self.now.frames == 4294967295) }
+    {
+        self.frames == u32::MAX
+    }
+
+    /// A heap may use `least` frames, and after a collection `growth` frames for a hundred that it uses then, besides
+    /// them: 100 lets it double.
+    pub fn new(least: u32, growth: u32) -> Target
+        ensures { result.frames ≡ least }
+    {
+        Target {
+            least,
+            growth,
+            frames: least,
+            used: 0,
+        }
+    }
+
+    /// How many frames the heap may use until it is collected.
+    pub fn frames(&self) -> u32
+        ensures { result ≡ self.now.frames }
+    {
+        self.frames
+    }
+
+    /// A policy by which a heap of `most` frames is collected where no fewer are free than by this policy, and where it
+    /// uses as many as this target allows.
+    pub fn policy(&self, policy: Policy, most: u32) -> Policy
+        ensures words { result.words ≡ policy.words }
+        ensures percent { result.percent ≡ policy.percent }
+        ensures free { result.free ≡ larger policy.free (most - self.now.frames) }
+    {
+        Policy {
+            words: policy.words,
+            free: larger(policy.free, most.saturating_sub(self.frames)),
+            percent: policy.percent,
+        }
+    }
+
+    /// Tells how many frames are used now. Where they are fewer than they were, a collection has given frames back, and
+    /// the target is set by what is left. Returns whether it was.
+    pub fn follow(&mut self, used: u32) -> bool
+        ensures set { result ≡ nat_lt used self.old.used }
+        ensures frames { self.new.frames ≡ (if nat_lt used self.old.used then grown self.old.least self.old.growth used
+            else self.old.frames) }
+        ensures used { self.new.used ≡ used }
+        ensures least { self.new.least ≡ self.old.least }
+        ensures growth { self.new.growth ≡ self.old.growth }
+    {
+        let fewer = used < self.used;
+        self.used = used;
+        if fewer {
+            self.frames = grown(self.least, self.growth, used);
+        }
+        fewer
+    }
+}
