@@ -1,5 +1,5 @@
 -- How many frames a heap may use until it is collected.
-use Rattle.std.specs.Prelude.{ℕ, ◌+◌, ◌-◌, ◌*◌, ◌/◌, ◌==◌, nat_lt, count_by, is_none, if◌then◌else◌}
+use Rattle.std.specs.Prelude.{ℕ, Bool, ◌+◌, ◌-◌, ◌*◌, ◌/◌, ◌==◌, ◌||◌, nat_lt, count_by, is_none, if◌then◌else◌}
 use Rattle.model.specs.States.{HeapState}
 
 -- the larger of two numbers
@@ -17,6 +17,14 @@ capped least n = if nat_lt 4294967295 n then 4294967295 else larger least n
 -- the frames that are used after a collection, so many of a hundred besides, and no fewer than the least
 abbrev pub grown : ℕ → ℕ → ℕ → ℕ
 grown least growth used = capped least (used + some_of (used * growth / 100))
+
+-- a collection has come since so many frames were used: fewer are, or more than may be
+abbrev pub is_behind : ℕ → ℕ → ℕ → Bool
+is_behind before most used = nat_lt used before || nat_lt most used
+
+-- how many frames may be used, where so many are now
+abbrev pub followed : ℕ → ℕ → ℕ → ℕ → ℕ → ℕ
+followed least growth before most used = if is_behind before most used then grown least growth used else most
 
 -- how many frames a heap uses
 abbrev pub in_use : HeapState → ℕ

@@ -1,6 +1,6 @@
 //! Collections by one call.
 
-ghost use Rattle.std.specs.Prelude.{◌≡◌, IfOk, false, length, if◌then◌else◌, nat_lt};
+ghost use Rattle.std.specs.Prelude.{◌≡◌, IfOk, false, length};
 ghost use Rattle.model.specs.declared.steps.Step.TheVariants as steps;
 ghost use Rattle.model.specs.Phases.{is_protect_crossing};
 ghost use Rattle.managed.specs.Batches.{EndsLoads};
@@ -15,7 +15,7 @@ ghost use Rattle.collecting.specs.Pacing.{MakesPaced};
 ghost use Rattle.collecting.specs.Parts.{EndsPart};
 ghost use Rattle.collecting.specs.Stages.{PartGoesOn};
 ghost use Rattle.collecting.specs.Rooms.{EndsMaking, EndsRefill, IsNotHeld, MakingStands, Refills};
-ghost use Rattle.collecting.specs.Targets.{grown, in_use};
+ghost use Rattle.collecting.specs.Targets.{followed, in_use};
 
 use crate::cycles::run_cycle;
 use crate::leftovers::settle;
@@ -387,8 +387,8 @@ impl Holding for ManagedHeap {
     fn follow(&mut self, target: &mut Target)
         ensures heap { self.new ≡ self.old }
         ensures used { target.new.used ≡ in_use self.old }
-        ensures frames { target.new.frames ≡ (if nat_lt (in_use self.old) target.old.used
-            then grown target.old.least target.old.growth (in_use self.old) else target.old.frames) }
+        ensures frames { target.new.frames ≡ followed target.old.least target.old.growth target.old.used
+            target.old.frames (in_use self.old) }
     {
         let heap = self.heap();
         let used = heap.config().frames.saturating_sub(heap.memory().free_frames());

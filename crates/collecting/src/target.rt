@@ -1,7 +1,7 @@
 //! How many frames a heap may use until it is collected, by how many it used after its last collection.
 
-ghost use Rattle.std.specs.Prelude.{◌≡◌, ◌-◌, ◌==◌, if◌then◌else◌, nat_lt};
-ghost use Rattle.collecting.specs.Targets.{grown, larger};
+ghost use Rattle.std.specs.Prelude.{◌≡◌, ◌-◌, ◌==◌, if◌then◌else◌};
+ghost use Rattle.collecting.specs.Targets.{followed, grown, is_behind, larger};
 
 use crate::policy::Policy;
 
@@ -91,21 +91,20 @@ impl Target {
         }
     }
 
-    /// Tells how many frames are used now. Where they are fewer than they were, a collection has given frames back, and
-    /// the target is set by what is left. Returns whether it was.
+    /// Tells how many frames are used now. A collection has come where they are fewer than they were, or more than they
+    /// may be: the target is set then, by those that are used. Returns whether it was.
     pub fn follow(&mut self, used: u32) -> bool
-        ensures set { result ≡ nat_lt used self.old.used }
-        ensures frames { self.new.frames ≡ (if nat_lt used self.old.used then grown self.old.least self.old.growth used
-            else self.old.frames) }
+        ensures set { result ≡ is_behind self.old.used self.old.frames used }
+        ensures frames { self.new.frames ≡ followed self.old.least self.old.growth self.old.used self.old.frames used }
         ensures used { self.new.used ≡ used }
         ensures least { self.new.least ≡ self.old.least }
         ensures growth { self.new.growth ≡ self.old.growth }
     {
-        let fewer = used < self.used;
+        let collected = used < self.used || used > self.frames;
         self.used = used;
-        if fewer {
+        if collected {
             self.frames = grown(self.least, self.growth, used);
         }
-        fewer
+        collected
     }
 }

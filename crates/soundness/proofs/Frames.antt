@@ -127,8 +127,8 @@ module _ (h : HeapState) (s : IsStore h.store) (d : IsHeap h) where
       by_frame None z = refl
       by_frame (Some f) z = sized_frame f (Some (j + 1)) (owner_of f j y e (ap (is_frame f) z ∙ eq-eqb f f refl))
 
-  free : Each (free_of h.store) (λ f. may_be_free h.store.frames h.config.words f ≡ true)
-  free j f e = ap (λ b. b || has_words h.store.frames h.config.words f) (sized_frame f None (no_owner (slice_get h.store.owners f)
+  free : Each (free_of h.store) (λ f. may_be_free h.store.frames h.store.words f ≡ true)
+  free j f e = ap (λ b. b || has_words h.store.frames h.store.words f) (sized_frame f None (no_owner (slice_get h.store.owners f)
       (filtered_passes (λ f. is_free (slice_get h.store.owners f)) (range_with_len 0 (length h.store.owners)) j f e)))
 
   -- the frames of a heap's image are in order
