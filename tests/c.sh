@@ -1,9 +1,9 @@
 #!/bin/sh
 # Tests the library for C: that the header's codes, functions and structs are those of the code; that the programs of
 # examples/c print what their files NAME.expected have; that each function does what it should with its arguments, and
-# writes nothing if it fails (tests/c/calls.c); that random calls answer what a plain heap would (tests/c/random.c); and
+# writes nothing if it fails (tests/c/calls.c); that random calls answer what a plain heap would (tests/c/random.c);
 # that all memory is given back, that each request for memory may be refused, and that a verification looks at the heap
-# (tests/c/memory.c). With valgrind, that no program leaks memory or reads what it hasn't written. The library is
+# (tests/c/memory.c); and that the memory of a process follows what lives in its heap (tests/c/growth.c). With valgrind, that no program leaks memory or reads what it hasn't written. The library is
 # ./libpauseless.a, or the one that the first argument names.
 
 cd "$(dirname "$0")/.." || exit 1
@@ -67,6 +67,14 @@ for source in examples/c/*.c; do
     told "$name prints what it should" $?
     leaves "$name"
 done
+
+# The memory of the process follows what lives in the heap. By malloc as it is in glibc, and not under valgrind.
+if printf '#include <malloc.h>\nint main(void) { return malloc_trim(0) > 1; }' | $CC -xc - -o "$kept/trims" 2> "$kept/errors"
+then
+    build tests/c/growth.c -D_DEFAULT_SOURCE
+    "$kept/growth"
+    told 'growth finds no difference' $?
+fi
 
 # Threads that share a heap; and, where there is one, under a tool that finds races in the header and the test.
 build tests/c/shared.c -pthread

@@ -390,6 +390,47 @@ static void kept_memory(void) {
     pauseless_free(&heap);
 }
 
+/* How few frames are free at least while objects are made that nobody keeps: one by one, filled, or each on a page of
+ * its own. With a target of two frames, and half as many besides as are used behind a collection. */
+static uint32_t least_free(bool follows, pauseless_policy policy, int how) {
+    const uint64_t number = 7;
+    const uint32_t none = 0;
+    uint32_t least = 8;
+    makes_heap();
+    if (follows) DONE(pauseless_set_growth(&heap, 2, 50));
+    for (int i = 0; i < 300; i++) {
+        if (how == 0) DONE(pauseless_make(&heap, &policy, 1, 4, 2));
+        else if (how == 1) DONE(pauseless_make_with(&heap, &policy, 1, 4, 2, &none, 0, &number, 1));
+        else DONE(pauseless_refill(&heap, &policy, 1));
+        if (free_frames() < least) least = free_frames();
+    }
+    DONE(pauseless_verify(&heap));
+    pauseless_free(&heap);
+    return least;
+}
+
+static void growth(void) {
+    const pauseless_policy whole = {.words = 64, .free = 1, .percent = 75};
+    const pauseless_policy parts = {.words = 64, .free = 1, .percent = 75, .budget = 4096};
+    for (int how = 0; how < 3; how++) {
+        SAME(least_free(false, whole, how), 1);
+        SAME(least_free(true, whole, how), 6);
+        SAME(least_free(true, parts, how) > 0, true);
+    }
+}
+
+/* Memory that a target doesn't allow goes back behind a collection: nothing of the list's five pages is kept but for
+ * the two that may be used besides the one that the list needs then. */
+static void growth_trims(void) {
+    pauseless_collected done;
+    makes_sparse();
+    DONE(pauseless_set_growth(&heap, 3, 0));
+    DONE(pauseless_collect(&heap, 100, &done));
+    kept_is(2);
+    list_is_whole();
+    pauseless_free(&heap);
+}
+
 /* How many parts a collection takes; 1,000 where it doesn't end before. */
 static unsigned parts_of(uint32_t percent, uint32_t budget) {
     for (unsigned parts = 1; parts < 1000; parts++) {
@@ -497,6 +538,7 @@ static void without_heap(void) {
     SAME(pauseless_clear(&heap, 0, 0), PAUSELESS_NO_HEAP);
     SAME(pauseless_set(&heap, 0, 0, 0, 0), PAUSELESS_NO_HEAP);
     SAME(pauseless_trim(&heap, 0), PAUSELESS_NO_HEAP);
+    SAME(pauseless_set_growth(&heap, 1, 1), PAUSELESS_NO_HEAP);
     SAME(pauseless_verify(&heap), PAUSELESS_NO_HEAP);
     pauseless_free(&heap);
 }
@@ -520,6 +562,8 @@ int main(void) {
     not_filled();
     collections();
     kept_memory();
+    growth();
+    growth_trims();
     parts();
     reports();
     unwritten();

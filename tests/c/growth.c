@@ -62,11 +62,17 @@ static void shorten(unsigned long objects) {
     DONE(pauseless_clear(&heap, 0, NODE));
 }
 
-/* The heap is collected, and the process has what lives in the heap, and half as much besides, and 32 MiB. */
-static void settles(const char *what, double live) {
+static void collects(double live) {
     pauseless_collected done;
     DONE(pauseless_collect(&heap, 75, &done));
     SAME(done.live, live * MIB_OBJECTS);
+}
+
+/* The heap is collected, and the process has what lives in the heap, and half as much besides, and 32 MiB. What a page
+ * that was emptied needs besides its words goes back with the next collection. */
+static void settles(const char *what, double live) {
+    collects(live);
+    malloc_trim(0);
     const double found = resident();
     printf("%s: %.1f MiB\n", what, found);
     at_most(what, found, 1.5 * live + 32);
@@ -75,7 +81,7 @@ static void settles(const char *what, double live) {
 int main(void) {
     const pauseless_layout layout = {.refs = 1, .nums = OBJECT_WORDS - 2};
     pauseless_sizes sizes;
-    /* So that memory of a page goes back to the system as the heap gives it back. */
+    /* So that memory of a page goes back to the system as the heap gives it back; for small blocks malloc is told. */
     mallopt(M_MMAP_THRESHOLD, 65536);
     pauseless_usual(WORDS, FRAMES, &sizes);
     const double before = resident(), began = now();
@@ -89,6 +95,7 @@ int main(void) {
     lengthen(499 * MIB_OBJECTS);
     settles("500 MiB", 500);
     shorten(MIB_OBJECTS);
+    collects(1);
     settles("1 MiB again", 1);
     DONE(pauseless_verify(&heap));
     pauseless_free(&heap);

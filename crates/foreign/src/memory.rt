@@ -45,5 +45,6 @@ pub extern "C" fn pauseless_set_growth(heap: &mut Handle, least: u32, growth: u3
         return NO_HEAP;
     };
     held.target = Target::new(least, growth);
+    held.follow();
     DONE
 }
