@@ -112,47 +112,7 @@ pub extern "C" fn pauseless_new_object(
     code_of(answer)
 }
 
-/// Makes an object by a policy: beside a collection in parts if there is a budget for these.
-#[inline(always)]
-fn make_by_policy(
-    alloc: Global,
-    held: &mut Held,
-    policy: Policy,
-    budget: u32,
-    thread: u32,
-    target: u32,
-    layout: u32,
-) -> Result<u64, Refusal>
-    ensures { Made policy.words policy.percent thread target layout held.old.heap result held.new.heap }
-{
-    if budget == 0 {
-        held.heap.make(alloc, policy, thread, target, layout)
-    } else {
-        let parts = &mut held.parts;
-        held.heap
-            .make_paced(alloc, parts, policy, budget, thread, target, layout)
-    }
-}
-
-/// The same of a heap whose memory follows what lives in it.
-#[inline(never)]
-fn make_by_target(
-    alloc: Global,
-    held: &mut Held,
-    policy: &PolicyOfC,
-    thread: u32,
-    target: u32,
-    layout: u32,
-) -> Result<u64, Refusal>
-    ensures { Made policy.now.words policy.now.percent thread target layout held.old.heap result held.new.heap }
-{
-    let by = held.policy(policy_of(policy));
-    let made = make_by_policy(alloc, held, by, policy.budget, thread, target, layout);
-    held.follow();
-    made
-}
-
-/// Makes an object by the policy of a call.
+/// Makes an object by the policy: beside a collection in parts if it has a budget for these.
 #[inline(always)]
 fn make_by(
     alloc: Global,
@@ -164,64 +124,19 @@ fn make_by(
 ) -> Result<u64, Refusal>
     ensures { Made policy.now.words policy.now.percent thread target layout held.old.heap result held.new.heap }
 {
-    if held.target.is_open() {
-        let by = policy_of(policy);
-        make_by_policy(alloc, held, by, policy.budget, thread, target, layout)
-    } else {
-        make_by_target(alloc, held, policy, thread, target, layout)
-    }
-}
-
-/// Makes an object by a policy, and fills it.
-#[inline(always)]
-fn make_with_by_policy(
-    alloc: Global,
-    held: &mut Held,
-    policy: Policy,
-    budget: u32,
-    thread: u32,
-    target: u32,
-    layout: u32,
-    sources: &[u32],
-    nums: &[u64],
-) -> Result<u64, Refusal>
-    ensures { MadeWith policy.words policy.percent thread target layout sources.now nums.now held.old.heap result
-        held.new.heap }
-{
-    if budget == 0 {
-        held.heap
-            .make_with(alloc, policy, thread, target, layout, sources, nums)
-    } else {
-        let parts = &mut held.parts;
-        held.heap.make_with_paced(
-            alloc, parts, policy, budget, thread, target, layout, sources, nums,
-        )
-    }
-}
-
-/// The same of a heap whose memory follows what lives in it.
-#[inline(never)]
-fn make_with_by_target(
-    alloc: Global,
-    held: &mut Held,
-    policy: &PolicyOfC,
-    thread: u32,
-    target: u32,
-    layout: u32,
-    sources: &[u32],
-    nums: &[u64],
-) -> Result<u64, Refusal>
-    ensures { MadeWith policy.now.words policy.now.percent thread target layout sources.now nums.now held.old.heap
-        result held.new.heap }
-{
     let by = held.policy(policy_of(policy));
-    let budget = policy.budget;
-    let made = make_with_by_policy(alloc, held, by, budget, thread, target, layout, sources, nums);
+    let made = if policy.budget == 0 {
+        held.heap.make(alloc, by, thread, target, layout)
+    } else {
+        let (parts, budget) = (&mut held.parts, policy.budget);
+        held.heap
+            .make_paced(alloc, parts, by, budget, thread, target, layout)
+    };
     held.follow();
     made
 }
 
-/// Makes an object by the policy of a call, and fills it.
+/// Makes an object by the policy, and fills it.
 #[inline(always)]
 fn make_with_by(
     alloc: Global,
@@ -236,12 +151,18 @@ fn make_with_by(
     ensures { MadeWith policy.now.words policy.now.percent thread target layout sources.now nums.now held.old.heap
         result held.new.heap }
 {
-    if held.target.is_open() {
-        let (by, budget) = (policy_of(policy), policy.budget);
-        make_with_by_policy(alloc, held, by, budget, thread, target, layout, sources, nums)
+    let by = held.policy(policy_of(policy));
+    let made = if policy.budget == 0 {
+        held.heap
+            .make_with(alloc, by, thread, target, layout, sources, nums)
     } else {
-        make_with_by_target(alloc, held, policy, thread, target, layout, sources, nums)
-    }
+        let (parts, budget) = (&mut held.parts, policy.budget);
+        held.heap.make_with_paced(
+            alloc, parts, by, budget, thread, target, layout, sources, nums,
+        )
+    };
+    held.follow();
+    made
 }
 
 /// Makes an object; where the thread's buffer has no room for it, `pauseless_refill` gets it one before. Refused as
