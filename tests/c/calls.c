@@ -363,74 +363,6 @@ static void collections(void) {
     pauseless_free(&heap);
 }
 
-static void kept_is(uint64_t frames) {
-    uint64_t kept = 99;
-    DONE(pauseless_kept(&heap, &kept));
-    SAME(kept, frames);
-}
-
-/* Memory of emptied pages is kept until it is given back, and the heap goes on without it. */
-static void kept_memory(void) {
-    const pauseless_policy policy = {.words = 64, .free = 0, .percent = 75};
-    pauseless_collected done;
-    makes_sparse();
-    kept_is(0);
-    DONE(pauseless_collect(&heap, 100, &done));
-    kept_is(5);
-    DONE(pauseless_trim(&heap, 3));
-    kept_is(3);
-    DONE(pauseless_trim(&heap, 4));
-    kept_is(3);
-    DONE(pauseless_refill(&heap, &policy, 0));
-    kept_is(2);
-    DONE(pauseless_trim(&heap, 0));
-    kept_is(0);
-    list_is_whole();
-    DONE(pauseless_verify(&heap));
-    pauseless_free(&heap);
-}
-
-/* How few frames are free at least while objects are made that nobody keeps: one by one, filled, or each on a page of
- * its own. With a target of two frames, and half as many besides as are used behind a collection. */
-static uint32_t least_free(bool follows, pauseless_policy policy, int how) {
-    const uint64_t number = 7;
-    const uint32_t none = 0;
-    uint32_t least = 8;
-    makes_heap();
-    if (follows) DONE(pauseless_set_growth(&heap, 2, 50));
-    for (int i = 0; i < 300; i++) {
-        if (how == 0) DONE(pauseless_make(&heap, &policy, 1, 4, 2));
-        else if (how == 1) DONE(pauseless_make_with(&heap, &policy, 1, 4, 2, &none, 0, &number, 1));
-        else DONE(pauseless_refill(&heap, &policy, 1));
-        if (free_frames() < least) least = free_frames();
-    }
-    DONE(pauseless_verify(&heap));
-    pauseless_free(&heap);
-    return least;
-}
-
-static void growth(void) {
-    const pauseless_policy whole = {.words = 64, .free = 1, .percent = 75};
-    const pauseless_policy parts = {.words = 64, .free = 1, .percent = 75, .budget = 4096};
-    for (int how = 0; how < 3; how++) {
-        SAME(least_free(false, whole, how), 1);
-        SAME(least_free(true, whole, how), 6);
-        SAME(least_free(true, parts, how) > 0, true);
-    }
-}
-
-/* Memory that a target doesn't allow goes back behind a collection: nothing of the list's five pages is kept but for
- * the two that may be used besides the one that the list needs then. */
-static void growth_trims(void) {
-    pauseless_collected done;
-    makes_sparse();
-    DONE(pauseless_set_growth(&heap, 3, 0));
-    DONE(pauseless_collect(&heap, 100, &done));
-    kept_is(2);
-    list_is_whole();
-    pauseless_free(&heap);
-}
-
 /* How many parts a collection takes; 1,000 where it doesn't end before. */
 static unsigned parts_of(uint32_t percent, uint32_t budget) {
     for (unsigned parts = 1; parts < 1000; parts++) {
@@ -497,7 +429,7 @@ static void unwritten_without_heap(void) {
     pauseless_collected done = {.live = 12, .emptied = 13};
     pauseless_counts counts = {.births = 14, .words = 15, .frames = 16, .free = 17};
     bool is_so = true;
-    uint64_t value = 18, loaded = 19, kept = 20;
+    uint64_t value = 18, loaded = 19;
     char text[] = "-";
     SAME(pauseless_look(&heap, 0, 0, &object), PAUSELESS_NO_HEAP);
     SAME(pauseless_same(&heap, 0, 0, 0, &is_so), PAUSELESS_NO_HEAP);
@@ -506,13 +438,11 @@ static void unwritten_without_heap(void) {
     SAME(pauseless_collect(&heap, 75, &done), PAUSELESS_NO_HEAP);
     SAME(pauseless_collect_some(&heap, 75, 9, &is_so), PAUSELESS_NO_HEAP);
     SAME(pauseless_count(&heap, &counts), PAUSELESS_NO_HEAP);
-    SAME(pauseless_kept(&heap, &kept), PAUSELESS_NO_HEAP);
     SAME(pauseless_report(&heap, text, 1, &value), PAUSELESS_NO_HEAP);
     SAME(pauseless_loads(&heap, 0, 0, &(pauseless_field_load){.target = 0}, 1, &loaded), PAUSELESS_NO_HEAP);
     SAME(pauseless_get_many(&heap, 0, 0, 0, &value, 1), PAUSELESS_NO_HEAP);
     SAME(pauseless_set_many(&heap, 0, 0, 0, &value, 1), PAUSELESS_NO_HEAP);
     SAME(loaded, 0);
-    SAME(kept, 20);
     SAME(object.birth, 11);
     SAME(done.live == 12 && done.emptied == 13, true);
     SAME(counts.births == 14 && counts.words == 15 && counts.frames == 16 && counts.free == 17, true);
@@ -537,8 +467,6 @@ static void without_heap(void) {
     SAME(pauseless_copy(&heap, 0, 0, 0), PAUSELESS_NO_HEAP);
     SAME(pauseless_clear(&heap, 0, 0), PAUSELESS_NO_HEAP);
     SAME(pauseless_set(&heap, 0, 0, 0, 0), PAUSELESS_NO_HEAP);
-    SAME(pauseless_trim(&heap, 0), PAUSELESS_NO_HEAP);
-    SAME(pauseless_set_growth(&heap, 1, 1), PAUSELESS_NO_HEAP);
     SAME(pauseless_verify(&heap), PAUSELESS_NO_HEAP);
     pauseless_free(&heap);
 }
@@ -561,9 +489,6 @@ int main(void) {
     filled();
     not_filled();
     collections();
-    kept_memory();
-    growth();
-    growth_trims();
     parts();
     reports();
     unwritten();

@@ -86,8 +86,8 @@ pub trait MutatorCalls {
     ) -> Result<u64, Refusal>;
 
     /// Takes a fresh buffer, for which the heap is collected if frames run low, as `Holding::refill`: `Memory` if
-    /// memory for a fresh page was refused. All threads cross the checkpoint that its collection has left open, if there
-    /// is one.
+    /// memory for a fresh page was refused. All threads cross the checkpoint that its collection has left open, if
+    /// there is one.
     fn refill(&mut self, alloc: Global, policy: Policy) -> Result<Buffer, Refusal>;
 
     /// Collects the heap, as `Holding::collect`. All threads cross the checkpoint that it has left open, if
