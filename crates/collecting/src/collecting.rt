@@ -391,7 +391,10 @@ impl Holding for ManagedHeap {
             target.old.frames (in_use self.old) }
     {
         let heap = self.heap();
-        let used = heap.config().frames.saturating_sub(heap.memory().free_frames());
+        let used = heap
+            .config()
+            .frames
+            .saturating_sub(heap.memory().free_frames());
         if target.follow(used) {
             let allowed = target.frames().saturating_sub(used);
             ManagedHeap::trim(self, allowed as usize);

@@ -1,6 +1,6 @@
 //! How many frames a heap may use until it is collected, by how many it used after its last collection.
 
-ghost use Rattle.std.specs.Prelude.{◌≡◌, ◌-◌, ◌==◌, if◌then◌else◌};
+ghost use Rattle.std.specs.Prelude.{◌≡◌, ◌-◌};
 ghost use Rattle.collecting.specs.Targets.{followed, grown, is_behind, larger};
 
 use crate::policy::Policy;
@@ -42,21 +42,6 @@ fn grown(least: u32, growth: u32, used: u32) -> u32
 }
 
 impl Target {
-    /// A heap may use all its frames.
-    pub fn open() -> Target
-        ensures { result.frames ≡ 4294967295 }
-    {
-        Target::new(u32::MAX, 0)
-    }
-
-    /// Whether a heap may use all its frames.
-    #[inline(always)]
-    pub fn is_open(&self) -> bool
-        ensures { result ≡ (self.now.frames == 4294967295) }
-    {
-        self.frames == u32::MAX
-    }
-
     /// A heap may use `least` frames, and after a collection `growth` frames for a hundred that it uses then, besides
     /// them: 100 lets it double.
     pub fn new(least: u32, growth: u32) -> Target
@@ -77,8 +62,15 @@ impl Target {
         self.frames
     }
 
-    /// A policy by which a heap of `most` frames is collected where no fewer are free than by this policy, and where it
-    /// uses as many as this target allows.
+    /// At how many free frames a heap of `most` frames is collected where a policy says `free`: at more where it uses as
+    /// many frames as this target allows then.
+    pub fn free(&self, free: u32, most: u32) -> u32
+        ensures { result ≡ larger free (most - self.now.frames) }
+    {
+        larger(free, most.saturating_sub(self.frames))
+    }
+
+    /// The policy by which a heap of `most` frames is also collected where it uses as many frames as this target allows.
     pub fn policy(&self, policy: Policy, most: u32) -> Policy
         ensures words { result.words ≡ policy.words }
         ensures percent { result.percent ≡ policy.percent }
@@ -86,7 +78,7 @@ impl Target {
     {
         Policy {
             words: policy.words,
-            free: larger(policy.free, most.saturating_sub(self.frames)),
+            free: self.free(policy.free, most),
             percent: policy.percent,
         }
     }

@@ -52,7 +52,9 @@ pub extern "C" fn pauseless_collect(
         return NO_HEAP;
     };
     let answer = held.heap.collect(alloc, percent);
-    held.follow();
+    if held.follows {
+        held.follow();
+    }
     give_collected(answer, done)
 }
 
@@ -62,7 +64,9 @@ fn collect_part(alloc: Global, held: &mut Held, percent: u32, budget: u32) -> Re
 {
     let parts = &mut held.parts;
     let answer = held.heap.collect_some(alloc, parts, percent, budget);
-    held.follow();
+    if held.follows {
+        held.follow();
+    }
     answer
 }
 

@@ -2,7 +2,7 @@
 
 ghost use Rattle.std.specs.Prelude.{◌≡◌};
 
-use collecting::{Holding, Parts, Policy, Target};
+use collecting::{Holding, Parts, Target};
 use managed::ManagedHeap;
 
 /// A heap, how far a collection in parts has come, and how many frames the heap may use until it is collected.
@@ -12,46 +12,27 @@ pub struct Held {
     pub heap: ManagedHeap,
     /// The part of a collection that comes next.
     pub parts: Parts,
-    /// How many frames the heap may use until it is collected.
+    /// Whether the heap's memory follows what lives in it.
+    pub follows: bool,
+    /// How many frames the heap may use until it is collected, if so.
     pub target: Target,
 }
 
 impl Held {
-    /// The policy of a call, by which the heap is also collected where it uses as many frames as its target allows.
-    #[inline(always)]
-    pub(crate) fn policy(&self, policy: Policy) -> Policy
-        ensures words { result.words ≡ policy.words }
-        ensures percent { result.percent ≡ policy.percent }
-    {
-        if self.target.is_open() {
-            policy
-        } else {
-            self.target_policy(policy)
-        }
-    }
-
+    /// At how many free frames the heap is collected where a policy says `free`: at more where it uses as many frames as
+    /// its target allows then. The target is set before, if a call since it was set has collected.
     #[inline(never)]
-    fn target_policy(&self, policy: Policy) -> Policy
-        ensures words { result.words ≡ policy.words }
-        ensures percent { result.percent ≡ policy.percent }
-    {
-        self.target.policy(policy, self.heap.heap().config().frames)
-    }
-
-    /// Sets the target, if it isn't open, behind a call that may have collected, and gives memory back that it doesn't
-    /// allow.
-    #[inline(always)]
-    pub(crate) fn follow(&mut self)
+    pub(crate) fn free_by_target(&mut self, free: u32) -> u32
         ensures heap { self.new.heap ≡ self.old.heap }
         ensures parts { self.new.parts ≡ self.old.parts }
     {
-        if !self.target.is_open() {
-            self.follow_target();
-        }
+        self.heap.follow(&mut self.target);
+        self.target.free(free, self.heap.heap().config().frames)
     }
 
+    /// Sets the target behind a call that may have collected, and gives memory back that it doesn't allow.
     #[inline(never)]
-    fn follow_target(&mut self)
+    pub(crate) fn follow(&mut self)
         ensures heap { self.new.heap ≡ self.old.heap }
         ensures parts { self.new.parts ≡ self.old.parts }
     {

@@ -111,8 +111,13 @@ fn make_of(alloc: Global, config: Config) -> Result<Box<Held>, u32>
     match ManagedHeap::new(alloc, config) {
         Ok(heap) => {
             let parts = Parts::new(alloc);
-            let target = Target::open();
-            Box::new(alloc, Held { heap, parts, target }).ok().ok_or(NO_MEMORY)
+            let held = Held {
+                heap,
+                parts,
+                follows: false,
+                target: Target::new(0, 0),
+            };
+            Box::new(alloc, held).ok().ok_or(NO_MEMORY)
         }
         Err(NewFault::Config(fault)) => Err(config_code(fault)),
         Err(NewFault::Memory) => Err(NO_MEMORY),

@@ -44,6 +44,7 @@ pub extern "C" fn pauseless_set_growth(heap: &mut Handle, least: u32, growth: u3
     let Some(held) = heap.lend() else {
         return NO_HEAP;
     };
+    held.follows = true;
     held.target = Target::new(least, growth);
     held.follow();
     DONE

@@ -45,14 +45,22 @@ pub struct ObjectOfC {
     pub nums: u16,
 }
 
-fn policy_of(policy: &PolicyOfC) -> Policy
+/// The policy of a call, by which the heap is also collected where it uses as many frames as its target allows.
+#[inline(always)]
+fn policy_of(held: &mut Held, policy: &PolicyOfC) -> Policy
+    ensures heap { held.new.heap ≡ held.old.heap }
+    ensures parts { held.new.parts ≡ held.old.parts }
     ensures words { result.words ≡ policy.now.words }
-    ensures free { result.free ≡ policy.now.free }
     ensures percent { result.percent ≡ policy.now.percent }
 {
+    let free = if held.follows {
+        held.free_by_target(policy.free)
+    } else {
+        policy.free
+    };
     Policy {
         words: policy.words,
-        free: policy.free,
+        free,
         percent: policy.percent,
     }
 }
@@ -124,16 +132,14 @@ fn make_by(
 ) -> Result<u64, Refusal>
     ensures { Made policy.now.words policy.now.percent thread target layout held.old.heap result held.new.heap }
 {
-    let by = held.policy(policy_of(policy));
-    let made = if policy.budget == 0 {
+    let by = policy_of(held, policy);
+    if policy.budget == 0 {
         held.heap.make(alloc, by, thread, target, layout)
     } else {
         let (parts, budget) = (&mut held.parts, policy.budget);
         held.heap
             .make_paced(alloc, parts, by, budget, thread, target, layout)
-    };
-    held.follow();
-    made
+    }
 }
 
 /// Makes an object by the policy, and fills it.
@@ -151,8 +157,8 @@ fn make_with_by(
     ensures { MadeWith policy.now.words policy.now.percent thread target layout sources.now nums.now held.old.heap
         result held.new.heap }
 {
-    let by = held.policy(policy_of(policy));
-    let made = if policy.budget == 0 {
+    let by = policy_of(held, policy);
+    if policy.budget == 0 {
         held.heap
             .make_with(alloc, by, thread, target, layout, sources, nums)
     } else {
@@ -160,9 +166,7 @@ fn make_with_by(
         held.heap.make_with_paced(
             alloc, parts, by, budget, thread, target, layout, sources, nums,
         )
-    };
-    held.follow();
-    made
+    }
 }
 
 /// Makes an object; where the thread's buffer has no room for it, `pauseless_refill` gets it one before. Refused as
@@ -223,9 +227,11 @@ pub extern "C" fn pauseless_refill(
     let Some(held) = heap.lend() else {
         return NO_HEAP;
     };
-    let by = held.policy(policy_of(policy));
+    let by = policy_of(held, policy);
     let answer = held.heap.refill(alloc, by, thread);
-    held.follow();
+    if held.follows {
+        held.follow();
+    }
     code_of(answer)
 }
 

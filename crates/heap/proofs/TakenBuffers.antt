@@ -64,25 +64,31 @@ pub took : (h : HeapState) (t n : ℕ) (s : StoreState) (b : Buffer) (starts liv
     → starts ≡ opened_rows s.words b h.starts → live ≡ opened_rows s.words b h.live
     → mark ≡ opened_rows s.words b h.mark → todo ≡ opened_rows s.words b h.todo
     → threads ≡ change_at h.threads t (set_buffer_of (Some b))
-    → take_outcome h t n ≡ Ok (record h {
-      store = s;
-      starts = starts;
-      live = live;
-      mark = mark;
-      todo = todo;
-      threads = threads;
-    }, answers.Lent b.page b.next)
+    → take_outcome h t n ≡ Ok (
+      record h {
+        store = s;
+        starts = starts;
+        live = live;
+        mark = mark;
+        todo = todo;
+        threads = threads;
+      },
+      answers.Lent b.page b.next,
+    )
 unfolding take_outcome lend_buffer
 took h t n s b starts live mark todo threads none e f g k l m =
     ap (λ c. cond c (Err refusals.HasBuffer) (take_result h t (take_buffer h.store n))) none
-    ∙ ap (take_result h t) e ∙ λ z. Ok (record h {
-      store = s;
-      starts = sym f z;
-      live = sym g z;
-      mark = sym k z;
-      todo = sym l z;
-      threads = sym m z;
-    }, answers.Lent b.page b.next)
+    ∙ ap (take_result h t) e ∙ λ z. Ok (
+      record h {
+        store = s;
+        starts = sym f z;
+        live = sym g z;
+        mark = sym k z;
+        todo = sym l z;
+        threads = sym m z;
+      },
+      answers.Lent b.page b.next,
+    )
 
 -- a target is opened
 pub opened_target : (h : HeapState) (s : StoreState) (b : Buffer) (starts live mark todo : List (List Bool))

@@ -128,10 +128,8 @@ fn has_frames(image: &Image) -> bool {
     let words = image.words;
     let sized = words.is_power_of_two() && words >= 16 && words <= 32768;
     let filled = image.pages.iter().all(|page| is_filled(image, page));
-    let free = image
-        .free
-        .iter()
-        .all(|frame| has_words(image, *frame, 0) || has_words(image, *frame, words));
+    let free = image.free.iter().all(|frame| has_words(image, *frame, 0)
+        || has_words(image, *frame, words));
     let framed = image.pages.iter().all(|page| has_its_frame(page));
     let there = image.frame_count as usize <= image.frames.len();
     let once = (0..image.frame_count).all(|frame| uses(image, frame) == 1);

@@ -62,7 +62,12 @@ fn add(pages: &mut Vec<u32>, page: u32)
 
 /// Opens so many targets, for which frames are free and pages unused, on so much memory, and lists
 /// their pages, by their numbers from 1, in an empty list that has room for them.
-pub(crate) fn open_targets(heap: &mut Heap, count: usize, memory: &mut Vec<PageMemory>, targets: &mut Vec<u32>)
+pub(crate) fn open_targets(
+    heap: &mut Heap,
+    count: usize,
+    memory: &mut Vec<PageMemory>,
+    targets: &mut Vec<u32>,
+)
     requires blank { AreBlank heap.old.store.words count memory.old.items }
     requires empty { targets.old.items ≡ [] }
     requires room { count ≤ vec_capacity targets.old }

@@ -35,9 +35,9 @@ returns c =
     (ap (λ (x : HeapState). x.store.words) (sym c.self.view_is) ∙ sym well.sized.words) in (
       ap (λ (x : HeapState). take_target x.store) (sym c.self.view_is) ∙ c.in-Ok.ensures.takes,
       opened_target h t b _ _ _ _
-      (c.open_row.ensures ∙ opened_by w b h.starts _ (λ z. c.requires.rows.starts ∙ words))
-      (c.open_row-2.ensures ∙ opened_by w b h.live _ (λ z. c.requires.rows.live ∙ words))
-      (c.open_row-3.ensures ∙ opened_by w b h.mark _ (λ z. c.requires.rows.mark ∙ words))
-      (c.open_indexed_row.ensures ∙ opened_by w b h.todo _ (λ z. c.requires.rows.todo ∙ words))
-      ∙ ap (λ x. with_target x (t, b)) c.self.view_is,
+          (c.open_row.ensures ∙ opened_by w b h.starts _ (λ z. c.requires.rows.starts ∙ words))
+          (c.open_row-2.ensures ∙ opened_by w b h.live _ (λ z. c.requires.rows.live ∙ words))
+          (c.open_row-3.ensures ∙ opened_by w b h.mark _ (λ z. c.requires.rows.mark ∙ words))
+          (c.open_indexed_row.ensures ∙ opened_by w b h.todo _ (λ z. c.requires.rows.todo ∙ words))
+          ∙ ap (λ x. with_target x (t, b)) c.self.view_is,
     )
