@@ -1,6 +1,7 @@
 //! What a handle leads to.
 
-ghost use Rattle.std.specs.Prelude.{◌≡◌};
+ghost use Rattle.std.specs.Prelude.{◌≡◌, ◌-◌};
+ghost use Rattle.collecting.specs.Targets.{larger};
 
 use collecting::{Holding, Parts, Target};
 use managed::ManagedHeap;
@@ -25,6 +26,7 @@ impl Held {
     pub(crate) fn free_by_target(&mut self, free: u32) -> u32
         ensures heap { self.new.heap ≡ self.old.heap }
         ensures parts { self.new.parts ≡ self.old.parts }
+        ensures free { result ≡ larger free (self.old.heap.config.frames - self.new.target.frames) }
     {
         self.heap.follow(&mut self.target);
         self.target.free(free, self.heap.heap().config().frames)

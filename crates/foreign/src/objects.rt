@@ -1,10 +1,11 @@
 //! Buffers and objects.
 
-ghost use Rattle.std.specs.Prelude.{◌≡◌, MatchResult};
+ghost use Rattle.std.specs.Prelude.{◌≡◌, ◌-◌, if◌then◌else◌, MatchResult};
 ghost use Rattle.model.specs.Saying.{done, lent};
 ghost use Rattle.model.specs.declared.steps.Step.TheVariants as steps;
 ghost use Rattle.model.specs.declared.steps.Answer.TheVariants as answers;
 ghost use Rattle.collecting.specs.Objects.{seen};
+ghost use Rattle.collecting.specs.Targets.{larger};
 ghost use Rattle.foreign.specs.Codes.{code_of};
 ghost use Rattle.foreign.specs.Calls.{Calls, Gives, Made, MadeWith, Refilled, Stepped, Sees, IsSeen};
 
@@ -51,6 +52,8 @@ fn policy_of(held: &mut Held, policy: &PolicyOfC) -> Policy
     ensures heap { held.new.heap ≡ held.old.heap }
     ensures parts { held.new.parts ≡ held.old.parts }
     ensures words { result.words ≡ policy.now.words }
+    ensures free { result.free ≡ (if held.old.follows
+        then larger policy.now.free (held.old.heap.config.frames - held.new.target.frames) else policy.now.free) }
     ensures percent { result.percent ≡ policy.now.percent }
 {
     let free = if held.follows {
