@@ -33,8 +33,8 @@ use thread_records::{Thread, Threads};
 /// The heap of a program: objects on pages, the threads that use them, and the collector.
 ///
 /// A contract sees all of it as plain data. It keeps, beside what its store keeps, that it has the
-/// sizes that it was made with, that its rows have a bit for each word of each page, that each
-/// thread's buffer lies in an open page, that births stay within their limit, and that no page is
+/// sizes that it was made with, that a page that is used has rows of a bit a word, and no other page
+/// has any, that each thread's buffer lies in an open page, that births stay within their limit, and that no page is
 /// protected while the collector is idle.
 ///
 /// A user makes one, reads it, and asks for steps by `Mutating` or `Stepping` of `cycle`. For the crates that do
@@ -84,8 +84,9 @@ impl Model for Heap {
 
 impl Heap {
     /// What holds of every heap: its frames have one owner each; it has the words of a page, the
-    /// frames, pages, threads, workers and globals that it was made with; each page record has rows
-    /// of a bit a word, and a side array whose entries rise; each thread has the registers that it was
+    /// frames, pages, threads, workers and globals that it was made with; each page that is used has
+    /// rows of a bit a word, other pages have empty ones, and each page record has a side array whose
+    /// entries rise; each thread has the registers that it was
     /// made with, and its buffer lies in an open page; births are within their limit; and in `Idle` no
     /// page is protected.
     pub fn law(&self)
