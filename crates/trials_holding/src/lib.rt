@@ -32,3 +32,5 @@ mod reports;
 mod rooms;
 #[cfg(test)]
 mod scans;
+#[cfg(test)]
+mod targets;
