@@ -1,10 +1,10 @@
 #!/bin/sh
-# The object model of examples/objects on the library for C: the scopes of examples/c/scopes.h, and each function of the
-# model, compared with arrays in C (tests/c/scopes.c, tests/c/object_model.c); its faults, each of which ends a program
-# with a message; and its program, which prints the same in 64 MiB and in the smallest heaps that are enough, verified
-# at intervals and at the end; with one frame less, and if the system refuses memory, it ends with a message. With
-# valgrind, that no program leaks memory or reads what it hasn't written. The library is ./libpauseless.a, or what the
-# first argument names.
+# The object model of examples/objects on the library for C: the scopes and size classes of examples/c, and each function
+# of the model, compared with arrays in C (tests/c/scopes.c, tests/c/sizes.c, tests/c/object_model.c), and what size
+# classes waste with the table of docs/RUNTIMES.md; the model's faults, each of which ends a program with a message; and
+# its program, which prints the same in 64 MiB and in the smallest heaps that are enough, verified at intervals and at
+# the end; with one frame less, and if the system refuses memory, it ends with a message. With valgrind, that no program
+# leaks memory or reads what it has not written. The library is ./libpauseless.a, or what the first argument names.
 
 cd "$(dirname "$0")/.." || exit 1
 quiet=1
@@ -60,6 +60,13 @@ build scopes tests/c/scopes.c
 told 'scopes finds no difference' $?
 leaves scopes
 
+build sizes tests/c/sizes.c
+"$kept/sizes" > "$kept/wasted"
+told 'sizes finds no difference' $?
+sed -nE 's/^\| ([1248]) \| [^|]* \| ([0-9]+) \| ([0-9]+) % \| ([0-9]+) % \|$/\1 \2 \3 \4/p' docs/RUNTIMES.md > "$kept/table"
+[ -s "$kept/table" ] && cmp -s "$kept/wasted" "$kept/table"
+told 'what size classes waste' $?
+
 # shellcheck disable=SC2086 # the sources are words
 build object_model tests/c/object_model.c $model
 "$kept/object_model"
@@ -86,7 +93,7 @@ says 'an array is too long' "$objects" -w 256 -f 200
 says 'words of a page out of range' "$objects" -w 100
 says 'frames out of range' "$objects" -f 0
 # shellcheck disable=SC2016 # the inner shell has these words
-says 'memory was refused' sh -c 'ulimit -v 40000; exec "$@"' sh "$objects"
+says 'memory was refused' sh -c 'ulimit -v 8000; exec "$@"' sh "$objects"
 leaves objects -n 4 -w 512 -f 40
 echo "$passed passed, $failed failed"
 [ "$failed" = 0 ]

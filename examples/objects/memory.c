@@ -4,11 +4,9 @@
 #include <stdio.h>
 #include <stdlib.h>
 
-/* The size classes, each about 1.4 times the one before. Those count that fit a page, with the header of an object. */
-static const uint16_t classes[] = {2,  3,  4,  6,  8,   12,  16,  24,  32,  48,
-                                   64, 96, 128, 192, 256, 384, 512, 768, 1023};
-enum { CLASSES = sizeof classes / sizeof *classes, ME = 0, HEADER = 1, REGISTERS = 16 };
-static uint32_t fitting;
+/* The sizes of bodies and strings: two classes a doubling, up to the largest in a page. */
+enum { LARGEST = 1023, MOST_CLASSES = 20, ME = 0, HEADER = 1, REGISTERS = 16 };
+static struct size_classes classes = {.parts = 2};
 
 static pauseless_heap heap = PAUSELESS_NONE;
 static pauseless_policy policy;
@@ -24,17 +22,21 @@ static void must(pauseless_code code) {
     if (code) fail(pauseless_text(code));
 }
 
+/* The size of the largest object in a page; 1 if it has no room for any, which pauseless_new refuses. */
+static uint32_t largest_in(uint32_t words) { return words > LARGEST ? LARGEST : words > HEADER ? words - HEADER : 1; }
+
 void objects_open(const struct options *options) {
     pauseless_sizes sizes;
-    pauseless_layout layouts[SHAPES + 2 * CLASSES] = {
+    pauseless_layout layouts[SHAPES + 2 * MOST_CLASSES] = {
         [ARRAY] = {1, 2}, [TABLE] = {1, 2}, [ENTRY] = {3, 2}, [SYMBOL] = {2, 1}};
-    while (fitting < CLASSES && classes[fitting] + HEADER <= (int64_t)options->words) fitting++;
-    for (uint32_t i = 0; i < fitting; i++) {
-        layouts[SHAPES + i].refs = classes[i];
-        layouts[SHAPES + fitting + i].nums = classes[i];
+    classes.largest = largest_in(options->words);
+    const uint32_t count = class_count(&classes);
+    for (uint32_t i = 0; i < count; i++) {
+        layouts[SHAPES + i].refs = (uint16_t)class_size(&classes, i);
+        layouts[SHAPES + count + i].nums = (uint16_t)class_size(&classes, i);
     }
     pauseless_usual(options->words, options->frames, &sizes);
-    must(pauseless_new(&heap, &sizes, layouts, SHAPES + 2 * fitting));
+    must(pauseless_new(&heap, &sizes, layouts, SHAPES + 2 * count));
     policy = (pauseless_policy){
         .words = options->words, .free = options->frames / 8 > 0 ? options->frames / 8 : 1, .percent = 75};
     check = options->check;
@@ -63,23 +65,15 @@ void make(handle target, uint32_t layout, const handle *sources, size_t count, c
     if (check && ++made % check == 0) must(pauseless_verify(&heap));
 }
 
-/* The number of the smallest class that has size; that of the largest one if none has. */
-static uint32_t class_number(uint64_t size) {
-    uint32_t number = 0;
-    while (number + 1 < fitting && classes[number] < size) number++;
-    return number;
-}
-uint32_t class_of(uint64_t size) { return classes[class_number(size)]; }
+uint32_t room_for(uint64_t size) { return class_size(&classes, class_for(&classes, size)); }
 uint32_t make_body(handle target, uint64_t size) {
-    const uint32_t number = class_number(size);
-    if (classes[number] < size) fail("an array is too long");
-    make(target, SHAPES + number, NULL, 0, NULL, 0);
-    return classes[number];
+    if (size > classes.largest) fail("an array is too long");
+    make(target, SHAPES + class_for(&classes, size), NULL, 0, NULL, 0);
+    return room_for(size);
 }
 void make_string(handle target, const uint64_t *data, size_t size) {
-    const uint32_t number = class_number(size);
-    if (classes[number] < size) fail("a string is too long");
-    make(target, SHAPES + fitting + number, NULL, 0, data, size);
+    if (size > classes.largest) fail("a string is too long");
+    make(target, SHAPES + class_count(&classes) + class_for(&classes, size), NULL, 0, data, size);
 }
 void load(handle target, handle object, uint64_t field) {
     must(pauseless_load(&heap, ME, target, object, (uint32_t)field));

@@ -7,6 +7,7 @@
 #define OBJECTS_H
 
 #include "../c/scopes.h"
+#include "../c/sizes.h"
 
 /* The layouts of objects. From SHAPES on there are those of size classes: as many for bodies, which have references
  * alone, and then as many for strings, which have data words alone. */
@@ -53,8 +54,8 @@ void make(handle target, uint32_t layout, const handle *sources, size_t count, c
 uint32_t make_body(handle target, uint64_t size);
 void make_string(handle target, const uint64_t *data, size_t size);
 
-/* Returns the references of the smallest class that has size; of the largest one if none has. */
-uint32_t class_of(uint64_t size);
+/* Returns how many references the smallest body has that has room for size; the largest one if none has. */
+uint32_t room_for(uint64_t size);
 
 /* A reference of an object: loads it into a handle, and stores what a handle names. Fails if the object is null. */
 void load(handle target, handle object, uint64_t field);

@@ -49,7 +49,7 @@ static void chain(handle body, uint64_t buckets, handle link) {
 
 /* Moves all links to a body of about twice as many chains, if there is a class for it. */
 static void grow(handle table, uint64_t buckets) {
-    const uint64_t more = class_of(2 * buckets);
+    const uint64_t more = room_for(2 * buckets);
     if (more <= buckets) return;
     const struct scope scope = scope_begin(&handles);
     const handle body = handle_new(&handles), larger = handle_new(&handles);

@@ -124,8 +124,11 @@ fn tables_of_rows(rt: HostRuntime) -> Result<(), AllocError> {
 
 #[test]
 fn a_row_is_lent(rt: HostRuntime) -> Result<(), AllocError> {
-    let mut rows = clear_rows(rt.alloc(), 3, 100)?;
-    rows.row_mut(2).put(7, true);
+    let mut rows = Rows::new(rt.alloc(), 3)?;
+    let fresh = Row::new(rt.alloc(), 100)?;
+    let row = rows.row_mut(2);
+    *row = fresh;
+    row.put(7, true);
     same(&rt, firsts(&rows), [None, None, Some(7)]);
     Ok(())
 }
