@@ -157,9 +157,9 @@ typedef struct pauseless_counts {
  * globals, and as many births as there may be. */
 void pauseless_usual(uint32_t words, uint32_t frames, pauseless_sizes *sizes);
 
-/* Makes a heap with layouts numbered from 0: 1 to 256 of them. All that it needs besides pages is asked for here, by
- * malloc, of which some bits for each word of each page number are most; the memory of a page is asked for when it is
- * first used. RANGE_OF_.. for the first size that is out of its range, HAS_HEAP, MEMORY. */
+/* Makes a heap with layouts numbered from 0: 1 to 256 of them. Its registers, globals and a record for each page number
+ * are asked for here, by malloc; the words of a page, and some bits for each of them, when the page is opened.
+ * RANGE_OF_.. for the first size that is out of its range, HAS_HEAP, MEMORY. */
 pauseless_code pauseless_new(pauseless_heap *heap, const pauseless_sizes *sizes, const pauseless_layout *layouts,
                              size_t count);
 
@@ -274,7 +274,7 @@ pauseless_code pauseless_trim(pauseless_heap *heap, uint32_t frames);
 /* Lets the heap's memory follow what lives in it. From now on pauseless_make, pauseless_make_with and pauseless_refill
  * also collect where so many frames are used: those that were used after the last collection, and growth of a hundred
  * besides, but least in any case; before a first collection, least. Memory of free frames beyond that is given back
- * behind a collection. 100 lets a heap double; least keeps a small one from being collected too often. */
+ * after a collection. 100 lets a heap double; least keeps a small one from being collected too often. */
 pauseless_code pauseless_set_growth(pauseless_heap *heap, uint32_t least, uint32_t growth);
 
 /* Whether the heap is sound as it stands; its time is linear in the words of all frames and pages. DONE by contract,
