@@ -51,7 +51,7 @@ fn protects_again(rt: &impl Abort, heap: &mut impl Moving, step: &Step, before: 
 /// The pages are protected and emptied. Where the step lacks memory, the heap is as it was, and all is
 /// done when the step is asked again; the test then tells the want of memory.
 fn protect(rt: &impl Abort, alloc: Global, mut heap: impl Moving + Drop) -> Result<(), Fail> {
-    assert_eq!(rt; fill_and_close(&mut heap), Ok(EIGHT));
+    assert_eq!(rt; fill_and_close(&mut heap)?, EIGHT);
     let step = protection(alloc)?;
     let before = heap.text(alloc)?;
     let reply = heap.work(&step);

@@ -41,7 +41,7 @@ fn says(
 }
 
 /// Page 1 is filled with one object, which the global names, and a mark closes it.
-fn close(rt: &impl Abort, heap: &mut impl Stepping) {
+fn close(heap: &mut impl Stepping) -> Result<(), Refusal> {
     let (target, layout, global, source) = (0, 0, 0, 0);
     for (actor, step) in [
         (FIRST, Step::Take(16)),
@@ -57,8 +57,9 @@ fn close(rt: &impl Abort, heap: &mut impl Stepping) {
         (WORKER, Step::ScanField),
         (WORKER, Step::EndMark),
     ] {
-        assert!(rt; heap.step(actor, &step).is_ok());
+        heap.step(actor, &step)?;
     }
+    Ok(())
 }
 
 /// A new heap of two threads.
@@ -88,7 +89,7 @@ fn is_as_before(rt: &impl Abort, heap: &Heap) {
 
 /// A protection that lacks memory leaves the heap as it was, and is done when it is asked again.
 fn protects(rt: &impl Abort, mut heap: impl HeldHeap + Drop, step: &Step) -> Result<(), Refusal> {
-    close(rt, &mut heap);
+    close(&mut heap)?;
     let reply = heap.step(WORKER, step);
     if reply == Err(Refusal::Memory) {
         is_as_before(rt, heap.heap());
@@ -107,12 +108,8 @@ fn a_page_is_protected(rt: HostRuntime) -> Result<(), Fail> {
 }
 
 /// A list of no pages is refused. A thread protects and releases nothing.
-fn refuses(
-    rt: &impl Abort,
-    alloc: Global,
-    mut heap: impl HeldHeap + Drop,
-) -> Result<(), AllocError> {
-    close(rt, &mut heap);
+fn refuses(rt: &impl Abort, alloc: Global, mut heap: impl HeldHeap + Drop) -> Result<(), Fail> {
+    close(&mut heap)?;
     let none = Step::Protect(PageList::new(Vec::new(alloc)));
     says(rt, &mut heap, WORKER, none, Err(Refusal::BadIndex));
     let no_worker = Err(Refusal::NoActor);
