@@ -1,7 +1,8 @@
 #!/usr/bin/env python3
 """Which must-fail edits have to be tried, and the trying of them.
 
-    tests/edits.py check [CRATE..]            says which crates have edits to try; ends with 1 where there is one
+    tests/edits.py check [CRATE..]            says which crates have edits to try, and which of these can't be made;
+                                              ends with 1 where there is one
     tests/edits.py try [--jobs N] [CRATE..]   tries the edits of these crates, or of all, and writes them down
     tests/edits.py passed COMMIT              writes down the crates that are as they are in a commit of which the
                                               whole test command has passed, as that tries what isn't written down
@@ -129,6 +130,36 @@ def to_try(crates):
     return [name for name in crates.with_edits() if book.get(name) != crates.line(name)]
 
 
+def misfit(crates, path):
+    """Why an edit can't be made, None if it can: its texts are one line each, and an old one is in its file once."""
+    file, old, texts = None, None, {}
+    with open(f"{crates.root}/{path}", encoding="utf-8") as lines:
+        for line in lines.read().splitlines():
+            word, _, text = line.partition(":")
+            text = text.removeprefix(" ")
+            if word == "file":
+                file = os.path.join(path.split("/must-fail/")[0], text.strip())
+                if file not in texts and os.path.isfile(f"{crates.root}/{file}"):
+                    with open(f"{crates.root}/{file}", encoding="utf-8") as source:
+                        texts[file] = source.read()
+            elif word == "old":
+                old = text
+            elif word == "new":
+                found = texts.get(file, "").count(old or "")
+                if not old or found != 1:
+                    return f"the old text is there {found} times, not once: {old}"
+                texts[file], old = texts[file].replace(old, text), None
+            elif line.strip() and not line.startswith(("#", "--", "//")):
+                return f"a line that is not read: {line.strip()}"
+    return None
+
+
+def misfits(crates, names):
+    """The edits of these crates that can't be made, and why: they would be tried in vain."""
+    paths = [path for name in names for path in crates.edits(name)]
+    return [f"{path}: {why}" for path in paths if (why := misfit(crates, path))]
+
+
 def named(crates, names):
     for name in names:
         if name not in crates.below:
@@ -194,6 +225,8 @@ def try_all(names, jobs):
     crates = Crates(os.getcwd())
     names = sorted(named(crates, names), key=lambda it: -len(crates.edits(it)))
     jobs = jobs or lanes()
+    if odd := misfits(crates, names):
+        stop("these edits can't be made:\n" + "\n".join(odd))
     passed = failed = 0
     with tempfile.TemporaryDirectory(prefix="edits-") as folder:
         if not build_below(crates, names, folder, jobs):
@@ -221,6 +254,8 @@ def check(names):
     names = [it for it in to_try(crates) if it in named(crates, names)]
     for name in names:
         print(f"{name}: {len(crates.edits(name))} edits to try")
+    for odd in misfits(crates, names):
+        print(odd)
     return 1 if names else 0
 
 

@@ -106,6 +106,19 @@ cp crates/high/must-fail/two_more.edit crates/high/must-fail/two_again.edit
 changed 'a new edit' 'high: 2 edits to try'
 crate other low
 changed 'a new crate' 'other: 1 edits to try'
+
+# An edit whose text isn't in its file, and one whose text is cut in two lines, can't be made; none is tried then.
+sed 's/more/less/' crates/high/must-fail/two_more.edit > crates/high/must-fail/two_less.edit
+printf 'file: src/lib.rt\nold: let more\n= 1;\n' > crates/high/must-fail/two_lines.edit
+check high
+is 'edits that cannot be made' 1 'high: 3 edits to try' \
+    'crates/high/must-fail/two_less.edit: the old text is there 0 times, not once:     let less = 1;' \
+    'crates/high/must-fail/two_lines.edit: a line that is not read: = 1;'
+told "$PYTHON" "$tools/edits.py" try high
+is 'no edit is tried beside one that cannot be made' 2 \
+    'crates/high/must-fail/two_lines.edit: a line that is not read: = 1;'
+rm crates/high/must-fail/two_less.edit crates/high/must-fail/two_lines.edit
+
 echo 'low 1 none' >> "$book"
 check
 is 'a line of another form' 2 "edits: $book has a line that 'make edits' didn't write: low 1 none"
