@@ -268,12 +268,12 @@ pauseless_code pauseless_count(pauseless_heap *heap, pauseless_counts *counts);
  * are free. */
 pauseless_code pauseless_kept(pauseless_heap *heap, uint64_t *frames);
 
-/* Gives memory of free frames back to malloc, but for that of so many frames. Nothing of the heap changes. */
+/* Gives kept memory back to malloc, except that of as many frames as are given. Nothing of the heap changes. */
 pauseless_code pauseless_trim(pauseless_heap *heap, uint32_t frames);
 
 /* Lets the heap's memory follow what lives in it. From now on pauseless_make, pauseless_make_with and pauseless_refill
- * also collect where so many frames are used: those that were used after the last collection, and growth of a hundred
- * besides, but least in any case; before a first collection, least. Memory of free frames beyond that is given back
+ * also collect where N frames are used. N is what was used after the last collection and growth percent more, at least
+ * one more and at least least; before a first collection, least. Memory of free frames beyond that is given back
  * after a collection. 100 lets a heap double; least keeps a small one from being collected too often. */
 pauseless_code pauseless_set_growth(pauseless_heap *heap, uint32_t least, uint32_t growth);
 

@@ -44,7 +44,7 @@ static void at_most(const char *what, double found, double most) {
     printf("%s: %.1f, more than %.1f\n", what, found, most);
 }
 
-/* Puts so many objects before those of the list. */
+/* Puts N objects before those of the list. */
 static void lengthen(unsigned long objects) {
     for (unsigned long i = 0; i < objects; i++) {
         DONE(pauseless_make(&heap, &policy, 0, NEW, 0));
@@ -68,8 +68,8 @@ static void collects(double live) {
     SAME(done.live, live * MIB_OBJECTS);
 }
 
-/* The heap is collected, and the process has what lives in the heap, and half as much besides, and 32 MiB. What a page
- * that was emptied needs besides its words goes back with the next collection. */
+/* The heap is collected, and the process has at most 1.5 times what lives in the heap and 32 MiB. The bits of a page
+ * that was emptied go back with the next collection. */
 static void settles(const char *what, double live) {
     collects(live);
     malloc_trim(0);

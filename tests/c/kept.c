@@ -60,7 +60,7 @@ static uint32_t free_frames(void) {
 }
 
 /* How few frames are free at least while objects are made that nobody keeps: one by one, filled, or each on a page of
- * its own. With a target of two frames, and half as many besides as are used behind a collection. */
+ * its own. With a target of two frames, and 50 percent more than are used after a collection. */
 static uint32_t least_free(bool follows, pauseless_policy by, int how) {
     const uint64_t number = 7;
     const uint32_t none = 0;
@@ -88,8 +88,8 @@ static void growth(void) {
     }
 }
 
-/* Memory that a target doesn't allow goes back behind a collection: of six pages, that of the two that may be used
- * besides the one that the object needs then is kept. */
+/* Memory that a target doesn't allow goes back after a collection: of six pages, that of two is kept, as the object
+ * then needs one page and three may be used. */
 static void growth_trims(bool in_parts) {
     pauseless_collected done;
     bool has_ended = false;
