@@ -1,5 +1,5 @@
 /* That the memory of the process follows what lives in the heap: a heap of 1 GiB is made, holds 1 MiB, 500 MiB, and
- * 1 MiB again, and at each end the process has at most one and a half times as much, and 32 MiB. Where the system doesn't
+ * 1 MiB again, and at each end the process has at most 1.5 times as much, and 32 MiB. If the system doesn't
  * tell how much memory a process has, this is passed over. */
 #include "same.h"
 #include <malloc.h>
