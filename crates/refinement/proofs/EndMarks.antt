@@ -1,14 +1,12 @@
--- A mark ends: what the pages become, and that memory stays in order.
-use Rattle.std.proofs.Common.{◌≡◌, ◌≢◌, ◌⊎◌, inl, inr, ℕ, zero, suc, ◌+◌, ◌-◌, ◌/◌, ◌%◌, ◌*◌, ◌||◌}
-use Rattle.std.proofs.Common.{Bool, true, false, not, cond, count_by, List, [], ◌∷◌, length, map, replicate}
-use Rattle.std.proofs.Common.{get_or}
+-- A mark ends: memory stays in order, and the law's transition.
+use Rattle.std.proofs.Common.{◌≡◌, ℕ, ◌+◌, ◌/◌, ◌%◌, ◌*◌, ◌||◌}
+use Rattle.std.proofs.Common.{Bool, true, false, not, cond, List, [], length, map}
 use Rattle.std.proofs.Common.{Option, Some, None, is_some, refl, sym, ◌∙◌, ap, subst, arith}
 use mathlib.Core.Path.{fun_ext}
 use Rattle.std.specs.List.{slice_get, list_any}
 use Rattle.std.specs.Prelude.{◌==◌}
 use Rattle.std.specs.Option.{option_map}
-use Rattle.std.proofs.lemmas.Bool.{cases_eq, or_parts, eqb-true, not-false, false≢true}
-use Rattle.std.proofs.lemmas.List.Sums.{sum_by-cons}
+use Rattle.std.proofs.lemmas.Bool.{or_parts, eqb-true, not-false, false≢true}
 use Rattle.std.proofs.lemmas.List.{length-replicate}
 use Rattle.std.proofs.lemmas.Option.{none-some, same_Some}
 use Rattle.model.specs.declared.steps.Actor.TheVariants.{Worker}
@@ -16,19 +14,17 @@ use Rattle.model.specs.declared.steps.Step.TheVariants as steps
 use Rattle.model.specs.declared.steps.Answer.{Answer}
 use Rattle.model.specs.declared.steps.Refusal.TheVariants as refusals
 use Rattle.model.specs.declared.records.Page.{Page}
-use Rattle.model.specs.declared.records.PageState.{PageState}
-use Rattle.model.specs.declared.records.PageState.TheVariants.{Unused, Open, Closed, From, Gone}
-use Rattle.model.specs.declared.records.Forwarding.{Forwarding}
+use Rattle.model.specs.declared.records.PageState.TheVariants.{Unused}
 use Rattle.model.specs.declared.records.Global.{Global}
 use Rattle.model.specs.declared.records.Phase.TheVariants.{Idle}
-use Rattle.model.specs.Stores.{StoreState, words_at, page_at, frame_in, state_at, state_in, is_open, is_protected}
+use Rattle.model.specs.Stores.{words_at, page_at, frame_in, state_at, state_in, is_open, is_protected}
 use Rattle.model.specs.Stores.{has_memory, page_after_mark, pages_after_mark, store_after_mark}
 use Rattle.model.specs.Stores.{owner_after_mark, frames_owned}
 use Rattle.model.specs.Owning.{Each, IsStore}
 use Rattle.model.specs.Holding.{AreRising, AreRowsOf}
 use Rattle.model.specs.States.{HeapState, ThreadState}
 use Rattle.model.specs.Registers.{register_of}
-use Rattle.model.specs.Bits.{of_page, bit_at, blank_row, blank_all, bit_count}
+use Rattle.model.specs.Bits.{bit_at, bit_count}
 use Rattle.model.specs.Scans.{may_scan}
 use Rattle.model.specs.Cycles.{has_todo, first_pending, none_pending, is_lent, end_mark, end_mark_outcome}
 use Rattle.model.specs.Cycles.{rows_after_mark}
@@ -36,10 +32,9 @@ use Rattle.model.proofs.Tables.{lengths_blank}
 use Rattle.page.proofs.RowSizes.{ended_rows}
 use Rattle.model.specs.Refusing.{refuse_if}
 use Rattle.model.specs.Plain.{PlainHeap, plain_step, plain_answer}
-use Rattle.model.proofs.Lists.{none_counted, none_passes, position_none, each_replicate, no_some}
-use Rattle.model.proofs.Memory.{words_in, page_record}
-use Rattle.page.proofs.Ended.{ended_sized, get_map, kept_owned}
-use Rattle.page.proofs.Keeping.{page_at_record, page_at_zero}
+use Rattle.model.proofs.Lists.{none_passes, position_none, each_replicate, no_some}
+use Rattle.model.proofs.Memory.{words_in}
+use Rattle.page.proofs.Ended.{ended_sized}
 use Rattle.laws.specs.Edits.{state_after_mark}
 use Rattle.laws.specs.Edits as edits
 use Rattle.laws.specs.AddressHeap.{HeapObject, NoEntry, Planned}
@@ -54,205 +49,10 @@ use Rattle.refinement.specs.Claims.{sized_extent, planned_extent, end_extent, ob
 use Rattle.refinement.specs.Standing.{Holds, StepHolds, FindsLive}
 use Rattle.refinement.proofs.Accepted.{OnAccepted, on_has, on_accepted}
 use Rattle.refinement.proofs.Carrying.{Carries, RowHolds, alike, row_by, stays}
-use Rattle.refinement.proofs.Changes.{list_of, list_read, blank_bit}
 use Rattle.refinement.proofs.Scans.{is_scanning}
-
--- pages
-
-get_after : (lent : ℕ → Bool) (n : ℕ) (ps : List Page) (i j : ℕ) → j ≡ n + i
-    → slice_get (pages_after_mark lent n ps) i ≡ option_map (page_after_mark (lent j)) (slice_get ps i)
-get_after lent n [] i j e = refl
-get_after lent n (p ∷ ps) zero j e = ap (λ m. Some (page_after_mark (lent m) p)) (omega (arith, e))
-get_after lent n (p ∷ ps) (suc i) j e = get_after lent (n + 1) ps i j (omega (arith, e))
-
-length_after : (lent : ℕ → Bool) (n : ℕ) (ps : List Page) → length (pages_after_mark lent n ps) ≡ length ps
-length_after lent n [] = refl
-length_after lent n (p ∷ ps) = ap suc (length_after lent (n + 1) ps)
-
--- what a page becomes
-page_after : (lent : ℕ → Bool) (s : StoreState) (n : ℕ)
-    → page_at (store_after_mark lent s) n ≡ option_map (page_after_mark (lent n)) (page_at s n)
-unfolding store_after_mark
-page_after lent s n = by_zero (cases_eq n 0)
-  where
-    after : StoreState
-    after = store_after_mark lent s
-
-    by_zero : (n ≡ 0) ⊎ (n ≢ 0) → page_at after n ≡ option_map (page_after_mark (lent n)) (page_at s n)
-    by_zero (inl z) = page_at_zero after n z ∙ sym (ap (option_map (page_after_mark (lent n))) (page_at_zero s n z))
-    by_zero (inr d) = page_at_record after n d ∙ get_after lent 1 s.pages (n - 1) n (omega (arith, d))
-        ∙ sym (ap (option_map (page_after_mark (lent n))) (page_at_record s n d))
-
--- a page of this state, after a mark
-abbrev in_state : Bool → Page → PageState → Page
-in_state lent p f = page_after_mark lent (record p { state = f })
-
--- what holds of what a page becomes holds, where it does by states
-by_states : (lent : Bool) (p : Page) (P : PageState → Page → Type 0)
-    → ((f : PageState) → P f (in_state lent p f)) → P p.state (page_after_mark lent p)
-by_states lent p P h = h p.state
-
--- the state that a page gets
-state_is : (lent : Bool) (p : Page) (f : PageState) → (in_state lent p f).state ≡ state_after_mark lent f
-state_is true p Open = refl
-state_is false p Open = refl
-state_is lent p Unused = refl
-state_is lent p Closed = refl
-state_is lent p From = refl
-state_is lent p Gone = refl
-
-state_of : (lent : Bool) (o : Option Page)
-    → state_in (option_map (page_after_mark lent) o) ≡ state_after_mark lent (state_in o)
-state_of lent None = refl
-state_of lent (Some p) = by_states lent p (λ f q. q.state ≡ state_after_mark lent f) (state_is lent p)
-
--- the frame that a page keeps
-frame_is : (lent : Bool) (p : Page) (f : PageState) → (in_state lent p f).frame ≡ cond (is_protected f) None p.frame
-frame_is true p Open = refl
-frame_is false p Open = refl
-frame_is lent p Unused = refl
-frame_is lent p Closed = refl
-frame_is lent p From = refl
-frame_is lent p Gone = refl
-
-frame_of : (lent : Bool) (o : Option Page)
-    → frame_in (option_map (page_after_mark lent) o) ≡ cond (is_protected (state_in o)) None (frame_in o)
-frame_of lent None = refl
-frame_of lent (Some p) =
-    by_states lent p (λ f q. q.frame ≡ cond (is_protected f) None p.frame) (frame_is lent p)
-
--- an open page was open, and has given out as many words
-open_is : (lent : Bool) (p : Page) (f : PageState) → is_open (in_state lent p f).state ≡ true
-    → (is_open f ≡ true) × ((in_state lent p f).top ≡ p.top)
-open_is true p Open e = (refl, refl)
-open_is false p Open e = absurd (cc)
-open_is lent p Unused e = absurd (cc)
-open_is lent p Closed e = absurd (cc)
-open_is lent p From e = absurd (cc)
-open_is lent p Gone e = absurd (cc)
-
-open_of : (lent : Bool) (p : Page) → is_open (page_after_mark lent p).state ≡ true
-    → (is_open p.state ≡ true) × ((page_after_mark lent p).top ≡ p.top)
-open_of lent p = by_states lent p
-    (λ f q. is_open q.state ≡ true → (is_open f ≡ true) × (q.top ≡ p.top)) (open_is lent p)
-
--- a page with memory had it, and wasn't protected
-memory_is : (lent : Bool) (f : PageState) → has_memory (state_after_mark lent f) ≡ true
-    → (has_memory f ≡ true) × (is_protected f ≡ false)
-memory_is true Open e = (refl, refl)
-memory_is false Open e = (refl, refl)
-memory_is lent Closed e = (refl, refl)
-memory_is lent Unused e = absurd (cc)
-memory_is lent From e = absurd (cc)
-memory_is lent Gone e = absurd (cc)
-
--- a page with memory that isn't protected keeps it
-memory_kept : (lent : Bool) (f : PageState) → has_memory f ≡ true → is_protected f ≡ false
-    → state_after_mark lent f ≢ Unused
-memory_kept true Open e u = λ z. cc
-memory_kept false Open e u = λ z. cc
-memory_kept lent Closed e u = λ z. cc
-memory_kept lent Unused e u = absurd (cc)
-memory_kept lent From e u = absurd (cc)
-memory_kept lent Gone e u = absurd (cc)
-
--- rows
-
-no_side : (n m : ℕ) → of_page (replicate {A = List Forwarding} n []) m ≡ []
-no_side n zero = refl
-no_side n (suc i) = list_read (replicate {A = List Forwarding} n []) i ∙ at n i
-  where
-    at : (n i : ℕ) → list_of (slice_get (replicate {A = List Forwarding} n []) i) ≡ []
-    at zero i = refl
-    at (suc n) zero = refl
-    at (suc n) (suc i) = at n i
-
-blank_everywhere : (rows : List (List Bool)) (m o : ℕ) → get_or (of_page (blank_all rows) m) o false ≡ false
-blank_everywhere rows zero o = refl
-blank_everywhere rows (suc i) o = ap (λ r. get_or r o false) (list_read (blank_all rows) i) ∙ at rows i
-  where
-    at : (rows : List (List Bool)) (i : ℕ) → get_or (list_of (slice_get (map blank_row rows) i)) o false ≡ false
-    at [] i = refl
-    at (r ∷ rows) zero = blank_bit (length r) o
-    at (r ∷ rows) (suc i) = at rows i
-
-bits_more : (r : List Bool) (rows : List (List Bool)) → bit_count (r ∷ rows) ≡ count_by (λ b. b) r + bit_count rows
-bits_more r rows = sum_by-cons (count_by (λ b. b)) r rows
-
-none_set : (rows : List (List Bool)) → bit_count rows ≡ 0 → (m o : ℕ) → get_or (of_page rows m) o false ≡ false
-none_set rows e zero o = refl
-none_set rows e (suc i) o = ap (λ r. get_or r o false) (list_read rows i) ∙ at rows e i
-  where
-    at : (rows : List (List Bool)) → bit_count rows ≡ 0 → (i : ℕ) → get_or (list_of (slice_get rows i)) o false ≡ false
-    at [] e i = refl
-    at (r ∷ rows) e zero = none_counted r (omega (arith, e, bits_more r rows)) o
-    at (r ∷ rows) e (suc i) = at rows (omega (arith, e, bits_more r rows)) i
-
--- the row of a page, which it gives up where it is protected
-row_ended : (ps : List Page) (rows : List (List Bool)) (i : ℕ)
-    → get_or (rows_after_mark ps rows) i [] ≡ cond (is_protected (state_in (slice_get ps i))) [] (get_or rows i [])
-row_ended [] rows i = refl
-row_ended (p ∷ ps) [] i = same (is_protected (state_in (slice_get (p ∷ ps) i)))
-  where
-    same : (b : Bool) → ◌≡◌ {A = List Bool} [] (cond b [] [])
-    same true = refl
-    same false = refl
-row_ended (p ∷ ps) (row ∷ rows) zero = refl
-row_ended (p ∷ ps) (row ∷ rows) (suc i) = row_ended ps rows i
-
-state_of_record : (s : StoreState) (i : ℕ) → state_at s (suc i) ≡ state_in (slice_get s.pages i)
-unfolding state_at
-state_of_record s i =
-    let back : suc i - 1 ≡ i = omega arith in
-    ap state_in (page_at_record s (suc i) (λ z. absurd (omega (arith, z))))
-    ∙ ap (λ j. state_in (slice_get s.pages j)) back
-
--- a bit stays that isn't set on a protected page
-bit_ended : (s : StoreState) (rows : List (List Bool)) (a : ℕ)
-    → (is_protected (state_at s (a / s.words)) ≡ true → bit_at rows s.words a ≡ false)
-    → bit_at (rows_after_mark s.pages rows) s.words a ≡ bit_at rows s.words a
-bit_ended s rows a h = by_page (a / s.words) h
-  where
-    by_test : (i : ℕ) (b : Bool) → (b ≡ true → get_or (get_or rows i []) (a % s.words) false ≡ false)
-        → get_or (cond b [] (get_or rows i [])) (a % s.words) false ≡ get_or (get_or rows i []) (a % s.words) false
-    by_test i true k = sym (k refl)
-    by_test i false k = refl
-
-    by_page : (n : ℕ) → (is_protected (state_at s n) ≡ true
-        → get_or (of_page rows n) (a % s.words) false ≡ false)
-        → get_or (of_page (rows_after_mark s.pages rows) n) (a % s.words) false
-        ≡ get_or (of_page rows n) (a % s.words) false
-    by_page zero k = refl
-    by_page (suc i) k = ap (λ r. get_or r (a % s.words) false) (row_ended s.pages rows i)
-        ∙ by_test i (is_protected (state_in (slice_get s.pages i))) (λ e. k (ap is_protected (state_of_record s i) ∙ e))
-
--- one that is set was
-bit_was : (s : StoreState) (rows : List (List Bool)) (a : ℕ) → bit_at (rows_after_mark s.pages rows) s.words a ≡ true
-    → bit_at rows s.words a ≡ true
-bit_was s rows a e = by_page (a / s.words) e
-  where
-    by_test : (row : List Bool) (b : Bool) → get_or (cond b [] row) (a % s.words) false ≡ true
-        → get_or row (a % s.words) false ≡ true
-    by_test row true k = absurd (false≢true k)
-    by_test row false k = k
-
-    by_page : (n : ℕ) → get_or (of_page (rows_after_mark s.pages rows) n) (a % s.words) false ≡ true
-        → get_or (of_page rows n) (a % s.words) false ≡ true
-    by_page zero k = k
-    by_page (suc i) k = by_test (get_or rows i []) (is_protected (state_in (slice_get s.pages i)))
-        (sym (ap (λ r. get_or r (a % s.words) false) (row_ended s.pages rows i)) ∙ k)
-
--- a page that isn't protected keeps its words
-kept_words : (s : StoreState) (n f : ℕ) → IsStore s → is_protected (state_in (page_at s n)) ≡ false
-    → frame_in (page_at s n) ≡ Some f
-    → slice_get (frames_owned (map (owner_after_mark s) s.owners) s.frames) f ≡ slice_get s.frames f
-unfolding state_at
-kept_words s n f h free frame =
-    let (i, p, number, at, has) = page_record s n f frame in
-    let owner : slice_get s.owners f ≡ Some (Some n) =
-    h.owning.owned i f p at has ∙ ap (λ m. Some (Some m)) (sym number) in
-    kept_owned (map (owner_after_mark s) s.owners) s.frames f n
-    (get_map (owner_after_mark s) s.owners f (Some n) owner ∙ ap (λ b. Some (cond b None (Some n))) free)
+use Rattle.refinement.proofs.EndedPages.{get_after, length_after, page_after, state_of, frame_of, open_of}
+use Rattle.refinement.proofs.EndedPages.{memory_is, memory_kept, no_side, blank_everywhere, none_set, bit_ended}
+use Rattle.refinement.proofs.EndedPages.{bit_was, kept_words}
 
 module _ {h : HeapState} {p p0 : PlainHeap} (s : IsStore h.store) (k : Holds h p p0)
     (may : MayEndMark (world_of h)) where

@@ -27,7 +27,7 @@ use Rattle.refinement.specs.Standing.{MovesPhase}
 use Rattle.model.specs.declared.steps.Step.{Step}
 use Rattle.model.specs.declared.steps.Answer.{Answer}
 use Rattle.refinement.proofs.Accepted.{OnAccepted, on_bind, on_has, on_some, on_test, on_unless}
-use Rattle.refinement.proofs.Protections.{idle_is}
+use Rattle.refinement.proofs.ProtectionTests.{idle_is}
 
 -- an accepted step leaves the phase
 abbrev pub Stays : HeapState → Outcome → Type 0

@@ -39,7 +39,7 @@ use Rattle.refinement.specs.Standing.{Holds}
 use Rattle.refinement.proofs.Accepted.{OnAccepted, accepted, of_accepted, on_has}
 use Rattle.refinement.proofs.Emptied.{MayEmpty, side_after}
 use Rattle.refinement.proofs.Planned.{IsLive, IsPlanned, live_at, live_within, of_live, planned, words_are}
-use Rattle.refinement.proofs.Protections.{all_closed, has_room, idle_is}
+use Rattle.refinement.proofs.ProtectionTests.{all_closed, has_room, idle_is}
 use Rattle.refinement.proofs.Targets.{targets_hold}
 use Rattle.refinement.proofs.Verdicts.{worker_passed}
 

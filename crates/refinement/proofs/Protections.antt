@@ -1,27 +1,23 @@
 -- Pages are protected. Letters are those of `Emptied`.
 use Rattle.std.proofs.Common.{◌≡◌, ◌⊎◌, inl, inr, ℕ, zero, suc, ◌+◌, ◌*◌, ◌/◌, ◌%◌, ◌≤◌, Bool, true, false}
-use Rattle.std.proofs.Common.{cond, not, nat_lt, List, [], ◌∷◌, length, map, get_or, Option, Some, None, refl, sym, ◌∙◌}
-use Rattle.std.proofs.Common.{◌&&◌, ap, subst, arith}
-use Rattle.std.specs.Prelude.{Ok, Err}
+use Rattle.std.proofs.Common.{cond, not, List, [], ◌∷◌, length, map, get_or, Option, Some, None, refl, sym, ◌∙◌}
+use Rattle.std.proofs.Common.{ap, subst, arith}
 use mathlib.Core.Path.{fun_ext}
 use Rattle.std.specs.List.{slice_get}
 use Rattle.std.specs.Option.{option_map}
-use Rattle.std.proofs.lemmas.Bool.{cases_eq, ltb-false, false≢true}
+use Rattle.std.proofs.lemmas.Bool.{cases_eq, false≢true}
 use Rattle.std.proofs.lemmas.List.{length-map}
 use Rattle.std.proofs.lemmas.Nat.{div-mul-add, mod-mul-add}
 use Rattle.std.proofs.lemmas.Option.{slice_get-map, same_Some, none-some}
 use Rattle.model.specs.declared.records.Forwarding.{Forwarding}
 use Rattle.model.specs.declared.records.Page.{Page}
-use Rattle.model.specs.declared.records.PageState.{PageState}
-use Rattle.model.specs.declared.records.PageState.TheVariants.{Unused, Open, Closed, From, Gone}
-use Rattle.model.specs.declared.records.Phase.{Phase}
-use Rattle.model.specs.declared.records.Phase.TheVariants.{Idle, MarkCrossing, Scanning, ProtectCrossing, Relocating}
+use Rattle.model.specs.declared.records.PageState.TheVariants.{Unused, Open, Closed, From}
+use Rattle.model.specs.declared.records.Phase.TheVariants.{ProtectCrossing}
 use Rattle.model.specs.declared.steps.Actor.TheVariants.{Worker}
 use Rattle.model.specs.declared.steps.Step.TheVariants as steps
 use Rattle.model.specs.declared.steps.Refusal.TheVariants as refusals
 use Rattle.model.specs.Phases.{is_idle}
 use Rattle.model.specs.Refusing.{refuse_if}
-use Rattle.model.specs.Cycles.{is_lent}
 use Rattle.model.specs.Stores.{state_at, state_in, has_memory, is_open, is_protected, is_unused}
 use Rattle.model.specs.Owning.{Each, IsStore}
 use Rattle.model.specs.Holding.{IsHeap, AreRising, AreRowsOf}
@@ -31,9 +27,9 @@ use Rattle.model.specs.Registers.{register_of}
 use Rattle.model.specs.Bits.{of_page, bit_at}
 use Rattle.model.specs.Plain.{PlainHeap, plain_step, plain_answer}
 use Rattle.model.specs.Plans.{live_offsets, plan_of, target_count, moves_of, place_of, side_of}
-use Rattle.model.specs.Protections.{set_from_of, with_protected, protect, protect_with, with_targets, is_closed, ripe}
+use Rattle.model.specs.Protections.{set_from_of, with_protected, protect, protect_with, with_targets}
 use Rattle.model.specs.Protections.{all_ripe}
-use Rattle.model.specs.Protections.{free_count, unused_count, room_for, protect_outcome}
+use Rattle.model.specs.Protections.{room_for, protect_outcome}
 use Rattle.model.proofs.Plans.{IsIn, at_in, bit_told, side_rises}
 use Rattle.laws.specs.AddressHeap.{HeapObject, NoEntry, Planned, Copied}
 use Rattle.laws.specs.Edits.{protect_pages}
@@ -48,7 +44,7 @@ use Rattle.refinement.specs.Claims.{end_extent}
 use Rattle.refinement.specs.Claims.{size_at, HasGiven}
 use Rattle.refinement.specs.Roots.{HoldsWords}
 use Rattle.refinement.specs.Standing.{Holds}
-use Rattle.refinement.proofs.Accepted.{OnAccepted, on_has, on_test, on_accepted}
+use Rattle.refinement.proofs.Accepted.{on_has}
 use Rattle.refinement.proofs.Carrying.{Carries, RowHolds, alike, step_by, stays}
 use Rattle.refinement.proofs.Changes.{list_of, list_read}
 use Rattle.refinement.proofs.StartMarks.{kept_of_all, each_of_all, first_waits}
@@ -60,6 +56,7 @@ use Rattle.refinement.proofs.Planned.{planned_apart}
 use Rattle.refinement.proofs.Emptied.{MayEmpty, GoesTo, IsEmptied, idle, positive, page_after, page_keeps}
 use Rattle.refinement.proofs.Emptied.{state_emptied, state_stays, objects_after, side_after, side_stays}
 use Rattle.refinement.proofs.Emptied.{goes_to, entry_after, in_or_out}
+use Rattle.refinement.proofs.ProtectionTests.{all_closed, has_room, idle_is}
 
 -- a bit that is read as set is there
 read_true : (row : List Bool) (o : ℕ) → get_or row o false ≡ true → slice_get row o ≡ Some true
@@ -434,49 +431,6 @@ module _ (h g : HeapState) (p p0 : PlainHeap) (ts pages : List ℕ) (d : IsHeap 
   protected_holds = step_by m.holds protected_carries (stays g p) (Protect _ _ _ may_protect)
 
 -- the row
-
--- all of these pages are closed
-ripe_closed : (h : HeapState) (n : ℕ) → OnAccepted (λ (u : Unit {0}). state_at h.store n ≡ Closed) (ripe h n)
-unfolding ripe
-ripe_closed h n = by_lent (is_open (state_at h.store n) && is_lent h.threads n)
-  where
-    is : (x : PageState) → OnAccepted (λ (u : Unit {0}). x ≡ Closed)
-        (cond (is_closed x) (Ok tt) (Err (refusals.Unripe n)))
-    is Unused = tt
-    is Open = tt
-    is Closed = refl
-    is From = tt
-    is Gone = tt
-
-    by_lent : (b : Bool) → OnAccepted (λ (u : Unit {0}). state_at h.store n ≡ Closed)
-        (cond b (Err (refusals.Lent n)) (cond (is_closed (state_at h.store n)) (Ok tt) (Err (refusals.Unripe n))))
-    by_lent true = tt
-    by_lent false = is (state_at h.store n)
-
-pub all_closed : (h : HeapState) (pages : List ℕ)
-    → OnAccepted (λ (u : Unit {0}). (n : ℕ) → IsIn n pages → state_at h.store n ≡ Closed) (all_ripe h pages)
-all_closed h [] = λ n e. absurd e
-all_closed h (k ∷ pages) = on_has (ripe h k) _ _ _ (ripe_closed h k) (λ u first.
-    on_accepted (all_ripe h pages) _ _ (all_closed h pages) (λ v others.
-    λ n e. elim e [ inl is ↦ ap (state_at h.store) (sym is) ∙ first | inr there ↦ others n there ]))
-
--- there is room for so many targets
-pub record HasRoomFor (h : HeapState) (need : ℕ) : Type 0 where
-  pub frames : need ≤ free_count h.store
-  pub pages : need ≤ unused_count h.store
-
-pub has_room : (h : HeapState) (need : ℕ) → OnAccepted (λ (u : Unit {0}). HasRoomFor h need) (room_for h.store need)
-unfolding room_for
-has_room h need = on_test (nat_lt (free_count h.store) need) _ _ _ (λ e.
-    on_test (nat_lt (unused_count h.store) need) _ _ _ (λ f.
-    record { frames = ltb-false (free_count h.store) need e; pages = ltb-false (unused_count h.store) need f }))
-
-pub idle_is : (f : Phase) → OnAccepted (λ (u : Unit {0}). f ≡ Idle) (refuse_if (not (is_idle f)) refusals.Phase)
-idle_is Idle = refl
-idle_is MarkCrossing = tt
-idle_is Scanning = tt
-idle_is ProtectCrossing = tt
-idle_is Relocating = tt
 
 module _ {h : HeapState} {p p0 : PlainHeap} (s : IsStore h.store) (d : IsHeap h) (k : Holds h p p0) (w : ℕ) where
   -- pages are protected
