@@ -15,6 +15,7 @@ use Rattle.model.specs.Stores.{StoreState, is_protected, is_open, state_at, stat
 use Rattle.model.specs.Stores.{owner_after_mark, store_after_mark, frames_owned, words_owned, with_empty}
 use Rattle.model.specs.States.{change_at, change_found}
 use Rattle.model.specs.Owning.{Each, IsStore, LiesIn, AreSized, NoneProtected, owned_size}
+use Rattle.model.proofs.Tables.{get_map}
 use Rattle.model.proofs.Lists.{get_set, get_set_same, get_set_other}
 use Rattle.page.specs.Ending.{with_mark_ended_at, given_up}
 use Rattle.page.proofs.Keeping.{page_at_record}
@@ -273,12 +274,6 @@ kept_owned (o ∷ os) [] f n e = refl
 kept_owned (o ∷ os) (ws ∷ frames) zero n e =
     let owner : o ≡ Some n = same_Some _ _ e in ap (λ x. Some (words_owned x ws)) owner
 kept_owned (o ∷ os) (ws ∷ frames) (suc f) n e = kept_owned os frames f n e
-
-pub get_map : {X Y : Type 0} (f : X → Y) (xs : List X) (i : ℕ) (x : X) → slice_get xs i ≡ Some x
-    → slice_get (map f xs) i ≡ Some (f x)
-get_map f [] i x e = absurd (cc)
-get_map f (y ∷ ys) zero x e = ap (λ z. Some (f z)) (same_Some _ _ e)
-get_map f (y ∷ ys) (suc i) x e = get_map f ys i x e
 
 -- a frame that a page gives up is free after the mark
 given_free : (s : StoreState) (i g : ℕ) (p : Page) → IsStore s → slice_get s.pages i ≡ Some p → given_up p ≡ Some g

@@ -222,7 +222,8 @@ protected_left words p e = ap (λ b. cond b (words - p.top) 0) (closed_so p.stat
     closed_so From e = refl
     closed_so Gone e = refl
 
-set_same : {X : Type 0} (xs : List X) (i : ℕ) (x : X) → slice_get xs i ≡ Some x → set xs i x ≡ xs
+-- what is there is put there
+pub set_same : {X : Type 0} (xs : List X) (i : ℕ) (x : X) → slice_get xs i ≡ Some x → set xs i x ≡ xs
 set_same [] i x e = refl
 set_same (y ∷ ys) zero x e = let here : y ≡ x = cc in ap (λ z. z ∷ ys) (sym here)
 set_same (y ∷ ys) (suc i) x e = ap (λ zs. y ∷ zs) (set_same ys i x e)

@@ -3,7 +3,6 @@ use Rattle.std.proofs.Common.{◌≡◌, ◌≢◌, ◌⊎◌, inl, inr, ℕ, ze
 use Rattle.std.proofs.Common.{set, map, length, Option, Some, None, refl, sym, ◌∙◌, ap, ap₂, arith}
 use Rattle.std.specs.List.{slice_get}
 use Rattle.std.specs.Prelude.{◌==◌}
-use Rattle.std.proofs.lemmas.Option.{same_Some}
 use Rattle.std.proofs.lemmas.Bool.{cases_eq}
 use Rattle.model.specs.declared.records.Buffer.{Buffer}
 use Rattle.model.specs.declared.records.Page.{Page}
@@ -21,17 +20,8 @@ use Rattle.model.proofs.Tables.{get_map}
 use Rattle.page.proofs.Indexes.{kept_mapped, set_mapped}
 use Rattle.page.proofs.Keeping.{given_at, opened_at, opened_words}
 use Rattle.page.proofs.Relocated.{used_there}
-use Rattle.page.proofs.Retiring.{open_is}
-
-set_same : {X : Type 0} (xs : List X) (i : ℕ) (x : X) → slice_get xs i ≡ Some x → set xs i x ≡ xs
-set_same [] i x e = refl
-set_same (y ∷ ys) zero x e = ap (λ z. z ∷ ys) (sym (same_Some _ _ e))
-set_same (y ∷ ys) (suc i) x e = ap (λ zs. y ∷ zs) (set_same ys i x e)
-
-set_again : {X : Type 0} (xs : List X) (i : ℕ) (x y : X) → set (set xs i x) i y ≡ set xs i y
-set_again [] i x y = refl
-set_again (z ∷ xs) zero x y = refl
-set_again (z ∷ xs) (suc i) x y = ap (λ ys. z ∷ ys) (set_again xs i x y)
+use Rattle.page.proofs.Retiring.{open_is, set_same}
+use Rattle.std.proofs.lemmas.List.{set-set}
 
 open_sized : (words : ℕ) (p : Page) → is_open p.state ≡ true → row_size words p ≡ words
 open_sized words p o = ap (λ x. cond (is_unused x) 0 words) (open_is p.state o)
@@ -68,7 +58,7 @@ fresh_rows s i f n p e =
     ∙ ap (λ w. set (row_sizes (open_fresh s i f)) (i + 1 - 1) w) (opened_words s i f)
     ∙ ap (λ j. set (row_sizes (open_fresh s i f)) j s.words) back
     ∙ ap (λ ns. set ns i s.words) (opened_rows s i f)
-    ∙ set_again (row_sizes s) i s.words s.words
+    ∙ set-set (row_sizes s) i s.words s.words
     ∙ sym (ap (λ (b : Buffer). opened_sizes s.words b (row_sizes s))
     (ap (λ (x : StoreState × Buffer). x.1) (given_at (open_fresh s i f) i n (fresh_page f) at))
     ∙ ap (λ j. set (row_sizes s) j s.words) back)

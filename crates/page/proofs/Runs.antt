@@ -1,5 +1,6 @@
 -- Runs of objects that are copied from one page to another.
-use Rattle.std.proofs.Common.{◌≡◌, ℕ, zero, suc, ◌+◌, ◌-◌, ◌≤◌, ◌<◌, ◌%◌, ◌==◌, List, [], ◌∷◌, length, take, drop, set}
+use Rattle.std.proofs.lemmas.List.{set-set}
+use Rattle.std.proofs.Common.{◌≡◌, ℕ, zero, suc, ◌+◌, ◌-◌, ◌≤◌, ◌<◌, ◌%◌, ◌==◌, List, [], length, take, drop, set}
 use Rattle.std.proofs.Common.{Option, Some, None, cond, Bool, true, false, not, ◌&&◌, ◌⊎◌, inl, inr}
 use Rattle.std.proofs.Common.{refl, sym, ap, ◌∙◌, arith}
 use Rattle.std.specs.List.{slice_get}
@@ -160,11 +161,6 @@ words_keep s n f same h = by_frame (frame_in (page_at s n))
     by_frame None = h
     by_frame (Some i) = by_words i (slice_get s.frames i) refl
 
-set_twice : (xs : List (List ℕ)) (i : ℕ) (v w : List ℕ) → set (set xs i v) i w ≡ set xs i w
-set_twice [] i v w = refl
-set_twice (x ∷ xs) zero v w = refl
-set_twice (x ∷ xs) (suc i) v w = ap (λ ys. x ∷ ys) (set_twice xs i v w)
-
 -- words that are changed twice
 pub words_twice : (s : StoreState) (n : ℕ) (f g : List ℕ → List ℕ)
     → with_words (with_words s n f) n g ≡ with_words s n (λ ws. g (f ws))
@@ -176,7 +172,7 @@ words_twice s n f g = ap (λ fs. record s { frames = fs }) (by_frame (frame_in (
         ≡ changed_frame s.frames i o (λ ws. g (f ws))
     by_words i None z = ap (λ o. changed_frame s.frames i o g) z
     by_words i (Some ws) z = ap (λ o. changed_frame (set s.frames i (f ws)) i o g) (get_set_same s.frames i ws (f ws) z)
-        ∙ set_twice s.frames i (f ws) (g (f ws))
+        ∙ set-set s.frames i (f ws) (g (f ws))
 
     by_frame : (o : Option ℕ) → changed_in (changed_in s.frames o f) o g ≡ changed_in s.frames o (λ ws. g (f ws))
     by_frame None = refl

@@ -19,7 +19,8 @@ use Rattle.model.specs.Bits.{of_page, bit_at, blank_row, blank_all, bit_count}
 use Rattle.model.specs.Cycles.{rows_after_mark}
 use Rattle.model.proofs.Lists.{none_counted}
 use Rattle.model.proofs.Memory.{page_record}
-use Rattle.page.proofs.Ended.{get_map, kept_owned}
+use Rattle.model.proofs.Tables.{get_map}
+use Rattle.page.proofs.Ended.{kept_owned}
 use Rattle.page.proofs.Keeping.{page_at_record, page_at_zero}
 use Rattle.laws.specs.Edits.{state_after_mark}
 use Rattle.refinement.proofs.Changes.{list_of, list_read, blank_bit}
