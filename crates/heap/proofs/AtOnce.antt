@@ -1,6 +1,7 @@
 -- Where no trap is due, a load is done at once.
+use Rattle.std.proofs.lemmas.List.{set-set}
 use Rattle.std.proofs.Common.{◌≡◌, ℕ, ◌==◌, ◌<◌, Bool, true, false, Option, Some, None, List, length, refl, nat_le, sym}
-use Rattle.std.proofs.Common.{subst, arith, ap, ◌∙◌, set, zero, suc, [], ◌∷◌, length-set}
+use Rattle.std.proofs.Common.{subst, arith, ap, ◌∙◌, length-set}
 use Rattle.std.specs.Prelude.{Result, Ok, Err, IfSome, if◌then◌else◌, slice_get, ◌/◌, ◌%◌, ◌+◌, ◌^◌, ◌||◌, ◌&&◌, not}
 use Rattle.std.specs.Prelude.{nat_lt}
 use Rattle.std.specs.Option.{is_some}
@@ -341,18 +342,13 @@ reads_where h a i k bits w stands read word =
 
 -- ---- two edits of a thread, one behind the other
 
-set_twice : {X : Type 0} (xs : List X) (i : ℕ) (a b : X) → set (set xs i a) i b ≡ set xs i b
-set_twice [] i a b = refl
-set_twice (x ∷ xs) zero a b = refl
-set_twice (x ∷ xs) (suc i) a b = ap (λ ys. x ∷ ys) (set_twice xs i a b)
-
 changed_twice : {X : Type 0} (xs : List X) (i : ℕ) (f g : X → X)
     → change_at (change_at xs i f) i g ≡ change_at xs i (λ x. g (f x))
 changed_twice {X} xs i f g = by_element (slice_get xs i) refl
   where
     by_element : (o : Option X) → slice_get xs i ≡ o → change_at (change_at xs i f) i g ≡ change_at xs i (λ x. g (f x))
     by_element None e = rw e (rw e refl)
-    by_element (Some x) e = rw e (rw (get_set_same xs i x (f x) e) (set_twice xs i (f x) (g (f x))))
+    by_element (Some x) e = rw e (rw (get_set_same xs i x (f x) e) (set-set xs i (f x) (g (f x))))
 
 -- a load that begins and ends at once, as two edits of the heap
 pub read_twice : (h : HeapState) (t r : ℕ) (w : Reference) (b : Barrier) (threads : List ThreadState)

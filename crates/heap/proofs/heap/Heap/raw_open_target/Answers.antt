@@ -1,10 +1,6 @@
-use Rattle.std.proofs.Common.{◌≡◌, ◌∙◌, false, List, Bool, ℕ, replicate, cond, set, ◌-◌, sym, subst, ap}
-use Rattle.std.specs.Prelude.{◌==◌}
-use Rattle.model.specs.Buffers.{opened_rows}
+use Rattle.std.proofs.Common.{◌∙◌, false, Bool, replicate, sym, ap}
 use Rattle.model.specs.Protections.{take_target, with_target}
 use Rattle.model.specs.States.{HeapState}
-use Rattle.model.specs.Stores.{StoreState}
-use Rattle.std.specs.Prelude.{Ok}
 use Rattle.heap.specs.Views.{heap_of}
 use Rattle.heap.proofs.Keeping.{opened_keeps, opened_by}
 use Rattle.heap.proofs.TakenBuffers.{opened_target}

@@ -1,4 +1,4 @@
-use Rattle.std.proofs.Common.{◌∙◌, ◌<◌, length, subst, ap, sym, arith}
+use Rattle.std.proofs.Common.{◌∙◌, ◌<◌, length, ap, sym, arith}
 use Rattle.model.specs.Cycles.{rows_after_mark}
 use Rattle.heap.proofs.GivenRows.{all_taken, given_else, given_then}
 use Rattle.heap.proofs.heap.collecting.give_up_indexed_rows.Goals.{then-is_protected_at, else-is_protected_at}
