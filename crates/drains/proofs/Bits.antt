@@ -11,7 +11,7 @@ use Rattle.heap.specs.Marking.{bit_in}
 use Rattle.model.specs.Bits.{of_page, bit_at, put_bit, with_bit}
 use Rattle.model.specs.States.{change_at, change_found}
 use Rattle.drains.specs.Waiting.{noting, IsOther, AreWaiting}
-use Rattle.drains.proofs.Scanned.{parted}
+use Rattle.page.proofs.Untouched.{parted}
 
 -- ---- one element of a list
 

@@ -144,7 +144,7 @@ gated h t s never g =
           (subst (λ (b : Bool). (is_parked_in (slice_get h.threads t) && not b) ≡ false) never c.0),
     )
 
-changed_there : {X : Type 0} (xs : List X) (i : ℕ) (f : X → X) (x : X) → slice_get xs i ≡ Some x
+pub changed_there : {X : Type 0} (xs : List X) (i : ℕ) (f : X → X) (x : X) → slice_get xs i ≡ Some x
     → slice_get (change_at xs i f) i ≡ Some (f x)
 changed_there xs i f x e = rw e (get_set_same xs i x (f x) e)
 
@@ -245,13 +245,13 @@ register_there h t r x k there low =
     below : {n m : ℕ} → r < n → n ≡ m → nat_le m r ≡ false
     below l e = grind arith
 
-register_where : (h : HeapState) (t r : ℕ) (x : ThreadState) → slice_get h.threads t ≡ Some x
+pub register_where : (h : HeapState) (t r : ℕ) (x : ThreadState) → slice_get h.threads t ≡ Some x
     → register_of h t r ≡ flat (slice_get x.registers r)
 unfolding register_of
 register_where h t r x there = rw there refl
 
 -- a word that names an address on no protected page may be used
-used_where : (h : HeapState) (t address : ℕ) (w : Reference) → IsOpenTo h address → address_in w ≡ Some address
+pub used_where : (h : HeapState) (t address : ℕ) (w : Reference) → IsOpenTo h address → address_in w ≡ Some address
     → use_word h t w ≡ Ok address
 unfolding let_through
 used_where h t address None k e = absurd (cc)
@@ -260,7 +260,7 @@ used_where h t address (Some v) k e =
     let there : IsOpenTo h v.0 = subst (IsOpenTo h) (sym same) k in
     rw there (ap Ok same)
 
-ready_passes : (h : HeapState) (t : ℕ) (s : Step) (x : ThreadState) → slice_get h.threads t ≡ Some x
+pub ready_passes : (h : HeapState) (t : ℕ) (s : Step) (x : ThreadState) → slice_get h.threads t ≡ Some x
     → x.parked ≡ false → x.barrier ≡ None → is_for_workers s ≡ false → has_bad_index h s ≡ false → Passes h t s
 unfolding thread_gate
 ready_passes h t s x there runs closed mine good =
@@ -342,7 +342,7 @@ reads_where h a i k bits w stands read word =
 
 -- ---- two edits of a thread, one behind the other
 
-changed_twice : {X : Type 0} (xs : List X) (i : ℕ) (f g : X → X)
+pub changed_twice : {X : Type 0} (xs : List X) (i : ℕ) (f g : X → X)
     → change_at (change_at xs i f) i g ≡ change_at xs i (λ x. g (f x))
 changed_twice {X} xs i f g = by_element (slice_get xs i) refl
   where
@@ -385,6 +385,8 @@ pub uses_at_once : (h : HeapState) (t object address : ℕ) (w : Reference) → 
 unfolding usable
 uses_at_once h t object address w free from names = record {
   passes = from.passes;
+  closed = from.closed;
+  named = ap address_in from.word ∙ names;
   there = from.there;
   usable = ap (use_word h t) from.word ∙ used_where h t address w free names;
 }

@@ -10,3 +10,4 @@ pub mod Moving
 pub mod Runs
 pub mod TakenBuffers
 pub mod GivenRows
+pub mod Found

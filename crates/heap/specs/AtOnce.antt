@@ -79,9 +79,11 @@ pub record ReadsGlobal (h : HeapState) (t target global : ℕ) (w : Reference) :
   pub closed : barrier_of_thread h t ≡ None
   pub word : w ≡ global_of h global
 
--- thread t may use the object at an address, which a register names
+-- thread t may use the object at an address, which a register names; its barrier is closed
 pub record UsesAtOnce (h : HeapState) (t object address : ℕ) : Type 0 where
   pub passes : (s : Step) → is_for_workers s ≡ false → has_bad_index h s ≡ false → Passes h t s
+  pub closed : barrier_of_thread h t ≡ None
+  pub named : address_in (register_of h t object) ≡ Some address
   pub there : no_register h object ≡ false
   pub usable : usable h t object ≡ Ok address
 

@@ -7,3 +7,4 @@ pub mod Taking
 pub mod Relocating
 pub mod Runs
 pub mod Marking
+pub mod Found

@@ -1,5 +1,5 @@
 //! The heap.
-mod at_once;
+pub mod at_once;
 mod birth;
 mod buffers;
 pub mod collecting;

@@ -10,6 +10,7 @@ mod heap;
 
 pub use fault::NewFault;
 pub use heap::Heap;
+pub use heap::at_once::found::FoundObject;
 pub use heap::collecting::RawCollectorEdits;
 pub use heap::edits::RawEdits;
 pub use heap::opening::PageMemory;

@@ -28,7 +28,7 @@ use Rattle.page.proofs.Usable.{usable_set_keeps}
 use Rattle.heap.proofs.AtOnce.{datum_there, written_keeps}
 use Rattle.refinement.specs.Standing.{StepsHold, MarksFind, PhasesMove}
 use Rattle.refinement.specs.Tallies.{StepsCount}
-use Rattle.drains.proofs.Scanned.{word_stays}
+use Rattle.page.proofs.Untouched.{word_stays}
 use Rattle.cycle.proofs.Replaying.{accepted_stands}
 use Rattle.managed.specs.Runs.{Runs}
 use Rattle.managed.specs.declared.data.Run.{Run}

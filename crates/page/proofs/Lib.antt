@@ -14,3 +14,4 @@ pub mod NextTargets
 pub mod RowSizes
 pub mod Runs
 pub mod Usable
+pub mod Untouched

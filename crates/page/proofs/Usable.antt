@@ -10,7 +10,7 @@ use Rattle.std.proofs.lemmas.Bool.Decides.{nat_tests}
 use Rattle.model.specs.States.{flat}
 use Rattle.model.specs.declared.records.Page.{Page}
 use Rattle.model.specs.Stores.{StoreState, at_offset, blank_page, frame_in, is_open, record_count, is_protected, page_at, spot_of}
-use Rattle.model.specs.Stores.{changed_frame, state_at, state_in, with_word, with_words, word_at, word_in}
+use Rattle.model.specs.Stores.{changed_frame, state_at, state_in, with_word, with_words, word_at, word_in, words_at}
 use Rattle.model.specs.Owning.{IsStore}
 use Rattle.model.specs.declared.limits.TheConstants.{MOST_PAGES, MOST_WORDS}
 use Rattle.model.proofs.Lists.{get_read}
@@ -103,6 +103,13 @@ pub usable_word : (s : StoreState) (a k f : ℕ) → usable_frame s (a / s.words
     → word_at s (a + k) ≡ word_in s.frames (Some (f, a % s.words + k))
 unfolding word_at
 usable_word s a k f h near = ap (word_in s.frames) (usable_spot s a k f h near)
+
+-- the words of a usable page are those of its frame
+pub usable_words : {X : Type 0} (read : X → List ℕ) (s : StoreState) (n f : ℕ) (r : Option X) → usable_frame s n ≡ Some f
+    → IfSome r (λ x. slice_get s.frames f ≡ Some (read x)) → IfSome r (λ x. words_at s n ≡ Some (read x))
+unfolding words_at
+usable_words read s n f None h e = tt
+usable_words read s n f (Some x) h e = rw (usable_framed s n f h) e
 
 -- the first word of an object
 pub first_of : (s : StoreState) (a v : ℕ) → word_at s (a + 0) ≡ Some v → Some v ≡ word_at s a

@@ -8,3 +8,4 @@ pub mod Views
 pub mod Relocating
 pub mod Usable
 pub mod Sizes
+pub mod Whole

@@ -117,6 +117,19 @@ impl Frames {
         }
     }
 
+    /// The words of a frame that there is, if the frame isn't aside and has any.
+    #[inline(always)]
+    pub(crate) fn words_at_once(&self, number: usize) -> Option<&[u64]>
+        requires { number < length self.now }
+        ensures { IfSome result (λ ws. slice_get self.now number ≡ Some ws.now) }
+    {
+        let words = self.frames[number].words();
+        if words.is_empty() {
+            return None;
+        }
+        Some(words)
+    }
+
     /// The word at an offset of a frame that there is, if the frame isn't aside and goes so far.
     #[inline(always)]
     pub(crate) fn word_at_once(&self, number: usize, offset: usize) -> Option<u64>

@@ -5,3 +5,4 @@ pub mod Roots
 pub mod Tallies
 pub mod Standing
 pub mod Packing
+pub mod Naming

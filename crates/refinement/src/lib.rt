@@ -12,6 +12,7 @@
 #![tactic(auto)]
 
 ghost use Rattle.refinement.specs.Packing.{PagesLieInTwo};
+ghost use Rattle.refinement.specs.Naming.{NamesWhole};
 ghost use Rattle.refinement.specs.Standing.{HeapsStand, HeapsRead, FirstHolds, StepsHold, MarksFind, PhasesMove};
 ghost use Rattle.refinement.specs.Tallies.{StepsCount};
 
@@ -45,4 +46,10 @@ pub fn law()
 /// objects don't overlap, those of a page come to no more words than a target has.
 pub fn packing_law()
     ensures { PagesLieInTwo }
+{}
+
+/// What a register names that may be used (ours), in a state that stands for a plain heap: an object that lies whole on
+/// its page. So its layout is in the table, and none of its words is past the page's end.
+pub fn naming_law()
+    ensures { NamesWhole }
 {}

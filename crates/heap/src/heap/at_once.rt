@@ -1,5 +1,6 @@
 //! Steps that are done at once, when nothing is due: the read barrier's fast path.
 
+pub mod found;
 mod globals;
 mod words;
 

@@ -1,7 +1,7 @@
 //! Words of pages that have memory and aren't protected, found by one look at the page.
 
-ghost use Rattle.std.specs.Prelude.{◌≡◌, ◌+◌, ◌/◌, ◌^◌, ◌<◌, IfSome, Some, if◌then◌else◌};
-ghost use Rattle.model.specs.Stores.{with_word, word_at};
+ghost use Rattle.std.specs.Prelude.{◌≡◌, ◌+◌, ◌/◌, ◌%◌, ◌^◌, ◌<◌, IfSome, Some, if◌then◌else◌};
+ghost use Rattle.model.specs.Stores.{with_word, word_at, words_at};
 ghost use Rattle.refword.specs.Words.{IsAddress};
 ghost use Rattle.page.specs.Usable.{usable_frame};
 
@@ -19,6 +19,24 @@ impl Store {
             None => None,
             Some(frame) => *frame,
         }
+    }
+
+    /// The words of a usable page, by its frame and an address on it. They may also be `None` after the page was
+    /// lent beside another; `words` then finds them.
+    #[inline(always)]
+    pub fn words_on(&self, frame: u32, number: u64) -> Option<&[u64]>
+        requires { usable_frame self.now (number / self.now.words) ≡ Some frame }
+        ensures { IfSome result (λ ws. words_at self.now (number / self.now.words) ≡ Some ws.now) }
+    {
+        self.frames.words_at_once(frame as usize)
+    }
+
+    /// The offset in its page of a number that is an address: below the words of a page.
+    #[inline(always)]
+    pub fn offset_on(&self, number: u64) -> usize
+        ensures { result ≡ number % self.now.words }
+    {
+        self.size.offset_of(number) as usize
     }
 
     /// The word less than 2^17 words after an address on a usable page, if it is on the same page. That is

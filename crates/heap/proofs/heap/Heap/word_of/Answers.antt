@@ -1,0 +1,25 @@
+use Rattle.std.proofs.Common.{◌≡◌, ◌∙◌, ◌/◌, ◌%◌, ◌+◌, Some, ap, subst, sym}
+use Rattle.std.specs.Option.{option_and_then}
+use Rattle.std.specs.List.{slice_get}
+use Rattle.std.proofs.lemmas.Option.{slice_get-get_or}
+use Rattle.model.specs.Stores.{StoreState, words_at, word_at}
+use Rattle.heap.proofs.Found.{read_within, word_within}
+use Rattle.heap.proofs.heap.Heap.word_of.Goals as goal
+
+pub bounds-words-offset_on : goal.bounds-words-offset_on
+bounds-words-offset_on c =
+    let s = c.args.self.now.store in
+    let a = c.args.found.address in
+    let page = subst (λ (x : StoreState). words_at x (a / x.words) ≡ Some c.in_ok-words.words.now)
+    c.memory-memory.ensures c.in_ok-words.ensures in
+    let o = subst (λ (x : StoreState). c.offset_on.result ≡ a % x.words) c.memory-memory.ensures c.offset_on.ensures in
+    word_within s a c.args.ahead c.offset_on.result c.in_ok-words.words.now c.law.ensures.store page o c.requires.within
+
+pub returns : goal.returns
+returns c =
+    let s = c.args.self.now.store in
+    let a = c.args.found.address in
+    let page = subst (λ (x : StoreState). words_at x (a / x.words) ≡ Some c.in_ok-words.words.now)
+    c.memory-memory.ensures c.in_ok-words.ensures in
+    let o = subst (λ (x : StoreState). c.offset_on.result ≡ a % x.words) c.memory-memory.ensures c.offset_on.ensures in
+    read_within s a c.args.ahead c.offset_on.result c.in_ok-words.words.now c.law.ensures.store page o c.requires.within
