@@ -6,10 +6,25 @@ ghost use Rattle.model.specs.declared.steps.Step.TheVariants as steps;
 ghost use Rattle.model.specs.declared.steps.Answer.TheVariants as answers;
 ghost use Rattle.foreign.specs.Calls.{Calls, Gives, ReadMany, Stepped, WroteMany};
 
-use crate::codes::{NO_HEAP, code, give_number};
+use crate::codes::{DONE, NO_HEAP, code, give_number};
 use crate::handle::Handle;
 use collecting::Holding;
 use cycle::Mutating;
+
+/// A read of a datum that isn't done at once.
+#[tactic(auto, using(crate::proofs::Calling::looked))]
+#[cold]
+#[inline(never)]
+fn get_by_tests(heap: &mut Handle, thread: u32, object: u32, index: u32, value: &mut u64) -> u32
+    ensures { Gives (Stepped answers.Datum thread (steps.Datum object index)) (λ x. value.new ≡ x)
+        (value.new ≡ value.old) heap.old.slot.held result heap.new.slot.held }
+{
+    let Some(held) = heap.lend() else {
+        return NO_HEAP;
+    };
+    let answer = held.heap.datum(thread, object, index);
+    give_number(answer, value)
+}
 
 /// Reads a datum of an object. Refused as `Mutating::datum` is.
 #[tactic(auto, using(crate::proofs::Calling::looked))]
@@ -24,11 +39,28 @@ pub extern "C" fn pauseless_get(
     ensures { Gives (Stepped answers.Datum thread (steps.Datum object index)) (λ x. value.new ≡ x)
         (value.new ≡ value.old) heap.old.slot.held result heap.new.slot.held }
 {
+    if let Some(held) = heap.lend() {
+        if let Some(word) = held.heap.datum_at_once(thread, object, index) {
+            *value = word;
+            return DONE;
+        }
+    }
+    get_by_tests(heap, thread, object, index, value)
+}
+
+/// A write of a datum that isn't done at once.
+#[tactic(auto, using(crate::proofs::Calling::called))]
+#[cold]
+#[inline(never)]
+fn set_by_tests(heap: &mut Handle, thread: u32, object: u32, index: u32, value: u64) -> u32
+    ensures { Calls (Stepped done thread (steps.SetDatum object index value)) heap.old.slot.held result
+        heap.new.slot.held }
+{
     let Some(held) = heap.lend() else {
         return NO_HEAP;
     };
-    let answer = held.heap.datum(thread, object, index);
-    give_number(answer, value)
+    let answer = held.heap.set_datum(thread, object, index, value);
+    code(answer)
 }
 
 /// Writes a datum of an object. Refused as `Mutating::set_datum` is.
@@ -44,11 +76,12 @@ pub extern "C" fn pauseless_set(
     ensures { Calls (Stepped done thread (steps.SetDatum object index value)) heap.old.slot.held result
         heap.new.slot.held }
 {
-    let Some(held) = heap.lend() else {
-        return NO_HEAP;
-    };
-    let answer = held.heap.set_datum(thread, object, index, value);
-    code(answer)
+    if let Some(held) = heap.lend() {
+        if held.heap.set_datum_at_once(thread, object, index, value) {
+            return DONE;
+        }
+    }
+    set_by_tests(heap, thread, object, index, value)
 }
 
 /// Reads data words of an object, from one by its number on, as many as C has room for. Fails as `Holding::get_many`

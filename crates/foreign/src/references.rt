@@ -30,8 +30,22 @@ fn give_loads(fields: &[FieldLoad], answer: Result<(), LoadsFault>, done: &mut u
     }
 }
 
-/// Loads a reference field of an object into a register, whole. Refused as `Holding::read` is.
+/// A load that isn't done at once.
 #[tactic(auto, using(crate::proofs::Calling::loaded))]
+#[cold]
+#[inline(never)]
+fn load_by_steps(heap: &mut Handle, thread: u32, target: u32, object: u32, field: u32) -> u32
+    ensures { Calls (Loaded thread (steps.Load target object field)) heap.old.slot.held result heap.new.slot.held }
+{
+    let Some(held) = heap.lend() else {
+        return NO_HEAP;
+    };
+    let answer = held.heap.read(thread, target, object, field);
+    code(answer)
+}
+
+/// Loads a reference field of an object into a register, whole. Refused as `Holding::read` is.
+#[tactic(auto, using(crate::proofs::Calling::loaded_at_once))]
 #[unsafe(no_mangle)]
 pub extern "C" fn pauseless_load(
     heap: &mut Handle,
@@ -42,11 +56,12 @@ pub extern "C" fn pauseless_load(
 ) -> u32
     ensures { Calls (Loaded thread (steps.Load target object field)) heap.old.slot.held result heap.new.slot.held }
 {
-    let Some(held) = heap.lend() else {
-        return NO_HEAP;
-    };
-    let answer = held.heap.read(thread, target, object, field);
-    code(answer)
+    if let Some(held) = heap.lend() {
+        if held.heap.read_at_once(thread, target, object, field) {
+            return DONE;
+        }
+    }
+    load_by_steps(heap, thread, target, object, field)
 }
 
 /// Loads several reference fields of an object into registers, each completely, in their order; and writes for C how many
@@ -70,6 +85,21 @@ pub extern "C" fn pauseless_loads(
     give_loads(fields, answer, done)
 }
 
+/// A store that isn't done at once.
+#[tactic(auto, using(crate::proofs::Calling::called))]
+#[cold]
+#[inline(never)]
+fn store_by_tests(heap: &mut Handle, thread: u32, object: u32, field: u32, source: u32) -> u32
+    ensures { Calls (Stepped done thread (steps.Store object field source)) heap.old.slot.held result
+        heap.new.slot.held }
+{
+    let Some(held) = heap.lend() else {
+        return NO_HEAP;
+    };
+    let answer = held.heap.store(thread, object, field, source);
+    code(answer)
+}
+
 /// Writes a register's reference to a field of an object. Refused as `Mutating::store` is.
 #[tactic(auto, using(crate::proofs::Calling::called))]
 #[unsafe(no_mangle)]
@@ -83,11 +113,12 @@ pub extern "C" fn pauseless_store(
     ensures { Calls (Stepped done thread (steps.Store object field source)) heap.old.slot.held result
         heap.new.slot.held }
 {
-    let Some(held) = heap.lend() else {
-        return NO_HEAP;
-    };
-    let answer = held.heap.store(thread, object, field, source);
-    code(answer)
+    if let Some(held) = heap.lend() {
+        if held.heap.store_at_once(thread, object, field, source) {
+            return DONE;
+        }
+    }
+    store_by_tests(heap, thread, object, field, source)
 }
 
 /// Loads a global into a register, whole. Refused as `Holding::read_global` is.

@@ -107,3 +107,7 @@ MayDoAtOnce false h t s g = g ≡ h
 -- a datum is read
 abbrev pub GivesDatum : HeapState → ℕ → ℕ → ℕ → ℕ → Type 0
 GivesDatum h t object j value = outcome h (Thread t) (steps.Datum object j) ≡ Ok (h, answers.Datum value)
+
+-- two registers are compared
+abbrev pub GivesSame : HeapState → ℕ → ℕ → ℕ → Bool → Type 0
+GivesSame h t left right truth = outcome h (Thread t) (steps.Same left right) ≡ Ok (h, answers.Truth truth)

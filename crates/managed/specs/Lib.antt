@@ -7,3 +7,4 @@ pub mod Managing
 pub mod Scrubbing
 pub mod Batches
 pub mod Data
+pub mod Found

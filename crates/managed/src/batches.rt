@@ -6,6 +6,7 @@ ghost use Rattle.managed.specs.Batches.{places_test, set_steps, source_test, sou
 
 use crate::managed::ManagedHeap;
 use cycle::Mutating;
+use heap::FoundObject;
 use model::Refusal;
 
 /// One of several loads: a register gets a reference of an object.
@@ -43,7 +44,54 @@ impl ManagedHeap {
     ) -> Result<(), LoadsFault>
         ensures { EndsLoads thread object 0 fields.now self.old result self.new }
     {
+        let done = match self.find_object(thread, object) {
+            None => 0,
+            Some(found) => self.load_first(found, thread, object, fields),
+        };
+        if done < fields.len() {
+            return self.load_from(thread, object, fields, done);
+        }
+        Ok(())
+    }
+
+    /// Loads these references of an object that was found, up to the first that can't be loaded at once, or to the one
+    /// that changes the object's register. Returns how many are done.
+    #[inline(always)]
+    fn load_first(
+        &mut self,
+        found: FoundObject,
+        thread: u32,
+        object: u32,
+        fields: &[FieldLoad],
+    ) -> usize
+        requires { FindsObject self.old thread object found }
+        ensures { IsRestOfLoads thread object self.old fields.now 0 result self.new }
+    {
         for done in 0..fields.len() {
+            let load = fields[done];
+            if !self.read_found(found, thread, load.target, object, load.field) {
+                return done;
+            }
+            if load.target == object {
+                return done + 1;
+            }
+        }
+        fields.len()
+    }
+
+    /// Loads references of an object from load `first` on, each by itself.
+    #[cold]
+    #[inline(never)]
+    fn load_from(
+        &mut self,
+        thread: u32,
+        object: u32,
+        fields: &[FieldLoad],
+        first: usize,
+    ) -> Result<(), LoadsFault>
+        ensures { EndsLoads thread object first (drop first fields.now) self.old result self.new }
+    {
+        for done in first..fields.len() {
             let load = fields[done];
             if let Err(refusal) = self.read(thread, load.target, object, load.field) {
                 return Err(LoadsFault { done, refusal });
@@ -140,19 +188,95 @@ impl ManagedHeap {
         requires { LayoutHas (length sources.now) (length nums.now) }
         ensures { EndsFilling thread (fill_steps object sources.now nums.now) self.old result self.new }
     {
-        match self.store_each(thread, object, sources) {
-            Ok(()) => self.set_each(thread, object, nums),
+        let Some(found) = self.find_object(thread, object) else {
+            return self.fill_from(thread, object, sources, nums, 0, 0);
+        };
+        let stored = self.store_first(found, thread, object, sources);
+        if stored < sources.len() {
+            return self.fill_from(thread, object, sources, nums, stored, 0);
+        }
+        let set = self.set_first(found, thread, object, nums);
+        if set < nums.len() {
+            return self.fill_from(thread, object, sources, nums, stored, set);
+        }
+        Ok(())
+    }
+
+    /// Stores these registers in the first references of an object that was found, up to the first that can't be stored
+    /// at once. Returns how many are stored.
+    #[inline(always)]
+    fn store_first(
+        &mut self,
+        found: FoundObject,
+        thread: u32,
+        object: u32,
+        sources: &[u32],
+    ) -> usize
+        requires found { FindsObject self.old thread object found }
+        requires few { length sources.now ≤ 65535 }
+        ensures many { result ≤ length sources.now }
+        ensures stores { EndsFilling thread (store_steps object 0 (take result sources.now)) self.old (Ok tt) self.new }
+        ensures found { FindsObject self.new thread object found }
+    {
+        for index in 0..sources.len() {
+            if !self.store_found(found, thread, object, index as u32, sources[index]) {
+                return index;
+            }
+        }
+        sources.len()
+    }
+
+    /// Writes the first data words of an object that was found, up to the first that can't be written at once. Returns
+    /// how many are written.
+    #[inline(always)]
+    fn set_first(&mut self, found: FoundObject, thread: u32, object: u32, nums: &[u64]) -> usize
+        requires found { FindsObject self.old thread object found }
+        requires few { length nums.now ≤ 65535 }
+        ensures many { result ≤ length nums.now }
+        ensures sets { EndsFilling thread (set_steps object 0 (take result nums.now)) self.old (Ok tt) self.new }
+    {
+        for index in 0..nums.len() {
+            if !self.set_datum_found(found, thread, object, index as u32, nums[index]) {
+                return index;
+            }
+        }
+        nums.len()
+    }
+
+    /// Fills the rest of an object, of which so many references and data words are written, by single steps.
+    #[cold]
+    #[inline(never)]
+    fn fill_from(
+        &mut self,
+        thread: u32,
+        object: u32,
+        sources: &[u32],
+        nums: &[u64],
+        stored: usize,
+        set: usize,
+    ) -> Result<(), Refusal>
+        requires { LayoutHas (length sources.now) (length nums.now) }
+        ensures { EndsFilling thread (rest_of_fill object sources.now nums.now stored set) self.old result self.new }
+    {
+        match self.store_from(thread, object, sources, stored) {
+            Ok(()) => self.set_from(thread, object, nums, set),
             Err(refusal) => Err(refusal),
         }
     }
 
-    /// Stores these registers in the first references of an object.
+    /// Stores these registers in the references of an object, from reference `first` on.
     #[inline(always)]
-    fn store_each(&mut self, thread: u32, object: u32, sources: &[u32]) -> Result<(), Refusal>
+    fn store_from(
+        &mut self,
+        thread: u32,
+        object: u32,
+        sources: &[u32],
+        first: usize,
+    ) -> Result<(), Refusal>
         requires { length sources.now ≤ 65535 }
-        ensures { EndsFilling thread (store_steps object 0 sources.now) self.old result self.new }
+        ensures { EndsFilling thread (store_steps object first (drop first sources.now)) self.old result self.new }
     {
-        for index in 0..sources.len() {
+        for index in first..sources.len() {
             if let Err(refusal) = self.store(thread, object, index as u32, sources[index]) {
                 return Err(refusal);
             }
@@ -160,13 +284,19 @@ impl ManagedHeap {
         Ok(())
     }
 
-    /// Writes the first data words of an object.
+    /// Writes the data words of an object, from word `first` on.
     #[inline(always)]
-    fn set_each(&mut self, thread: u32, object: u32, nums: &[u64]) -> Result<(), Refusal>
+    fn set_from(
+        &mut self,
+        thread: u32,
+        object: u32,
+        nums: &[u64],
+        first: usize,
+    ) -> Result<(), Refusal>
         requires { length nums.now ≤ 65535 }
-        ensures { EndsFilling thread (set_steps object 0 nums.now) self.old result self.new }
+        ensures { EndsFilling thread (set_steps object first (drop first nums.now)) self.old result self.new }
     {
-        for index in 0..nums.len() {
+        for index in first..nums.len() {
             if let Err(refusal) = self.set_datum(thread, object, index as u32, nums[index]) {
                 return Err(refusal);
             }

@@ -12,6 +12,7 @@ mod collecting;
 mod crossing;
 mod data;
 mod emptying;
+mod found;
 mod loading;
 mod managed;
 mod mutating;

@@ -78,18 +78,6 @@ impl ManagedHeap {
         }
     }
 
-    /// A complete load of a field in one go, if no test refuses it and no trap is due. Returns whether it
-    /// is done; else nothing is.
-    #[inline(always)]
-    #[tactic(auto, using(crate::proofs::AtOnce::may_load_whole))]
-    fn read_at_once(&mut self, thread: u32, target: u32, object: u32, field: u32) -> bool
-        ensures { MayLoadWhole result self.old thread (steps.Load target object field) self.new }
-    {
-        self.heap.law();
-        refinement::law();
-        self.heap.load_at_once(thread, target, object, field)
-    }
-
     /// A complete load of a field by its steps.
     #[cold]
     #[inline(never)]

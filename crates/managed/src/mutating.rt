@@ -11,6 +11,52 @@ use crate::managed::ManagedHeap;
 use cycle::Mutating;
 use model::{Buffer, Refusal, Trap};
 
+impl ManagedHeap {
+    /// A reference is stored by all tests in their order, which tell why it isn't.
+    #[cold]
+    #[inline(never)]
+    #[tactic(auto, using(crate::proofs::Running::managed_thread))]
+    fn store_by_tests(
+        &mut self,
+        thread: u32,
+        object: u32,
+        field: u32,
+        source: u32,
+    ) -> Result<(), Refusal>
+        ensures does { DoesThread done self.old thread (steps.Store object field source) result self.new }
+        ensures stands { ThreadStands done self.old thread (steps.Store object field source) result self.new }
+    {
+        Mutating::store(&mut self.heap, thread, object, field, source)
+    }
+
+    /// A data word is read by all tests in their order, which tell why it isn't.
+    #[cold]
+    #[inline(never)]
+    fn datum_by_tests(&self, thread: u32, object: u32, index: u32) -> Result<u64, Refusal>
+        ensures does { DoesThread answers.Datum self.now thread (steps.Datum object index) result self.now }
+        ensures stands { ThreadStands answers.Datum self.now thread (steps.Datum object index) result self.now }
+    {
+        Mutating::datum(&self.heap, thread, object, index)
+    }
+
+    /// A data word is written by all tests in their order, which tell why it isn't.
+    #[cold]
+    #[inline(never)]
+    #[tactic(auto, using(crate::proofs::Running::managed_thread))]
+    fn set_datum_by_tests(
+        &mut self,
+        thread: u32,
+        object: u32,
+        index: u32,
+        value: u64,
+    ) -> Result<(), Refusal>
+        ensures does { DoesThread done self.old thread (steps.SetDatum object index value) result self.new }
+        ensures stands { ThreadStands done self.old thread (steps.SetDatum object index value) result self.new }
+    {
+        Mutating::set_datum(&mut self.heap, thread, object, index, value)
+    }
+}
+
 impl Mutating for ManagedHeap {
     #[inline(always)]
     #[tactic(auto, using(crate::proofs::Running::managed_take))]
@@ -91,7 +137,10 @@ impl Mutating for ManagedHeap {
         ensures does { DoesThread done self.old thread (steps.Store object field source) result self.new }
         ensures stands { ThreadStands done self.old thread (steps.Store object field source) result self.new }
     {
-        Mutating::store(&mut self.heap, thread, object, field, source)
+        match self.store_at_once(thread, object, field, source) {
+            true => Ok(()),
+            false => self.store_by_tests(thread, object, field, source),
+        }
     }
 
     #[inline(always)]
@@ -108,7 +157,10 @@ impl Mutating for ManagedHeap {
         ensures does { DoesThread answers.Datum self.now thread (steps.Datum object index) result self.now }
         ensures stands { ThreadStands answers.Datum self.now thread (steps.Datum object index) result self.now }
     {
-        Mutating::datum(&self.heap, thread, object, index)
+        match self.datum_at_once(thread, object, index) {
+            Some(value) => Ok(value),
+            None => self.datum_by_tests(thread, object, index),
+        }
     }
 
     #[inline(always)]
@@ -117,7 +169,10 @@ impl Mutating for ManagedHeap {
         ensures does { DoesThread done self.old thread (steps.SetDatum object index value) result self.new }
         ensures stands { ThreadStands done self.old thread (steps.SetDatum object index value) result self.new }
     {
-        Mutating::set_datum(&mut self.heap, thread, object, index, value)
+        match self.set_datum_at_once(thread, object, index, value) {
+            true => Ok(()),
+            false => self.set_datum_by_tests(thread, object, index, value),
+        }
     }
 
     #[inline(always)]

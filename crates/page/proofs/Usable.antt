@@ -218,6 +218,9 @@ pub usable_there : (us : List (Option ℕ)) (pages : List Page) (i : ℕ) → us
     → i + 1 < length us
 usable_there us pages i e h = omega (arith, ap length e, length_mapped usable_in pages, h)
 
+pub usable_all : (us : List (Option ℕ)) (pages : List Page) → us ≡ usable_by_number pages → length us ≡ length pages + 1
+usable_all us pages e = omega (arith, ap length e, length_mapped usable_in pages)
+
 -- of unused pages none is usable
 pub usable_first : (n : ℕ) → replicate (n + 1) None ≡ usable_by_number (replicate n blank_page)
 usable_first n = let e : n + 1 ≡ suc n = omega arith in

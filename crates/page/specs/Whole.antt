@@ -1,10 +1,11 @@
--- Objects that lie whole on their pages.
-use Rattle.std.specs.Prelude.{◌≡◌, ◌≤◌, ◌+◌, ◌/◌, ◌%◌, ℕ, List, length, Some, Ok, slice_get}
+-- What registers name, and what these objects' references name, has its place: on a page, and in the tables.
+use Rattle.std.specs.Prelude.{◌≡◌, ◌≤◌, ◌+◌, ◌/◌, ◌%◌, ◌^◌, ℕ, List, length, Some, Ok, IfSome, slice_get}
 use Rattle.layout.specs.declared.shape.Layout.{Layout}
 use Rattle.layout.specs.Objects.{layout_of, size_of}
-use Rattle.model.specs.Registers.{usable}
+use Rattle.model.specs.References.{field_at}
+use Rattle.model.specs.Registers.{register_of, usable}
 use Rattle.model.specs.States.{HeapState}
-use Rattle.model.specs.Stores.{StoreState, words_at}
+use Rattle.model.specs.Stores.{StoreState, word_at, words_at}
 
 -- the object at an address lies whole on a page that has memory: its header has the number of one of these layouts, and
 -- it ends within the page
@@ -17,6 +18,14 @@ pub record IsWhole (s : StoreState) (ls : List Layout) (a : ℕ) : Type 0 where
   pub named : slice_get ls (layout_of header) ≡ Some layout
   pub ends : a % s.words + size_of layout ≤ length words
 
--- the object that a register names lies so, where the register may be used
-abbrev pub AreWhole : HeapState → Type 0
-AreWhole h = (t r a : ℕ) → usable h t r ≡ Ok a → IsWhole h.store h.config.layouts a
+-- an address is on a page that has a record, or on page 0
+abbrev pub IsRecorded : StoreState → ℕ → Type 0
+IsRecorded s a = a / s.words ≤ length s.pages
+
+-- the object that a register names lies so, where the register may be used; and what a register names is on a page that
+-- has a record, as is what a reference of such an object names
+pub record AreWhole (h : HeapState) : Type 0 where
+  pub whole : (t r a : ℕ) → usable h t r ≡ Ok a → IsWhole h.store h.config.layouts a
+  pub registers : (t r : ℕ) → IfSome (register_of h t r) (λ v. IsRecorded h.store v.0)
+  pub fields : (t r a i place bits : ℕ) → usable h t r ≡ Ok a → field_at h a i ≡ Some place
+      → word_at h.store place ≡ Some bits → IsRecorded h.store (bits % 2 ^ 63)

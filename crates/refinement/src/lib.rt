@@ -48,8 +48,9 @@ pub fn packing_law()
     ensures { PagesLieInTwo }
 {}
 
-/// What a register names that may be used (ours), in a state that stands for a plain heap: an object that lies whole on
-/// its page. So its layout is in the table, and none of its words is past the page's end.
+/// What registers name (ours), in a state that stands for a plain heap: one that may be used names an object that lies
+/// whole on its page, so that its layout is in the table and none of its words is past the page's end; and each address
+/// that a register has, or a reference of such an object, is on a page that has a record.
 pub fn naming_law()
     ensures { NamesWhole }
 {}

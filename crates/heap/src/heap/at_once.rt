@@ -11,7 +11,7 @@ ghost use Rattle.model.specs.References.{read_reference};
 ghost use Rattle.model.specs.Loads.{barrier_of_thread, with_barrier, with_loaded};
 ghost use Rattle.heap.specs.AtOnce.{HoldsAtOnce, IsOnFrame, IsOpenTo, IsQuiet, mark_is_due};
 ghost use Rattle.heap.specs.AtOnce.{MayLoadAtOnce, NamesAtOnce, ReadsAtOnce};
-ghost use Rattle.heap.specs.AtOnce.{GivesDatum, MayDoAtOnce, NamesHeader, SourceAtOnce, UsesAtOnce};
+ghost use Rattle.heap.specs.AtOnce.{GivesDatum, GivesSame, MayDoAtOnce, NamesHeader, SourceAtOnce, UsesAtOnce};
 ghost use Rattle.model.specs.declared.steps.Step.TheVariants as steps;
 
 use crate::heap::Heap;
@@ -171,6 +171,18 @@ impl Heap {
             return None;
         }
         Some(word)
+    }
+
+    /// Whether two registers of a thread name the same object, or both none, if no test refuses it.
+    #[inline(always)]
+    pub fn same_at_once(&self, thread: u32, left: u32, right: u32) -> Option<bool>
+        ensures { IfSome result (GivesSame self.now thread left right) }
+    {
+        let _left = self.held_at_once(thread, left)?;
+        let left = self.source_at_once(thread, left)?;
+        let right = self.source_at_once(thread, right)?;
+        let _ = (left.bits(), right.bits());
+        Some(left.number() == right.number())
     }
 
     /// Stores a register's word in a reference field of an object, if no test refuses it. Returns whether

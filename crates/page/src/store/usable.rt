@@ -1,6 +1,6 @@
 //! Words of pages that have memory and aren't protected, found by one look at the page.
 
-ghost use Rattle.std.specs.Prelude.{◌≡◌, ◌+◌, ◌/◌, ◌%◌, ◌^◌, ◌<◌, IfSome, Some, if◌then◌else◌};
+ghost use Rattle.std.specs.Prelude.{◌≡◌, ◌+◌, ◌/◌, ◌%◌, ◌^◌, ◌<◌, ◌≤◌, length, IfSome, Some, if◌then◌else◌};
 ghost use Rattle.model.specs.Stores.{with_word, word_at, words_at};
 ghost use Rattle.refword.specs.Words.{IsAddress};
 ghost use Rattle.page.specs.Usable.{usable_frame};
@@ -19,6 +19,16 @@ impl Store {
             None => None,
             Some(frame) => *frame,
         }
+    }
+
+    /// The same of a number on a page that has a record.
+    #[inline(always)]
+    pub fn recorded_usable_frame(&self, number: u64) -> Option<u32>
+        requires { number / self.now.words ≤ length self.now.pages }
+        ensures value { result ≡ usable_frame self.now (number / self.now.words) }
+        ensures address { IfSome result (λ _. IsAddress number) }
+    {
+        self.usable[self.size.page_of(number) as usize]
     }
 
     /// The words of a usable page, by its frame and an address on it. They may also be `None` after the page was

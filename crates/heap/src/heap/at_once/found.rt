@@ -1,18 +1,19 @@
 //! Steps on an object that was found: several of them with one look at the object. Of a heap in which the object that a
 //! register names lies whole on its page, neither its layout nor its page's end is tested again.
 
-ghost use Rattle.std.specs.Prelude.{◌≡◌, ◌≢◌, ◌+◌, ◌%◌, ◌<◌, ◌≤◌, IfSome, Some, true};
-ghost use Rattle.layout.specs.Objects.{size_of};
+ghost use Rattle.std.specs.Prelude.{◌≡◌, ◌≢◌, ◌+◌, ◌%◌, ◌^◌, ◌<◌, IfSome, Some, true};
 ghost use Rattle.model.specs.References.{read_reference};
 ghost use Rattle.model.specs.Stores.{word_at};
 ghost use Rattle.model.specs.declared.steps.Step.TheVariants as steps;
-ghost use Rattle.page.specs.Whole.{AreWhole};
-ghost use Rattle.heap.specs.AtOnce.{GivesDatum, IsOnFrame, MayDoAtOnce, MayLoadAtOnce};
+ghost use Rattle.page.specs.Whole.{AreWhole, IsRecorded};
+ghost use Rattle.heap.specs.AtOnce.{GivesDatum, IsOnFrame, IsOpenTo, IsQuiet, MayDoAtOnce, MayLoadAtOnce, NamesHeader};
+ghost use Rattle.heap.specs.AtOnce.{SourceAtOnce, UsesAtOnce};
 ghost use Rattle.heap.specs.Found.{FindsObject};
 
 use crate::heap::Heap;
 use crate::heap::at_once::words::Spot;
 use layout::{Layout, layout_of};
+use refword::{Word, number_of_bits};
 
 /// An object that a thread may use: where it stands, and its layout.
 #[derive(Clone, Copy, Debug)]
@@ -34,7 +35,7 @@ impl Heap {
         ensures { IfSome result (FindsObject self.now thread register) }
     {
         self.law();
-        let Spot { address, frame } = self.object_at_once(thread, register)?;
+        let Spot { address, frame } = self.find_spot(thread, register)?;
         let memory = self.memory();
         let words = memory.words_on(frame, address)?;
         let header = words[memory.offset_on(address)];
@@ -44,6 +45,74 @@ impl Heap {
             frame,
             layout,
         })
+    }
+
+    /// Where that object stands.
+    #[inline(always)]
+    fn find_spot(&self, thread: u32, register: u32) -> Option<Spot>
+        requires { AreWhole self.now }
+        ensures uses { IfSome result (λ s. UsesAtOnce self.now thread register s.address) }
+        ensures frame { IfSome result (λ s. IsOnFrame self.now s.address s.frame) }
+    {
+        let word = self.held_at_once(thread, register)?;
+        let address = word.number();
+        let frame = self.recorded_frame(address)?;
+        Some(Spot { address, frame })
+    }
+
+    /// Whether a word is null, or on a page that has memory and isn't protected, as `is_free`.
+    #[inline(always)]
+    fn is_usable(&self, word: Word) -> bool
+        requires { IfSome word (λ v. IsRecorded self.now.store v.0) }
+        ensures { result ≡ true → IfSome word (λ v. IsOpenTo self.now v.0) }
+    {
+        if word.is_null() {
+            return true;
+        }
+        self.recorded_frame(word.number()).is_some()
+    }
+
+    /// The word in a register of a thread, by their numbers from 0, if it is null or may be used.
+    #[inline(always)]
+    fn find_source(&self, thread: u32, register: u32) -> Option<Word>
+        requires { AreWhole self.now }
+        ensures { IfSome result (SourceAtOnce self.now thread register) }
+    {
+        self.law();
+        let record = self.threads().get(thread as usize)?;
+        let word = record.find_register(register)?;
+        if !self.is_usable(word) {
+            return None;
+        }
+        Some(word)
+    }
+
+    /// The header of an object that was found, whose register a thread names.
+    #[inline(always)]
+    pub fn header_found(&self, found: FoundObject, thread: u32, register: u32) -> Option<u64>
+        requires { FindsObject self.now thread register found }
+        ensures { IfSome result (NamesHeader self.now thread register) }
+    {
+        let header = self.word_of(found, 0)?;
+        Some(header)
+    }
+
+    /// The word of these bits, if it is null, or no trap is due for it, as `quiet_word`.
+    #[inline(always)]
+    fn find_quiet_word(&self, bits: u64) -> Option<Word>
+        requires { IsRecorded self.now.store (bits % 2 ^ 63) }
+        ensures word { IfSome result (λ w. w ≡ read_reference bits) }
+        ensures quiet { IfSome result (IsQuiet self.now) }
+    {
+        if bits == 0 {
+            return Some(Word::null());
+        }
+        let _frame = self.recorded_frame(number_of_bits(bits))?;
+        let word = Word::of_bits(bits);
+        if self.mark_is_due(word) {
+            return None;
+        }
+        Some(word)
     }
 
     /// A word of an object that was found, so many words after its header.
@@ -69,7 +138,8 @@ impl Heap {
         object: u32,
         field: u32,
     ) -> bool
-        requires { FindsObject self.old thread object found }
+        requires whole { AreWhole self.old }
+        requires found { FindsObject self.old thread object found }
         ensures loads { MayLoadAtOnce result self.old thread (steps.Load target object field) self.new }
         ensures found { target ≢ object → FindsObject self.new thread object found }
     {
@@ -83,7 +153,7 @@ impl Heap {
         let Some(bits) = self.word_of(found, 1 + field as usize) else {
             return false;
         };
-        let Some(word) = self.quiet_word(bits) else {
+        let Some(word) = self.find_quiet_word(bits) else {
             return false;
         };
         self.read_into(thread, target, word);
@@ -114,7 +184,8 @@ impl Heap {
         field: u32,
         source: u32,
     ) -> bool
-        requires { FindsObject self.old thread object found }
+        requires whole { AreWhole self.old }
+        requires found { FindsObject self.old thread object found }
         ensures does { MayDoAtOnce result self.old thread (steps.Store object field source) self.new }
         ensures found { FindsObject self.new thread object found }
     {
@@ -122,7 +193,7 @@ impl Heap {
         if field >= u32::from(found.layout.refs) {
             return false;
         }
-        let Some(word) = self.source_at_once(thread, source) else {
+        let Some(word) = self.find_source(thread, source) else {
             return false;
         };
         let spot = Spot {

@@ -5,6 +5,7 @@ ghost use Rattle.model.specs.Data.{datum_at, layout_at};
 ghost use Rattle.model.specs.References.{field_at, read_reference};
 ghost use Rattle.model.specs.Stores.{with_word, word_at};
 ghost use Rattle.refword.specs.Words.{IsAddress};
+ghost use Rattle.page.specs.Whole.{IsRecorded};
 ghost use Rattle.heap.specs.AtOnce.{IsOnFrame, IsOpenTo, IsQuiet};
 
 use crate::heap::Heap;
@@ -29,6 +30,17 @@ impl Heap {
         ensures frame { IfSome result (IsOnFrame self.now number) }
     {
         self.store.usable_frame(number)
+    }
+
+    /// The same of a number on a page that has a record.
+    #[inline(always)]
+    pub(super) fn recorded_frame(&self, number: u64) -> Option<u32>
+        requires { IsRecorded self.now.store number }
+        ensures address { IfSome result (λ _. IsAddress number) }
+        ensures open { IfSome result (λ _. IsOpenTo self.now number) }
+        ensures frame { IfSome result (IsOnFrame self.now number) }
+    {
+        self.store.recorded_usable_frame(number)
     }
 
     /// The word of these bits, if it is null, or no trap is due for it, whatever thread loads it: it is on

@@ -13,7 +13,7 @@ bounds-words-offset_on c =
     let page = subst (λ (x : StoreState). words_at x (a / x.words) ≡ Some c.in_ok-words.words.now)
     c.memory-memory.ensures c.in_ok-words.ensures in
     let o = subst (λ (x : StoreState). c.offset_on.result ≡ a % x.words) c.memory-memory.ensures c.offset_on.ensures in
-    header_within h a c.in_ok-words.words.now (c.requires c.args.thread c.args.register a c.in_ok-address.ensures.uses.usable)
+    header_within h a c.in_ok-words.words.now (c.requires.whole c.args.thread c.args.register a c.in_ok-address.ensures.uses.usable)
     page c.offset_on.result o
 
 pub bounds-as_slice-layout_of : goal.bounds-as_slice-layout_of
@@ -27,7 +27,7 @@ bounds-as_slice-layout_of c =
     c.as_slice.ensures ∙ ap (λ (x : Config). x.layouts) c.config.ensures in
     subst (λ (ls : List Layout). c.layout_of.result < length ls) (sym table)
     (layout_within h a c.in_ok-words.words.now
-    (c.requires c.args.thread c.args.register a c.in_ok-address.ensures.uses.usable) page c.offset_on.result
+    (c.requires.whole c.args.thread c.args.register a c.in_ok-address.ensures.uses.usable) page c.offset_on.result
     c.layout_of.result o c.layout_of.ensures)
 
 pub returns : goal.returns
@@ -46,6 +46,6 @@ returns c =
       layout = get_or ls c.layout_of.result (record { refs = 0; nums = 0 });
     })) (sym table)
     (found_whole h a c.in_ok-words.words.now
-    (c.requires c.args.thread c.args.register a c.in_ok-address.ensures.uses.usable) page c.args.thread c.args.register f
+    (c.requires.whole c.args.thread c.args.register a c.in_ok-address.ensures.uses.usable) page c.args.thread c.args.register f
     c.offset_on.result c.layout_of.result (record { refs = 0; nums = 0 }) c.law.ensures.store
     c.in_ok-address.ensures.uses c.in_ok-address.ensures.frame o c.layout_of.ensures)

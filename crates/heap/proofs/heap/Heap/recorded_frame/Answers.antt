@@ -1,0 +1,12 @@
+use Rattle.std.proofs.Common.{subst}
+use Rattle.std.specs.Prelude.{IfSome}
+use Rattle.model.specs.States.{HeapState}
+use Rattle.heap.specs.AtOnce.{IsOpenTo}
+use Rattle.heap.specs.Views.{heap_of}
+use Rattle.heap.proofs.AtOnce.{open_where}
+use Rattle.heap.proofs.heap.Heap.recorded_frame.Goals as goal
+
+pub returns-clause-open : goal.returns-clause-open
+returns-clause-open c = subst (λ (g : HeapState). IfSome c.recorded_usable_frame.result (λ _. IsOpenTo g c.args.number))
+    c.self.view_is (open_where (heap_of c.self.inside) c.args.number c.recorded_usable_frame.result
+    c.recorded_usable_frame.ensures.value)

@@ -1,0 +1,130 @@
+//! Steps on an object that was found, so that several of them take one look at it; and a step on one alone.
+
+ghost use Rattle.std.specs.Prelude.{◌≡◌, ◌≢◌, IfSome};
+ghost use Rattle.heap.specs.AtOnce.{GivesDatum};
+ghost use Rattle.heap.specs.Found.{FindsObject};
+ghost use Rattle.model.specs.declared.steps.Step.TheVariants as steps;
+ghost use Rattle.managed.specs.Found.{MayStep};
+ghost use Rattle.managed.specs.Goings.{MayLoadWhole};
+
+use crate::managed::ManagedHeap;
+use heap::FoundObject;
+
+impl ManagedHeap {
+    /// The object that a register of a thread names, by their numbers from 0, if the thread runs, its barrier is closed,
+    /// and it may use the object.
+    #[inline(always)]
+    pub(crate) fn find_object(&self, thread: u32, register: u32) -> Option<FoundObject>
+        ensures { IfSome result (FindsObject self.now thread register) }
+    {
+        self.law();
+        refinement::naming_law();
+        self.heap.find_object(thread, register)
+    }
+
+    /// A complete load of a reference of an object that was found, if no test refuses it and no trap is due. Returns
+    /// whether it is done; else nothing is.
+    #[inline(always)]
+    pub(crate) fn read_found(
+        &mut self,
+        found: FoundObject,
+        thread: u32,
+        target: u32,
+        object: u32,
+        field: u32,
+    ) -> bool
+        requires { FindsObject self.old thread object found }
+        ensures loads { MayLoadWhole result self.old thread (steps.Load target object field) self.new }
+        ensures found { target ≢ object → FindsObject self.new thread object found }
+    {
+        self.heap.law();
+        refinement::law();
+        self.heap.load_found(found, thread, target, object, field)
+    }
+
+    /// A register's reference is stored in a field of an object that was found, if no test refuses it. Returns whether
+    /// it is; else nothing is done.
+    #[inline(always)]
+    pub(crate) fn store_found(
+        &mut self,
+        found: FoundObject,
+        thread: u32,
+        object: u32,
+        field: u32,
+        source: u32,
+    ) -> bool
+        requires { FindsObject self.old thread object found }
+        ensures does { MayStep result self.old thread (steps.Store object field source) self.new }
+        ensures found { FindsObject self.new thread object found }
+    {
+        self.heap.law();
+        refinement::law();
+        self.heap.store_found(found, thread, object, field, source)
+    }
+
+    /// A data word of an object that was found is written, if no test refuses it. Returns whether it is; else nothing is
+    /// done.
+    #[inline(always)]
+    pub(crate) fn set_datum_found(
+        &mut self,
+        found: FoundObject,
+        thread: u32,
+        object: u32,
+        index: u32,
+        value: u64,
+    ) -> bool
+        requires { FindsObject self.old thread object found }
+        ensures does { MayStep result self.old thread (steps.SetDatum object index value) self.new }
+        ensures found { FindsObject self.new thread object found }
+    {
+        self.heap.law();
+        refinement::law();
+        self.heap.set_datum_found(found, thread, object, index, value)
+    }
+
+    /// A complete load of a reference in one go, if no test refuses it and no trap is due. Returns whether it is done;
+    /// else nothing is, and `read` loads it by its steps.
+    #[inline(always)]
+    pub fn read_at_once(&mut self, thread: u32, target: u32, object: u32, field: u32) -> bool
+        ensures { MayLoadWhole result self.old thread (steps.Load target object field) self.new }
+    {
+        let Some(found) = self.find_object(thread, object) else {
+            return false;
+        };
+        self.read_found(found, thread, target, object, field)
+    }
+
+    /// A reference is stored in one go, if no test refuses it. Returns whether it is; else nothing is done, and `store`
+    /// says why.
+    #[inline(always)]
+    pub fn store_at_once(&mut self, thread: u32, object: u32, field: u32, source: u32) -> bool
+        ensures { MayStep result self.old thread (steps.Store object field source) self.new }
+    {
+        let Some(found) = self.find_object(thread, object) else {
+            return false;
+        };
+        self.store_found(found, thread, object, field, source)
+    }
+
+    /// A data word of an object, if no test refuses it; else `datum` says why.
+    #[inline(always)]
+    pub fn datum_at_once(&self, thread: u32, object: u32, index: u32) -> Option<u64>
+        ensures { IfSome result (GivesDatum self.now thread object index) }
+    {
+        let found = self.find_object(thread, object)?;
+        let value = self.heap.datum_found(found, thread, object, index)?;
+        Some(value)
+    }
+
+    /// A data word of an object is written in one go, if no test refuses it. Returns whether it is; else nothing is
+    /// done, and `set_datum` says why.
+    #[inline(always)]
+    pub fn set_datum_at_once(&mut self, thread: u32, object: u32, index: u32, value: u64) -> bool
+        ensures { MayStep result self.old thread (steps.SetDatum object index value) self.new }
+    {
+        let Some(found) = self.find_object(thread, object) else {
+            return false;
+        };
+        self.set_datum_found(found, thread, object, index, value)
+    }
+}
