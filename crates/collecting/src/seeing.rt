@@ -27,7 +27,7 @@ pub struct Object {
 pub(crate) fn look(heap: &ManagedHeap, thread: u32, register: u32) -> Result<Object, Refusal>
     ensures { result ≡ seen heap.now thread register }
 {
-    let header = header_of(heap.heap(), thread, register)?;
+    let header = header_of(heap, thread, register)?;
     let layout = layout_of(header);
     let Some(shape) = heap.heap().config().layouts.get(layout) else {
         return Err(Refusal::BadIndex);
@@ -42,12 +42,12 @@ pub(crate) fn look(heap: &ManagedHeap, thread: u32, register: u32) -> Result<Obj
 
 /// The header of the object that a register of a thread names.
 #[inline(always)]
-fn header_of(heap: &Heap, thread: u32, register: u32) -> Result<u64, Refusal>
+fn header_of(heap: &ManagedHeap, thread: u32, register: u32) -> Result<u64, Refusal>
     ensures { result ≡ header_of heap.now thread register }
 {
     match heap.header_at_once(thread, register) {
         Some(header) => Ok(header),
-        None => header_by_tests(heap, thread, register),
+        None => header_by_tests(heap.heap(), thread, register),
     }
 }
 

@@ -9,10 +9,12 @@ use Rattle.model.specs.Holding.{IsHeap}
 use Rattle.model.specs.Owning.{IsStore}
 use Rattle.model.specs.Plain.{PlainHeap}
 use Rattle.model.specs.States.{HeapState}
-use Rattle.heap.specs.AtOnce.{LoadsAtOnce, MayLoadAtOnce}
+use Rattle.cycle.specs.Mutating.{ThreadStands}
+use Rattle.heap.specs.AtOnce.{GivesDatum, GivesSame, LoadsAtOnce, MayDoAtOnce, MayLoadAtOnce}
 use Rattle.refinement.specs.Standing.{StepsHold, MarksFind, PhasesMove, KeepsStanding, kept_at_mark}
 use Rattle.refinement.specs.Tallies.{StepsCount}
 use Rattle.cycle.proofs.Replaying.{accepted_stands}
+use Rattle.managed.specs.Found.{MayStep}
 use Rattle.managed.specs.Goings.{LoadsWhole, IsInBarrier, MayLoadWhole}
 use Rattle.managed.specs.Managing.{IsManaged}
 use Rattle.managed.proofs.Running.{entry, managed_then, runs_one, runs_then}
@@ -72,3 +74,41 @@ managed_at_once true h g t begin s d hold find move count k m =
     (runs_one h k.between (Thread t) begin answers.Loaded k.loads both.0)
     (runs_one k.between g (Thread t) steps.Finish answers.Done k.ends both.1))
 managed_at_once false h g t begin s d hold find move count same m = subst IsManaged (sym same) m
+
+-- ---- steps in one go
+
+pub may_store_step : (b : Bool) (h g : HeapState) (t object i source : ℕ) → IsStore h.store → IsHeap h → StepsHold
+    → MarksFind → PhasesMove → StepsCount → MayDoAtOnce b h t (steps.Store object i source) g
+    → MayStep b h t (steps.Store object i source) g
+may_store_step true h g t object i source s d hold find move count k =
+    (k, accepted_stands h g (Thread t) (steps.Store object i source) answers.Done k s d hold find move count)
+may_store_step false h g t object i source s d hold find move count same = same
+
+pub may_set_step : (b : Bool) (h g : HeapState) (t object j value : ℕ) → IsStore h.store → IsHeap h → StepsHold
+    → MarksFind → PhasesMove → StepsCount → MayDoAtOnce b h t (steps.SetDatum object j value) g
+    → MayStep b h t (steps.SetDatum object j value) g
+may_set_step true h g t object j value s d hold find move count k =
+    (k, accepted_stands h g (Thread t) (steps.SetDatum object j value) answers.Done k s d hold find move count)
+may_set_step false h g t object j value s d hold find move count same = same
+
+pub managed_in_one : (b : Bool) (h g : HeapState) (t : ℕ) (step : Step) → IsStore h.store → IsHeap h → StepsHold
+    → MarksFind → PhasesMove → StepsCount → MayDoAtOnce b h t step g → IsManaged h → IsManaged g
+managed_in_one true h g t step s d hold find move count k m =
+    managed_then h g (entry (Thread t) step answers.Done ∷ []) m
+    (runs_one h g (Thread t) step answers.Done k
+    (accepted_stands h g (Thread t) step answers.Done k s d hold find move count))
+managed_in_one false h g t step s d hold find move count same m = subst IsManaged (sym same) m
+
+-- a datum that is read in one go
+pub datum_stands : (h : HeapState) (t object j value : ℕ) → IsStore h.store → IsHeap h → StepsHold → MarksFind
+    → PhasesMove → StepsCount → GivesDatum h t object j value
+    → ThreadStands answers.Datum h t (steps.Datum object j) (Ok value) h
+datum_stands h t object j value s d hold find move count k =
+    accepted_stands h h (Thread t) (steps.Datum object j) (answers.Datum value) k s d hold find move count
+
+-- registers that are compared in one go
+pub same_stands : (h : HeapState) (t left right : ℕ) (truth : Bool) → IsStore h.store → IsHeap h → StepsHold
+    → MarksFind → PhasesMove → StepsCount → GivesSame h t left right truth
+    → ThreadStands answers.Truth h t (steps.Same left right) (Ok truth) h
+same_stands h t left right truth s d hold find move count k =
+    accepted_stands h h (Thread t) (steps.Same left right) (answers.Truth truth) k s d hold find move count

@@ -1,5 +1,5 @@
 -- Several steps of a thread by one call.
-use Rattle.std.specs.Prelude.{◌≡◌, ◌⊎◌, ◌≤◌, ◌==◌, ◌&&◌, ◌+◌, ℕ, Bool, false, List, [], ◌∷◌, ◌++◌, length}
+use Rattle.std.specs.Prelude.{◌≡◌, ◌⊎◌, ◌≤◌, ◌==◌, ◌&&◌, ◌+◌, ℕ, Bool, false, List, [], ◌∷◌, ◌++◌, drop, length}
 use Rattle.std.specs.Prelude.{Option, Some, None, Result, Ok, Err, slice_get, nat_le, if◌then◌else◌}
 use Rattle.layout.specs.declared.shape.Layout.{Layout}
 use Rattle.model.specs.declared.steps.Actor.TheVariants.{Thread}
@@ -83,3 +83,23 @@ EndsFilling t [] h r g = (r ≡ Ok tt) × (g ≡ h)
 EndsFilling t (s ∷ ss) h r g =
     ((m : HeapState) × Steps (Thread t) s answers.Done h m × EndsFilling t ss m r g)
     ⊎ ((e : Refusal) × (outcome h (Thread t) s ≡ Err e) × (r ≡ Err e) × (g ≡ h))
+
+-- however the rest of such steps ends from heap m, all of them end from heap h
+abbrev pub IsRestOfSteps : ℕ → List Step → HeapState → List Step → HeapState → Type 0
+IsRestOfSteps t all h rest m = (r : Result Unit Refusal) (g : HeapState)
+    → EndsFilling t rest m r g → EndsFilling t all h r g
+
+-- the same of stores from store i on, where all begin with store first
+abbrev pub IsRestOfStores : ℕ → ℕ → ℕ → HeapState → List ℕ → ℕ → HeapState → Type 0
+IsRestOfStores t object first h ss i m =
+    IsRestOfSteps t (store_steps object first (drop first ss)) h (store_steps object i (drop i ss)) m
+
+-- the same of data words
+abbrev pub IsRestOfData : ℕ → ℕ → ℕ → HeapState → List ℕ → ℕ → HeapState → Type 0
+IsRestOfData t object first h xs j m =
+    IsRestOfSteps t (set_steps object first (drop first xs)) h (set_steps object j (drop j xs)) m
+
+-- the same of loads
+abbrev pub IsRestOfLoads : ℕ → ℕ → ℕ → HeapState → List FieldLoad → ℕ → HeapState → Type 0
+IsRestOfLoads t object first h ls n m = (r : Result Unit LoadsFault) (g : HeapState)
+    → EndsLoads t object n (drop n ls) m r g → EndsLoads t object first (drop first ls) h r g

@@ -1,7 +1,9 @@
 //! Several steps of a thread by one call: loads of one object, and what a new object is filled with.
 
-ghost use Rattle.std.specs.Prelude.{◌≡◌, ◌≤◌, IfOk, length};
+ghost use Rattle.std.specs.Prelude.{◌≡◌, ◌≤◌, ◌++◌, IfOk, drop, length};
+ghost use Rattle.heap.specs.Found.{FindsObject};
 ghost use Rattle.managed.specs.Batches.{EndsFilling, EndsLoads, LayoutHas, fill_steps, fill_test};
+ghost use Rattle.managed.specs.Batches.{IsRestOfData, IsRestOfLoads, IsRestOfStores};
 ghost use Rattle.managed.specs.Batches.{places_test, set_steps, source_test, sources_test, store_steps};
 
 use crate::managed::ManagedHeap;
@@ -44,18 +46,18 @@ impl ManagedHeap {
     ) -> Result<(), LoadsFault>
         ensures { EndsLoads thread object 0 fields.now self.old result self.new }
     {
-        let done = match self.find_object(thread, object) {
-            None => 0,
-            Some(found) => self.load_first(found, thread, object, fields),
+        let Some(found) = self.find_object(thread, object) else {
+            return self.load_from(thread, object, fields, 0);
         };
+        let done = self.load_first(found, thread, object, fields);
         if done < fields.len() {
             return self.load_from(thread, object, fields, done);
         }
         Ok(())
     }
 
-    /// Loads these references of an object that was found, up to the first that can't be loaded at once, or to the one
-    /// that changes the object's register. Returns how many are done.
+    /// Loads these references of an object that was found, up to the first that can't be loaded in one go, or to the one
+    /// after which the object's register names another object. Returns how many are done.
     #[inline(always)]
     fn load_first(
         &mut self,
@@ -65,7 +67,7 @@ impl ManagedHeap {
         fields: &[FieldLoad],
     ) -> usize
         requires { FindsObject self.old thread object found }
-        ensures { IsRestOfLoads thread object self.old fields.now 0 result self.new }
+        ensures { IsRestOfLoads thread object 0 self.old fields.now result self.new }
     {
         for done in 0..fields.len() {
             let load = fields[done];
@@ -189,21 +191,21 @@ impl ManagedHeap {
         ensures { EndsFilling thread (fill_steps object sources.now nums.now) self.old result self.new }
     {
         let Some(found) = self.find_object(thread, object) else {
-            return self.fill_from(thread, object, sources, nums, 0, 0);
+            return self.fill_from(thread, object, sources, nums, 0);
         };
         let stored = self.store_first(found, thread, object, sources);
         if stored < sources.len() {
-            return self.fill_from(thread, object, sources, nums, stored, 0);
+            return self.fill_from(thread, object, sources, nums, stored);
         }
         let set = self.set_first(found, thread, object, nums);
         if set < nums.len() {
-            return self.fill_from(thread, object, sources, nums, stored, set);
+            return self.set_from(thread, object, nums, set);
         }
         Ok(())
     }
 
     /// Stores these registers in the first references of an object that was found, up to the first that can't be stored
-    /// at once. Returns how many are stored.
+    /// in one go. Returns how many are stored.
     #[inline(always)]
     fn store_first(
         &mut self,
@@ -214,8 +216,7 @@ impl ManagedHeap {
     ) -> usize
         requires found { FindsObject self.old thread object found }
         requires few { length sources.now ≤ 65535 }
-        ensures many { result ≤ length sources.now }
-        ensures stores { EndsFilling thread (store_steps object 0 (take result sources.now)) self.old (Ok tt) self.new }
+        ensures stores { IsRestOfStores thread object 0 self.old sources.now result self.new }
         ensures found { FindsObject self.new thread object found }
     {
         for index in 0..sources.len() {
@@ -226,14 +227,19 @@ impl ManagedHeap {
         sources.len()
     }
 
-    /// Writes the first data words of an object that was found, up to the first that can't be written at once. Returns
+    /// Writes the first data words of an object that was found, up to the first that can't be written in one go. Returns
     /// how many are written.
     #[inline(always)]
-    fn set_first(&mut self, found: FoundObject, thread: u32, object: u32, nums: &[u64]) -> usize
+    fn set_first(
+        &mut self,
+        found: FoundObject,
+        thread: u32,
+        object: u32,
+        nums: &[u64],
+    ) -> usize
         requires found { FindsObject self.old thread object found }
         requires few { length nums.now ≤ 65535 }
-        ensures many { result ≤ length nums.now }
-        ensures sets { EndsFilling thread (set_steps object 0 (take result nums.now)) self.old (Ok tt) self.new }
+        ensures { IsRestOfData thread object 0 self.old nums.now result self.new }
     {
         for index in 0..nums.len() {
             if !self.set_datum_found(found, thread, object, index as u32, nums[index]) {
@@ -243,7 +249,7 @@ impl ManagedHeap {
         nums.len()
     }
 
-    /// Fills the rest of an object, of which so many references and data words are written, by single steps.
+    /// Fills the rest of an object of which the references before `stored` are written, by single steps.
     #[cold]
     #[inline(never)]
     fn fill_from(
@@ -253,19 +259,19 @@ impl ManagedHeap {
         sources: &[u32],
         nums: &[u64],
         stored: usize,
-        set: usize,
     ) -> Result<(), Refusal>
         requires { LayoutHas (length sources.now) (length nums.now) }
-        ensures { EndsFilling thread (rest_of_fill object sources.now nums.now stored set) self.old result self.new }
+        ensures { EndsFilling thread
+            (store_steps object stored (drop stored sources.now) ++ set_steps object 0 nums.now) self.old result
+            self.new }
     {
         match self.store_from(thread, object, sources, stored) {
-            Ok(()) => self.set_from(thread, object, nums, set),
+            Ok(()) => self.set_from(thread, object, nums, 0),
             Err(refusal) => Err(refusal),
         }
     }
 
     /// Stores these registers in the references of an object, from reference `first` on.
-    #[inline(always)]
     fn store_from(
         &mut self,
         thread: u32,
@@ -285,7 +291,8 @@ impl ManagedHeap {
     }
 
     /// Writes the data words of an object, from word `first` on.
-    #[inline(always)]
+    #[cold]
+    #[inline(never)]
     fn set_from(
         &mut self,
         thread: u32,

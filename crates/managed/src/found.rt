@@ -1,9 +1,12 @@
 //! Steps on an object that was found, so that several of them take one look at it; and a step on one alone.
 
-ghost use Rattle.std.specs.Prelude.{◌≡◌, ◌≢◌, IfSome};
-ghost use Rattle.heap.specs.AtOnce.{GivesDatum};
+ghost use Rattle.std.specs.Prelude.{◌≡◌, ◌≢◌, IfSome, Ok};
+ghost use Rattle.cycle.specs.Mutating.{ThreadStands};
+ghost use Rattle.heap.specs.AtOnce.{GivesDatum, GivesSame, NamesHeader};
 ghost use Rattle.heap.specs.Found.{FindsObject};
+ghost use Rattle.model.specs.declared.steps.Answer.TheVariants as answers;
 ghost use Rattle.model.specs.declared.steps.Step.TheVariants as steps;
+ghost use Rattle.page.specs.Whole.{AreWhole};
 ghost use Rattle.managed.specs.Found.{MayStep};
 ghost use Rattle.managed.specs.Goings.{MayLoadWhole};
 
@@ -17,9 +20,17 @@ impl ManagedHeap {
     pub(crate) fn find_object(&self, thread: u32, register: u32) -> Option<FoundObject>
         ensures { IfSome result (FindsObject self.now thread register) }
     {
+        self.sound();
+        self.heap().find_object(thread, register)
+    }
+
+    /// What registers name has its place on a page and in the tables. It does nothing: its contract is the law.
+    fn sound(&self)
+        ensures { AreWhole self.now }
+    {
         self.law();
+        self.heap().law();
         refinement::naming_law();
-        self.heap.find_object(thread, register)
     }
 
     /// A complete load of a reference of an object that was found, if no test refuses it and no trap is due. Returns
@@ -37,6 +48,7 @@ impl ManagedHeap {
         ensures loads { MayLoadWhole result self.old thread (steps.Load target object field) self.new }
         ensures found { target ≢ object → FindsObject self.new thread object found }
     {
+        self.sound();
         self.heap.law();
         refinement::law();
         self.heap.load_found(found, thread, target, object, field)
@@ -57,6 +69,7 @@ impl ManagedHeap {
         ensures does { MayStep result self.old thread (steps.Store object field source) self.new }
         ensures found { FindsObject self.new thread object found }
     {
+        self.sound();
         self.heap.law();
         refinement::law();
         self.heap.store_found(found, thread, object, field, source)
@@ -109,11 +122,39 @@ impl ManagedHeap {
     /// A data word of an object, if no test refuses it; else `datum` says why.
     #[inline(always)]
     pub fn datum_at_once(&self, thread: u32, object: u32, index: u32) -> Option<u64>
-        ensures { IfSome result (GivesDatum self.now thread object index) }
+        ensures gives { IfSome result (GivesDatum self.now thread object index) }
+        ensures stands { IfSome result (λ value. ThreadStands answers.Datum self.now thread (steps.Datum object index)
+            (Ok value) self.now) }
     {
+        self.heap().law();
+        refinement::law();
         let found = self.find_object(thread, object)?;
-        let value = self.heap.datum_found(found, thread, object, index)?;
+        let value = self.heap().datum_found(found, thread, object, index)?;
         Some(value)
+    }
+
+    /// Whether two registers of a thread name the same object, or both none, if no test refuses it; else `same` says why.
+    #[inline(always)]
+    pub fn same_at_once(&self, thread: u32, left: u32, right: u32) -> Option<bool>
+        ensures gives { IfSome result (GivesSame self.now thread left right) }
+        ensures stands { IfSome result (λ truth. ThreadStands answers.Truth self.now thread (steps.Same left right)
+            (Ok truth) self.now) }
+    {
+        self.heap().law();
+        refinement::law();
+        let truth = self.heap().same_at_once(thread, left, right)?;
+        Some(truth)
+    }
+
+    /// The header of the object that a register of a thread names, by their numbers from 0, if the thread runs, its
+    /// barrier is closed, and it may use the object.
+    #[inline(always)]
+    pub fn header_at_once(&self, thread: u32, register: u32) -> Option<u64>
+        ensures { IfSome result (NamesHeader self.now thread register) }
+    {
+        let found = self.find_object(thread, register)?;
+        let header = self.heap().header_found(found, thread, register)?;
+        Some(header)
     }
 
     /// A data word of an object is written in one go, if no test refuses it. Returns whether it is; else nothing is

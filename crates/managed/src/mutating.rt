@@ -39,6 +39,16 @@ impl ManagedHeap {
         Mutating::datum(&self.heap, thread, object, index)
     }
 
+    /// Registers are compared by all tests in their order, which tell why they aren't.
+    #[cold]
+    #[inline(never)]
+    fn same_by_tests(&self, thread: u32, left: u32, right: u32) -> Result<bool, Refusal>
+        ensures does { DoesThread answers.Truth self.now thread (steps.Same left right) result self.now }
+        ensures stands { ThreadStands answers.Truth self.now thread (steps.Same left right) result self.now }
+    {
+        Mutating::same(&self.heap, thread, left, right)
+    }
+
     /// A data word is written by all tests in their order, which tell why it isn't.
     #[cold]
     #[inline(never)]
@@ -180,7 +190,10 @@ impl Mutating for ManagedHeap {
         ensures does { DoesThread answers.Truth self.now thread (steps.Same left right) result self.now }
         ensures stands { ThreadStands answers.Truth self.now thread (steps.Same left right) result self.now }
     {
-        Mutating::same(&self.heap, thread, left, right)
+        match self.same_at_once(thread, left, right) {
+            Some(truth) => Ok(truth),
+            None => self.same_by_tests(thread, left, right),
+        }
     }
 
     #[inline(always)]
