@@ -1,5 +1,5 @@
 -- Threads in their order.
-use Rattle.std.proofs.Common.{◌≡◌, ◌+◌, ◌++◌, ◌∷◌, ◌∙◌, [], ℕ, zero, suc, List, arith, length, refl, sym, ap}
+use Rattle.std.proofs.Common.{◌≡◌, ◌+◌, ◌++◌, ◌∷◌, [], ℕ, zero, suc, List, arith, length, ap}
 use Rattle.std.specs.List.{range_with_len}
 
 abbrev first_of : ℕ → List ℕ → ℕ

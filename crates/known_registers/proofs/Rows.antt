@@ -1,6 +1,6 @@
 -- What the registers name is what the plain heap has in them.
 use Rattle.std.proofs.Common.{◌≡◌, ◌∙◌, ◌+◌, ℕ, zero, suc, List, [], ◌∷◌, map, length, refl, sym, ap, subst, arith}
-use Rattle.std.proofs.Common.{Option, Some, None, get_or}
+use Rattle.std.proofs.Common.{Option, Some, get_or}
 use Rattle.std.specs.List.{slice_get, range_with_len}
 use Rattle.model.specs.Plain.{PlainHeap, PlainThread, name_of, name_in}
 use Rattle.model.specs.States.{HeapState, flat}
@@ -8,7 +8,9 @@ use Rattle.refinement.specs.Standing.{Holds}
 use Rattle.managed.specs.Collecting.{StandsUnseen}
 use Rattle.managed.specs.Managing.{Promises}
 use Rattle.portions.specs.Others.{KeepsOthers}
-use Rattle.tokens.specs.Rows.{ChangesOnly, row_of}
+use Rattle.portions.specs.Portions.{Begins, GoesOn, HoldsInPortion, MutatorState}
+use Rattle.tokens.specs.Rows.{ChangesOnly, TokenState, row_of}
+use Rattle.known_registers.specs.Knowing.{FindsOwn, KnowingState}
 use Rattle.known_registers.specs.Held.{HasRegisters, births_in, birth_named, births_named, births_held}
 
 at_first : (a : ℕ) → a + 0 ≡ a
@@ -88,3 +90,25 @@ others_rows h g t k s u n =
 pub has_rows : (h : HeapState) (t : ℕ) (births : List (Option ℕ)) → row_of (births_held h) t ≡ births
     → HasRegisters h t births
 has_rows h t births e = record { known = λ p p0 k. sym (row_is h p p0 k t) ∙ e }
+
+-- ---- portions
+
+-- a portion has begun, whose thread finds what its seat knows
+pub finds_own : (seat : ℕ) (token : TokenState) (s : KnowingState) (rows : List (List (Option ℕ))) (h : HeapState)
+    (m : MutatorState) → record { thread = seat; registers = token.registers } ≡ s → token.thread ≡ seat
+    → rows ≡ births_held h → Promises h → StandsUnseen h m.heap → row_of rows token.thread ≡ token.registers
+    → Begins seat m → HoldsInPortion m → FindsOwn s m
+finds_own seat token s rows h m is thread known k same found begins holds = subst (λ (z : KnowingState). FindsOwn z m) is
+    (record {
+      begins = begins;
+      holds = holds;
+      registers = has_rows m.heap seat token.registers (ap (λ (l : List (List (Option ℕ))). row_of l seat)
+          (unseen_rows h m.heap k same ∙ sym known) ∙ ap (row_of rows) (sym thread) ∙ found);
+    })
+
+-- a portion of thread t that goes on changes no other's registers
+pub portion_rows : (rows : List (List (Option ℕ))) (m n : MutatorState) (t : ℕ) → rows ≡ births_held m.heap
+    → HoldsInPortion m → m.thread ≡ t → GoesOn m n → ChangesOnly t rows (births_held n.heap)
+portion_rows rows m n t known holds thread on u apart =
+    others_rows m.heap n.heap m.thread holds.promises on.others u (λ e. apart (e ∙ thread))
+    ∙ ap (λ (l : List (List (Option ℕ))). row_of l u) (sym known)

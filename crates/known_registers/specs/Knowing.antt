@@ -1,5 +1,5 @@
 -- Seats that know their threads' registers.
-use Rattle.std.specs.Prelude.{◌≡◌, ℕ, List, Option}
+use Rattle.std.specs.Prelude.{ℕ, List, Option}
 use Rattle.model.specs.States.{HeapState}
 use Rattle.portions.specs.Portions.{Begins, HoldsInPortion, MutatorState}
 use Rattle.known_registers.specs.Held.{HasRegisters}

@@ -60,6 +60,46 @@ fn told<N: CellName, R: Wait>(
     keeper.tell::<Brand, Mutator, R>(rt, token, mutator)
 }
 
+/// Begins a portion of a seat's thread, which finds in its registers what the seat knows.
+fn find_own<N: CellName, R: Wait>(
+    rt: &R,
+    mutator: &mut Mutator,
+    keeper: &mut KeeperToken<N>,
+    seat: KnowingSeat<N>,
+) -> KnowingSeat<N>
+    requires { keeper.old.rows ≡ births_held mutator.old.heap }
+    ensures own { FindsOwn seat mutator.new }
+    ensures seat { result ≡ seat }
+    ensures rows { keeper.new.rows ≡ births_held mutator.new.heap }
+    ensures dealt { keeper.new.dealt ≡ keeper.old.dealt }
+{
+    let KnowingSeat { mut seat, token } = seat;
+    mutator.law();
+    mutator.enter(&mut seat);
+    let token = keeper.find(rt, token);
+    KnowingSeat { seat, token }
+}
+
+/// Ends a portion of a seat's thread, which knows then what it leaves in its registers.
+fn leave_own<N: CellName, R: Wait>(
+    rt: &R,
+    mutator: &mut Mutator,
+    keeper: &mut KeeperToken<N>,
+    seat: KnowingSeat<N>,
+) -> KnowingSeat<N>
+    requires { ChangesOnly seat.thread keeper.old.rows (births_held mutator.old.heap) }
+    ensures own { LeavesOwn mutator.old result }
+    ensures seat { result.thread ≡ seat.thread }
+    ensures rows { keeper.new.rows ≡ births_held mutator.new.heap }
+    ensures dealt { keeper.new.dealt ≡ keeper.old.dealt }
+{
+    mutator.law();
+    let KnowingSeat { seat, token } = seat;
+    let token = told(rt, keeper, token, mutator);
+    mutator.leave();
+    KnowingSeat { seat, token }
+}
+
 /// A portion of a seat's thread: what `f` does.
 pub(crate) fn run<N: CellName, R: Wait, T, F: FnOnce(&mut Mutator) -> T>(
     rt: &R,
@@ -73,15 +113,10 @@ pub(crate) fn run<N: CellName, R: Wait, T, F: FnOnce(&mut Mutator) -> T>(
         × FnOnceReturnsAtMut F.FnOnce f m result.1 n }
     ensures seat { result.0.thread ≡ seat.thread }
 {
-    let KnowingSeat { mut seat, token } = seat;
-    desk.mutator.law();
-    desk.mutator.enter(&mut seat);
-    let token = desk.keeper.find(rt, token);
+    let seat = find_own(rt, &mut desk.mutator, &mut desk.keeper, seat);
     let result = f(&mut desk.mutator);
-    desk.mutator.law();
-    let token = told(rt, &mut desk.keeper, token, &desk.mutator);
-    desk.mutator.leave();
-    (KnowingSeat { seat, token }, result)
+    let seat = leave_own(rt, &mut desk.mutator, &mut desk.keeper, seat);
+    (seat, result)
 }
 
 impl<N: CellName> Desk<N> {

@@ -1,11 +1,14 @@
-use Rattle.std.proofs.Common.{◌≡◌, rules, sym, subst, ap, ◌∙◌, ℕ, List, Option}
-use Rattle.portions.specs.Portions.{Begins, GoesOn, MutatorState}
-use Rattle.portions.specs.Others.{KeepsOthers}
-use Rattle.tokens.specs.Rows.{ChangesOnly, TokenState, row_of}
-use Rattle.known_registers.specs.Held.{HasRegisters, births_held}
-use Rattle.known_registers.specs.Knowing.{FindsOwn, KnowingState}
-use Rattle.known_registers.proofs.Rows.{has_rows, others_rows, unseen_rows}
+use Rattle.std.proofs.Common.{◌∙◌, ap, rules, sym}
+use Rattle.portions.specs.Portions.{GoesOn}
+use Rattle.known_registers.specs.Knowing.{KnowingState}
+use Rattle.known_registers.proofs.Rows.{portion_rows}
 use Rattle.known_registers.proofs.desk.run.Goals as goal
 
-pub told-token-requires : goal.told-token-requires
-told-token-requires g c = ?
+pub leave_own-seat-requires : goal.leave_own-seat-requires
+leave_own-seat-requires g c =
+    let own = c.find_own-seat.ensures.own in
+    let m = c.find_own-seat.new.mutator in
+    let n = c.f-result.new.arg2 in
+    let on : GoesOn m n = c.requires.keeps m n c.f-result.result own (search rules) in
+    portion_rows c.find_own-seat.new.keeper.rows m n c.find_own-seat.result.thread c.find_own-seat.ensures.rows own.holds
+    (own.begins.thread ∙ ap (λ (s : KnowingState). s.thread) (sym c.find_own-seat.ensures.seat)) on
