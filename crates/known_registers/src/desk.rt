@@ -27,7 +27,6 @@ impl<N: CellName> Model for Desk<N> {
     ghost use Rattle.std.specs.Prelude.{◌≡◌};
     ghost use Rattle.portions.specs.Portions.{MutatorState};
     ghost use Rattle.known_registers.specs.Held.{births_held};
-
     ghost use Rattle.known_registers.specs.Knowing.{DeskState};
 
     ghost Value = { DeskState };
@@ -53,8 +52,10 @@ fn told<N: CellName, R: Wait>(
     mutator: &Mutator,
 ) -> ThreadToken<N>
     requires { ChangesOnly token.thread keeper.old.rows (births_held mutator.now.heap) }
-    ensures token { result ≡ record { thread = token.thread;
-        registers = row_of (births_held mutator.now.heap) token.thread } }
+    ensures token { result ≡ record {
+      thread = token.thread;
+      registers = row_of (births_held mutator.now.heap) token.thread;
+    } }
     ensures keeper { keeper.new ≡ record { rows = births_held mutator.now.heap; dealt = keeper.old.dealt } }
 {
     keeper.tell::<Brand, Mutator, R>(rt, token, mutator)

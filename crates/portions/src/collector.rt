@@ -44,8 +44,8 @@ impl Mutator {
 }
 
 impl Mutator {
-    /// Does the next part of a collection, as `SharedHeap::collect_some`, for a program that has the heap under a lock of
-    /// its own. A portion that hasn't ended ends before.
+    /// Does the next part of a collection, as `SharedHeap::collect_some`, for a program that has the heap under a lock
+    /// of its own. A portion that hasn't ended ends before.
     pub fn collect_some(
         &mut self,
         alloc: Global,

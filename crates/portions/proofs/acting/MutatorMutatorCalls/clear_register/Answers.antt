@@ -11,5 +11,6 @@ invariant_of-self c = does_apart done c.self.inside.heap c.clear_register.new.se
 
 pub returns-clause-on : goal.returns-clause-on
 returns-clause-on c = goes_on c.self.inside.thread c.self.inside.heap c.clear_register.new.self _ c.self.view_is
-    (does_kept done c.self.inside.heap c.clear_register.new.self c.self.inside.thread (steps.ClearReg c.args.target) c.clear_register.result
+    (does_kept done c.self.inside.heap c.clear_register.new.self c.self.inside.thread (steps.ClearReg c.args.target)
+    c.clear_register.result
     c.clear_register.ensures.does c.clear_register.ensures.stands)

@@ -11,5 +11,6 @@ invariant_of-self c = does_apart done c.self.inside.heap c.copy_register.new.sel
 
 pub returns-clause-on : goal.returns-clause-on
 returns-clause-on c = goes_on c.self.inside.thread c.self.inside.heap c.copy_register.new.self _ c.self.view_is
-    (does_kept done c.self.inside.heap c.copy_register.new.self c.self.inside.thread (steps.CopyReg c.args.target c.args.source) c.copy_register.result
+    (does_kept done c.self.inside.heap c.copy_register.new.self c.self.inside.thread
+    (steps.CopyReg c.args.target c.args.source) c.copy_register.result
     c.copy_register.ensures.does c.copy_register.ensures.stands)

@@ -8,5 +8,6 @@ invariant_of-self c = loads_apart c.self.inside.thread c.args.object 0 c.args.fi
 
 pub returns-clause-on : goal.returns-clause-on
 returns-clause-on c = goes_on c.self.inside.thread c.self.inside.heap c.loads.new.self _ c.self.view_is
-    (loads_kept c.self.inside.thread c.args.object 0 c.args.fields.now c.self.inside.heap c.loads.new.self c.loads.result
+    (loads_kept c.self.inside.thread c.args.object 0 c.args.fields.now c.self.inside.heap c.loads.new.self
+    c.loads.result
     c.loads.ensures)

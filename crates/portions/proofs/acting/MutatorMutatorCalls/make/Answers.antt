@@ -25,6 +25,7 @@ returns-clause-stands c = subst (λ (m : MutatorState). MakingStands m.thread c.
 pub returns-clause-on : goal.returns-clause-on
 returns-clause-on c = goes_on c.self.inside.thread c.self.inside.heap c.settle.new.heap _ c.self.view_is
     (kept_then c.self.inside.thread c.self.inside.heap c.make-result.new.self c.settle.new.heap
-    (making_kept c.self.inside.thread c.args.target c.args.layout c.self.inside.heap c.make-result.new.self c.make-result.result
+    (making_kept c.self.inside.thread c.args.target c.args.layout c.self.inside.heap c.make-result.new.self
+    c.make-result.result
     c.make-result.ensures.stands)
     (stands_kept c.self.inside.thread c.make-result.new.self c.settle.new.heap c.settle.ensures.stands))

@@ -11,5 +11,6 @@ invariant_of-self c = does_apart answers.Birth c.self.inside.heap c.new_object.n
 
 pub returns-clause-on : goal.returns-clause-on
 returns-clause-on c = goes_on c.self.inside.thread c.self.inside.heap c.new_object.new.self _ c.self.view_is
-    (does_kept answers.Birth c.self.inside.heap c.new_object.new.self c.self.inside.thread (steps.New c.args.target c.args.layout) c.new_object.result
+    (does_kept answers.Birth c.self.inside.heap c.new_object.new.self c.self.inside.thread
+    (steps.New c.args.target c.args.layout) c.new_object.result
     c.new_object.ensures.does c.new_object.ensures.stands)

@@ -10,5 +10,6 @@ invariant_of-self c = load_apart c.self.inside.heap c.read.new.self c.self.insid
 
 pub returns-clause-on : goal.returns-clause-on
 returns-clause-on c = goes_on c.self.inside.thread c.self.inside.heap c.read.new.self _ c.self.view_is
-    (load_kept c.self.inside.heap c.read.new.self c.self.inside.thread (steps.Load c.args.target c.args.object c.args.field)
+    (load_kept c.self.inside.heap c.read.new.self c.self.inside.thread
+    (steps.Load c.args.target c.args.object c.args.field)
     c.read.result c.read.ensures.loads)

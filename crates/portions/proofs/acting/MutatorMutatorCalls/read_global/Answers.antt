@@ -10,5 +10,6 @@ invariant_of-self c = load_apart c.self.inside.heap c.read_global.new.self c.sel
 
 pub returns-clause-on : goal.returns-clause-on
 returns-clause-on c = goes_on c.self.inside.thread c.self.inside.heap c.read_global.new.self _ c.self.view_is
-    (load_kept c.self.inside.heap c.read_global.new.self c.self.inside.thread (steps.LoadGlobal c.args.target c.args.global)
+    (load_kept c.self.inside.heap c.read_global.new.self c.self.inside.thread
+    (steps.LoadGlobal c.args.target c.args.global)
     c.read_global.result c.read_global.ensures.loads)

@@ -11,5 +11,6 @@ invariant_of-self c = does_apart done c.self.inside.heap c.set_datum.new.self c.
 
 pub returns-clause-on : goal.returns-clause-on
 returns-clause-on c = goes_on c.self.inside.thread c.self.inside.heap c.set_datum.new.self _ c.self.view_is
-    (does_kept done c.self.inside.heap c.set_datum.new.self c.self.inside.thread (steps.SetDatum c.args.object c.args.index c.args.value) c.set_datum.result
+    (does_kept done c.self.inside.heap c.set_datum.new.self c.self.inside.thread
+    (steps.SetDatum c.args.object c.args.index c.args.value) c.set_datum.result
     c.set_datum.ensures.does c.set_datum.ensures.stands)

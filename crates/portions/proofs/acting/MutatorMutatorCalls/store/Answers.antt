@@ -11,5 +11,6 @@ invariant_of-self c = does_apart done c.self.inside.heap c.store.new.self c.self
 
 pub returns-clause-on : goal.returns-clause-on
 returns-clause-on c = goes_on c.self.inside.thread c.self.inside.heap c.store.new.self _ c.self.view_is
-    (does_kept done c.self.inside.heap c.store.new.self c.self.inside.thread (steps.Store c.args.object c.args.field c.args.source) c.store.result
+    (does_kept done c.self.inside.heap c.store.new.self c.self.inside.thread
+    (steps.Store c.args.object c.args.field c.args.source) c.store.result
     c.store.ensures.does c.store.ensures.stands)

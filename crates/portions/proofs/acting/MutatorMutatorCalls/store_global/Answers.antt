@@ -11,5 +11,6 @@ invariant_of-self c = does_apart done c.self.inside.heap c.store_global.new.self
 
 pub returns-clause-on : goal.returns-clause-on
 returns-clause-on c = goes_on c.self.inside.thread c.self.inside.heap c.store_global.new.self _ c.self.view_is
-    (does_kept done c.self.inside.heap c.store_global.new.self c.self.inside.thread (steps.StoreGlobal c.args.global c.args.source) c.store_global.result
+    (does_kept done c.self.inside.heap c.store_global.new.self c.self.inside.thread
+    (steps.StoreGlobal c.args.global c.args.source) c.store_global.result
     c.store_global.ensures.does c.store_global.ensures.stands)

@@ -30,7 +30,7 @@ swap_as-requires g c =
     let j = c.join_pass.ensures in
     let change : ChangesOnly v.thread k.rows g.B.Telling.rows =
     subst (λ (y : KeeperState × TokenState). ChangesOnly y.1.thread y.0.rows g.B.Telling.rows)
-        (λ z. (sym c.self.view_is z, sym c.token.view_is z)) c.requires in (
+    (λ z. (sym c.self.view_is z, sym c.token.view_is z)) c.requires in (
       search rules,
       (
         search rules,
