@@ -5,3 +5,4 @@ pub mod Doing
 pub mod Loads
 pub mod Collected
 pub mod Numbered
+pub mod Others

@@ -1,3 +1,4 @@
 pub mod Apart
+pub mod Others
 pub mod Portions
 pub mod Views

@@ -13,6 +13,7 @@ use Rattle.collecting.specs.Collections.{WORKER}
 use Rattle.collecting.specs.Parts.{EndsPart}
 use Rattle.collecting.specs.Stages.{PartGoesOn, PartsState}
 use Rattle.portions.specs.Apart.{IsApart, IsStill}
+use Rattle.portions.specs.Others.{KeepsOthers}
 
 -- the thread whose portion it is, and the heap
 pub record MutatorState : Type 0 where
@@ -29,9 +30,10 @@ pub record Begins (t : ℕ) (m : MutatorState) : Type 0 where
   pub thread : m.thread ≡ t
   pub uses : MayUseAll m.heap t
 
--- it is a portion of the same thread
-abbrev pub GoesOn : MutatorState → MutatorState → Type 0
-GoesOn old new = new.thread ≡ old.thread
+-- it is a portion of the same thread, and no other thread's registers have changed
+pub record GoesOn (old new : MutatorState) : Type 0 where
+  pub thread : new.thread ≡ old.thread
+  pub others : KeepsOthers old.thread old.heap new.heap
 
 -- thread t is kept from no page until others have crossed
 abbrev pub NeverStalls : HeapState → ℕ → Type 0

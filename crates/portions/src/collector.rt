@@ -1,6 +1,7 @@
 //! The worker that collects, between portions.
 
 ghost use Rattle.std.specs.Prelude.{◌≡◌};
+ghost use Rattle.managed.specs.Collecting.{StandsUnseen};
 ghost use Rattle.portions.specs.Portions.{CollectsBetween, MutatorState};
 
 use crate::mutator::Mutator;
@@ -31,13 +32,31 @@ impl Mutator {
         percent: u32,
         budget: u32,
     ) -> Result<bool, Refusal>
-        ensures { CollectsBetween percent budget parts.old parts.new result self.new }
+        ensures part { CollectsBetween percent budget parts.old parts.new result self.new }
+        ensures same { StandsUnseen self.old.heap self.new.heap }
     {
         self.leave();
         let result = self.heap.collect_some(alloc, parts, percent, budget);
         settle(&mut self.heap, self.thread);
         self.heap.law();
         result
+    }
+}
+
+impl Mutator {
+    /// Does the next part of a collection, as `SharedHeap::collect_some`, for a program that has the heap under a lock
+    /// of its own. A portion that hasn't ended ends before.
+    pub fn collect_some(
+        &mut self,
+        alloc: Global,
+        seat: &mut CollectorSeat,
+        percent: u32,
+        budget: u32,
+    ) -> Result<bool, Refusal>
+        ensures part { CollectsBetween percent budget seat.old seat.new result self.new }
+        ensures same { StandsUnseen self.old.heap self.new.heap }
+    {
+        self.collect_part(alloc, &mut seat.parts, percent, budget)
     }
 }
 

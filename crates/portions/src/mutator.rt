@@ -1,9 +1,11 @@
 //! A heap in a portion of a thread.
 
 ghost use Rattle.std.specs.Prelude.{◌≡◌};
+ghost use Rattle.managed.specs.Collecting.{StandsUnseen};
 ghost use Rattle.portions.specs.Apart.{IsApart, IsStill};
 ghost use Rattle.portions.specs.Portions.{Begins, GoesOn, HoldsInPortion};
 
+use crate::seats::ThreadSeat;
 use cycle::Mutating;
 use managed::ManagedHeap;
 use std::marker::Model;
@@ -43,7 +45,7 @@ impl Mutator {
     }
 
     /// Returns the heap alone.
-    pub(crate) fn into_heap(self) -> ManagedHeap
+    pub fn into_heap(self) -> ManagedHeap
         ensures { result ≡ self.heap }
     {
         self.heap
@@ -51,7 +53,8 @@ impl Mutator {
 
     /// Begins a portion of a thread: the thread runs, and its registers name no page that is being emptied, or was.
     pub(crate) fn begin(&mut self, thread: u32)
-        ensures { Begins thread self.new }
+        ensures begins { Begins thread self.new }
+        ensures same { StandsUnseen self.old.heap self.new.heap }
     {
         self.leave();
         self.thread = thread;
@@ -60,10 +63,23 @@ impl Mutator {
         self.heap.scrub_all();
     }
 
+    /// Begins a portion of a seat's thread, for a program that has the heap under a lock of its own: the thread runs,
+    /// and its registers name no page that is being emptied, or was. A portion that hasn't ended ends before.
+    pub fn enter(&mut self, seat: &mut ThreadSeat)
+        ensures begins { Begins seat.old self.new }
+        ensures holds { HoldsInPortion self.new }
+        ensures same { StandsUnseen self.old.heap self.new.heap }
+        ensures seat { seat.new ≡ seat.old }
+    {
+        self.begin(seat.thread);
+        self.law();
+    }
+
     /// Ends the portion: parks its thread.
-    pub(crate) fn leave(&mut self)
+    pub fn leave(&mut self)
         ensures on { GoesOn self.old self.new }
         ensures still { IsStill self.new.heap }
+        ensures same { StandsUnseen self.old.heap self.new.heap }
     {
         let _ = self.heap.park(self.thread);
     }

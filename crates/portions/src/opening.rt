@@ -79,16 +79,12 @@ fn park_all(heap: &mut ManagedHeap) -> Result<(), Refusal>
     Ok(())
 }
 
-impl SharedHeap {
-    /// Shares a heap, and makes its seats. Its threads are parked, and stay so between portions. A portion lasts for
-    /// `rests` calls of `rest` at least while others want the heap; some thousand steps make good portions.
+impl Mutator {
+    /// Parks a heap's threads, and makes its seats, for a program that has the heap under a lock of its own; other
+    /// programs share it by `SharedHeap::open`.
     ///
     /// Fails with `Pending` if a thread is inside a load, and with `Memory`; the fault has the heap.
-    pub fn open(
-        alloc: Global,
-        heap: ManagedHeap,
-        rests: u32,
-    ) -> Result<(SharedHeap, Seats), OpenFault>
+    pub fn open(alloc: Global, heap: ManagedHeap) -> Result<(Mutator, Seats), OpenFault>
         ensures { IfOk result (λ both. both.1.threads.items ≡ range_with_len 0 heap.config.threads) }
     {
         let threads = heap.heap().config().threads;
@@ -106,7 +102,25 @@ impl SharedHeap {
             parts: Parts::new(alloc),
             has_begun: false,
         };
-        let shared = SharedHeap::with_mutator(Mutator::new(heap), rests);
-        Ok((shared, Seats { threads, collector }))
+        Ok((Mutator::new(heap), Seats { threads, collector }))
+    }
+}
+
+impl SharedHeap {
+    /// Shares a heap, and makes its seats. Its threads are parked, and stay so between portions. A portion lasts for
+    /// `rests` calls of `rest` at least while others want the heap; some thousand steps make good portions.
+    ///
+    /// Fails with `Pending` if a thread is inside a load, and with `Memory`; the fault has the heap.
+    pub fn open(
+        alloc: Global,
+        heap: ManagedHeap,
+        rests: u32,
+    ) -> Result<(SharedHeap, Seats), OpenFault>
+        ensures { IfOk result (λ both. both.1.threads.items ≡ range_with_len 0 heap.config.threads) }
+    {
+        match Mutator::open(alloc, heap) {
+            Ok((mutator, seats)) => Ok((SharedHeap::with_mutator(mutator, rests), seats)),
+            Err(fault) => Err(fault),
+        }
     }
 }

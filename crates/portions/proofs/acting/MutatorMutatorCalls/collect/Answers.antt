@@ -2,6 +2,7 @@ use Rattle.std.proofs.Common.{subst}
 use Rattle.collecting.specs.Collections.{EndsCollecting}
 use Rattle.portions.specs.Portions.{MutatorState, ThenCrosses}
 use Rattle.portions.proofs.Collected.{collects_alone}
+use Rattle.portions.proofs.Others.{goes_on, kept_then, stands_kept, unseen_kept}
 use Rattle.portions.proofs.acting.MutatorMutatorCalls.collect.Goals as goal
 
 pub settle-requires : goal.settle-requires
@@ -13,3 +14,9 @@ invariant_of-self c = c.settle.ensures.apart
 pub returns-clause-ends : goal.returns-clause-ends
 returns-clause-ends c = subst (λ (m : MutatorState). ThenCrosses (EndsCollecting c.args.percent m.heap c.collect-result.result)
     c.settle.new.heap) c.self.view_is (c.collect-result.new.self, c.collect-result.ensures.ends, c.settle.ensures.goes)
+
+pub returns-clause-on : goal.returns-clause-on
+returns-clause-on c = goes_on c.self.inside.thread c.self.inside.heap c.settle.new.heap _ c.self.view_is
+    (kept_then c.self.inside.thread c.self.inside.heap c.collect-result.new.self c.settle.new.heap
+    (unseen_kept c.self.inside.thread c.self.inside.heap c.collect-result.new.self c.collect-result.ensures.stands)
+    (stands_kept c.self.inside.thread c.collect-result.new.self c.settle.new.heap c.settle.ensures.stands))

@@ -2,6 +2,7 @@ use Rattle.std.proofs.Common.{subst}
 use Rattle.collecting.specs.Rooms.{EndsRefill}
 use Rattle.portions.specs.Portions.{MutatorState, ThenCrosses}
 use Rattle.portions.proofs.Collected.{refills_alone}
+use Rattle.portions.proofs.Others.{goes_on, kept_then, stands_kept, unseen_kept}
 use Rattle.portions.proofs.acting.MutatorMutatorCalls.refill.Goals as goal
 
 pub settle-requires : goal.settle-requires
@@ -13,3 +14,9 @@ invariant_of-self c = c.settle.ensures.apart
 pub returns-clause-ends : goal.returns-clause-ends
 returns-clause-ends c = subst (λ (m : MutatorState). ThenCrosses (EndsRefill m.thread c.args.policy.words c.args.policy.percent m.heap c.refill-result.result)
     c.settle.new.heap) c.self.view_is (c.refill-result.new.self, c.refill-result.ensures.ends, c.settle.ensures.goes)
+
+pub returns-clause-on : goal.returns-clause-on
+returns-clause-on c = goes_on c.self.inside.thread c.self.inside.heap c.settle.new.heap _ c.self.view_is
+    (kept_then c.self.inside.thread c.self.inside.heap c.refill-result.new.self c.settle.new.heap
+    (unseen_kept c.self.inside.thread c.self.inside.heap c.refill-result.new.self c.refill-result.ensures.stands)
+    (stands_kept c.self.inside.thread c.refill-result.new.self c.settle.new.heap c.settle.ensures.stands))

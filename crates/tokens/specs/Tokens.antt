@@ -1,0 +1,54 @@
+-- What tokens know of the registers of threads.
+use Rattle.std.specs.Prelude.{◌≡◌, ◌<◌, ℕ, List, [], true, false}
+use mathlib.Core.Option.{some}
+use lib.ListN.{get_elem?}
+use Rattle.atomic_table.specs.Seated.{TableId}
+use Rattle.tokens.specs.Rows.{Registers, Rows, row_of}
+use Rattle.tokens.specs.declared.cells.View.{View}
+
+-- the name of no cell
+abbrev pub no_table : TableId
+no_table = record { words = 0; slots = 0; views_name = 0; atom = 0; block = 0; offset = 0; slot_names = [] }
+
+-- the view of a keeper
+abbrev pub keeper_of : Rows → ℕ → View
+keeper_of rows dealt =
+    record { keeps = true; rows = rows; dealt = dealt; claims = false; thread = 0; registers = [] }
+
+-- that of a keeper with the token of thread t
+abbrev pub holder_of : Rows → ℕ → ℕ → Registers → View
+holder_of rows dealt t mine =
+    record { keeps = true; rows = rows; dealt = dealt; claims = true; thread = t; registers = mine }
+
+-- that of the token of thread t
+abbrev pub token_of : ℕ → Registers → View
+token_of t mine =
+    record { keeps = false; rows = []; dealt = 0; claims = true; thread = t; registers = mine }
+
+-- that of a pass that knows nothing
+abbrev pub nobody : View
+nobody = record { keeps = false; rows = []; dealt = 0; claims = false; thread = 0; registers = [] }
+
+-- what the rule says of one view: one pass at most keeps; and what a token knows is so, one token for each thread at most
+abbrev pub Fits : ℕ → Rows → ℕ → (ℕ → ℕ) → ℕ → View → Type 0
+Fits seat rows dealt owner by v =
+    (v.keeps ≡ true → (by ≡ seat) × (v.rows ≡ rows) × (v.dealt ≡ dealt))
+    × (v.claims ≡ true → (owner v.thread ≡ by) × (row_of rows v.thread ≡ v.registers) × (v.thread < dealt))
+
+-- the rule: there are such rows
+abbrev pub Kept : List ℕ → List View → Type 0
+Kept words views =
+    (seat : ℕ) × (rows : Rows) × (dealt : ℕ) × (owner : ℕ → ℕ)
+    × ((by : ℕ) (v : View) → get_elem? views by ≡ some v → Fits seat rows dealt owner by v)
+
+-- the keeper with a thread's token finds that it is so
+abbrev pub Found : View → List ℕ → List ℕ → View → Type 0
+Found v words words' w = (w ≡ v) × (row_of v.rows v.thread ≡ v.registers)
+
+-- the keeper with a thread's token is told the rows after a change
+abbrev pub Told : Rows → View → List ℕ → List ℕ → View → Type 0
+Told rows v words words' w = w ≡ holder_of rows v.dealt v.thread (row_of rows v.thread)
+
+-- a keeper, before any thread has a token, is told the rows
+abbrev pub Begun : Rows → View → List ℕ → List ℕ → View → Type 0
+Begun rows v words words' w = w ≡ keeper_of rows 0

@@ -1,0 +1,7 @@
+//! What threads know of their registers from portion to portion, and how a heap with such seats is shared.
+#![tactic(auto)]
+
+mod keeping;
+mod sharing;
+#[cfg(test)]
+mod tests;
