@@ -1,11 +1,12 @@
 #!/bin/sh
 # Tests the library for C: that the header's codes, functions and structs are those of the code; that the programs of
 # examples/c print what their files NAME.expected have; that each function does what it should with its arguments, and
-# writes nothing if it fails (tests/c/calls.c); that memory of free frames is given back (tests/c/kept.c), so that the
-# memory of a process follows what lives in its heap (tests/c/growth.c); that random calls answer what a plain heap would
-# (tests/c/random.c); and that all memory is given back, that each request for memory may be refused, and that a
-# verification looks at the heap (tests/c/memory.c). With valgrind, that no program leaks memory or reads what it hasn't
-# written. The library is ./libpauseless.a, or the one that the first argument names.
+# writes nothing if it fails (tests/c/calls.c); that a code says which number names nothing (tests/c/which.c); that
+# memory of free frames is given back (tests/c/kept.c), so that the memory of a process follows what lives in its heap
+# (tests/c/growth.c); that random calls answer what a plain heap would (tests/c/random.c); and that all memory is given
+# back, that each request for memory may be refused, and that a verification looks at the heap (tests/c/memory.c). With
+# valgrind, that no program leaks memory or reads what it hasn't written. The library is ./libpauseless.a, or the one
+# that the first argument names.
 
 cd "$(dirname "$0")/.." || exit 1
 . tests/begin.sh
@@ -90,11 +91,12 @@ if $CC -fsanitize=thread "$kept/races.c" -o "$kept/races" 2> "$kept/errors" && "
 fi
 
 build tests/c/calls.c
+build tests/c/which.c
 build tests/c/views.c
 build tests/c/kept.c
 build tests/c/random.c
 build tests/c/memory.c -Wl,--wrap=malloc -Wl,--wrap=realloc -Wl,--wrap=free
-for name in calls views kept random memory; do
+for name in calls which views kept random memory; do
     "$kept/$name"
     told "$name finds no difference" $?
     leaves "$name"

@@ -1,6 +1,8 @@
 pub mod Collections
 pub mod Rooms
 pub mod Filling
+pub mod Numbers
+pub mod Policies
 pub mod Faults
 pub mod Objects
 pub mod Parts

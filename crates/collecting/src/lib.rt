@@ -9,6 +9,7 @@ mod cycles;
 mod faults;
 mod filling;
 mod leftovers;
+mod numbers;
 mod pacing;
 mod parts;
 mod policy;
@@ -19,7 +20,8 @@ mod target;
 
 pub use collecting::{Collected, Holding};
 pub use faults::CallFault;
+pub use numbers::{Number, wrong_number};
 pub use parts::Parts;
-pub use policy::Policy;
+pub use policy::{Policy, PolicyFault};
 pub use seeing::Object;
 pub use target::Target;

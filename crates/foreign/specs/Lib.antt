@@ -7,3 +7,5 @@ pub mod Looking
 pub mod Making
 pub mod Telling
 pub mod Views
+pub mod Which
+pub mod Policies

@@ -4,12 +4,15 @@ ghost use Rattle.std.specs.Prelude.{◌≡◌, length};
 ghost use Rattle.model.specs.Saying.{done};
 ghost use Rattle.model.specs.declared.steps.Step.TheVariants as steps;
 ghost use Rattle.model.specs.declared.steps.Answer.TheVariants as answers;
-ghost use Rattle.foreign.specs.Calls.{Calls, Gives, ReadMany, Stepped, WroteMany};
+ghost use Rattle.foreign.specs.Calls.{Calls, CallsStep, GivesStep, ReadMany, WroteMany};
+ghost use Rattle.foreign.specs.Which.{step_code};
 
-use crate::codes::{NO_HEAP, code, give_number};
+use crate::codes::{DONE, NO_HEAP};
 use crate::handle::Handle;
+use crate::which::step_code;
 use collecting::Holding;
 use cycle::Mutating;
+use model::Step;
 
 /// Reads a datum of an object. Refused as `Mutating::datum` is.
 #[tactic(auto, using(crate::proofs::Calling::looked))]
@@ -21,18 +24,23 @@ pub extern "C" fn pauseless_get(
     index: u32,
     value: &mut u64,
 ) -> u32
-    ensures { Gives (Stepped answers.Datum thread (steps.Datum object index)) (λ x. value.new ≡ x)
+    ensures { GivesStep answers.Datum thread (steps.Datum object index) (λ x. value.new ≡ x)
         (value.new ≡ value.old) heap.old.slot.held result heap.new.slot.held }
 {
     let Some(held) = heap.lend() else {
         return NO_HEAP;
     };
-    let answer = held.heap.datum(thread, object, index);
-    give_number(answer, value)
+    match held.heap.datum(thread, object, index) {
+        Ok(datum) => {
+            *value = datum;
+            DONE
+        }
+        Err(refusal) => step_code(&held.heap, Step::Datum { object, index }, refusal),
+    }
 }
 
 /// Writes a datum of an object. Refused as `Mutating::set_datum` is.
-#[tactic(auto, using(crate::proofs::Calling::called))]
+#[tactic(auto, using(crate::proofs::Calling::stepped))]
 #[unsafe(no_mangle)]
 pub extern "C" fn pauseless_set(
     heap: &mut Handle,
@@ -41,14 +49,24 @@ pub extern "C" fn pauseless_set(
     index: u32,
     value: u64,
 ) -> u32
-    ensures { Calls (Stepped done thread (steps.SetDatum object index value)) heap.old.slot.held result
+    ensures { CallsStep done thread (steps.SetDatum object index value) heap.old.slot.held result
         heap.new.slot.held }
 {
     let Some(held) = heap.lend() else {
         return NO_HEAP;
     };
-    let answer = held.heap.set_datum(thread, object, index, value);
-    code(answer)
+    match held.heap.set_datum(thread, object, index, value) {
+        Ok(()) => DONE,
+        Err(refusal) => step_code(
+            &held.heap,
+            Step::SetDatum {
+                object,
+                index,
+                value,
+            },
+            refusal,
+        ),
+    }
 }
 
 /// Reads data words of an object, from one by its number on, as many as C has room for. Fails as `Holding::get_many`
@@ -63,13 +81,22 @@ pub extern "C" fn pauseless_get_many(
     values: &mut [u64],
 ) -> u32
     ensures len { length values.new ≡ length values.old }
-    ensures call { Calls (ReadMany thread object first values.new) heap.old.slot.held result heap.new.slot.held }
+    ensures call { Calls (step_code (steps.Datum object first)) (ReadMany thread object first values.new) heap.old.slot.held result heap.new.slot.held }
 {
     let Some(held) = heap.lend() else {
         return NO_HEAP;
     };
-    let answer = held.heap.get_many(thread, object, first, values);
-    code(answer)
+    match held.heap.get_many(thread, object, first, values) {
+        Ok(()) => DONE,
+        Err(refusal) => step_code(
+            &held.heap,
+            Step::Datum {
+                object,
+                index: first,
+            },
+            refusal,
+        ),
+    }
 }
 
 /// Writes data words of an object, from one by its number on. Fails as `Holding::set_many` does.
@@ -82,11 +109,20 @@ pub extern "C" fn pauseless_set_many(
     first: u32,
     values: &[u64],
 ) -> u32
-    ensures { Calls (WroteMany thread object first values.now) heap.old.slot.held result heap.new.slot.held }
+    ensures { Calls (step_code (steps.Datum object first)) (WroteMany thread object first values.now) heap.old.slot.held result heap.new.slot.held }
 {
     let Some(held) = heap.lend() else {
         return NO_HEAP;
     };
-    let answer = held.heap.set_many(thread, object, first, values);
-    code(answer)
+    match held.heap.set_many(thread, object, first, values) {
+        Ok(()) => DONE,
+        Err(refusal) => step_code(
+            &held.heap,
+            Step::Datum {
+                object,
+                index: first,
+            },
+            refusal,
+        ),
+    }
 }

@@ -4,18 +4,27 @@ ghost use Rattle.std.specs.Prelude.{◌≡◌};
 ghost use Rattle.model.specs.Saying.{done};
 ghost use Rattle.model.specs.declared.steps.Step.TheVariants as steps;
 ghost use Rattle.model.specs.declared.steps.Answer.TheVariants as answers;
-ghost use Rattle.foreign.specs.Calls.{Calls, Gives, Loaded, Stepped};
+ghost use Rattle.foreign.specs.Calls.{CallsLoad, CallsStep, GivesStep};
 ghost use Rattle.foreign.specs.Batches.{LoadsEach, code_of_loads, done_of_loads};
 
-use crate::codes::{DONE, NO_HEAP, code, give_truth, refusal_code};
+use crate::codes::{DONE, NO_HEAP};
 use crate::handle::Handle;
+use crate::which::{load_code, step_code};
 use cycle::Mutating;
-use managed::{FieldLoad, LoadsFault};
+use managed::{FieldLoad, LoadsFault, ManagedHeap};
+use model::Step;
 use std::alloc::Global;
 
-/// The code of several loads; and how many are done, which is written for C.
-fn give_loads(fields: &[FieldLoad], answer: Result<(), LoadsFault>, done: &mut u64) -> u32
-    ensures code { result ≡ code_of_loads answer }
+/// The code of several loads of an object; and how many are done, which is written for C.
+#[inline(always)]
+fn give_loads(
+    heap: &ManagedHeap,
+    object: u32,
+    fields: &[FieldLoad],
+    answer: Result<(), LoadsFault>,
+    done: &mut u64,
+) -> u32
+    ensures code { result ≡ code_of_loads object fields.now heap.now answer }
     ensures done { done.new ≡ done_of_loads fields.now answer }
 {
     match answer {
@@ -25,7 +34,7 @@ fn give_loads(fields: &[FieldLoad], answer: Result<(), LoadsFault>, done: &mut u
         }
         Err(fault) => {
             *done = fault.done as u64;
-            refusal_code(fault.refusal)
+            load_code(heap, object, fields.get(fault.done).copied(), fault.refusal)
         }
     }
 }
@@ -40,13 +49,23 @@ pub extern "C" fn pauseless_load(
     object: u32,
     field: u32,
 ) -> u32
-    ensures { Calls (Loaded thread (steps.Load target object field)) heap.old.slot.held result heap.new.slot.held }
+    ensures { CallsLoad thread (steps.Load target object field) heap.old.slot.held result heap.new.slot.held }
 {
     let Some(held) = heap.lend() else {
         return NO_HEAP;
     };
-    let answer = held.heap.read(thread, target, object, field);
-    code(answer)
+    match held.heap.read(thread, target, object, field) {
+        Ok(()) => DONE,
+        Err(refusal) => step_code(
+            &held.heap,
+            Step::Load {
+                target,
+                object,
+                field,
+            },
+            refusal,
+        ),
+    }
 }
 
 /// Loads several reference fields of an object into registers, each completely, in their order; and writes for C how many
@@ -67,11 +86,11 @@ pub extern "C" fn pauseless_loads(
         return NO_HEAP;
     };
     let answer = held.heap.loads(thread, object, fields);
-    give_loads(fields, answer, done)
+    give_loads(&held.heap, object, fields, answer, done)
 }
 
 /// Writes a register's reference to a field of an object. Refused as `Mutating::store` is.
-#[tactic(auto, using(crate::proofs::Calling::called))]
+#[tactic(auto, using(crate::proofs::Calling::stepped))]
 #[unsafe(no_mangle)]
 pub extern "C" fn pauseless_store(
     heap: &mut Handle,
@@ -80,14 +99,24 @@ pub extern "C" fn pauseless_store(
     field: u32,
     source: u32,
 ) -> u32
-    ensures { Calls (Stepped done thread (steps.Store object field source)) heap.old.slot.held result
+    ensures { CallsStep done thread (steps.Store object field source) heap.old.slot.held result
         heap.new.slot.held }
 {
     let Some(held) = heap.lend() else {
         return NO_HEAP;
     };
-    let answer = held.heap.store(thread, object, field, source);
-    code(answer)
+    match held.heap.store(thread, object, field, source) {
+        Ok(()) => DONE,
+        Err(refusal) => step_code(
+            &held.heap,
+            Step::Store {
+                object,
+                field,
+                source,
+            },
+            refusal,
+        ),
+    }
 }
 
 /// Loads a global into a register, whole. Refused as `Holding::read_global` is.
@@ -99,17 +128,19 @@ pub extern "C" fn pauseless_load_global(
     target: u32,
     global: u32,
 ) -> u32
-    ensures { Calls (Loaded thread (steps.LoadGlobal target global)) heap.old.slot.held result heap.new.slot.held }
+    ensures { CallsLoad thread (steps.LoadGlobal target global) heap.old.slot.held result heap.new.slot.held }
 {
     let Some(held) = heap.lend() else {
         return NO_HEAP;
     };
-    let answer = held.heap.read_global(thread, target, global);
-    code(answer)
+    match held.heap.read_global(thread, target, global) {
+        Ok(()) => DONE,
+        Err(refusal) => step_code(&held.heap, Step::LoadGlobal { target, global }, refusal),
+    }
 }
 
 /// Writes a register's reference to a global. Refused as `Mutating::store_global` is.
-#[tactic(auto, using(crate::proofs::Calling::called))]
+#[tactic(auto, using(crate::proofs::Calling::stepped))]
 #[unsafe(no_mangle)]
 pub extern "C" fn pauseless_store_global(
     heap: &mut Handle,
@@ -117,40 +148,46 @@ pub extern "C" fn pauseless_store_global(
     global: u32,
     source: u32,
 ) -> u32
-    ensures { Calls (Stepped done thread (steps.StoreGlobal global source)) heap.old.slot.held result
+    ensures { CallsStep done thread (steps.StoreGlobal global source) heap.old.slot.held result
         heap.new.slot.held }
 {
     let Some(held) = heap.lend() else {
         return NO_HEAP;
     };
-    let answer = held.heap.store_global(thread, global, source);
-    code(answer)
+    match held.heap.store_global(thread, global, source) {
+        Ok(()) => DONE,
+        Err(refusal) => step_code(&held.heap, Step::StoreGlobal { global, source }, refusal),
+    }
 }
 
 /// Writes a register's reference to another one. Refused as `Mutating::copy_register` is.
-#[tactic(auto, using(crate::proofs::Calling::called))]
+#[tactic(auto, using(crate::proofs::Calling::stepped))]
 #[unsafe(no_mangle)]
 pub extern "C" fn pauseless_copy(heap: &mut Handle, thread: u32, target: u32, source: u32) -> u32
-    ensures { Calls (Stepped done thread (steps.CopyReg target source)) heap.old.slot.held result heap.new.slot.held }
+    ensures { CallsStep done thread (steps.CopyReg target source) heap.old.slot.held result heap.new.slot.held }
 {
     let Some(held) = heap.lend() else {
         return NO_HEAP;
     };
-    let answer = held.heap.copy_register(thread, target, source);
-    code(answer)
+    match held.heap.copy_register(thread, target, source) {
+        Ok(()) => DONE,
+        Err(refusal) => step_code(&held.heap, Step::CopyReg { target, source }, refusal),
+    }
 }
 
 /// Makes a register null. Refused as `Mutating::clear_register` is.
-#[tactic(auto, using(crate::proofs::Calling::called))]
+#[tactic(auto, using(crate::proofs::Calling::stepped))]
 #[unsafe(no_mangle)]
 pub extern "C" fn pauseless_clear(heap: &mut Handle, thread: u32, target: u32) -> u32
-    ensures { Calls (Stepped done thread (steps.ClearReg target)) heap.old.slot.held result heap.new.slot.held }
+    ensures { CallsStep done thread (steps.ClearReg target) heap.old.slot.held result heap.new.slot.held }
 {
     let Some(held) = heap.lend() else {
         return NO_HEAP;
     };
-    let answer = held.heap.clear_register(thread, target);
-    code(answer)
+    match held.heap.clear_register(thread, target) {
+        Ok(()) => DONE,
+        Err(refusal) => step_code(&held.heap, Step::ClearReg(target), refusal),
+    }
 }
 
 /// Tells whether two registers name the same object, or both none. Refused as `Mutating::same` is.
@@ -163,14 +200,19 @@ pub extern "C" fn pauseless_same(
     right: u32,
     is_so: &mut bool,
 ) -> u32
-    ensures { Gives (Stepped answers.Truth thread (steps.Same left right)) (λ x. is_so.new ≡ x)
+    ensures { GivesStep answers.Truth thread (steps.Same left right) (λ x. is_so.new ≡ x)
         (is_so.new ≡ is_so.old) heap.old.slot.held result heap.new.slot.held }
 {
     let Some(held) = heap.lend() else {
         return NO_HEAP;
     };
-    let answer = held.heap.same(thread, left, right);
-    give_truth(answer, is_so)
+    match held.heap.same(thread, left, right) {
+        Ok(truth) => {
+            *is_so = truth;
+            DONE
+        }
+        Err(refusal) => step_code(&held.heap, Step::Same { left, right }, refusal),
+    }
 }
 
 /// Tells whether a register is null. Refused as `Mutating::is_null` is.
@@ -182,12 +224,17 @@ pub extern "C" fn pauseless_is_null(
     register: u32,
     is_so: &mut bool,
 ) -> u32
-    ensures { Gives (Stepped answers.Truth thread (steps.IsNull register)) (λ x. is_so.new ≡ x)
+    ensures { GivesStep answers.Truth thread (steps.IsNull register) (λ x. is_so.new ≡ x)
         (is_so.new ≡ is_so.old) heap.old.slot.held result heap.new.slot.held }
 {
     let Some(held) = heap.lend() else {
         return NO_HEAP;
     };
-    let answer = held.heap.is_null(thread, register);
-    give_truth(answer, is_so)
+    match held.heap.is_null(thread, register) {
+        Ok(truth) => {
+            *is_so = truth;
+            DONE
+        }
+        Err(refusal) => step_code(&held.heap, Step::IsNull(register), refusal),
+    }
 }

@@ -21,6 +21,8 @@ mod long;
 #[cfg(test)]
 mod marks;
 #[cfg(test)]
+mod numbers;
+#[cfg(test)]
 mod parts;
 #[cfg(test)]
 mod policies;
