@@ -17,7 +17,7 @@
 #define PAUSELESS_H
 
 /* The version of the library, by https://semver.org. */
-#define PAUSELESS_VERSION "2.1.0"
+#define PAUSELESS_VERSION "3.0.0"
 
 #include <stdbool.h>
 #include <stddef.h>

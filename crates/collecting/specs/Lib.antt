@@ -9,3 +9,4 @@ pub mod Parts
 pub mod Stages
 pub mod Pacing
 pub mod Targets
+pub mod Counting

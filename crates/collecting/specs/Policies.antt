@@ -1,5 +1,5 @@
 -- Policies that a heap may be collected by.
-use Rattle.std.specs.Prelude.{ℕ, ◌==◌, ◌||◌, nat_lt, Option, Some, None, Result, Ok, Err, if◌then◌else◌}
+use Rattle.std.specs.Prelude.{◌==◌, ◌||◌, nat_lt, Option, Some, None, Result, Ok, Err, if◌then◌else◌}
 use Rattle.model.specs.declared.config.Config.{Config}
 use Rattle.collecting.specs.declared.policy.Policy.{Policy}
 use Rattle.collecting.specs.declared.policy.PolicyFault.{PolicyFault}

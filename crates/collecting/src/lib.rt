@@ -5,6 +5,8 @@
 #![tactic(auto)]
 
 mod collecting;
+mod counted;
+mod counting;
 mod cycles;
 mod faults;
 mod filling;
@@ -19,6 +21,8 @@ mod seeing;
 mod target;
 
 pub use collecting::{Collected, Holding};
+pub use counted::Counting;
+pub use counting::{Cause, Counters};
 pub use faults::CallFault;
 pub use numbers::{Number, wrong_number};
 pub use parts::Parts;
