@@ -173,6 +173,28 @@ typedef struct pauseless_counts {
     uint32_t free; /* the frames that no page has */
 } pauseless_counts;
 
+/* What a heap has come to since it was made. Each number stops at the greatest of its type. Whether a call has collected
+ * is seen by the sum of by_calls, by_policy, by_room and parts, which has grown then. */
+typedef struct pauseless_statistics {
+    uint64_t births; /* the objects that were born */
+    uint64_t live;   /* those that the last complete collection has found to live */
+    uint64_t by_calls;  /* complete collections that have begun: asked for by pauseless_collect; */
+    uint64_t by_policy; /* for a fresh buffer, as at most policy.free frames were free; */
+    uint64_t by_room;   /* for a fresh buffer, as there was no room for one */
+    uint64_t ended;     /* how many of all these have ended; MEMORY was refused to the others, or a load was open */
+    uint64_t by_parts;  /* collections in parts that have begun */
+    uint64_t parts;     /* the parts that were done, by pauseless_collect_some or for a fresh buffer */
+    uint64_t ended_in_parts; /* collections in parts that have ended */
+    uint64_t emptied;        /* the pages that collections have emptied */
+    uint64_t loads;  /* loads of references that have begun, by all threads; */
+    uint64_t moved;  /* of these, how many got an object's new place; */
+    uint64_t marked; /* how many marked their object; */
+    uint64_t healed; /* and how many wrote that back to where they had loaded; */
+    uint64_t changed; /* or found another reference there */
+    uint32_t used;      /* the frames in use */
+    uint32_t most_used; /* the most that were in use after a call that may collect */
+} pauseless_statistics;
+
 /* Making a heap, and letting it go */
 
 /* Sizes that serve most heaps: twice as many page numbers as frames, one thread of 16 registers, one worker, 64
@@ -286,6 +308,9 @@ pauseless_code pauseless_view_look(pauseless_heap *heap, uint64_t place, pausele
 /* Looking at the heap */
 
 pauseless_code pauseless_count(pauseless_heap *heap, pauseless_counts *counts);
+
+/* Tells what the heap and its collections have come to. Takes time in proportion to the threads. */
+pauseless_code pauseless_get_statistics(pauseless_heap *heap, pauseless_statistics *statistics);
 
 /* Memory of frames that became free is kept for the next pages. Tells of how many frames that is: at most as many as
  * are free. */

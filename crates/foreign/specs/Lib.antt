@@ -9,3 +9,4 @@ pub mod Telling
 pub mod Views
 pub mod Which
 pub mod Policies
+pub mod Statistics

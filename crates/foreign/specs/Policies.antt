@@ -4,7 +4,11 @@ use Rattle.model.specs.declared.config.Config.{Config}
 use Rattle.collecting.specs.declared.policy.Policy.{Policy}
 use Rattle.collecting.specs.declared.policy.PolicyFault.{PolicyFault}
 use Rattle.collecting.specs.declared.policy.PolicyFault.TheVariants as policies
+use Rattle.collecting.specs.declared.collecting.Collected.{Collected}
+use Rattle.collecting.specs.declared.counting.Cause.TheVariants as causes
+use Rattle.collecting.specs.Counting.{counted, part_counted, seen_in_use}
 use Rattle.collecting.specs.Policies.{policy_fault}
+use Rattle.collecting.specs.Targets.{in_use}
 use Rattle.foreign.specs.declared.held.Held.{Held}
 use Rattle.foreign.specs.declared.objects.PolicyOfC.{PolicyOfC}
 use Rattle.model.specs.declared.steps.Refusal.{Refusal}
@@ -55,13 +59,25 @@ abbrev pub GivenBy : {A : Type 0} → (Held → Result A Refusal → Held → Ty
     → Held → Type 0
 GivenBy {A} P Q S h code g = (r : Result A Refusal) × P h r g × MatchResult r Q (λ _. S) × (code ≡ code_of r)
 
+-- a complete collection, which was counted
+abbrev pub CollectsHeld : ℕ → Held → Result Collected Refusal → Held → Type 0
+CollectsHeld percent h r g =
+    CollectedBy percent h.heap r g.heap
+    × (g.counters ≡ seen_in_use (in_use g.heap) (counted causes.Call r h.counters))
+
+-- a part of one, which was counted
+abbrev pub PartHeld : ℕ → ℕ → Held → Result Bool Refusal → Held → Type 0
+PartHeld percent budget h r g =
+    PartOf percent budget h r g
+    × (g.counters ≡ seen_in_use (in_use g.heap) (part_counted h.parts h.heap r h.counters))
+
 -- a collection was done, if the percentage is in its range
 abbrev pub CollectsBy : ℕ → CollectedOfC → CollectedOfC → Held → ℕ → Held → Type 0
 CollectsBy percent old new h code g =
     ByPercent (percent_fault percent) (new ≡ old)
-    (GivenBy (λ h r g. CollectedBy percent h.heap r g.heap) (IsTold new) (new ≡ old)) h code g
+    (GivenBy (CollectsHeld percent) (IsTold new) (new ≡ old)) h code g
 
 -- the same of a part of one
 abbrev pub PartsBy : ℕ → ℕ → Bool → Bool → Held → ℕ → Held → Type 0
 PartsBy percent budget old new h code g =
-    ByPercent (percent_fault percent) (new ≡ old) (GivenBy (PartOf percent budget) (λ x. new ≡ x) (new ≡ old)) h code g
+    ByPercent (percent_fault percent) (new ≡ old) (GivenBy (PartHeld percent budget) (λ x. new ≡ x) (new ≡ old)) h code g

@@ -1,14 +1,14 @@
 //! Collections.
 
 ghost use Rattle.std.specs.Prelude.{◌≡◌};
-ghost use Rattle.foreign.specs.Calls.{PartOf, IsTold, OnHeldOr};
-ghost use Rattle.foreign.specs.Policies.{CollectsBy, PartsBy};
+ghost use Rattle.foreign.specs.Calls.{IsTold, OnHeldOr};
+ghost use Rattle.foreign.specs.Policies.{CollectsBy, PartHeld, PartsBy};
 
 use crate::codes::{DONE, NO_HEAP, policy_code, refusal_code};
 use crate::handle::Handle;
 use crate::held::Held;
 use crate::policies::percent_fault;
-use collecting::{Collected, Holding};
+use collecting::{Collected, Counting};
 use model::Refusal;
 use std::alloc::Global;
 
@@ -37,7 +37,8 @@ fn collect_tested(alloc: Global, held: &mut Held, percent: u32, done: &mut Colle
     if let Some(fault) = percent_fault(percent) {
         return policy_code(fault);
     }
-    let answer = held.heap.collect(alloc, percent);
+    let counters = &mut held.counters;
+    let answer = held.heap.collect_counted(alloc, counters, percent);
     if held.follows {
         held.follow();
     }
@@ -70,10 +71,12 @@ pub extern "C" fn pauseless_collect(
 
 /// Does the next part of the collection of a heap.
 fn collect_part(alloc: Global, held: &mut Held, percent: u32, budget: u32) -> Result<bool, Refusal>
-    ensures { PartOf percent budget held.old result held.new }
+    ensures { PartHeld percent budget held.old result held.new }
 {
-    let parts = &mut held.parts;
-    let answer = held.heap.collect_some(alloc, parts, percent, budget);
+    let (counters, parts) = (&mut held.counters, &mut held.parts);
+    let answer = held
+        .heap
+        .collect_some_counted(alloc, counters, parts, percent, budget);
     if held.follows {
         held.follow();
     }

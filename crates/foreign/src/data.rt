@@ -9,10 +9,9 @@ ghost use Rattle.foreign.specs.Which.{step_code};
 
 use crate::codes::{DONE, NO_HEAP};
 use crate::handle::Handle;
-use crate::which::step_code;
+use crate::refusals::{get_code, set_code};
 use collecting::Holding;
 use cycle::Mutating;
-use model::Step;
 
 /// Reads a datum of an object. Refused as `Mutating::datum` is.
 #[tactic(auto, using(crate::proofs::Calling::looked))]
@@ -35,7 +34,7 @@ pub extern "C" fn pauseless_get(
             *value = datum;
             DONE
         }
-        Err(refusal) => step_code(&held.heap, Step::Datum { object, index }, refusal),
+        Err(refusal) => get_code(&held.heap, object, index, refusal),
     }
 }
 
@@ -57,15 +56,7 @@ pub extern "C" fn pauseless_set(
     };
     match held.heap.set_datum(thread, object, index, value) {
         Ok(()) => DONE,
-        Err(refusal) => step_code(
-            &held.heap,
-            Step::SetDatum {
-                object,
-                index,
-                value,
-            },
-            refusal,
-        ),
+        Err(refusal) => set_code(&held.heap, object, index, value, refusal),
     }
 }
 
@@ -88,14 +79,7 @@ pub extern "C" fn pauseless_get_many(
     };
     match held.heap.get_many(thread, object, first, values) {
         Ok(()) => DONE,
-        Err(refusal) => step_code(
-            &held.heap,
-            Step::Datum {
-                object,
-                index: first,
-            },
-            refusal,
-        ),
+        Err(refusal) => get_code(&held.heap, object, first, refusal),
     }
 }
 
@@ -116,13 +100,6 @@ pub extern "C" fn pauseless_set_many(
     };
     match held.heap.set_many(thread, object, first, values) {
         Ok(()) => DONE,
-        Err(refusal) => step_code(
-            &held.heap,
-            Step::Datum {
-                object,
-                index: first,
-            },
-            refusal,
-        ),
+        Err(refusal) => get_code(&held.heap, object, first, refusal),
     }
 }

@@ -6,7 +6,7 @@ ghost use Rattle.foreign.specs.Making.{Makes, MadeOf, config_of, layout_of, usua
 use crate::codes::{DONE, HAS_HEAP, NO_MEMORY, fault_code};
 use crate::handle::Handle;
 use crate::held::Held;
-use collecting::{Parts, Target};
+use collecting::{Counters, Parts, Target};
 use heap::{Config, NewFault};
 use layout::{Layout, Layouts};
 use managed::ManagedHeap;
@@ -117,6 +117,7 @@ fn make_of(alloc: Global, config: Config) -> Result<Box<Held>, u32>
                 parts,
                 follows: false,
                 target: Target::new(0, 0),
+                counters: Counters::new(),
             };
             Box::new(alloc, held).ok().ok_or(NO_MEMORY)
         }

@@ -14,10 +14,11 @@ use crate::codes::{DONE, NO_HEAP};
 use crate::handle::Handle;
 use crate::held::Held;
 use crate::policies::{make_tested, make_with_tested, refill_tested};
-use crate::which::{look_code, step_code};
-use collecting::{Holding, Object, Policy};
+use crate::refusals::{give_back_code, new_object_code, take_code};
+use crate::which::look_code;
+use collecting::{Counting, Holding, Object, Policy};
 use cycle::Mutating;
-use model::{Buffer, Refusal, Step};
+use model::{Buffer, Refusal};
 use std::alloc::Global;
 
 /// `pauseless_policy`: when a heap is collected for a buffer, as `Policy` says.
@@ -82,7 +83,7 @@ pub extern "C" fn pauseless_take(heap: &mut Handle, thread: u32, words: u32) -> 
     };
     match held.heap.take(thread, words) {
         Ok(_) => DONE,
-        Err(refusal) => step_code(&held.heap, Step::Take(words), refusal),
+        Err(refusal) => take_code(&held.heap, words, refusal),
     }
 }
 
@@ -97,7 +98,7 @@ pub extern "C" fn pauseless_give_back(heap: &mut Handle, thread: u32) -> u32
     };
     match held.heap.give_back(thread) {
         Ok(()) => DONE,
-        Err(refusal) => step_code(&held.heap, Step::GiveBack, refusal),
+        Err(refusal) => give_back_code(&held.heap, refusal),
     }
 }
 
@@ -117,7 +118,7 @@ pub extern "C" fn pauseless_new_object(
     };
     match held.heap.new_object(thread, target, layout) {
         Ok(_) => DONE,
-        Err(refusal) => step_code(&held.heap, Step::New { target, layout }, refusal),
+        Err(refusal) => new_object_code(&held.heap, target, layout, refusal),
     }
 }
 
@@ -135,11 +136,13 @@ pub(crate) fn make_by(
 {
     let by = policy_of(held, policy);
     if policy.budget == 0 {
-        held.heap.make(alloc, by, thread, target, layout)
-    } else {
-        let (parts, budget) = (&mut held.parts, policy.budget);
+        let counters = &mut held.counters;
         held.heap
-            .make_paced(alloc, parts, by, budget, thread, target, layout)
+            .make_counted(alloc, counters, by, thread, target, layout)
+    } else {
+        let (counters, parts, budget) = (&mut held.counters, &mut held.parts, policy.budget);
+        held.heap
+            .make_paced_counted(alloc, counters, parts, by, budget, thread, target, layout)
     }
 }
 
@@ -153,7 +156,8 @@ pub(crate) fn refill_by(
     ensures { Refilled policy.now.words policy.now.percent thread held.old.heap result held.new.heap }
 {
     let by = policy_of(held, policy);
-    let answer = held.heap.refill(alloc, by, thread);
+    let counters = &mut held.counters;
+    let answer = held.heap.refill_counted(alloc, counters, by, thread);
     if held.follows {
         held.follow();
     }
@@ -177,12 +181,13 @@ pub(crate) fn make_with_by(
 {
     let by = policy_of(held, policy);
     if policy.budget == 0 {
+        let counters = &mut held.counters;
         held.heap
-            .make_with(alloc, by, thread, target, layout, sources, nums)
+            .make_with_counted(alloc, counters, by, thread, target, layout, sources, nums)
     } else {
-        let (parts, budget) = (&mut held.parts, policy.budget);
-        held.heap.make_with_paced(
-            alloc, parts, by, budget, thread, target, layout, sources, nums,
+        let (counters, parts, budget) = (&mut held.counters, &mut held.parts, policy.budget);
+        held.heap.make_with_paced_counted(
+            alloc, counters, parts, by, budget, thread, target, layout, sources, nums,
         )
     }
 }

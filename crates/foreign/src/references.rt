@@ -9,10 +9,13 @@ ghost use Rattle.foreign.specs.Batches.{LoadsEach, code_of_loads, done_of_loads}
 
 use crate::codes::{DONE, NO_HEAP};
 use crate::handle::Handle;
-use crate::which::{load_code, step_code};
+use crate::refusals::{
+    clear_code, copy_code, is_null_code, load_code, load_global_code, same_code, store_code,
+    store_global_code,
+};
+use crate::which::loads_code;
 use cycle::Mutating;
 use managed::{FieldLoad, LoadsFault, ManagedHeap};
-use model::Step;
 use std::alloc::Global;
 
 /// The code of several loads of an object; and how many are done, which is written for C.
@@ -34,7 +37,7 @@ fn give_loads(
         }
         Err(fault) => {
             *done = fault.done as u64;
-            load_code(heap, object, fields.get(fault.done).copied(), fault.refusal)
+            loads_code(heap, object, fields.get(fault.done).copied(), fault.refusal)
         }
     }
 }
@@ -56,15 +59,7 @@ pub extern "C" fn pauseless_load(
     };
     match held.heap.read(thread, target, object, field) {
         Ok(()) => DONE,
-        Err(refusal) => step_code(
-            &held.heap,
-            Step::Load {
-                target,
-                object,
-                field,
-            },
-            refusal,
-        ),
+        Err(refusal) => load_code(&held.heap, target, object, field, refusal),
     }
 }
 
@@ -107,15 +102,7 @@ pub extern "C" fn pauseless_store(
     };
     match held.heap.store(thread, object, field, source) {
         Ok(()) => DONE,
-        Err(refusal) => step_code(
-            &held.heap,
-            Step::Store {
-                object,
-                field,
-                source,
-            },
-            refusal,
-        ),
+        Err(refusal) => store_code(&held.heap, object, field, source, refusal),
     }
 }
 
@@ -135,7 +122,7 @@ pub extern "C" fn pauseless_load_global(
     };
     match held.heap.read_global(thread, target, global) {
         Ok(()) => DONE,
-        Err(refusal) => step_code(&held.heap, Step::LoadGlobal { target, global }, refusal),
+        Err(refusal) => load_global_code(&held.heap, target, global, refusal),
     }
 }
 
@@ -156,7 +143,7 @@ pub extern "C" fn pauseless_store_global(
     };
     match held.heap.store_global(thread, global, source) {
         Ok(()) => DONE,
-        Err(refusal) => step_code(&held.heap, Step::StoreGlobal { global, source }, refusal),
+        Err(refusal) => store_global_code(&held.heap, global, source, refusal),
     }
 }
 
@@ -171,7 +158,7 @@ pub extern "C" fn pauseless_copy(heap: &mut Handle, thread: u32, target: u32, so
     };
     match held.heap.copy_register(thread, target, source) {
         Ok(()) => DONE,
-        Err(refusal) => step_code(&held.heap, Step::CopyReg { target, source }, refusal),
+        Err(refusal) => copy_code(&held.heap, target, source, refusal),
     }
 }
 
@@ -186,7 +173,7 @@ pub extern "C" fn pauseless_clear(heap: &mut Handle, thread: u32, target: u32) -
     };
     match held.heap.clear_register(thread, target) {
         Ok(()) => DONE,
-        Err(refusal) => step_code(&held.heap, Step::ClearReg(target), refusal),
+        Err(refusal) => clear_code(&held.heap, target, refusal),
     }
 }
 
@@ -211,7 +198,7 @@ pub extern "C" fn pauseless_same(
             *is_so = truth;
             DONE
         }
-        Err(refusal) => step_code(&held.heap, Step::Same { left, right }, refusal),
+        Err(refusal) => same_code(&held.heap, left, right, refusal),
     }
 }
 
@@ -235,6 +222,6 @@ pub extern "C" fn pauseless_is_null(
             *is_so = truth;
             DONE
         }
-        Err(refusal) => step_code(&held.heap, Step::IsNull(register), refusal),
+        Err(refusal) => is_null_code(&held.heap, register, refusal),
     }
 }

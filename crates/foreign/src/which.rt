@@ -129,7 +129,7 @@ pub(crate) fn fill_code(
 /// The code of a refusal of one of several loads of an object.
 #[cold]
 #[inline(never)]
-pub(crate) fn load_code(
+pub(crate) fn loads_code(
     heap: &ManagedHeap,
     object: u32,
     load: Option<FieldLoad>,

@@ -9,6 +9,8 @@ mod between;
 #[cfg(test)]
 mod choices;
 #[cfg(test)]
+mod counted;
+#[cfg(test)]
 mod counting;
 #[cfg(test)]
 mod data;
