@@ -142,9 +142,9 @@ typedef struct pauseless_policy {
     uint32_t words;   /* of a fresh buffer: 1 to the words of a page, and at least those of any object that is made */
     uint32_t free;    /* the heap is collected where at most so many frames are free: 0 to the frames */
     uint32_t percent; /* pages of which at most so many words of a hundred are live are emptied: 0 to 100 */
-    uint32_t budget;  /* any number. 0: the heap is collected by one call; else pauseless_make and pauseless_make_with collect it in
-                       * parts, each of which scans at most so many objects: two parts for a fresh buffer, while at most
-                       * free frames are free or such a collection has begun */
+    uint32_t budget;  /* 0: the heap is collected by one call; any other: pauseless_make and pauseless_make_with collect it
+                       * in parts, each of which scans at most so many objects: two parts for a fresh buffer, while at
+                       * most free frames are free or such a collection has begun */
 } pauseless_policy;
 
 /* One of several loads: a register that gets a reference of an object. */
@@ -173,8 +173,8 @@ typedef struct pauseless_counts {
     uint32_t free; /* the frames that no page has */
 } pauseless_counts;
 
-/* What a heap has come to since it was made. Each number stops at the greatest of its type. Whether a call has collected
- * is seen by the sum of by_calls, by_policy, by_room and parts, which has grown then. */
+/* What a heap has come to since it was made. Each number stops at the greatest of its type. Whether a call has
+ * collected is seen by the sum of by_calls, by_policy, by_room and parts, which has grown then. */
 typedef struct pauseless_statistics {
     uint64_t births; /* the objects that were born */
     uint64_t live;   /* those that the last complete collection has found to live */
@@ -222,7 +222,8 @@ pauseless_code pauseless_make(pauseless_heap *heap, const pauseless_policy *poli
 
 /* Makes an object as pauseless_make does, stores in its first references what count registers name, and writes size
  * words to its first data; the other references are null, and the other data 0. If target is one of the registers, it
- * names the new object there. NO_FIELD or NO_DATUM if the layout has fewer references or data; else as pauseless_make. */
+ * names the new object there. NO_FIELD or NO_DATUM if the layout has fewer references or data; else as
+ * pauseless_make. */
 pauseless_code pauseless_make_with(pauseless_heap *heap, const pauseless_policy *policy, uint32_t thread,
                                    uint32_t target, uint32_t layout, const uint32_t *sources, size_t count,
                                    const uint64_t *nums, size_t size);

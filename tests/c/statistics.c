@@ -89,8 +89,8 @@ static void by_policies(void) {
     pauseless_free(&heap);
 }
 
-/* A heap with as many page numbers as frames: those of emptied pages aren't free before the next mark's end, so there is
- * no room for a page though frames are free. */
+/* A heap with as many page numbers as frames: those of emptied pages aren't free before the next mark's end, so there
+ * is no room for a page though frames are free. */
 static void by_room(void) {
     pauseless_sizes few = sizes;
     few.pages = few.frames;

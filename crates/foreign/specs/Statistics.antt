@@ -1,5 +1,5 @@
 -- What a heap and its collections have come to, in numbers.
-use Rattle.std.specs.Prelude.{◌≡◌, ℕ, ◌+◌, min, List, [], ◌∷◌, Option, Some, None}
+use Rattle.std.specs.Prelude.{◌≡◌, ℕ, zero, suc, ◌+◌, min, List, length, Option, Some, None, slice_get}
 use Rattle.model.specs.declared.records.Tally.{Tally}
 use Rattle.model.specs.States.{HeapState, ThreadState}
 use Rattle.model.specs.Tallies.{blank_tally, most_counted}
@@ -23,13 +23,19 @@ sum_of x y = record {
   changed = both x.changed y.changed;
 }
 
--- the counts of these threads besides others
-abbrev pub summed_from : Tally → List ThreadState → Tally
-summed_from y [] = y
-summed_from y (t ∷ ts) = summed_from (sum_of y t.tally) ts
+-- the same with those of a thread that may be missing
+abbrev pub add_to : Tally → Option ThreadState → Tally
+add_to y None = y
+add_to y (Some t) = sum_of y t.tally
 
+-- the counts of the first k threads
+abbrev pub summed_to : List ThreadState → ℕ → Tally
+summed_to ts zero = blank_tally
+summed_to ts (suc k) = add_to (summed_to ts k) (slice_get ts k)
+
+-- the counts of all threads
 abbrev pub summed : List ThreadState → Tally
-summed ts = summed_from blank_tally ts
+summed ts = summed_to ts (length ts)
 
 -- what stands beside the heap
 abbrev pub AreCounters : Counters → StatisticsOfC → Type 0

@@ -26,10 +26,7 @@ pub(crate) const UNSOUND: u32 = 40;
 /// A number names nothing, and it isn't known which.
 pub(crate) const BAD_INDEX: u32 = 4;
 
-/// There is no buffer, or it is too small.
-pub(crate) const NO_ROOM: u32 = 12;
-
-/// An object is larger than the buffers of the policy: of the class of `NO_ROOM`.
+/// An object is larger than the buffers of the policy: of the class of `NoRoom`.
 pub(crate) const OBJECT_TOO_LARGE: u32 = 268;
 
 /// The layouts of a heap are out of their range.
@@ -126,6 +123,7 @@ pub(crate) fn config_code(fault: ConfigFault) -> u32
 
 /// The code of the first field of a configuration that is out of its range: of the layouts, whether one of them is too
 /// large, if there are `count` of them.
+#[tactic(auto, unfolding(crate::specs::Codes::config_code))]
 pub(crate) fn fault_code(count: usize, fault: ConfigFault) -> u32
     ensures code { result ≡ fault_code count fault }
     ensures class { class_of result ≡ config_code fault }

@@ -2,7 +2,7 @@
 
 ghost use Rattle.std.specs.Prelude.{◌≡◌};
 ghost use Rattle.foreign.specs.Calls.{IsTold, OnHeldOr};
-ghost use Rattle.foreign.specs.Policies.{CollectsBy, PartHeld, PartsBy};
+ghost use Rattle.foreign.specs.Policies.{CollectsBy, CollectsHeld, PartHeld, PartsBy};
 
 use crate::codes::{DONE, NO_HEAP, policy_code, refusal_code};
 use crate::handle::Handle;
@@ -30,6 +30,18 @@ fn tell_collected(collected: Collected, done: &mut CollectedOfC)
     done.emptied = collected.emptied;
 }
 
+/// Does a complete collection of a heap.
+fn collect_whole(alloc: Global, held: &mut Held, percent: u32) -> Result<Collected, Refusal>
+    ensures { CollectsHeld percent held.old result held.new }
+{
+    let counters = &mut held.counters;
+    let answer = held.heap.collect_counted(alloc, counters, percent);
+    if held.follows {
+        held.follow();
+    }
+    answer
+}
+
 /// Does a complete collection, if the percentage is in its range.
 fn collect_tested(alloc: Global, held: &mut Held, percent: u32, done: &mut CollectedOfC) -> u32
     ensures { CollectsBy percent done.old done.new held.old result held.new }
@@ -37,12 +49,7 @@ fn collect_tested(alloc: Global, held: &mut Held, percent: u32, done: &mut Colle
     if let Some(fault) = percent_fault(percent) {
         return policy_code(fault);
     }
-    let counters = &mut held.counters;
-    let answer = held.heap.collect_counted(alloc, counters, percent);
-    if held.follows {
-        held.follow();
-    }
-    match answer {
+    match collect_whole(alloc, held, percent) {
         Ok(collected) => {
             tell_collected(collected, done);
             DONE

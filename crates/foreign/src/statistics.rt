@@ -1,7 +1,7 @@
 //! What a heap has come to, in numbers.
 
-ghost use Rattle.std.specs.Prelude.{◌≡◌};
-ghost use Rattle.foreign.specs.Statistics.{AreOf, Told, sum_of, summed};
+ghost use Rattle.std.specs.Prelude.{◌≡◌, slice_get};
+ghost use Rattle.foreign.specs.Statistics.{AreOf, Told, add_to, sum_of, summed};
 
 use crate::codes::{DONE, NO_HEAP};
 use crate::handle::Handle;
@@ -62,14 +62,23 @@ fn sum_of(one: Tally, two: Tally) -> Tally
     }
 }
 
+/// Adds the counts of a thread, if there is one of this number.
+fn add_to(sum: Tally, heap: &Heap, thread: usize) -> Tally
+    ensures { result ≡ add_to sum (slice_get heap.now.threads thread) }
+{
+    match heap.threads().get(thread) {
+        None => sum,
+        Some(found) => sum_of(sum, found.tally()),
+    }
+}
+
 /// The counts of all threads' read barriers, summed.
 fn summed(heap: &Heap) -> Tally
     ensures { result ≡ summed heap.now.threads }
 {
-    let threads = heap.threads();
     let mut sum = Tally::blank();
-    for index in 0..threads.len() {
-        sum = sum_of(sum, threads[index].tally());
+    for index in 0..heap.threads().len() {
+        sum = add_to(sum, heap, index);
     }
     sum
 }

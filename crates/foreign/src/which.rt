@@ -7,7 +7,7 @@ ghost use Rattle.foreign.specs.Codes.{class_of, refusal_code};
 ghost use Rattle.foreign.specs.Which.{fill_code, fill_number, is_larger, is_place, kind_code, lacking, load_code, look_code};
 ghost use Rattle.foreign.specs.Which.{make_code, no_thread, place_code, register_number, step_code, view_code};
 
-use crate::codes::{BAD_INDEX, NO_ROOM, OBJECT_TOO_LARGE, number_code, refusal_code};
+use crate::codes::{BAD_INDEX, OBJECT_TOO_LARGE, number_code, refusal_code};
 use collecting::{Number, wrong_number};
 use heap::Heap;
 use managed::{FieldLoad, ManagedHeap};
@@ -16,6 +16,7 @@ use model::{Refusal, Step};
 /// The code of a refusal of a thread's step, after it: which number of the step names nothing.
 #[cold]
 #[inline(never)]
+#[tactic(auto, unfolding(crate::specs::Codes::refusal_code))]
 pub(crate) fn step_code(heap: &ManagedHeap, step: Step, refusal: Refusal) -> u32
     ensures code { result ≡ step_code step heap.now refusal }
     ensures class { class_of result ≡ refusal_code refusal }
@@ -56,7 +57,7 @@ pub(crate) fn make_code(
             if is_larger(heap.heap(), words, layout) {
                 OBJECT_TOO_LARGE
             } else {
-                NO_ROOM
+                refusal_code(Refusal::NoRoom)
             }
         }
         other => step_code(heap, Step::New { target, layout }, other),
