@@ -38,7 +38,8 @@ counted_once cause percent h g r old new ends counts = (r, g, ends, counts)
 -- a Take is refused for a lack of room only as the heap stands
 pub lacks_here : (t n percent : ℕ) (h g : HeapState) (q : Result Buffer Refusal) (e : Refusal) → q ≡ Err e
     → lacks_room e ≡ true → RefillsBy IsAny t n percent h q g → LacksRoom t n g
-lacks_here t n percent h g q e is room k = by_case (subst (λ (r : Result Buffer Refusal). RefillsBy IsAny t n percent h r g) is k)
+lacks_here t n percent h g q e is room k =
+    by_case (subst (λ (r : Result Buffer Refusal). RefillsBy IsAny t n percent h r g) is k)
   where
     by_case : RefillsBy IsAny t n percent h (Err e) g → LacksRoom t n g
     by_case (_, inl refused) = (e, refused.0, room)

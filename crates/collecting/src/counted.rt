@@ -27,8 +27,8 @@ use managed::ManagedHeap;
 use model::{Buffer, Refusal};
 use std::alloc::Global;
 
-/// The calls of `Holding` that may collect a heap, each of which counts in `Counters` what it has done. Each does to the
-/// heap what the call of `Holding` does that it is named after, with the same results and errors.
+/// The calls of `Holding` that may collect a heap, each of which counts in `Counters` what it has done. Each does to
+/// the heap what the call of `Holding` does that it is named after, with the same results and errors.
 pub trait Counting: Holding {
     /// As `Holding::collect`, which is counted as asked for by a call.
     fn collect_counted(
@@ -48,7 +48,7 @@ pub trait Counting: Holding {
         budget: u32,
     ) -> Result<bool, Refusal>;
 
-    /// As `Holding::refill`. A collection that it begins is counted, and by whether frames were low or there was no room.
+    /// As `Holding::refill`. A collection that it begins is counted, by whether frames were low or there was no room.
     fn refill_counted(
         &mut self,
         alloc: Global,
@@ -315,8 +315,8 @@ impl Counting for ManagedHeap {
     ) -> Result<u64, Refusal>
         ensures stands { MakingStands thread target layout self.old result self.new }
         ensures ends { EndsMaking thread policy.words policy.percent target layout self.old result self.new }
-        ensures paced { MakesPaced thread policy.words policy.percent policy.free budget target layout parts.old self.old
-            result parts.new self.new }
+        ensures paced { MakesPaced thread policy.words policy.percent policy.free budget target layout parts.old
+            self.old result parts.new self.new }
         ensures counts { CountsMakePaced thread policy.words policy.free policy.percent budget target layout parts.old
             self.old counters.old parts.new counters.new }
     {

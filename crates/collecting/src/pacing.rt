@@ -118,8 +118,8 @@ fn pace_and_make(
     target: u32,
     layout: u32,
 ) -> Result<u64, Refusal>
-    ensures { PacesAndMakes (is_due policy.free parts.old heap.old) thread policy.words policy.percent policy.free budget
-        target layout parts.old heap.old result parts.new heap.new }
+    ensures { PacesAndMakes (is_due policy.free parts.old heap.old) thread policy.words policy.percent policy.free
+        budget target layout parts.old heap.old result parts.new heap.new }
 {
     let mut counters = Counters::new();
     pace_and_make_counted(

@@ -2,7 +2,8 @@
 
 ghost use Rattle.std.specs.Prelude.{◌≡◌};
 ghost use Rattle.collecting.specs.Collections.{lacks_room};
-ghost use Rattle.collecting.specs.Counting.{CountsMade, CountsMake, CountsPolicy, CountsRefill, CountsRoom, HasCounted, TakesOnly};
+ghost use Rattle.collecting.specs.Counting.{CountsMade, CountsMake, CountsPolicy, CountsRefill, CountsRoom, HasCounted};
+ghost use Rattle.collecting.specs.Counting.{TakesOnly};
 ghost use Rattle.collecting.specs.declared.counting.Cause.TheVariants as causes;
 ghost use Rattle.collecting.specs.Rooms.{EndsMaking, HasMarkedSince, IsAny, Refills, RefillsBy, RefillsWhole};
 

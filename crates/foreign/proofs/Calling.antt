@@ -14,7 +14,8 @@ use Rattle.foreign.specs.declared.held.Held.{Held}
 use Rattle.foreign.specs.Batches.{LoadsEach, code_of_loads, done_of_loads}
 use Rattle.foreign.specs.Codes.{code_by}
 use Rattle.foreign.specs.Which.{step_code}
-use Rattle.foreign.specs.Calls.{Calls, CallsLoad, CallsStep, CodedBy, Gives, GivesStep, Loaded, OnHeld, OnHeldOr, Stepped}
+use Rattle.foreign.specs.Calls.{Calls, CallsLoad, CallsStep, CodedBy, Gives, GivesStep, Loaded, OnHeld}
+use Rattle.foreign.specs.Calls.{OnHeldOr, Stepped}
 use Rattle.foreign.specs.Lending.{replaced}
 use Rattle.foreign.specs.Looking.{Keeps}
 

@@ -23,5 +23,5 @@ done_of_loads ls (Err f) = f.done
 abbrev pub LoadsEach : ℕ → ℕ → List FieldLoad → Option Held → ℕ → ℕ → Option Held → Type 0
 LoadsEach t object ls None code done new = (code ≡ NO_HEAP) × (done ≡ 0) × (new ≡ None)
 LoadsEach t object ls (Some h) code done new =
-    (r : Result Unit LoadsFault) × (g : Held) × EndsLoads t object 0 ls h.heap r g.heap × (code ≡ code_of_loads object ls g.heap r)
-    × (done ≡ done_of_loads ls r) × (new ≡ Some g)
+    (r : Result Unit LoadsFault) × (g : Held) × EndsLoads t object 0 ls h.heap r g.heap
+    × (code ≡ code_of_loads object ls g.heap r) × (done ≡ done_of_loads ls r) × (new ≡ Some g)

@@ -80,4 +80,5 @@ CollectsBy percent old new h code g =
 -- the same of a part of one
 abbrev pub PartsBy : ℕ → ℕ → Bool → Bool → Held → ℕ → Held → Type 0
 PartsBy percent budget old new h code g =
-    ByPercent (percent_fault percent) (new ≡ old) (GivenBy (PartHeld percent budget) (λ x. new ≡ x) (new ≡ old)) h code g
+    ByPercent (percent_fault percent) (new ≡ old)
+    (GivenBy (PartHeld percent budget) (λ x. new ≡ x) (new ≡ old)) h code g

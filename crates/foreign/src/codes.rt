@@ -3,7 +3,8 @@
 
 ghost use Rattle.std.specs.Prelude.{◌≡◌, ◌≢◌};
 ghost use Rattle.collecting.specs.declared.numbers.Number.TheVariants as numbers;
-ghost use Rattle.foreign.specs.Codes.{BAD_INDEX, class_of, config_code, fault_code, number_code, policy_code, refusal_code};
+ghost use Rattle.foreign.specs.Codes.{BAD_INDEX, class_of, config_code, fault_code, number_code, policy_code};
+ghost use Rattle.foreign.specs.Codes.{refusal_code};
 
 use collecting::{Number, PolicyFault};
 use model::{ConfigFault, MOST_LAYOUTS, Refusal};

@@ -72,7 +72,8 @@ pub extern "C" fn pauseless_get_many(
     values: &mut [u64],
 ) -> u32
     ensures len { length values.new ≡ length values.old }
-    ensures call { Calls (step_code (steps.Datum object first)) (ReadMany thread object first values.new) heap.old.slot.held result heap.new.slot.held }
+    ensures call { Calls (step_code (steps.Datum object first)) (ReadMany thread object first values.new)
+        heap.old.slot.held result heap.new.slot.held }
 {
     let Some(held) = heap.lend() else {
         return NO_HEAP;
@@ -93,7 +94,8 @@ pub extern "C" fn pauseless_set_many(
     first: u32,
     values: &[u64],
 ) -> u32
-    ensures { Calls (step_code (steps.Datum object first)) (WroteMany thread object first values.now) heap.old.slot.held result heap.new.slot.held }
+    ensures { Calls (step_code (steps.Datum object first)) (WroteMany thread object first values.now)
+        heap.old.slot.held result heap.new.slot.held }
 {
     let Some(held) = heap.lend() else {
         return NO_HEAP;

@@ -1,5 +1,5 @@
-//! The codes of steps that are refused. Each is a function of its own, called last: an export has no room for a step then,
-//! which it would set to zero before all else.
+//! The codes of steps that are refused. Each is a function of its own, called last: an export has no room for a step
+//! then, which it would set to zero before all else.
 
 ghost use Rattle.std.specs.Prelude.{◌≡◌};
 ghost use Rattle.model.specs.declared.steps.Step.TheVariants as steps;

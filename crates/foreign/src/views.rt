@@ -169,8 +169,8 @@ fn look_at(heap: &ManagedHeap, place: u64) -> Result<Object, Refusal>
 #[tactic(auto, using(crate::proofs::Calling::given))]
 #[unsafe(no_mangle)]
 pub extern "C" fn pauseless_view_look(heap: &mut Handle, place: u64, object: &mut ObjectOfC) -> u32
-    ensures { Gives plain_code (ViewsObject place) (IsSeen object.new) (object.new ≡ object.old) heap.old.slot.held result
-        heap.new.slot.held }
+    ensures { Gives plain_code (ViewsObject place) (IsSeen object.new) (object.new ≡ object.old) heap.old.slot.held
+        result heap.new.slot.held }
 {
     let Some(held) = heap.lend() else {
         return NO_HEAP;

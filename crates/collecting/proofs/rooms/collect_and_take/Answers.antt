@@ -8,7 +8,8 @@ returns-in-Ok-clause-refills c = collected_then c.args.thread c.args.policy.word
     c.take_or_mark.result c.in-Ok.is c.collect_counted.ensures.ends c.take_or_mark.ensures
 
 pub returns-in-Err-clause-refills : goal.returns-in-Err-clause-refills
-returns-in-Err-clause-refills c = collected_stops c.args.thread c.args.policy.words c.args.policy.percent c.args.heap.now
+returns-in-Err-clause-refills c = collected_stops c.args.thread c.args.policy.words c.args.policy.percent
+    c.args.heap.now
     c.collect_counted.new.heap c.collect_counted.result c.in-Err.refusal c.in-Err.is
     c.collect_counted.ensures.ends
 

@@ -11,11 +11,13 @@ returns-in-Ok-clause-refills c = at_once (HasTriedAll c.args.thread c.args.polic
 
 pub returns-then-lacks_room-clause-refills : goal.returns-then-lacks_room-clause-refills
 returns-then-lacks_room-clause-refills c = refused_then c.args.thread c.args.policy.words c.args.policy.percent
-    c.args.heap.now c.take.new.heap c.collect_and_take.new.heap c.take.result c.collect_and_take.result c.take.ensures.takes
+    c.args.heap.now c.take.new.heap c.collect_and_take.new.heap c.take.result c.collect_and_take.result
+    c.take.ensures.takes
     c.collect_and_take.ensures.refills
 
 pub returns-else-lacks_room-clause-refills : goal.returns-else-lacks_room-clause-refills
-returns-else-lacks_room-clause-refills c = not_room (HasTriedAll c.args.thread c.args.policy.percent) c.args.thread c.args.policy.words
+returns-else-lacks_room-clause-refills c = not_room (HasTriedAll c.args.thread c.args.policy.percent) c.args.thread
+    c.args.policy.words
     c.args.policy.percent c.args.heap.now c.take.new.heap c.take.result c.in-Err.refusal c.in-Err.is
     (sym c.lacks_room.ensures ∙ c.if-lacks_room.false) c.take.ensures.takes
 

@@ -9,7 +9,8 @@ returns-clause-goes c = part_goes c.args.self.now c.part_counted-result.new.heap
 
 pub returns-clause-stands : goal.returns-clause-stands
 returns-clause-stands c = unseen c.args.self.now c.part_counted-result.new.heap
-    (part_goes c.args.self.now c.part_counted-result.new.heap c.part_counted-result.result c.part_counted-result.ensures.ends)
+    (part_goes c.args.self.now c.part_counted-result.new.heap c.part_counted-result.result
+    c.part_counted-result.ensures.ends)
 
 pub returns-clause-room : goal.returns-clause-room
 returns-clause-room c = part_not c.args.self.now c.part_counted-result.result c.part_counted-result.new.heap
