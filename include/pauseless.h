@@ -17,7 +17,7 @@
 #define PAUSELESS_H
 
 /* The version of the library, by https://semver.org. */
-#define PAUSELESS_VERSION "2.1.0"
+#define PAUSELESS_VERSION "3.0.0"
 
 #include <stdbool.h>
 #include <stddef.h>
@@ -36,9 +36,15 @@ typedef struct pauseless_heap {
 /* A handle without a heap: pauseless_heap heap = PAUSELESS_NONE; */
 #define PAUSELESS_NONE {0, NULL}
 
-/* The codes, each with its text; the texts are those of pauseless_text. A program that uses a heap by these calls alone
- * should expect NO_HEAP, HAS_HEAP, NO_ACTOR, BAD_INDEX, NULL, NO_ROOM, HAS_BUFFER, NO_FRAMES, NO_PAGES, BIRTHS and
- * MEMORY, and RANGE_OF_.. when it makes a heap. Tests met no other code (docs/C.md). */
+/* The codes, each with its text; the texts are those of pauseless_text. The codes from 256 on say more than the code of
+ * their class, which pauseless_class returns: NO_REGISTER, NO_GLOBAL, NO_LAYOUT, NO_FIELD, NO_DATUM and BAD_WORDS are
+ * of the class BAD_INDEX, OBJECT_TOO_LARGE of NO_ROOM, LAYOUT_TOO_LARGE of RANGE_OF_LAYOUTS, and POLICY_WORDS,
+ * POLICY_FREE and POLICY_PERCENT of BAD_POLICY. A program that only asks for a class still works if a later version
+ * says more.
+ *
+ * A program that uses a heap by these calls alone should expect NO_HEAP, HAS_HEAP, NO_ACTOR, BAD_INDEX and its class,
+ * NULL, NO_ROOM and its class, HAS_BUFFER, NO_FRAMES, NO_PAGES, BIRTHS, MEMORY and the class BAD_POLICY; and
+ * RANGE_OF_.. and LAYOUT_TOO_LARGE when it makes a heap. Tests met no other code (docs/C.md). */
 #define PAUSELESS_CODES(CODE) \
     CODE(DONE, 0, "done") \
     CODE(NO_HEAP, 1, "the handle has no heap") \
@@ -80,7 +86,19 @@ typedef struct pauseless_heap {
     CODE(RANGE_OF_LAYOUTS, 37, "layouts out of range") \
     CODE(RANGE_OF_BIRTHS, 38, "births out of range") \
     CODE(RANGE_OF_HISTORY, 39, "history out of range") \
-    CODE(UNSOUND, 40, "the heap is not sound")
+    CODE(UNSOUND, 40, "the heap is not sound") \
+    CODE(BAD_POLICY, 41, "a policy out of range") \
+    CODE(NO_REGISTER, 260, "there is no such register") \
+    CODE(NO_GLOBAL, 516, "there is no such global") \
+    CODE(NO_LAYOUT, 772, "there is no such layout") \
+    CODE(NO_FIELD, 1028, "the object has no such reference") \
+    CODE(NO_DATUM, 1284, "the object has no such data word") \
+    CODE(BAD_WORDS, 1540, "no page has a buffer of so many words") \
+    CODE(OBJECT_TOO_LARGE, 268, "the object is larger than the policy's buffers") \
+    CODE(LAYOUT_TOO_LARGE, 293, "an object of a layout is larger than a page") \
+    CODE(POLICY_WORDS, 297, "words of a policy out of range") \
+    CODE(POLICY_FREE, 553, "free frames of a policy out of range") \
+    CODE(POLICY_PERCENT, 809, "percent out of range")
 
 #define PAUSELESS_CODE(name, number, text) PAUSELESS_##name = number,
 typedef enum pauseless_code { PAUSELESS_CODES(PAUSELESS_CODE) } pauseless_code;
@@ -96,6 +114,9 @@ static inline const char *pauseless_text(uint32_t code) {
     default: return "no code of pauseless";
     }
 }
+
+/* The class of a code: for a code from 256 on the one that it says more than, else the code itself. */
+static inline pauseless_code pauseless_class(uint32_t code) { return (pauseless_code)(code & 255); }
 
 /* The sizes and limits of a heap. */
 typedef struct pauseless_sizes {
@@ -115,14 +136,15 @@ typedef struct pauseless_layout {
     uint16_t refs, nums;
 } pauseless_layout;
 
-/* When a heap is collected for a fresh buffer. */
+/* When a heap is collected for a fresh buffer. A call with a policy returns POLICY_WORDS, POLICY_FREE or POLICY_PERCENT
+ * for the first field that is out of its range, and does nothing. */
 typedef struct pauseless_policy {
     uint32_t words;   /* of a fresh buffer: 1 to the words of a page, and at least those of any object that is made */
-    uint32_t free;    /* the heap is collected where at most so many frames are free */
-    uint32_t percent; /* pages of which at most so many words of a hundred are live are emptied */
-    uint32_t budget;  /* 0: the heap is collected by one call; else pauseless_make and pauseless_make_with collect it in
-                       * parts, each of which scans at most so many objects: two parts for a fresh buffer, while at most
-                       * free frames are free or such a collection has begun */
+    uint32_t free;    /* the heap is collected where at most so many frames are free: 0 to the frames */
+    uint32_t percent; /* pages of which at most so many words of a hundred are live are emptied: 0 to 100 */
+    uint32_t budget;  /* 0: the heap is collected by one call; any other: pauseless_make and pauseless_make_with collect it
+                       * in parts, each of which scans at most so many objects: two parts for a fresh buffer, while at
+                       * most free frames are free or such a collection has begun */
 } pauseless_policy;
 
 /* One of several loads: a register that gets a reference of an object. */
@@ -151,6 +173,28 @@ typedef struct pauseless_counts {
     uint32_t free; /* the frames that no page has */
 } pauseless_counts;
 
+/* What a heap has come to since it was made. Each number stops at the greatest of its type. Whether a call has
+ * collected is seen by the sum of by_calls, by_policy, by_room and parts, which has grown then. */
+typedef struct pauseless_statistics {
+    uint64_t births; /* the objects that were born */
+    uint64_t live;   /* those that the last complete collection has found to live */
+    uint64_t by_calls;  /* complete collections that have begun: asked for by pauseless_collect; */
+    uint64_t by_policy; /* for a fresh buffer, as at most policy.free frames were free; */
+    uint64_t by_room;   /* for a fresh buffer, as there was no room for one */
+    uint64_t ended;     /* how many of all these have ended; MEMORY was refused to the others, or a load was open */
+    uint64_t by_parts;  /* collections in parts that have begun */
+    uint64_t parts;     /* the parts that were done, by pauseless_collect_some or for a fresh buffer */
+    uint64_t ended_in_parts; /* collections in parts that have ended */
+    uint64_t emptied;        /* the pages that collections have emptied */
+    uint64_t loads;  /* loads of references that have begun, by all threads; */
+    uint64_t moved;  /* of these, how many got an object's new place; */
+    uint64_t marked; /* how many marked their object; */
+    uint64_t healed; /* and how many wrote that back to where they had loaded; */
+    uint64_t changed; /* or found another reference there */
+    uint32_t used;      /* the frames in use */
+    uint32_t most_used; /* the most that were in use after a call that may collect */
+} pauseless_statistics;
+
 /* Making a heap, and letting it go */
 
 /* Sizes that serve most heaps: twice as many page numbers as frames, one thread of 16 registers, one worker, 64
@@ -159,7 +203,7 @@ void pauseless_usual(uint32_t words, uint32_t frames, pauseless_sizes *sizes);
 
 /* Makes a heap with layouts numbered from 0: 1 to 256 of them. Its registers, globals and a record for each page number
  * are asked for here, by malloc; the words of a page, and some bits for each of them, when the page is opened.
- * RANGE_OF_.. for the first size that is out of its range, HAS_HEAP, MEMORY. */
+ * RANGE_OF_.. for the first size that is out of its range, LAYOUT_TOO_LARGE for a layout, HAS_HEAP, MEMORY. */
 pauseless_code pauseless_new(pauseless_heap *heap, const pauseless_sizes *sizes, const pauseless_layout *layouts,
                              size_t count);
 
@@ -167,18 +211,19 @@ pauseless_code pauseless_new(pauseless_heap *heap, const pauseless_sizes *sizes,
 void pauseless_free(pauseless_heap *heap);
 
 /* Objects. Each of these, and each call below, answers NO_HEAP for a handle without a heap, NO_ACTOR for a thread that
- * isn't there, and BAD_INDEX for any other number that names nothing. */
+ * isn't there, and for any other number that names nothing NO_REGISTER, NO_GLOBAL, NO_LAYOUT, NO_FIELD (a reference's
+ * number) or NO_DATUM. If several numbers name nothing, a register comes first. */
 
 /* Makes an object in a register, with null references and data of 0. Where the thread's buffer has no room for it, it
  * gets a fresh one first, for which the heap is collected by the policy. NO_FRAMES or NO_PAGES: the heap is full;
- * NO_ROOM: the object is larger than the policy's buffers; BIRTHS; MEMORY, also if memory for a fresh page was refused.
- */
+ * OBJECT_TOO_LARGE; BIRTHS; MEMORY, also if memory for a fresh page was refused; POLICY_... */
 pauseless_code pauseless_make(pauseless_heap *heap, const pauseless_policy *policy, uint32_t thread, uint32_t target,
                               uint32_t layout);
 
 /* Makes an object as pauseless_make does, stores in its first references what count registers name, and writes size
  * words to its first data; the other references are null, and the other data 0. If target is one of the registers, it
- * names the new object there. BAD_INDEX also if the layout has fewer references or data; else as pauseless_make. */
+ * names the new object there. NO_FIELD or NO_DATUM if the layout has fewer references or data; else as
+ * pauseless_make. */
 pauseless_code pauseless_make_with(pauseless_heap *heap, const pauseless_policy *policy, uint32_t thread,
                                    uint32_t target, uint32_t layout, const uint32_t *sources, size_t count,
                                    const uint64_t *nums, size_t size);
@@ -186,14 +231,14 @@ pauseless_code pauseless_make_with(pauseless_heap *heap, const pauseless_policy 
 /* Makes an object in the buffer that the thread has. NO_ROOM: there is none, or it is too small; BIRTHS. */
 pauseless_code pauseless_new_object(pauseless_heap *heap, uint32_t thread, uint32_t target, uint32_t layout);
 
-/* Takes a buffer of words for a thread, without a collection. BAD_INDEX also for words that no page has; HAS_BUFFER;
+/* Takes a buffer of words for a thread, without a collection. BAD_WORDS for words that no page has; HAS_BUFFER;
  * NO_FRAMES, NO_PAGES; MEMORY if memory for a fresh page was refused. */
 pauseless_code pauseless_take(pauseless_heap *heap, uint32_t thread, uint32_t words);
 
 /* Gives a thread's buffer back, whose rest is lost until its page is emptied. NO_ROOM where there is none. */
 pauseless_code pauseless_give_back(pauseless_heap *heap, uint32_t thread);
 
-/* A fresh buffer for a thread, as pauseless_make gets it. NO_FRAMES, NO_PAGES, MEMORY. */
+/* A fresh buffer for a thread, as pauseless_make gets it. NO_FRAMES, NO_PAGES, MEMORY, POLICY_... */
 pauseless_code pauseless_refill(pauseless_heap *heap, const pauseless_policy *policy, uint32_t thread);
 
 /* Tells what object a register names. NULL. */
@@ -231,7 +276,7 @@ pauseless_code pauseless_get(pauseless_heap *heap, uint32_t thread, uint32_t obj
 pauseless_code pauseless_set(pauseless_heap *heap, uint32_t thread, uint32_t object, uint32_t index, uint64_t value);
 
 /* Several data of an object, from number first on: as a call of pauseless_get or pauseless_set for each, with one look
- * at the object. BAD_INDEX if the object has fewer: pauseless_set_many has written nothing then, and after
+ * at the object. NO_DATUM if the object has fewer: pauseless_set_many has written nothing then, and after
  * pauseless_get_many nothing is said of values. */
 pauseless_code pauseless_get_many(pauseless_heap *heap, uint32_t thread, uint32_t object, uint32_t first,
                                   uint64_t *values, size_t size);
@@ -240,16 +285,17 @@ pauseless_code pauseless_set_many(pauseless_heap *heap, uint32_t thread, uint32_
 
 /* Collections. pauseless_make and pauseless_refill collect by themselves. */
 
-/* A whole collection, which empties pages of which at most so many words of a hundred are live. MEMORY. */
+/* A whole collection, which empties pages of which at most so many words of a hundred are live: 0 to 100. MEMORY,
+ * POLICY_PERCENT. */
 pauseless_code pauseless_collect(pauseless_heap *heap, uint32_t percent, pauseless_collected *done);
 
 /* The next part of a collection, for a caller that can't stop for a whole one; budget is how many objects it may scan.
- * *has_ended where it was the last one, and the next part begins another. MEMORY. */
+ * *has_ended where it was the last one, and the next part begins another. MEMORY, POLICY_PERCENT. */
 pauseless_code pauseless_collect_some(pauseless_heap *heap, uint32_t percent, uint32_t budget, bool *has_ended);
 
 /* Reading the whole heap without steps, in any phase of a collection. An object is read by its place, which is valid
  * until another call than these is made; 0 is the place of null. These calls write nothing to the heap. NULL where the
- * place of an object is 0. */
+ * place of an object is 0, and BAD_INDEX for a number that no object's place is. */
 
 /* Tells the place of what a register or a global names, or of what an object's reference leads to. */
 pauseless_code pauseless_view_register(pauseless_heap *heap, uint32_t thread, uint32_t reg, uint64_t *place);
@@ -263,6 +309,9 @@ pauseless_code pauseless_view_look(pauseless_heap *heap, uint64_t place, pausele
 /* Looking at the heap */
 
 pauseless_code pauseless_count(pauseless_heap *heap, pauseless_counts *counts);
+
+/* Tells what the heap and its collections have come to. Takes time in proportion to the threads. */
+pauseless_code pauseless_get_statistics(pauseless_heap *heap, pauseless_statistics *statistics);
 
 /* Memory of frames that became free is kept for the next pages. Tells of how many frames that is: at most as many as
  * are free. */

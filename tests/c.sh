@@ -1,10 +1,11 @@
 #!/bin/sh
 # Tests the library for C: that the header's codes, functions and structs are those of the code; that the programs of
 # examples/c print what their files NAME.expected have; that each function does what it should with its arguments, and
-# writes nothing if it fails (tests/c/calls.c); that memory of free frames is given back (tests/c/kept.c), so that the
-# memory of a process follows what lives in its heap (tests/c/growth.c); that random calls answer what a plain heap would
-# (tests/c/random.c); and that all memory is given back, that each request for memory may be refused, and that a
-# verification looks at the heap (tests/c/memory.c). With valgrind, that no program leaks memory or reads what it hasn't
+# writes nothing if it fails (tests/c/calls.c); that a code says which number names nothing (tests/c/which.c); that
+# statistics count what was done (tests/c/statistics.c); that memory of free frames is given back (tests/c/kept.c), so
+# that the memory of a process follows what lives in its heap (tests/c/growth.c); that random calls answer what a plain
+# heap would (tests/c/random.c); and that all memory is given back, that each request for memory may be refused, and that
+# a verification looks at the heap (tests/c/memory.c). With valgrind, that no program leaks memory or reads what it hasn't
 # written. The library is ./libpauseless.a, or the one that the first argument names.
 
 cd "$(dirname "$0")/.." || exit 1
@@ -40,10 +41,11 @@ nm -g "$library" 2> "$kept/errors" | sed -nE 's/^[0-9a-f]+ T (pauseless_[a-z_]+)
 told 'the library has the functions of the header' $?
 
 while read -r name; do
-    grep -q "[ (]$name(" tests/c/calls.c tests/c/kept.c tests/c/views.c || echo "no test has $name" >> "$kept/missing"
+    cat tests/c/calls.c tests/c/kept.c tests/c/views.c tests/c/statistics.c | grep -q "[ (]$name(" \
+        || echo "no test has $name" >> "$kept/missing"
 done < "$kept/declared"
 [ ! -e "$kept/missing" ]
-told 'calls.c, kept.c and views.c have each function of the header' $?
+told 'calls.c, kept.c, views.c and statistics.c have each function of the header' $?
 
 # build SOURCE FLAGS..: a program of the same name in $kept.
 build() {
@@ -90,11 +92,13 @@ if $CC -fsanitize=thread "$kept/races.c" -o "$kept/races" 2> "$kept/errors" && "
 fi
 
 build tests/c/calls.c
+build tests/c/which.c
+build tests/c/statistics.c
 build tests/c/views.c
 build tests/c/kept.c
 build tests/c/random.c
 build tests/c/memory.c -Wl,--wrap=malloc -Wl,--wrap=realloc -Wl,--wrap=free
-for name in calls views kept random memory; do
+for name in calls which statistics views kept random memory; do
     "$kept/$name"
     told "$name finds no difference" $?
     leaves "$name"

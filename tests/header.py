@@ -24,7 +24,8 @@ SIZES = {"u8": "size", "u64": "size"}
 TYPES = {"u16": "uint16_t", "u32": "uint32_t", "u64": "uint64_t", "bool": "bool", "u8": "char",
          "Handle": "pauseless_heap", "SizesOfC": "pauseless_sizes", "LayoutOfC": "pauseless_layout",
          "PolicyOfC": "pauseless_policy", "ObjectOfC": "pauseless_object", "CollectedOfC": "pauseless_collected",
-         "CountsOfC": "pauseless_counts", "FieldLoad": "pauseless_field_load"}
+         "CountsOfC": "pauseless_counts",
+         "StatisticsOfC": "pauseless_statistics", "FieldLoad": "pauseless_field_load"}
 NAMES = {"register": "reg"}
 RESULTS = {"u32": "pauseless_code", None: "void"}
 

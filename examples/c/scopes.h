@@ -25,7 +25,7 @@
 
 typedef uint32_t handle;
 
-/* No register has this number, so calls of pauseless.h with it return PAUSELESS_BAD_INDEX. */
+/* No register has this number, so calls of pauseless.h with it return PAUSELESS_NO_REGISTER. */
 #define NO_HANDLE UINT32_MAX
 
 /* The handles of a thread. */

@@ -65,7 +65,7 @@ static void buffers(void) {
     SAME(pauseless_new(&heap, &sizes, layouts, 3), PAUSELESS_HAS_HEAP);
     counts_are(0, 8);
     SAME(pauseless_new_object(&heap, 1, 4, 2), PAUSELESS_NO_ROOM);
-    SAME(pauseless_take(&heap, 1, 65), PAUSELESS_BAD_INDEX);
+    SAME(pauseless_take(&heap, 1, 65), PAUSELESS_BAD_WORDS);
     DONE(pauseless_take(&heap, 1, 20));
     SAME(pauseless_take(&heap, 1, 20), PAUSELESS_HAS_BUFFER);
     for (int i = 0; i < 4; i++) DONE(pauseless_new_object(&heap, 1, 4, 2));
@@ -147,7 +147,7 @@ static void references(void) {
     SAME(is_null(2, 4), true);
     DONE(pauseless_load(&heap, 2, 4, 3, 2));
     SAME(is_null(2, 4), true);
-    SAME(pauseless_load(&heap, 2, 4, 3, 3), PAUSELESS_BAD_INDEX);
+    SAME(pauseless_load(&heap, 2, 4, 3, 3), PAUSELESS_NO_FIELD);
     SAME(pauseless_load(&heap, 2, 4, 1, 0), PAUSELESS_NULL);
     pauseless_free(&heap);
 }
@@ -164,7 +164,7 @@ static void several_loads(void) {
     DONE(pauseless_store(&heap, 2, 3, 1, 0));
     DONE(pauseless_store(&heap, 2, 3, 0, 3));
     DONE(pauseless_copy(&heap, 2, 1, 3));
-    SAME(pauseless_loads(&heap, 2, 3, wrong, 3, &done), PAUSELESS_BAD_INDEX);
+    SAME(pauseless_loads(&heap, 2, 3, wrong, 3, &done), PAUSELESS_NO_FIELD);
     SAME(done, 1);
     SAME(is_same(2, 1, 0), true);
     SAME(is_null(2, 4), true);
@@ -189,10 +189,10 @@ static void several_data(void) {
     DONE(pauseless_set_many(&heap, 2, 4, 1, numbers, 3));
     DONE(pauseless_get_many(&heap, 2, 4, 2, values, 2));
     SAME(values[0] == 12 && values[1] == 13 && values[2] == 3, true);
-    SAME(pauseless_set_many(&heap, 2, 4, 2, numbers, 3), PAUSELESS_BAD_INDEX);
+    SAME(pauseless_set_many(&heap, 2, 4, 2, numbers, 3), PAUSELESS_NO_DATUM);
     DONE(pauseless_get_many(&heap, 2, 4, 0, values, 3));
     SAME(values[0] == 0 && values[1] == 11 && values[2] == 12, true);
-    SAME(pauseless_get_many(&heap, 2, 4, 5, values, 1), PAUSELESS_BAD_INDEX);
+    SAME(pauseless_get_many(&heap, 2, 4, 5, values, 1), PAUSELESS_NO_DATUM);
     SAME(pauseless_get_many(&heap, 2, 1, 0, values, 1), PAUSELESS_NULL);
     DONE(pauseless_get_many(&heap, 2, 1, 9, values, 0));
     DONE(pauseless_set_many(&heap, 2, 1, 9, numbers, 0));
@@ -222,7 +222,7 @@ static void globals(void) {
     SAME(is_null(2, 1), true);
     DONE(pauseless_load_global(&heap, 1, 4, 3));
     object_is(1, 4, (pauseless_object){.birth = 1, .layout = 0, .refs = 1, .nums = 1});
-    SAME(pauseless_load_global(&heap, 2, 1, 4), PAUSELESS_BAD_INDEX);
+    SAME(pauseless_load_global(&heap, 2, 1, 4), PAUSELESS_NO_GLOBAL);
     pauseless_free(&heap);
 }
 
@@ -235,7 +235,7 @@ static void registers(void) {
     SAME(is_null(2, 1), true);
     SAME(is_null(2, 3), false);
     SAME(pauseless_clear(&heap, 3, 1), PAUSELESS_NO_ACTOR);
-    SAME(pauseless_clear(&heap, 2, 5), PAUSELESS_BAD_INDEX);
+    SAME(pauseless_clear(&heap, 2, 5), PAUSELESS_NO_REGISTER);
     pauseless_free(&heap);
 }
 
@@ -271,7 +271,7 @@ static void data(void) {
     SAME(datum(2, 3, 1), large);
     SAME(datum(2, 3, 0), 0);
     SAME(datum(2, 0, 0), 0);
-    SAME(pauseless_set(&heap, 2, 3, 2, 1), PAUSELESS_BAD_INDEX);
+    SAME(pauseless_set(&heap, 2, 3, 2, 1), PAUSELESS_NO_DATUM);
     pauseless_free(&heap);
 }
 
@@ -305,11 +305,11 @@ static void not_filled(void) {
     const uint32_t sources[] = {0, 0, 5, 0};
     const uint64_t numbers[] = {1, 2, 3};
     makes_two();
-    SAME(pauseless_make_with(&heap, &policy, 2, 4, 1, sources, 4, numbers, 0), PAUSELESS_BAD_INDEX);
-    SAME(pauseless_make_with(&heap, &policy, 2, 4, 1, sources, 3, numbers, 0), PAUSELESS_BAD_INDEX);
-    SAME(pauseless_make_with(&heap, &policy, 2, 4, 1, sources, 2, numbers, 3), PAUSELESS_BAD_INDEX);
-    SAME(pauseless_make_with(&heap, &policy, 2, 4, 3, sources, 0, numbers, 0), PAUSELESS_BAD_INDEX);
-    SAME(pauseless_make_with(&heap, &policy, 2, 5, 1, sources, 2, numbers, 2), PAUSELESS_BAD_INDEX);
+    SAME(pauseless_make_with(&heap, &policy, 2, 4, 1, sources, 4, numbers, 0), PAUSELESS_NO_REGISTER);
+    SAME(pauseless_make_with(&heap, &policy, 2, 4, 1, sources, 3, numbers, 0), PAUSELESS_NO_REGISTER);
+    SAME(pauseless_make_with(&heap, &policy, 2, 4, 1, sources, 2, numbers, 3), PAUSELESS_NO_DATUM);
+    SAME(pauseless_make_with(&heap, &policy, 2, 4, 3, sources, 0, numbers, 0), PAUSELESS_NO_LAYOUT);
+    SAME(pauseless_make_with(&heap, &policy, 2, 5, 1, sources, 2, numbers, 2), PAUSELESS_NO_REGISTER);
     SAME(pauseless_make_with(&heap, &policy, 3, 4, 1, sources, 2, numbers, 2), PAUSELESS_NO_ACTOR);
     SAME(is_null(2, 4), true);
     counts_are(2, 7);
@@ -409,9 +409,9 @@ static void unwritten(void) {
     makes_heap();
     SAME(pauseless_look(&heap, 2, 3, &object), PAUSELESS_NULL);
     SAME(object.birth == 11 && object.layout == 12 && object.refs == 13 && object.nums == 14, true);
-    SAME(pauseless_same(&heap, 2, 3, 5, &is_so), PAUSELESS_BAD_INDEX);
+    SAME(pauseless_same(&heap, 2, 3, 5, &is_so), PAUSELESS_NO_REGISTER);
     SAME(is_so, true);
-    SAME(pauseless_is_null(&heap, 2, 5, &is_so), PAUSELESS_BAD_INDEX);
+    SAME(pauseless_is_null(&heap, 2, 5, &is_so), PAUSELESS_NO_REGISTER);
     SAME(is_so, true);
     is_so = false;
     SAME(pauseless_same(&heap, 3, 0, 0, &is_so), PAUSELESS_NO_ACTOR);

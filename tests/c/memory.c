@@ -154,6 +154,25 @@ static void lacks(call *asks, unsigned long least) {
     SAME(number > least, true);
 }
 
+/* A collection that lacks memory has begun, and has not ended. */
+static void counts_what_has_begun(void) {
+    pauseless_statistics statistics;
+    makes_sparse();
+    DONE(pauseless_get_statistics(&heap, &statistics));
+    SAME(statistics.by_calls == 0 && statistics.ended == 0, true);
+    requests = 0;
+    refused = 1;
+    SAME(collects(), PAUSELESS_MEMORY);
+    refused = 0;
+    DONE(pauseless_get_statistics(&heap, &statistics));
+    SAME(statistics.by_calls == 1 && statistics.ended == 0, true);
+    DONE(collects());
+    DONE(pauseless_get_statistics(&heap, &statistics));
+    SAME(statistics.by_calls == 2 && statistics.ended == 1 && statistics.emptied == 2, true);
+    pauseless_free(&heap);
+    SAME(in_use, 0);
+}
+
 /* The place of the one word that has this value; NULL where none has. */
 static uint64_t *find(uint64_t wanted) {
     uint64_t *place = NULL;
@@ -202,6 +221,7 @@ int main(void) {
     lacks(refills, 5);
     lacks(reports, 1);
     lacks(verifies, 10);
+    counts_what_has_begun();
     verification_looks();
     return differences > 0;
 }

@@ -33,7 +33,7 @@ static uint32_t below(uint32_t limit) {
 }
 
 static bool meets(pauseless_code code, pauseless_code wanted, int line) {
-    met[code]++;
+    met[pauseless_class(code)]++;
     same_at("the code", line, code, wanted);
     return code == PAUSELESS_DONE;
 }
@@ -45,7 +45,9 @@ static bool meets(pauseless_code code, pauseless_code wanted, int line) {
 static pauseless_code use_of(int object, uint32_t index, bool is_reference) {
     if (object == NOTHING) return PAUSELESS_NULL;
     const pauseless_layout layout = layouts[objects[object].layout];
-    return index < (is_reference ? layout.refs : layout.nums) ? PAUSELESS_DONE : PAUSELESS_BAD_INDEX;
+    return index < (is_reference ? layout.refs : layout.nums) ? PAUSELESS_DONE
+           : is_reference                                      ? PAUSELESS_NO_FIELD
+                                                               : PAUSELESS_NO_DATUM;
 }
 
 /* All roots of a thread, and one global, become null: the heap has room again. */
@@ -82,9 +84,9 @@ static void makes_filled(uint32_t t, uint32_t r) {
     const uint32_t count = below(3), size = below(2);
     const uint64_t value = (uint64_t)below(UINT32_MAX) << 20;
     const pauseless_code code = pauseless_make_with(&heap, &policy, t, r, layout, sources, count, &value, size);
-    met[code]++;
+    met[pauseless_class(code)]++;
     if (count > layouts[layout].refs || size > layouts[layout].nums) {
-        SAME(code, PAUSELESS_BAD_INDEX);
+        SAME(code, count > layouts[layout].refs ? PAUSELESS_NO_FIELD : PAUSELESS_NO_DATUM);
     } else if (code == PAUSELESS_DONE) {
         born(t, r, layout);
         for (uint32_t i = 0; i < count; i++) objects[registers[t][r]].refs[i] = registers[t][sources[i]];

@@ -121,7 +121,7 @@ static void returns(void) {
     SAME(failed != NULL, true);
     SAME(handle_copy(&handles, FIRST), NO_HANDLE);
     SAME(scope_escape(&handles, inner, FIRST), NO_HANDLE);
-    SAME(pauseless_make(&heap, &policy, ME, NO_HANDLE, 0), PAUSELESS_BAD_INDEX);
+    SAME(pauseless_make(&heap, &policy, ME, NO_HANDLE, 0), PAUSELESS_NO_REGISTER);
     for (uint32_t i = 0; i < COUNT; i++) SAME(number_of(FIRST + i), i);
     scope_end(&handles, outer);
     failed = NULL;
@@ -135,7 +135,7 @@ static void returns(void) {
     names_below(FIRST + 1);
     failed = NULL;
     handle_copy(&handles, NO_HANDLE);
-    SAME(strcmp(failed, pauseless_text(PAUSELESS_BAD_INDEX)), 0);
+    SAME(strcmp(failed, pauseless_text(PAUSELESS_NO_REGISTER)), 0);
     scope_end(&handles, last);
 }
 

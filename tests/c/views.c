@@ -63,17 +63,19 @@ static void not_viewed(void) {
     pauseless_object object = {.birth = 9};
     SAME(pauseless_view_global(&heap, 0, &place), PAUSELESS_NO_HEAP);
     makes_heap();
-    SAME(pauseless_view_register(&heap, 3, 0, &place), PAUSELESS_BAD_INDEX);
-    SAME(pauseless_view_register(&heap, 0, 64, &place), PAUSELESS_BAD_INDEX);
-    SAME(pauseless_view_global(&heap, 64, &place), PAUSELESS_BAD_INDEX);
+    SAME(pauseless_view_register(&heap, 3, 0, &place), PAUSELESS_NO_ACTOR);
+    SAME(pauseless_view_register(&heap, 0, 64, &place), PAUSELESS_NO_REGISTER);
+    SAME(pauseless_view_global(&heap, 64, &place), PAUSELESS_NO_GLOBAL);
     SAME(pauseless_view_load(&heap, 0, 0, &place), PAUSELESS_NULL);
     SAME(pauseless_view_get(&heap, 0, 0, &value), PAUSELESS_NULL);
     SAME(pauseless_view_look(&heap, 0, &object), PAUSELESS_NULL);
     SAME(pauseless_view_look(&heap, 1ull << 40, &object), PAUSELESS_BAD_INDEX);
     DONE(pauseless_make(&heap, &policy, 0, 0, 0));
     DONE(pauseless_store_global(&heap, 0, 0, 0));
-    SAME(pauseless_view_load(&heap, viewed_global(0), 1023, &place), PAUSELESS_BAD_INDEX);
-    SAME(pauseless_view_get(&heap, viewed_global(0), 1023, &value), PAUSELESS_BAD_INDEX);
+    SAME(pauseless_view_load(&heap, viewed_global(0), 1023, &place), PAUSELESS_NO_FIELD);
+    SAME(pauseless_view_load(&heap, 1ull << 40, 0, &place), PAUSELESS_BAD_INDEX);
+    SAME(pauseless_view_get(&heap, viewed_global(0), 1023, &value), PAUSELESS_NO_DATUM);
+    SAME(pauseless_view_get(&heap, 1ull << 40, 0, &value), PAUSELESS_BAD_INDEX);
     SAME(place == 9 && value == 9 && object.birth == 9, true);
     pauseless_free(&heap);
 }

@@ -7,3 +7,4 @@ pub mod Parted
 pub mod Staged
 pub mod Fitted
 pub mod Paced
+mod Counts

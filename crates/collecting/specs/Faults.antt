@@ -1,8 +1,14 @@
 -- Few kinds of refusal.
+use Rattle.std.specs.Prelude.{Option, Some, None}
 use Rattle.model.specs.declared.steps.Refusal.{Refusal}
 use Rattle.model.specs.declared.steps.Refusal.TheVariants as refusals
+use Rattle.model.specs.declared.steps.Step.{Step}
+use Rattle.model.specs.States.{HeapState}
 use Rattle.collecting.specs.declared.faults.CallFault.{CallFault}
 use Rattle.collecting.specs.declared.faults.CallFault.TheVariants as faults
+use Rattle.collecting.specs.declared.numbers.Number.{Number}
+use Rattle.collecting.specs.declared.numbers.Number.TheVariants as numbers
+use Rattle.collecting.specs.Numbers.{wrong_number}
 
 -- the kind of a refusal
 abbrev pub fault_of : Refusal → CallFault
@@ -15,3 +21,14 @@ fault_of refusals.NoPages = faults.Full
 fault_of refusals.Memory = faults.Memory
 fault_of refusals.Births = faults.Births
 fault_of other = faults.Held other
+
+-- the kind of a number that names nothing, if it is known which
+abbrev pub number_fault : Option Number → CallFault
+number_fault None = faults.Index
+number_fault (Some n) = faults.Wrong n
+
+-- the kind of a refusal of a thread's step, with the number that names nothing
+abbrev pub fault_in : HeapState → Step → Refusal → CallFault
+fault_in h s refusals.NoActor = faults.Wrong numbers.Thread
+fault_in h s refusals.BadIndex = number_fault (wrong_number h s)
+fault_in h s other = fault_of other

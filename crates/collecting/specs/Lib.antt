@@ -1,9 +1,12 @@
 pub mod Collections
 pub mod Rooms
 pub mod Filling
+pub mod Numbers
+pub mod Policies
 pub mod Faults
 pub mod Objects
 pub mod Parts
 pub mod Stages
 pub mod Pacing
 pub mod Targets
+pub mod Counting

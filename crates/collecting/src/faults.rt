@@ -1,17 +1,27 @@
 //! Few kinds of refusal, for a program that holds a heap alone.
 
-use model::Refusal;
+ghost use Rattle.std.specs.Prelude.{◌≡◌};
+ghost use Rattle.collecting.specs.Faults.{fault_in};
+
+use crate::numbers::{Number, wrong_number};
+use crate::policy::PolicyFault;
+use heap::Heap;
+use model::{Refusal, Step};
 use std::error::Error;
 use std::fmt;
 
-/// Why a call of a program isn't done. A program whose heap nobody else collects or shares meets the first
-/// five kinds alone.
+/// Why a call of a program isn't done. A program whose heap nobody else collects or shares never meets `Held`.
 #[derive(Clone, Copy, Debug, PartialEq, Eq)]
 pub enum CallFault {
     /// A register is null.
     Null,
-    /// A number names nothing: a thread, a register, a global, a layout, a field or a datum.
+    /// A number names nothing: a thread, a register, a global, a layout, a field or a datum. `CallFault::of_step` says
+    /// which.
     Index,
+    /// A number of this kind names nothing.
+    Wrong(Number),
+    /// A field of the policy is out of its range.
+    Policy(PolicyFault),
     /// The heap has no room.
     Full,
     /// The system refused memory.
@@ -42,11 +52,43 @@ impl From<Refusal> for CallFault {
     }
 }
 
+impl From<PolicyFault> for CallFault {
+    ghost use Rattle.std.specs.Prelude.{◌≡◌};
+    ghost use Rattle.collecting.specs.declared.faults.CallFault.TheVariants as faults;
+
+    ghost from_gives = { λ p f. f ≡ faults.Policy p };
+
+    fn from(fault: PolicyFault) -> CallFault
+        ensures { result ≡ faults.Policy fault }
+    {
+        CallFault::Policy(fault)
+    }
+}
+
+impl CallFault {
+    /// The kind of the refusal of a thread's step on this heap. Where the step names a thread, a register, a global, a
+    /// layout, a field or a datum that isn't there, `Wrong` says which of these; all else is as of `CallFault::from`.
+    pub fn of_step(heap: &Heap, step: &Step, refusal: Refusal) -> CallFault
+        ensures { result ≡ fault_in heap.now step.now refusal }
+    {
+        match refusal {
+            Refusal::NoActor => CallFault::Wrong(Number::Thread),
+            Refusal::BadIndex => match wrong_number(heap, step) {
+                Some(number) => CallFault::Wrong(number),
+                None => CallFault::Index,
+            },
+            other => CallFault::from(other),
+        }
+    }
+}
+
 impl fmt::Display for CallFault {
     fn fmt<W: fmt::Write>(&self, f: &mut fmt::Formatter<W>) -> fmt::Result {
         match *self {
             CallFault::Null => f.write_str("the register is null"),
             CallFault::Index => f.write_str("a number names nothing"),
+            CallFault::Wrong(number) => write!(f, "{number}"),
+            CallFault::Policy(fault) => write!(f, "{fault}"),
             CallFault::Full => f.write_str("the heap has no room"),
             CallFault::Memory => f.write_str("memory was refused"),
             CallFault::Births => f.write_str("no more objects may be born"),

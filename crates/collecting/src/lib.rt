@@ -5,10 +5,13 @@
 #![tactic(auto)]
 
 mod collecting;
+mod counted;
+mod counting;
 mod cycles;
 mod faults;
 mod filling;
 mod leftovers;
+mod numbers;
 mod pacing;
 mod parts;
 mod policy;
@@ -18,8 +21,11 @@ mod seeing;
 mod target;
 
 pub use collecting::{Collected, Holding};
+pub use counted::Counting;
+pub use counting::{Cause, Counters};
 pub use faults::CallFault;
+pub use numbers::{Number, wrong_number};
 pub use parts::Parts;
-pub use policy::Policy;
+pub use policy::{Policy, PolicyFault};
 pub use seeing::Object;
 pub use target::Target;

@@ -5,13 +5,15 @@ ghost use Rattle.model.specs.Outcome.{outcome};
 ghost use Rattle.model.specs.declared.steps.Actor.TheVariants.{Thread};
 ghost use Rattle.model.specs.declared.steps.Step.TheVariants as steps;
 ghost use Rattle.managed.specs.Batches.{LayoutHas};
+ghost use Rattle.collecting.specs.Counting.{CountsPaced, CountsPart, CountsParts};
 ghost use Rattle.collecting.specs.Filling.{EndsMakingWith, MakesAndFills};
 ghost use Rattle.collecting.specs.Pacing.{MakesPaced, Paces, PacesAndMakes, PacesTwice, is_due, lacks_buffer};
 
 use crate::collecting::Holding;
-use crate::parts::{Parts, collect_some};
+use crate::counting::{Counters, part_counted};
+use crate::parts::Parts;
 use crate::policy::Policy;
-use crate::rooms::make;
+use crate::rooms::make_counted;
 use cycle::Mutating;
 use heap::Heap;
 use managed::ManagedHeap;
@@ -20,7 +22,7 @@ use std::alloc::Global;
 
 /// Whether an object wasn't made because its thread's buffer has no room for it.
 #[inline(always)]
-fn lacks_buffer(made: &Result<u64, Refusal>) -> bool
+pub(crate) fn lacks_buffer(made: &Result<u64, Refusal>) -> bool
     ensures { result ≡ lacks_buffer made.now }
 {
     matches!(*made, Err(Refusal::NoRoom))
@@ -35,28 +37,75 @@ fn is_due(heap: &Heap, parts: &Parts, free: u32) -> bool
 
 /// The next part of a collection, if one is due. That it lacks memory is no matter: the heap is collected by one
 /// call if no frame is left for it.
-fn do_part(heap: &mut ManagedHeap, alloc: Global, parts: &mut Parts, policy: Policy, budget: u32)
-    ensures { Paces (is_due policy.free parts.old heap.old) policy.percent budget parts.old heap.old parts.new heap.new }
+fn do_part(
+    heap: &mut ManagedHeap,
+    alloc: Global,
+    counters: &mut Counters,
+    parts: &mut Parts,
+    policy: Policy,
+    budget: u32,
+)
+    ensures paces { Paces (is_due policy.free parts.old heap.old) policy.percent budget parts.old heap.old parts.new
+        heap.new }
+    ensures counts { CountsPart (is_due policy.free parts.old heap.old) policy.percent budget parts.old heap.old
+        counters.old parts.new heap.new counters.new }
 {
     if is_due(heap.heap(), parts, policy.free) {
-        let _told = collect_some(heap, alloc, parts, policy.percent, budget);
+        let _told = part_counted(heap, alloc, counters, parts, policy.percent, budget);
     }
 }
 
 /// The next two parts of a collection, each if one is due. A part empties one page at most, and a fresh buffer may
 /// take a page: with one part for each no frame would ever come back.
-fn pace(heap: &mut ManagedHeap, alloc: Global, parts: &mut Parts, policy: Policy, budget: u32)
-    ensures { PacesTwice (is_due policy.free parts.old heap.old) policy.free policy.percent budget parts.old heap.old
-        parts.new heap.new }
+fn pace(
+    heap: &mut ManagedHeap,
+    alloc: Global,
+    counters: &mut Counters,
+    parts: &mut Parts,
+    policy: Policy,
+    budget: u32,
+)
+    ensures paces { PacesTwice (is_due policy.free parts.old heap.old) policy.free policy.percent budget parts.old
+        heap.old parts.new heap.new }
+    ensures counts { CountsParts (is_due policy.free parts.old heap.old) policy.free policy.percent budget parts.old
+        heap.old counters.old parts.new heap.new counters.new }
 {
     if is_due(heap.heap(), parts, policy.free) {
-        do_part(heap, alloc, parts, policy, budget);
-        do_part(heap, alloc, parts, policy, budget);
+        do_part(heap, alloc, counters, parts, policy, budget);
+        do_part(heap, alloc, counters, parts, policy, budget);
     }
 }
 
 /// The next two parts of a collection, if they are due, and then an object. The last free frame is kept for a
-/// complete collection, as objects need one to move to.
+/// complete collection, as objects need one to move to. All collections are counted.
+#[cold]
+#[inline(never)]
+pub(crate) fn pace_and_make_counted(
+    heap: &mut ManagedHeap,
+    alloc: Global,
+    counters: &mut Counters,
+    parts: &mut Parts,
+    policy: Policy,
+    budget: u32,
+    thread: u32,
+    target: u32,
+    layout: u32,
+) -> Result<u64, Refusal>
+    ensures makes { PacesAndMakes (is_due policy.free parts.old heap.old) thread policy.words policy.percent policy.free
+        budget target layout parts.old heap.old result parts.new heap.new }
+    ensures counts { CountsPaced (is_due policy.free parts.old heap.old) thread policy.words policy.free policy.percent
+        budget target layout parts.old heap.old counters.old parts.new counters.new }
+{
+    pace(heap, alloc, counters, parts, policy, budget);
+    let last = Policy {
+        words: policy.words,
+        free: policy.free.min(1),
+        percent: policy.percent,
+    };
+    make_counted(heap, alloc, counters, last, thread, target, layout)
+}
+
+/// The same, and nobody counts.
 #[cold]
 #[inline(never)]
 fn pace_and_make(
@@ -69,16 +118,21 @@ fn pace_and_make(
     target: u32,
     layout: u32,
 ) -> Result<u64, Refusal>
-    ensures { PacesAndMakes (is_due policy.free parts.old heap.old) thread policy.words policy.percent policy.free budget
-        target layout parts.old heap.old result parts.new heap.new }
+    ensures { PacesAndMakes (is_due policy.free parts.old heap.old) thread policy.words policy.percent policy.free
+        budget target layout parts.old heap.old result parts.new heap.new }
 {
-    pace(heap, alloc, parts, policy, budget);
-    let last = Policy {
-        words: policy.words,
-        free: policy.free.min(1),
-        percent: policy.percent,
-    };
-    make(heap, alloc, last, thread, target, layout)
+    let mut counters = Counters::new();
+    pace_and_make_counted(
+        heap,
+        alloc,
+        &mut counters,
+        parts,
+        policy,
+        budget,
+        thread,
+        target,
+        layout,
+    )
 }
 
 /// An object is made; where the thread's buffer has no room for it, the next two parts of a collection come first,

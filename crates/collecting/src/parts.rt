@@ -7,6 +7,7 @@ ghost use Rattle.model.specs.Phases.{is_protect_crossing};
 ghost use Rattle.managed.specs.Goings.{Goes, IsScrub};
 ghost use Rattle.managed.specs.Scrubbing.{AreScrubbed};
 ghost use Rattle.collecting.specs.Collections.{has_from};
+ghost use Rattle.collecting.specs.Counting.{is_emptying};
 ghost use Rattle.collecting.specs.Pacing.{has_begun};
 ghost use Rattle.collecting.specs.Parts.{EndsPart, HasEnded, is_memory};
 ghost use Rattle.collecting.specs.Stages.{ChoosesAll, ChoosesOn, EmptiesOn, EndsCrossed, GoesOn, IsChosen, IsFitting};
@@ -68,6 +69,13 @@ impl Parts {
         ensures { result ≡ has_begun self.now heap.now }
     {
         !matches!(self.stage, Stage::Mark) || heap.phase().is_marking()
+    }
+
+    /// Whether the next part empties a page, if it is done.
+    pub(crate) fn is_emptying(&self) -> bool
+        ensures { result ≡ is_emptying self.now }
+    {
+        matches!(self.stage, Stage::Empty) && self.next_page().is_some()
     }
 
     /// Goes on with another part, from its beginning.

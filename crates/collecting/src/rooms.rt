@@ -2,9 +2,12 @@
 
 ghost use Rattle.std.specs.Prelude.{◌≡◌};
 ghost use Rattle.collecting.specs.Collections.{lacks_room};
-ghost use Rattle.collecting.specs.Rooms.{EndsMaking, HasMarkedSince, IsAny, RefillsBy, RefillsWhole};
+ghost use Rattle.collecting.specs.Counting.{CountsMade, CountsMake, CountsPolicy, CountsRefill, CountsRoom, HasCounted};
+ghost use Rattle.collecting.specs.Counting.{TakesOnly};
+ghost use Rattle.collecting.specs.declared.counting.Cause.TheVariants as causes;
+ghost use Rattle.collecting.specs.Rooms.{EndsMaking, HasMarkedSince, IsAny, Refills, RefillsBy, RefillsWhole};
 
-use crate::collecting::collect_whole;
+use crate::counting::{Cause, Counters, collect_counted};
 use crate::cycles::mark_whole;
 use crate::policy::Policy;
 use cycle::Mutating;
@@ -21,7 +24,8 @@ fn lacks_room(refusal: &Refusal) -> bool
 
 /// The buffer that the thread has is given back, if any, and one is taken.
 fn take(heap: &mut ManagedHeap, policy: Policy, thread: u32) -> Result<Buffer, Refusal>
-    ensures { RefillsBy IsAny thread policy.words policy.percent heap.old result heap.new }
+    ensures takes { RefillsBy IsAny thread policy.words policy.percent heap.old result heap.new }
+    ensures only { TakesOnly thread heap.old heap.new }
 {
     let _given = heap.give_back(thread);
     heap.take(thread, policy.words)
@@ -58,12 +62,15 @@ fn take_or_mark(heap: &mut ManagedHeap, policy: Policy, thread: u32) -> Result<B
 fn collect_and_take(
     heap: &mut ManagedHeap,
     alloc: Global,
+    counters: &mut Counters,
+    cause: Cause,
     policy: Policy,
     thread: u32,
 ) -> Result<Buffer, Refusal>
-    ensures { RefillsWhole thread policy.words policy.percent heap.old result heap.new }
+    ensures refills { RefillsWhole thread policy.words policy.percent heap.old result heap.new }
+    ensures counts { HasCounted cause policy.percent heap.old counters.old counters.new }
 {
-    match collect_whole(heap, alloc, policy.percent) {
+    match collect_counted(heap, alloc, counters, cause, policy.percent) {
         Ok(_) => take_or_mark(heap, policy, thread),
         Err(refusal) => Err(refusal),
     }
@@ -73,16 +80,18 @@ fn collect_and_take(
 fn take_or_collect(
     heap: &mut ManagedHeap,
     alloc: Global,
+    counters: &mut Counters,
     policy: Policy,
     thread: u32,
 ) -> Result<Buffer, Refusal>
-    ensures { RefillsWhole thread policy.words policy.percent heap.old result heap.new }
+    ensures refills { RefillsWhole thread policy.words policy.percent heap.old result heap.new }
+    ensures counts { CountsRoom thread policy.words policy.percent heap.old counters.old heap.new counters.new }
 {
     match take(heap, policy, thread) {
         Ok(buffer) => Ok(buffer),
         Err(refusal) => {
             if lacks_room(&refusal) {
-                collect_and_take(heap, alloc, policy, thread)
+                collect_and_take(heap, alloc, counters, Cause::Room, policy, thread)
             } else {
                 Err(refusal)
             }
@@ -94,19 +103,48 @@ fn take_or_collect(
 fn take_by_policy(
     heap: &mut ManagedHeap,
     alloc: Global,
+    counters: &mut Counters,
     policy: Policy,
     thread: u32,
 ) -> Result<Buffer, Refusal>
-    ensures { RefillsWhole thread policy.words policy.percent heap.old result heap.new }
+    ensures refills { RefillsWhole thread policy.words policy.percent heap.old result heap.new }
+    ensures counts { CountsPolicy thread policy.words policy.free policy.percent heap.old counters.old heap.new
+        counters.new }
 {
     if heap.heap().memory().free_frames() <= policy.free {
-        collect_and_take(heap, alloc, policy, thread)
+        collect_and_take(heap, alloc, counters, Cause::Policy, policy, thread)
     } else {
-        take_or_collect(heap, alloc, policy, thread)
+        take_or_collect(heap, alloc, counters, policy, thread)
     }
 }
 
-/// The thread gives back the buffer that it has, if any, and gets a fresh one.
+/// The thread gives back the buffer that it has, if any.
+fn give(heap: &mut ManagedHeap, thread: u32)
+    ensures gives { Refills thread heap.old heap.new }
+    ensures only { TakesOnly thread heap.old heap.new }
+{
+    let _ = heap.give_back(thread);
+}
+
+/// The thread gives back the buffer that it has, if any, and gets a fresh one; a collection for it is counted.
+pub(crate) fn refill_counted(
+    heap: &mut ManagedHeap,
+    alloc: Global,
+    counters: &mut Counters,
+    policy: Policy,
+    thread: u32,
+) -> Result<Buffer, Refusal>
+    ensures refills { RefillsWhole thread policy.words policy.percent heap.old result heap.new }
+    ensures counts { CountsRefill thread policy.words policy.free policy.percent heap.old counters.old heap.new
+        counters.new }
+{
+    give(heap, thread);
+    let result = take_by_policy(heap, alloc, counters, policy, thread);
+    counters.see(heap.heap());
+    result
+}
+
+/// The same, and nobody counts.
 pub(crate) fn refill(
     heap: &mut ManagedHeap,
     alloc: Global,
@@ -115,11 +153,32 @@ pub(crate) fn refill(
 ) -> Result<Buffer, Refusal>
     ensures { RefillsWhole thread policy.words policy.percent heap.old result heap.new }
 {
-    let _ = heap.give_back(thread);
-    take_by_policy(heap, alloc, policy, thread)
+    let mut counters = Counters::new();
+    refill_counted(heap, alloc, &mut counters, policy, thread)
 }
 
-/// An object is made, behind a fresh buffer.
+/// An object is made, behind a fresh buffer; a collection for it is counted.
+#[cold]
+#[inline(never)]
+fn refill_and_make_counted(
+    heap: &mut ManagedHeap,
+    alloc: Global,
+    counters: &mut Counters,
+    policy: Policy,
+    thread: u32,
+    target: u32,
+    layout: u32,
+) -> Result<u64, Refusal>
+    ensures makes { EndsMaking thread policy.words policy.percent target layout heap.old result heap.new }
+    ensures counts { CountsMade thread policy.words policy.free policy.percent heap.old counters.old counters.new }
+{
+    match refill_counted(heap, alloc, counters, policy, thread) {
+        Ok(_) => heap.new_object(thread, target, layout),
+        Err(refusal) => Err(refusal),
+    }
+}
+
+/// The same, and nobody counts.
 #[cold]
 #[inline(never)]
 fn refill_and_make(
@@ -132,10 +191,8 @@ fn refill_and_make(
 ) -> Result<u64, Refusal>
     ensures { EndsMaking thread policy.words policy.percent target layout heap.old result heap.new }
 {
-    match refill(heap, alloc, policy, thread) {
-        Ok(_) => heap.new_object(thread, target, layout),
-        Err(refusal) => Err(refusal),
-    }
+    let mut counters = Counters::new();
+    refill_and_make_counted(heap, alloc, &mut counters, policy, thread, target, layout)
 }
 
 /// An object is made; where the thread's buffer has no room for it, it gets a fresh one before.
@@ -153,6 +210,30 @@ pub(crate) fn make(
     match heap.new_object(thread, target, layout) {
         Ok(birth) => Ok(birth),
         Err(Refusal::NoRoom) => refill_and_make(heap, alloc, policy, thread, target, layout),
+        Err(refusal) => Err(refusal),
+    }
+}
+
+/// Makes an object; a collection for it is counted.
+#[inline(always)]
+pub(crate) fn make_counted(
+    heap: &mut ManagedHeap,
+    alloc: Global,
+    counters: &mut Counters,
+    policy: Policy,
+    thread: u32,
+    target: u32,
+    layout: u32,
+) -> Result<u64, Refusal>
+    ensures makes { EndsMaking thread policy.words policy.percent target layout heap.old result heap.new }
+    ensures counts { CountsMake thread policy.words policy.free policy.percent target layout heap.old counters.old
+        counters.new }
+{
+    match heap.new_object(thread, target, layout) {
+        Ok(number) => Ok(number),
+        Err(Refusal::NoRoom) => {
+            refill_and_make_counted(heap, alloc, counters, policy, thread, target, layout)
+        }
         Err(refusal) => Err(refusal),
     }
 }

@@ -22,39 +22,58 @@ use Rattle.managed.specs.Scrubbing.{AreScrubbed}
 use Rattle.foreign.specs.declared.held.Held.{Held}
 use Rattle.foreign.specs.declared.cycles.CollectedOfC.{CollectedOfC}
 use Rattle.foreign.specs.declared.objects.ObjectOfC.{ObjectOfC}
-use Rattle.foreign.specs.Codes.{NO_HEAP, code_of}
+use Rattle.foreign.specs.Codes.{NO_HEAP, code_by}
+use Rattle.foreign.specs.Which.{step_code}
 
--- where there is no heap, the code says so, and there is none still; else there is one, on which a call was done whose
--- result has this code
-abbrev pub Calls : {A : Type 0} → (HeapState → Result A Refusal → HeapState → Type 0)
+-- a call was done on what a handle holds, if that is a heap; else the code says so
+abbrev pub OnHeld : (Held → ℕ → Held → Type 0) → Option Held → ℕ → Option Held → Type 0
+OnHeld P None code new = (code ≡ NO_HEAP) × (new ≡ None)
+OnHeld P (Some h) code new = (g : Held) × P h code g × (new ≡ Some g)
+
+-- the same for a call that writes its result through a pointer: S says that nothing was written
+abbrev pub OnHeldOr : Type 0 → (Held → ℕ → Held → Type 0) → Option Held → ℕ → Option Held → Type 0
+OnHeldOr S P None code new = (code ≡ NO_HEAP) × (new ≡ None) × S
+OnHeldOr S P (Some h) code new = (g : Held) × P h code g × (new ≡ Some g)
+
+-- a call was done on a heap, and C is the code of its refusals on the heap as it is then
+abbrev pub CodedBy : {A : Type 0} → (HeapState → Refusal → ℕ) → (HeapState → Result A Refusal → HeapState → Type 0)
+    → Held → ℕ → Held → Type 0
+CodedBy {A} C P h code g = (r : Result A Refusal) × P h.heap r g.heap × (code ≡ code_by (C g.heap) r)
+
+-- the same of what a handle holds
+abbrev pub Calls : {A : Type 0} → (HeapState → Refusal → ℕ) → (HeapState → Result A Refusal → HeapState → Type 0)
     → Option Held → ℕ → Option Held → Type 0
-Calls P None code new = (code ≡ NO_HEAP) × (new ≡ None)
-Calls {A} P (Some h) code new =
-    (r : Result A Refusal) × (g : Held) × P h.heap r g.heap × (code ≡ code_of r) × (new ≡ Some g)
+Calls C P old code new = OnHeld (CodedBy C P) old code new
 
 -- the same for a call that writes its result through a pointer: Q says what stands there if the call was done, and S
 -- that nothing was written
-abbrev pub Gives : {A : Type 0} → (HeapState → Result A Refusal → HeapState → Type 0) → (A → Type 0) → Type 0
-    → Option Held → ℕ → Option Held → Type 0
-Gives P Q S None code new = (code ≡ NO_HEAP) × (new ≡ None) × S
-Gives {A} P Q S (Some h) code new =
-    (r : Result A Refusal) × (g : Held) × P h.heap r g.heap × MatchResult r Q (λ _. S) × (code ≡ code_of r)
-    × (new ≡ Some g)
-
--- the same for a call that also changes how far a collection in parts has come
-abbrev pub GivesHeld : {A : Type 0} → (Held → Result A Refusal → Held → Type 0) → (A → Type 0) → Type 0
-    → Option Held → ℕ → Option Held → Type 0
-GivesHeld P Q S None code new = (code ≡ NO_HEAP) × (new ≡ None) × S
-GivesHeld {A} P Q S (Some h) code new =
-    (r : Result A Refusal) × (g : Held) × P h r g × MatchResult r Q (λ _. S) × (code ≡ code_of r) × (new ≡ Some g)
+abbrev pub Gives : {A : Type 0} → (HeapState → Refusal → ℕ) → (HeapState → Result A Refusal → HeapState → Type 0)
+    → (A → Type 0) → Type 0 → Option Held → ℕ → Option Held → Type 0
+Gives C P Q S None code new = (code ≡ NO_HEAP) × (new ≡ None) × S
+Gives {A} C P Q S (Some h) code new =
+    (r : Result A Refusal) × (g : Held) × P h.heap r g.heap × MatchResult r Q (λ _. S)
+    × (code ≡ code_by (C g.heap) r) × (new ≡ Some g)
 
 -- a step of thread t did what its outcome says; and where the heap stood for a plain heap, it does after the step
 abbrev pub Stepped : {A : Type 0} → (A → Answer) → ℕ → Step → HeapState → Result A Refusal → HeapState → Type 0
 Stepped answer t step h r g = DoesThread answer h t step r g × ThreadStands answer h t step r g
 
+-- the same of what a handle holds, whose code says which number of the step names nothing
+abbrev pub CallsStep : {A : Type 0} → (A → Answer) → ℕ → Step → Option Held → ℕ → Option Held → Type 0
+CallsStep answer t s old code new = Calls (step_code s) (Stepped answer t s) old code new
+
+-- the same, with a result that is written for C
+abbrev pub GivesStep : {A : Type 0} → (A → Answer) → ℕ → Step → (A → Type 0) → Type 0 → Option Held → ℕ → Option Held
+    → Type 0
+GivesStep answer t s Q S old code new = Gives (step_code s) (Stepped answer t s) Q S old code new
+
 -- a whole load of thread t, by its first step; and where the heap stood for a plain heap, it does after the load
 abbrev pub Loaded : ℕ → Step → HeapState → Result Unit Refusal → HeapState → Type 0
 Loaded t begin h r g = LoadsWhole h t begin r g × LoadStands h t begin r g
+
+-- the same of what a handle holds
+abbrev pub CallsLoad : ℕ → Step → Option Held → ℕ → Option Held → Type 0
+CallsLoad t begin old code new = Calls (step_code begin) (Loaded t begin) old code new
 
 -- thread t was to read data words of an object, from word j on; nothing changed
 abbrev pub ReadMany : ℕ → ℕ → ℕ → List ℕ → HeapState → Result Unit Refusal → HeapState → Type 0

@@ -1,9 +1,15 @@
--- The codes that calls answer C.
-use Rattle.std.specs.Prelude.{ℕ, Result, Ok, Err}
+-- The codes that calls answer C. A code's class is its low eight bits: what is above them says more.
+use Rattle.std.specs.Prelude.{ℕ, ◌%◌, Option, Some, None, Result, Ok, Err, if◌then◌else◌}
 use Rattle.model.specs.declared.steps.Refusal.{Refusal}
 use Rattle.model.specs.declared.steps.Refusal.TheVariants as refusals
 use Rattle.model.specs.declared.config.ConfigFault.{ConfigFault}
 use Rattle.model.specs.declared.config.ConfigFault.TheVariants as faults
+use Rattle.model.specs.declared.limits.TheConstants.{MOST_LAYOUTS}
+use Rattle.model.specs.Configs.{is_outside}
+use Rattle.collecting.specs.declared.numbers.Number.{Number}
+use Rattle.collecting.specs.declared.numbers.Number.TheVariants as numbers
+use Rattle.collecting.specs.declared.policy.PolicyFault.{PolicyFault}
+use Rattle.collecting.specs.declared.policy.PolicyFault.TheVariants as policies
 
 -- the handle has no heap
 abbrev pub NO_HEAP : ℕ
@@ -60,7 +66,55 @@ config_code faults.Layouts = 37
 config_code faults.Births = 38
 config_code faults.History = 39
 
--- the code of what came of a call
+-- a number names nothing, and it isn't known which
+abbrev pub BAD_INDEX : ℕ
+BAD_INDEX = 4
+
+-- the code of a number of this kind that names nothing: of the class of BAD_INDEX, but for a thread
+unfoldable pub number_code : Number → ℕ
+number_code numbers.Thread = 3
+number_code numbers.Register = 260
+number_code numbers.Global = 516
+number_code numbers.Layout = 772
+number_code numbers.Field = 1028
+number_code numbers.Datum = 1284
+number_code numbers.Words = 1540
+
+-- the same, if it is known which
+abbrev pub wrong_code : Option Number → ℕ
+wrong_code None = BAD_INDEX
+wrong_code (Some n) = number_code n
+
+-- an object is larger than the buffers of a policy
+abbrev pub OBJECT_TOO_LARGE : ℕ
+OBJECT_TOO_LARGE = 268
+
+-- an object of a layout is larger than a page
+abbrev pub LAYOUT_TOO_LARGE : ℕ
+LAYOUT_TOO_LARGE = 293
+
+-- the code of the first field of a configuration that is out of its range, which has so many layouts: RANGE_OF_LAYOUTS
+-- says that these are too few or too many; else an object of one of them is too large
+abbrev pub fault_code : ℕ → ConfigFault → ℕ
+fault_code count faults.Layouts =
+    if is_outside count 1 MOST_LAYOUTS then config_code faults.Layouts else LAYOUT_TOO_LARGE
+fault_code count f = config_code f
+
+-- the code of the first field of a policy that is out of its range
+unfoldable pub policy_code : PolicyFault → ℕ
+policy_code policies.Words = 297
+policy_code policies.Free = 553
+policy_code policies.Percent = 809
+
+-- the class of a code
+abbrev pub class_of : ℕ → ℕ
+class_of code = code % 256
+
+-- the code of what came of a call, by that of a refusal
+abbrev pub code_by : {A : Type 0} → (Refusal → ℕ) → Result A Refusal → ℕ
+code_by c (Ok x) = 0
+code_by c (Err e) = c e
+
+-- the same where a refusal says all
 abbrev pub code_of : {A : Type 0} → Result A Refusal → ℕ
-code_of (Ok x) = 0
-code_of (Err e) = refusal_code e
+code_of r = code_by refusal_code r

@@ -7,3 +7,6 @@ pub mod Looking
 pub mod Making
 pub mod Telling
 pub mod Views
+pub mod Which
+pub mod Policies
+pub mod Statistics

@@ -1,5 +1,5 @@
 -- Heaps that are made for C.
-use Rattle.std.specs.Prelude.{◌≡◌, ◌⊎◌, ℕ, ◌*◌, min, List, map, Option, Some, None, Result, Ok, Err}
+use Rattle.std.specs.Prelude.{◌≡◌, ◌⊎◌, ℕ, ◌*◌, min, List, length, map, Option, Some, None, Result, Ok, Err}
 use Rattle.std_alloc.specs.declared.boxed.Box.{Box}
 use Rattle.layout.specs.declared.shape.Layout.{Layout}
 use Rattle.model.specs.declared.config.Config.{Config}
@@ -11,7 +11,7 @@ use Rattle.managed.specs.Managing.{MakesHeap}
 use Rattle.foreign.specs.declared.held.Held.{Held}
 use Rattle.foreign.specs.declared.making.LayoutOfC.{LayoutOfC}
 use Rattle.foreign.specs.declared.making.SizesOfC.{SizesOfC}
-use Rattle.foreign.specs.Codes.{HAS_HEAP, NO_MEMORY, config_code}
+use Rattle.foreign.specs.Codes.{HAS_HEAP, NO_MEMORY, fault_code}
 
 -- what serves most heaps of so many frames of so many words
 unfoldable pub usual_sizes : ℕ → ℕ → SizesOfC
@@ -47,7 +47,9 @@ config_of s layouts = record {
 
 -- why none was made: memory was refused, or this field is the first one out of its range
 abbrev pub FailsMaking : Config → ℕ → Type 0
-FailsMaking c code = (code ≡ NO_MEMORY) ⊎ ((f : ConfigFault) × (first_fault c ≡ Some f) × (code ≡ config_code f))
+FailsMaking c code =
+    (code ≡ NO_MEMORY)
+    ⊎ ((f : ConfigFault) × (first_fault c ≡ Some f) × (code ≡ fault_code (length c.layouts) f))
 
 -- a heap in a box is the first one of its configuration; or the code says why there is none
 abbrev pub MadeOf : {Z : Type 0} → Config → Result (Box Held Z) ℕ → Type 0

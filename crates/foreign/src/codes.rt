@@ -1,9 +1,13 @@
-//! The codes that calls answer C: 0 where a call was done, else why it wasn't.
+//! The codes that calls answer C: 0 where a call was done, else why it wasn't. A code's class is its low eight bits;
+//! what is above them says more, as which number names nothing.
 
-ghost use Rattle.std.specs.Prelude.{◌≡◌, MatchResult};
-ghost use Rattle.foreign.specs.Codes.{code_of, config_code, refusal_code};
+ghost use Rattle.std.specs.Prelude.{◌≡◌, ◌≢◌};
+ghost use Rattle.collecting.specs.declared.numbers.Number.TheVariants as numbers;
+ghost use Rattle.foreign.specs.Codes.{BAD_INDEX, class_of, config_code, fault_code, number_code, policy_code};
+ghost use Rattle.foreign.specs.Codes.{refusal_code};
 
-use model::{ConfigFault, Refusal};
+use collecting::{Number, PolicyFault};
+use model::{ConfigFault, MOST_LAYOUTS, Refusal};
 
 /// The call was done.
 pub(crate) const DONE: u32 = 0;
@@ -20,10 +24,52 @@ pub(crate) const NO_MEMORY: u32 = 29;
 /// The verifier found a fault.
 pub(crate) const UNSOUND: u32 = 40;
 
+/// A number names nothing, and it isn't known which.
+pub(crate) const BAD_INDEX: u32 = 4;
+
+/// An object is larger than the buffers of the policy: of the class of `NoRoom`.
+pub(crate) const OBJECT_TOO_LARGE: u32 = 268;
+
+/// The layouts of a heap are out of their range.
+pub(crate) const RANGE_OF_LAYOUTS: u32 = 37;
+
+/// An object of a layout is larger than a page: of the class of `RANGE_OF_LAYOUTS`.
+pub(crate) const LAYOUT_TOO_LARGE: u32 = 293;
+
+/// The code of a number of this kind that names nothing.
+#[tactic(auto, unfolding(crate::specs::Codes::number_code))]
+pub(crate) fn number_code(number: Number) -> u32
+    ensures code { result ≡ number_code number }
+    ensures class { number ≢ numbers.Thread → class_of result ≡ BAD_INDEX }
+{
+    match number {
+        Number::Thread => 3,
+        Number::Register => 260,
+        Number::Global => 516,
+        Number::Layout => 772,
+        Number::Field => 1028,
+        Number::Datum => 1284,
+        Number::Words => 1540,
+    }
+}
+
+/// The code of the first field of a policy that is out of its range.
+#[tactic(auto, unfolding(crate::specs::Codes::policy_code))]
+pub(crate) fn policy_code(fault: PolicyFault) -> u32
+    ensures { result ≡ policy_code fault }
+{
+    match fault {
+        PolicyFault::Words => 297,
+        PolicyFault::Free => 553,
+        PolicyFault::Percent => 809,
+    }
+}
+
 /// The code of a refusal.
 #[tactic(auto, unfolding(crate::specs::Codes::refusal_code))]
 pub(crate) fn refusal_code(refusal: Refusal) -> u32
-    ensures { result ≡ refusal_code refusal }
+    ensures code { result ≡ refusal_code refusal }
+    ensures class { class_of result ≡ result }
 {
     match refusal {
         Refusal::NoActor => 3,
@@ -59,7 +105,8 @@ pub(crate) fn refusal_code(refusal: Refusal) -> u32
 /// The code of the first field of a configuration that is out of its range.
 #[tactic(auto, unfolding(crate::specs::Codes::config_code))]
 pub(crate) fn config_code(fault: ConfigFault) -> u32
-    ensures { result ≡ config_code fault }
+    ensures code { result ≡ config_code fault }
+    ensures class { class_of result ≡ result }
 {
     match fault {
         ConfigFault::Words => 30,
@@ -75,40 +122,21 @@ pub(crate) fn config_code(fault: ConfigFault) -> u32
     }
 }
 
-/// The code of a call that gives nothing.
-pub(crate) fn code(answer: Result<(), Refusal>) -> u32
-    ensures { result ≡ code_of answer }
+/// The code of the first field of a configuration that is out of its range: of the layouts, whether one of them is too
+/// large, if there are `count` of them.
+#[tactic(auto, unfolding(crate::specs::Codes::config_code))]
+pub(crate) fn fault_code(count: usize, fault: ConfigFault) -> u32
+    ensures code { result ≡ fault_code count fault }
+    ensures class { class_of result ≡ config_code fault }
 {
-    match answer {
-        Ok(()) => DONE,
-        Err(refusal) => refusal_code(refusal),
-    }
-}
-
-/// The code of a call that gives a number, which is written for C if the call was done.
-pub(crate) fn give_number(answer: Result<u64, Refusal>, number: &mut u64) -> u32
-    ensures code { result ≡ code_of answer }
-    ensures number { MatchResult answer (λ n. number.new ≡ n) (λ _. number.new ≡ number.old) }
-{
-    match answer {
-        Ok(n) => {
-            *number = n;
-            DONE
+    match fault {
+        ConfigFault::Layouts => {
+            if count < 1 || count > MOST_LAYOUTS {
+                RANGE_OF_LAYOUTS
+            } else {
+                LAYOUT_TOO_LARGE
+            }
         }
-        Err(refusal) => refusal_code(refusal),
-    }
-}
-
-/// The code of a call that gives a truth, which is written for C if the call was done.
-pub(crate) fn give_truth(answer: Result<bool, Refusal>, truth: &mut bool) -> u32
-    ensures code { result ≡ code_of answer }
-    ensures truth { MatchResult answer (λ t. truth.new ≡ t) (λ _. truth.new ≡ truth.old) }
-{
-    match answer {
-        Ok(t) => {
-            *truth = t;
-            DONE
-        }
-        Err(refusal) => refusal_code(refusal),
+        other => config_code(other),
     }
 }

@@ -1,13 +1,14 @@
 //! Collections.
 
-ghost use Rattle.std.specs.Prelude.{◌≡◌, MatchResult};
-ghost use Rattle.foreign.specs.Codes.{code_of};
-ghost use Rattle.foreign.specs.Calls.{Gives, GivesHeld, CollectedBy, PartOf, IsTold};
+ghost use Rattle.std.specs.Prelude.{◌≡◌};
+ghost use Rattle.foreign.specs.Calls.{IsTold, OnHeldOr};
+ghost use Rattle.foreign.specs.Policies.{CollectsBy, CollectsHeld, PartHeld, PartsBy};
 
-use crate::codes::{DONE, NO_HEAP, give_truth, refusal_code};
+use crate::codes::{DONE, NO_HEAP, policy_code, refusal_code};
 use crate::handle::Handle;
 use crate::held::Held;
-use collecting::{Collected, Holding};
+use crate::policies::percent_fault;
+use collecting::{Collected, Counting};
 use model::Refusal;
 use std::alloc::Global;
 
@@ -21,23 +22,44 @@ pub struct CollectedOfC {
     pub emptied: u64,
 }
 
-/// The code of a collection. What it has done is written for C if it was done.
-fn give_collected(answer: Result<Collected, Refusal>, done: &mut CollectedOfC) -> u32
-    ensures code { result ≡ code_of answer }
-    ensures done { MatchResult answer (IsTold done.new) (λ _. done.new ≡ done.old) }
+/// What a collection has done, for C.
+fn tell_collected(collected: Collected, done: &mut CollectedOfC)
+    ensures { IsTold done.new collected }
 {
-    match answer {
+    done.live = collected.live;
+    done.emptied = collected.emptied;
+}
+
+/// Does a complete collection of a heap.
+fn collect_whole(alloc: Global, held: &mut Held, percent: u32) -> Result<Collected, Refusal>
+    ensures { CollectsHeld percent held.old result held.new }
+{
+    let counters = &mut held.counters;
+    let answer = held.heap.collect_counted(alloc, counters, percent);
+    if held.follows {
+        held.follow();
+    }
+    answer
+}
+
+/// Does a complete collection, if the percentage is in its range.
+fn collect_tested(alloc: Global, held: &mut Held, percent: u32, done: &mut CollectedOfC) -> u32
+    ensures { CollectsBy percent done.old done.new held.old result held.new }
+{
+    if let Some(fault) = percent_fault(percent) {
+        return policy_code(fault);
+    }
+    match collect_whole(alloc, held, percent) {
         Ok(collected) => {
-            done.live = collected.live;
-            done.emptied = collected.emptied;
+            tell_collected(collected, done);
             DONE
         }
         Err(refusal) => refusal_code(refusal),
     }
 }
 
-/// Does a complete collection. Fails as `Holding::collect` does.
-#[tactic(auto, using(crate::proofs::Calling::given))]
+/// Does a complete collection. Fails as `Holding::collect` does, and for a percentage above 100.
+#[tactic(auto, using(crate::proofs::Calling::on_held_or))]
 #[unsafe(no_mangle)]
 pub extern "C" fn pauseless_collect(
     alloc: Global,
@@ -45,33 +67,54 @@ pub extern "C" fn pauseless_collect(
     percent: u32,
     done: &mut CollectedOfC,
 ) -> u32
-    ensures { Gives (CollectedBy percent) (IsTold done.new) (done.new ≡ done.old) heap.old.slot.held result
+    ensures { OnHeldOr (done.new ≡ done.old) (CollectsBy percent done.old done.new) heap.old.slot.held result
         heap.new.slot.held }
 {
     let Some(held) = heap.lend() else {
         return NO_HEAP;
     };
-    let answer = held.heap.collect(alloc, percent);
-    if held.follows {
-        held.follow();
-    }
-    give_collected(answer, done)
+    collect_tested(alloc, held, percent, done)
 }
 
 /// Does the next part of the collection of a heap.
 fn collect_part(alloc: Global, held: &mut Held, percent: u32, budget: u32) -> Result<bool, Refusal>
-    ensures { PartOf percent budget held.old result held.new }
+    ensures { PartHeld percent budget held.old result held.new }
 {
-    let parts = &mut held.parts;
-    let answer = held.heap.collect_some(alloc, parts, percent, budget);
+    let (counters, parts) = (&mut held.counters, &mut held.parts);
+    let answer = held
+        .heap
+        .collect_some_counted(alloc, counters, parts, percent, budget);
     if held.follows {
         held.follow();
     }
     answer
 }
 
-/// Does the next part of a collection, with a budget of so many objects. Fails as `Holding::collect_some` does.
-#[tactic(auto, using(crate::proofs::Calling::given_held))]
+/// Does the next part of a collection, if the percentage is in its range.
+fn part_tested(
+    alloc: Global,
+    held: &mut Held,
+    percent: u32,
+    budget: u32,
+    has_ended: &mut bool,
+) -> u32
+    ensures { PartsBy percent budget has_ended.old has_ended.new held.old result held.new }
+{
+    if let Some(fault) = percent_fault(percent) {
+        return policy_code(fault);
+    }
+    match collect_part(alloc, held, percent, budget) {
+        Ok(ended) => {
+            *has_ended = ended;
+            DONE
+        }
+        Err(refusal) => refusal_code(refusal),
+    }
+}
+
+/// Does the next part of a collection, with a budget of so many objects. Fails as `Holding::collect_some`
+/// does, and for a percentage above 100.
+#[tactic(auto, using(crate::proofs::Calling::on_held_or))]
 #[unsafe(no_mangle)]
 pub extern "C" fn pauseless_collect_some(
     alloc: Global,
@@ -80,12 +123,11 @@ pub extern "C" fn pauseless_collect_some(
     budget: u32,
     has_ended: &mut bool,
 ) -> u32
-    ensures { GivesHeld (PartOf percent budget) (λ x. has_ended.new ≡ x) (has_ended.new ≡ has_ended.old)
+    ensures { OnHeldOr (has_ended.new ≡ has_ended.old) (PartsBy percent budget has_ended.old has_ended.new)
         heap.old.slot.held result heap.new.slot.held }
 {
     let Some(held) = heap.lend() else {
         return NO_HEAP;
     };
-    let answer = collect_part(alloc, held, percent, budget);
-    give_truth(answer, has_ended)
+    part_tested(alloc, held, percent, budget, has_ended)
 }

@@ -4,30 +4,36 @@ ghost use Rattle.std.specs.Prelude.{◌≡◌, length};
 ghost use Rattle.model.specs.Saying.{done};
 ghost use Rattle.model.specs.declared.steps.Step.TheVariants as steps;
 ghost use Rattle.model.specs.declared.steps.Answer.TheVariants as answers;
-ghost use Rattle.foreign.specs.Calls.{Calls, Gives, ReadMany, Stepped, WroteMany};
+ghost use Rattle.foreign.specs.Calls.{Calls, CallsStep, GivesStep, ReadMany, WroteMany};
+ghost use Rattle.foreign.specs.Which.{step_code};
 
-use crate::codes::{DONE, NO_HEAP, code, give_number};
+use crate::codes::{DONE, NO_HEAP};
 use crate::handle::Handle;
+use crate::refusals::{get_code, set_code};
 use collecting::Holding;
 use cycle::Mutating;
 
-/// A read of a datum that isn't done at once.
+/// A read of a datum that isn't done in one go, by its tests.
 #[tactic(auto, using(crate::proofs::Calling::looked))]
 #[cold]
 #[inline(never)]
 fn get_by_tests(heap: &mut Handle, thread: u32, object: u32, index: u32, value: &mut u64) -> u32
-    ensures { Gives (Stepped answers.Datum thread (steps.Datum object index)) (λ x. value.new ≡ x)
+    ensures { GivesStep answers.Datum thread (steps.Datum object index) (λ x. value.new ≡ x)
         (value.new ≡ value.old) heap.old.slot.held result heap.new.slot.held }
 {
     let Some(held) = heap.lend() else {
         return NO_HEAP;
     };
-    let answer = held.heap.datum(thread, object, index);
-    give_number(answer, value)
+    match held.heap.datum(thread, object, index) {
+        Ok(datum) => {
+            *value = datum;
+            DONE
+        }
+        Err(refusal) => get_code(&held.heap, object, index, refusal),
+    }
 }
 
 /// Reads a datum of an object. Refused as `Mutating::datum` is.
-#[tactic(auto, using(crate::proofs::Calling::looked))]
 #[unsafe(no_mangle)]
 pub extern "C" fn pauseless_get(
     heap: &mut Handle,
@@ -36,35 +42,37 @@ pub extern "C" fn pauseless_get(
     index: u32,
     value: &mut u64,
 ) -> u32
-    ensures { Gives (Stepped answers.Datum thread (steps.Datum object index)) (λ x. value.new ≡ x)
+    ensures { GivesStep answers.Datum thread (steps.Datum object index) (λ x. value.new ≡ x)
         (value.new ≡ value.old) heap.old.slot.held result heap.new.slot.held }
 {
-    if let Some(held) = heap.lend() {
-        if let Some(word) = held.heap.datum_at_once(thread, object, index) {
-            *value = word;
-            return DONE;
-        }
+    let Some(held) = heap.lend() else {
+        return NO_HEAP;
+    };
+    if let Some(datum) = held.heap.datum_at_once(thread, object, index) {
+        *value = datum;
+        return DONE;
     }
     get_by_tests(heap, thread, object, index, value)
 }
 
-/// A write of a datum that isn't done at once.
-#[tactic(auto, using(crate::proofs::Calling::called))]
+/// A write of a datum that isn't done in one go, by its tests.
+#[tactic(auto, using(crate::proofs::Calling::stepped))]
 #[cold]
 #[inline(never)]
 fn set_by_tests(heap: &mut Handle, thread: u32, object: u32, index: u32, value: u64) -> u32
-    ensures { Calls (Stepped done thread (steps.SetDatum object index value)) heap.old.slot.held result
+    ensures { CallsStep done thread (steps.SetDatum object index value) heap.old.slot.held result
         heap.new.slot.held }
 {
     let Some(held) = heap.lend() else {
         return NO_HEAP;
     };
-    let answer = held.heap.set_datum(thread, object, index, value);
-    code(answer)
+    match held.heap.set_datum(thread, object, index, value) {
+        Ok(()) => DONE,
+        Err(refusal) => set_code(&held.heap, object, index, value, refusal),
+    }
 }
 
 /// Writes a datum of an object. Refused as `Mutating::set_datum` is.
-#[tactic(auto, using(crate::proofs::Calling::called))]
 #[unsafe(no_mangle)]
 pub extern "C" fn pauseless_set(
     heap: &mut Handle,
@@ -73,13 +81,14 @@ pub extern "C" fn pauseless_set(
     index: u32,
     value: u64,
 ) -> u32
-    ensures { Calls (Stepped done thread (steps.SetDatum object index value)) heap.old.slot.held result
+    ensures { CallsStep done thread (steps.SetDatum object index value) heap.old.slot.held result
         heap.new.slot.held }
 {
-    if let Some(held) = heap.lend() {
-        if held.heap.set_datum_at_once(thread, object, index, value) {
-            return DONE;
-        }
+    let Some(held) = heap.lend() else {
+        return NO_HEAP;
+    };
+    if held.heap.set_datum_at_once(thread, object, index, value) {
+        return DONE;
     }
     set_by_tests(heap, thread, object, index, value)
 }
@@ -96,13 +105,16 @@ pub extern "C" fn pauseless_get_many(
     values: &mut [u64],
 ) -> u32
     ensures len { length values.new ≡ length values.old }
-    ensures call { Calls (ReadMany thread object first values.new) heap.old.slot.held result heap.new.slot.held }
+    ensures call { Calls (step_code (steps.Datum object first)) (ReadMany thread object first values.new)
+        heap.old.slot.held result heap.new.slot.held }
 {
     let Some(held) = heap.lend() else {
         return NO_HEAP;
     };
-    let answer = held.heap.get_many(thread, object, first, values);
-    code(answer)
+    match held.heap.get_many(thread, object, first, values) {
+        Ok(()) => DONE,
+        Err(refusal) => get_code(&held.heap, object, first, refusal),
+    }
 }
 
 /// Writes data words of an object, from one by its number on. Fails as `Holding::set_many` does.
@@ -115,11 +127,14 @@ pub extern "C" fn pauseless_set_many(
     first: u32,
     values: &[u64],
 ) -> u32
-    ensures { Calls (WroteMany thread object first values.now) heap.old.slot.held result heap.new.slot.held }
+    ensures { Calls (step_code (steps.Datum object first)) (WroteMany thread object first values.now)
+        heap.old.slot.held result heap.new.slot.held }
 {
     let Some(held) = heap.lend() else {
         return NO_HEAP;
     };
-    let answer = held.heap.set_many(thread, object, first, values);
-    code(answer)
+    match held.heap.set_many(thread, object, first, values) {
+        Ok(()) => DONE,
+        Err(refusal) => get_code(&held.heap, object, first, refusal),
+    }
 }

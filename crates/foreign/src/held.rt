@@ -3,10 +3,11 @@
 ghost use Rattle.std.specs.Prelude.{◌≡◌, ◌-◌};
 ghost use Rattle.collecting.specs.Targets.{larger};
 
-use collecting::{Holding, Parts, Target};
+use collecting::{Counters, Holding, Parts, Target};
 use managed::ManagedHeap;
 
-/// A heap, how far a collection in parts has come, and how many frames the heap may use until it is collected.
+/// A heap, how far a collection in parts has come, how many frames the heap may use until it is collected, and what its
+/// collections have come to.
 #[derive(Drop)]
 pub struct Held {
     /// The heap.
@@ -17,6 +18,8 @@ pub struct Held {
     pub follows: bool,
     /// How many frames the heap may use until it is collected, if so.
     pub target: Target,
+    /// What its collections have come to.
+    pub counters: Counters,
 }
 
 impl Held {
@@ -26,6 +29,7 @@ impl Held {
     pub(crate) fn free_by_target(&mut self, free: u32) -> u32
         ensures heap { self.new.heap ≡ self.old.heap }
         ensures parts { self.new.parts ≡ self.old.parts }
+        ensures counters { self.new.counters ≡ self.old.counters }
         ensures free { result ≡ larger free (self.old.heap.config.frames - self.new.target.frames) }
     {
         self.heap.follow(&mut self.target);
@@ -37,6 +41,7 @@ impl Held {
     pub(crate) fn follow(&mut self)
         ensures heap { self.new.heap ≡ self.old.heap }
         ensures parts { self.new.parts ≡ self.old.parts }
+        ensures counters { self.new.counters ≡ self.old.counters }
     {
         self.heap.follow(&mut self.target);
     }

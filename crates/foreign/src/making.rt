@@ -3,10 +3,10 @@
 ghost use Rattle.std.specs.Prelude.{◌≡◌, IfOk, None, map};
 ghost use Rattle.foreign.specs.Making.{Makes, MadeOf, config_of, layout_of, usual_sizes};
 
-use crate::codes::{DONE, HAS_HEAP, NO_MEMORY, config_code};
+use crate::codes::{DONE, HAS_HEAP, NO_MEMORY, fault_code};
 use crate::handle::Handle;
 use crate::held::Held;
-use collecting::{Parts, Target};
+use collecting::{Counters, Parts, Target};
 use heap::{Config, NewFault};
 use layout::{Layout, Layouts};
 use managed::ManagedHeap;
@@ -108,6 +108,7 @@ fn config_of(sizes: &SizesOfC, layouts: Layouts) -> Config
 fn make_of(alloc: Global, config: Config) -> Result<Box<Held>, u32>
     ensures { MadeOf config result }
 {
+    let count = config.layouts.len();
     match ManagedHeap::new(alloc, config) {
         Ok(heap) => {
             let parts = Parts::new(alloc);
@@ -116,10 +117,11 @@ fn make_of(alloc: Global, config: Config) -> Result<Box<Held>, u32>
                 parts,
                 follows: false,
                 target: Target::new(0, 0),
+                counters: Counters::new(),
             };
             Box::new(alloc, held).ok().ok_or(NO_MEMORY)
         }
-        Err(NewFault::Config(fault)) => Err(config_code(fault)),
+        Err(NewFault::Config(fault)) => Err(fault_code(count, fault)),
         Err(NewFault::Memory) => Err(NO_MEMORY),
     }
 }

@@ -1,31 +1,35 @@
 //! Buffers and objects.
 
-ghost use Rattle.std.specs.Prelude.{◌≡◌, ◌-◌, if◌then◌else◌, MatchResult};
+ghost use Rattle.std.specs.Prelude.{◌≡◌, ◌-◌, if◌then◌else◌};
 ghost use Rattle.model.specs.Saying.{done, lent};
 ghost use Rattle.model.specs.declared.steps.Step.TheVariants as steps;
 ghost use Rattle.model.specs.declared.steps.Answer.TheVariants as answers;
 ghost use Rattle.collecting.specs.Objects.{seen};
 ghost use Rattle.collecting.specs.Targets.{larger};
-ghost use Rattle.foreign.specs.Codes.{code_of};
-ghost use Rattle.foreign.specs.Calls.{Calls, Gives, Made, MadeWith, Refilled, Stepped, Sees, IsSeen};
+ghost use Rattle.foreign.specs.Calls.{CallsStep, Gives, IsSeen, Made, MadeWith, OnHeld, Refilled, Sees};
+ghost use Rattle.foreign.specs.Policies.{MakesBy, MakesWithBy, RefillsBy};
+ghost use Rattle.foreign.specs.Which.{look_code};
 
-use crate::codes::{DONE, NO_HEAP, code, refusal_code};
+use crate::codes::{DONE, NO_HEAP};
 use crate::handle::Handle;
 use crate::held::Held;
-use collecting::{Holding, Object, Policy};
+use crate::policies::{make_tested, make_with_tested, refill_tested};
+use crate::refusals::{give_back_code, new_object_code, take_code};
+use crate::which::look_code;
+use collecting::{Counting, Holding, Object, Policy};
 use cycle::Mutating;
-use model::Refusal;
+use model::{Buffer, Refusal};
 use std::alloc::Global;
 
 /// `pauseless_policy`: when a heap is collected for a buffer, as `Policy` says.
 #[repr(C)]
 #[derive(Clone, Copy)]
 pub struct PolicyOfC {
-    /// The words of a fresh buffer.
+    /// The words of a fresh buffer: 1 to the words of a page.
     pub words: u32,
-    /// At most so many frames are free when the heap is collected for it.
+    /// At most so many frames are free when the heap is collected for it: 0 to the heap's frames.
     pub free: u32,
-    /// Pages of which at most so many words of a hundred are live are emptied.
+    /// Pages of which at most so many words of a hundred are live are emptied: 0 to 100.
     pub percent: u32,
     /// How many objects a part of a collection may scan that is done for a fresh buffer; 0, if such a collection is
     /// complete.
@@ -68,44 +72,38 @@ fn policy_of(held: &mut Held, policy: &PolicyOfC) -> Policy
     }
 }
 
-/// The code of a call whose answer C doesn't get.
-fn code_of<T: Copy>(answer: Result<T, Refusal>) -> u32
-    ensures { result ≡ code_of answer }
+/// Takes a buffer of `words` for a thread. Refused as `Mutating::take` is.
+#[tactic(auto, using(crate::proofs::Calling::stepped))]
+#[unsafe(no_mangle)]
+pub extern "C" fn pauseless_take(heap: &mut Handle, thread: u32, words: u32) -> u32
+    ensures { CallsStep lent thread (steps.Take words) heap.old.slot.held result heap.new.slot.held }
 {
-    match answer {
+    let Some(held) = heap.lend() else {
+        return NO_HEAP;
+    };
+    match held.heap.take(thread, words) {
         Ok(_) => DONE,
-        Err(refusal) => refusal_code(refusal),
+        Err(refusal) => take_code(&held.heap, words, refusal),
     }
 }
 
-/// Takes a buffer of `words` for a thread. Refused as `Mutating::take` is.
-#[tactic(auto, using(crate::proofs::Calling::called))]
-#[unsafe(no_mangle)]
-pub extern "C" fn pauseless_take(heap: &mut Handle, thread: u32, words: u32) -> u32
-    ensures { Calls (Stepped lent thread (steps.Take words)) heap.old.slot.held result heap.new.slot.held }
-{
-    let Some(held) = heap.lend() else {
-        return NO_HEAP;
-    };
-    let answer = held.heap.take(thread, words);
-    code_of(answer)
-}
-
 /// Gives a thread's buffer back. Refused as `Mutating::give_back` is.
-#[tactic(auto, using(crate::proofs::Calling::called))]
+#[tactic(auto, using(crate::proofs::Calling::stepped))]
 #[unsafe(no_mangle)]
 pub extern "C" fn pauseless_give_back(heap: &mut Handle, thread: u32) -> u32
-    ensures { Calls (Stepped done thread (steps.GiveBack)) heap.old.slot.held result heap.new.slot.held }
+    ensures { CallsStep done thread (steps.GiveBack) heap.old.slot.held result heap.new.slot.held }
 {
     let Some(held) = heap.lend() else {
         return NO_HEAP;
     };
-    let answer = held.heap.give_back(thread);
-    code(answer)
+    match held.heap.give_back(thread) {
+        Ok(()) => DONE,
+        Err(refusal) => give_back_code(&held.heap, refusal),
+    }
 }
 
 /// Makes an object in the thread's buffer. Refused as `Mutating::new_object` is.
-#[tactic(auto, using(crate::proofs::Calling::called))]
+#[tactic(auto, using(crate::proofs::Calling::stepped))]
 #[unsafe(no_mangle)]
 pub extern "C" fn pauseless_new_object(
     heap: &mut Handle,
@@ -113,19 +111,20 @@ pub extern "C" fn pauseless_new_object(
     target: u32,
     layout: u32,
 ) -> u32
-    ensures { Calls (Stepped answers.Birth thread (steps.New target layout)) heap.old.slot.held result
-        heap.new.slot.held }
+    ensures { CallsStep answers.Birth thread (steps.New target layout) heap.old.slot.held result heap.new.slot.held }
 {
     let Some(held) = heap.lend() else {
         return NO_HEAP;
     };
-    let answer = held.heap.new_object(thread, target, layout);
-    code_of(answer)
+    match held.heap.new_object(thread, target, layout) {
+        Ok(_) => DONE,
+        Err(refusal) => new_object_code(&held.heap, target, layout, refusal),
+    }
 }
 
 /// Makes an object by the policy: beside a collection in parts if it has a budget for these.
 #[inline(always)]
-fn make_by(
+pub(crate) fn make_by(
     alloc: Global,
     held: &mut Held,
     policy: &PolicyOfC,
@@ -137,17 +136,37 @@ fn make_by(
 {
     let by = policy_of(held, policy);
     if policy.budget == 0 {
-        held.heap.make(alloc, by, thread, target, layout)
-    } else {
-        let (parts, budget) = (&mut held.parts, policy.budget);
+        let counters = &mut held.counters;
         held.heap
-            .make_paced(alloc, parts, by, budget, thread, target, layout)
+            .make_counted(alloc, counters, by, thread, target, layout)
+    } else {
+        let (counters, parts, budget) = (&mut held.counters, &mut held.parts, policy.budget);
+        held.heap
+            .make_paced_counted(alloc, counters, parts, by, budget, thread, target, layout)
     }
+}
+
+/// Gets a thread a fresh buffer by the policy.
+pub(crate) fn refill_by(
+    alloc: Global,
+    held: &mut Held,
+    policy: &PolicyOfC,
+    thread: u32,
+) -> Result<Buffer, Refusal>
+    ensures { Refilled policy.now.words policy.now.percent thread held.old.heap result held.new.heap }
+{
+    let by = policy_of(held, policy);
+    let counters = &mut held.counters;
+    let answer = held.heap.refill_counted(alloc, counters, by, thread);
+    if held.follows {
+        held.follow();
+    }
+    answer
 }
 
 /// Makes an object by the policy, and fills it.
 #[inline(always)]
-fn make_with_by(
+pub(crate) fn make_with_by(
     alloc: Global,
     held: &mut Held,
     policy: &PolicyOfC,
@@ -162,19 +181,20 @@ fn make_with_by(
 {
     let by = policy_of(held, policy);
     if policy.budget == 0 {
+        let counters = &mut held.counters;
         held.heap
-            .make_with(alloc, by, thread, target, layout, sources, nums)
+            .make_with_counted(alloc, counters, by, thread, target, layout, sources, nums)
     } else {
-        let (parts, budget) = (&mut held.parts, policy.budget);
-        held.heap.make_with_paced(
-            alloc, parts, by, budget, thread, target, layout, sources, nums,
+        let (counters, parts, budget) = (&mut held.counters, &mut held.parts, policy.budget);
+        held.heap.make_with_paced_counted(
+            alloc, counters, parts, by, budget, thread, target, layout, sources, nums,
         )
     }
 }
 
 /// Makes an object; where the thread's buffer has no room for it, `pauseless_refill` gets it one before. Refused as
 /// `Holding::make` is.
-#[tactic(auto, using(crate::proofs::Calling::called))]
+#[tactic(auto, using(crate::proofs::Calling::on_held))]
 #[unsafe(no_mangle)]
 pub extern "C" fn pauseless_make(
     alloc: Global,
@@ -184,18 +204,17 @@ pub extern "C" fn pauseless_make(
     target: u32,
     layout: u32,
 ) -> u32
-    ensures { Calls (Made policy.now.words policy.now.percent thread target layout) heap.old.slot.held result
-        heap.new.slot.held }
+    ensures { OnHeld (MakesBy policy.now thread target layout) heap.old.slot.held result heap.new.slot.held }
 {
     let Some(held) = heap.lend() else {
         return NO_HEAP;
     };
-    code_of(make_by(alloc, held, policy, thread, target, layout))
+    make_tested(alloc, held, policy, thread, target, layout)
 }
 
 /// Makes an object, for which `pauseless_refill` gets a buffer if the thread's has no room, and fills it: its first
 /// references are those of registers, and its first data words are given. Fails as `Holding::make_with` does.
-#[tactic(auto, using(crate::proofs::Calling::called))]
+#[tactic(auto, using(crate::proofs::Calling::on_held))]
 #[unsafe(no_mangle)]
 pub extern "C" fn pauseless_make_with(
     alloc: Global,
@@ -207,17 +226,17 @@ pub extern "C" fn pauseless_make_with(
     sources: &[u32],
     nums: &[u64],
 ) -> u32
-    ensures { Calls (MadeWith policy.now.words policy.now.percent thread target layout sources.now nums.now)
-        heap.old.slot.held result heap.new.slot.held }
+    ensures { OnHeld (MakesWithBy policy.now thread target layout sources.now nums.now) heap.old.slot.held result
+        heap.new.slot.held }
 {
     let Some(held) = heap.lend() else {
         return NO_HEAP;
     };
-    code_of(make_with_by(alloc, held, policy, thread, target, layout, sources, nums))
+    make_with_tested(alloc, held, policy, thread, target, layout, sources, nums)
 }
 
 /// Gets a thread a fresh buffer, for which the heap is collected by the policy. Refused as `Holding::refill` is.
-#[tactic(auto, using(crate::proofs::Calling::called))]
+#[tactic(auto, using(crate::proofs::Calling::on_held))]
 #[unsafe(no_mangle)]
 pub extern "C" fn pauseless_refill(
     alloc: Global,
@@ -225,34 +244,23 @@ pub extern "C" fn pauseless_refill(
     policy: &PolicyOfC,
     thread: u32,
 ) -> u32
-    ensures { Calls (Refilled policy.now.words policy.now.percent thread) heap.old.slot.held result heap.new.slot.held }
+    ensures { OnHeld (RefillsBy policy.now thread) heap.old.slot.held result heap.new.slot.held }
 {
     let Some(held) = heap.lend() else {
         return NO_HEAP;
     };
-    let by = policy_of(held, policy);
-    let answer = held.heap.refill(alloc, by, thread);
-    if held.follows {
-        held.follow();
-    }
-    code_of(answer)
+    refill_tested(alloc, held, policy, thread)
 }
 
-/// The code of a look at an object, which is written for C if there is one.
-pub(crate) fn give_object(answer: Result<Object, Refusal>, object: &mut ObjectOfC) -> u32
-    ensures code { result ≡ code_of answer }
-    ensures object { MatchResult answer (IsSeen object.new) (λ _. object.new ≡ object.old) }
+/// What a look at an object found, for C.
+#[inline(always)]
+pub(crate) fn tell_object(seen: Object, object: &mut ObjectOfC)
+    ensures { IsSeen object.new seen }
 {
-    match answer {
-        Ok(seen) => {
-            object.birth = seen.birth;
-            object.layout = seen.layout;
-            object.refs = seen.refs;
-            object.nums = seen.nums;
-            DONE
-        }
-        Err(refusal) => refusal_code(refusal),
-    }
+    object.birth = seen.birth;
+    object.layout = seen.layout;
+    object.refs = seen.refs;
+    object.nums = seen.nums;
 }
 
 /// Tells what object a register names. Refused as `Holding::object` is.
@@ -264,12 +272,17 @@ pub extern "C" fn pauseless_look(
     register: u32,
     object: &mut ObjectOfC,
 ) -> u32
-    ensures { Gives (Sees thread register) (IsSeen object.new) (object.new ≡ object.old) heap.old.slot.held result
-        heap.new.slot.held }
+    ensures { Gives (look_code thread register) (Sees thread register) (IsSeen object.new) (object.new ≡ object.old)
+        heap.old.slot.held result heap.new.slot.held }
 {
     let Some(held) = heap.lend() else {
         return NO_HEAP;
     };
-    let answer = held.heap.object(thread, register);
-    give_object(answer, object)
+    match held.heap.object(thread, register) {
+        Ok(seen) => {
+            tell_object(seen, object);
+            DONE
+        }
+        Err(refusal) => look_code(&held.heap, thread, register, refusal),
+    }
 }

@@ -4,18 +4,30 @@ ghost use Rattle.std.specs.Prelude.{◌≡◌};
 ghost use Rattle.model.specs.Saying.{done};
 ghost use Rattle.model.specs.declared.steps.Step.TheVariants as steps;
 ghost use Rattle.model.specs.declared.steps.Answer.TheVariants as answers;
-ghost use Rattle.foreign.specs.Calls.{Calls, Gives, Loaded, Stepped};
+ghost use Rattle.foreign.specs.Calls.{CallsLoad, CallsStep, GivesStep};
 ghost use Rattle.foreign.specs.Batches.{LoadsEach, code_of_loads, done_of_loads};
 
-use crate::codes::{DONE, NO_HEAP, code, give_truth, refusal_code};
+use crate::codes::{DONE, NO_HEAP};
 use crate::handle::Handle;
+use crate::refusals::{
+    clear_code, copy_code, is_null_code, load_code, load_global_code, same_code, store_code,
+    store_global_code,
+};
+use crate::which::loads_code;
 use cycle::Mutating;
-use managed::{FieldLoad, LoadsFault};
+use managed::{FieldLoad, LoadsFault, ManagedHeap};
 use std::alloc::Global;
 
-/// The code of several loads; and how many are done, which is written for C.
-fn give_loads(fields: &[FieldLoad], answer: Result<(), LoadsFault>, done: &mut u64) -> u32
-    ensures code { result ≡ code_of_loads answer }
+/// The code of several loads of an object; and how many are done, which is written for C.
+#[inline(always)]
+fn give_loads(
+    heap: &ManagedHeap,
+    object: u32,
+    fields: &[FieldLoad],
+    answer: Result<(), LoadsFault>,
+    done: &mut u64,
+) -> u32
+    ensures code { result ≡ code_of_loads object fields.now heap.now answer }
     ensures done { done.new ≡ done_of_loads fields.now answer }
 {
     match answer {
@@ -25,27 +37,28 @@ fn give_loads(fields: &[FieldLoad], answer: Result<(), LoadsFault>, done: &mut u
         }
         Err(fault) => {
             *done = fault.done as u64;
-            refusal_code(fault.refusal)
+            loads_code(heap, object, fields.get(fault.done).copied(), fault.refusal)
         }
     }
 }
 
-/// A load that isn't done at once.
+/// A load that isn't done in one go, by its steps.
 #[tactic(auto, using(crate::proofs::Calling::loaded))]
 #[cold]
 #[inline(never)]
 fn load_by_steps(heap: &mut Handle, thread: u32, target: u32, object: u32, field: u32) -> u32
-    ensures { Calls (Loaded thread (steps.Load target object field)) heap.old.slot.held result heap.new.slot.held }
+    ensures { CallsLoad thread (steps.Load target object field) heap.old.slot.held result heap.new.slot.held }
 {
     let Some(held) = heap.lend() else {
         return NO_HEAP;
     };
-    let answer = held.heap.read(thread, target, object, field);
-    code(answer)
+    match held.heap.read(thread, target, object, field) {
+        Ok(()) => DONE,
+        Err(refusal) => load_code(&held.heap, target, object, field, refusal),
+    }
 }
 
 /// Loads a reference field of an object into a register, whole. Refused as `Holding::read` is.
-#[tactic(auto, using(crate::proofs::Calling::loaded_at_once))]
 #[unsafe(no_mangle)]
 pub extern "C" fn pauseless_load(
     heap: &mut Handle,
@@ -54,12 +67,13 @@ pub extern "C" fn pauseless_load(
     object: u32,
     field: u32,
 ) -> u32
-    ensures { Calls (Loaded thread (steps.Load target object field)) heap.old.slot.held result heap.new.slot.held }
+    ensures { CallsLoad thread (steps.Load target object field) heap.old.slot.held result heap.new.slot.held }
 {
-    if let Some(held) = heap.lend() {
-        if held.heap.read_at_once(thread, target, object, field) {
-            return DONE;
-        }
+    let Some(held) = heap.lend() else {
+        return NO_HEAP;
+    };
+    if held.heap.read_at_once(thread, target, object, field) {
+        return DONE;
     }
     load_by_steps(heap, thread, target, object, field)
 }
@@ -82,26 +96,27 @@ pub extern "C" fn pauseless_loads(
         return NO_HEAP;
     };
     let answer = held.heap.loads(thread, object, fields);
-    give_loads(fields, answer, done)
+    give_loads(&held.heap, object, fields, answer, done)
 }
 
-/// A store that isn't done at once.
-#[tactic(auto, using(crate::proofs::Calling::called))]
+/// A store that isn't done in one go, by its tests.
+#[tactic(auto, using(crate::proofs::Calling::stepped))]
 #[cold]
 #[inline(never)]
 fn store_by_tests(heap: &mut Handle, thread: u32, object: u32, field: u32, source: u32) -> u32
-    ensures { Calls (Stepped done thread (steps.Store object field source)) heap.old.slot.held result
+    ensures { CallsStep done thread (steps.Store object field source) heap.old.slot.held result
         heap.new.slot.held }
 {
     let Some(held) = heap.lend() else {
         return NO_HEAP;
     };
-    let answer = held.heap.store(thread, object, field, source);
-    code(answer)
+    match held.heap.store(thread, object, field, source) {
+        Ok(()) => DONE,
+        Err(refusal) => store_code(&held.heap, object, field, source, refusal),
+    }
 }
 
 /// Writes a register's reference to a field of an object. Refused as `Mutating::store` is.
-#[tactic(auto, using(crate::proofs::Calling::called))]
 #[unsafe(no_mangle)]
 pub extern "C" fn pauseless_store(
     heap: &mut Handle,
@@ -110,13 +125,14 @@ pub extern "C" fn pauseless_store(
     field: u32,
     source: u32,
 ) -> u32
-    ensures { Calls (Stepped done thread (steps.Store object field source)) heap.old.slot.held result
+    ensures { CallsStep done thread (steps.Store object field source) heap.old.slot.held result
         heap.new.slot.held }
 {
-    if let Some(held) = heap.lend() {
-        if held.heap.store_at_once(thread, object, field, source) {
-            return DONE;
-        }
+    let Some(held) = heap.lend() else {
+        return NO_HEAP;
+    };
+    if held.heap.store_at_once(thread, object, field, source) {
+        return DONE;
     }
     store_by_tests(heap, thread, object, field, source)
 }
@@ -130,17 +146,19 @@ pub extern "C" fn pauseless_load_global(
     target: u32,
     global: u32,
 ) -> u32
-    ensures { Calls (Loaded thread (steps.LoadGlobal target global)) heap.old.slot.held result heap.new.slot.held }
+    ensures { CallsLoad thread (steps.LoadGlobal target global) heap.old.slot.held result heap.new.slot.held }
 {
     let Some(held) = heap.lend() else {
         return NO_HEAP;
     };
-    let answer = held.heap.read_global(thread, target, global);
-    code(answer)
+    match held.heap.read_global(thread, target, global) {
+        Ok(()) => DONE,
+        Err(refusal) => load_global_code(&held.heap, target, global, refusal),
+    }
 }
 
 /// Writes a register's reference to a global. Refused as `Mutating::store_global` is.
-#[tactic(auto, using(crate::proofs::Calling::called))]
+#[tactic(auto, using(crate::proofs::Calling::stepped))]
 #[unsafe(no_mangle)]
 pub extern "C" fn pauseless_store_global(
     heap: &mut Handle,
@@ -148,40 +166,46 @@ pub extern "C" fn pauseless_store_global(
     global: u32,
     source: u32,
 ) -> u32
-    ensures { Calls (Stepped done thread (steps.StoreGlobal global source)) heap.old.slot.held result
+    ensures { CallsStep done thread (steps.StoreGlobal global source) heap.old.slot.held result
         heap.new.slot.held }
 {
     let Some(held) = heap.lend() else {
         return NO_HEAP;
     };
-    let answer = held.heap.store_global(thread, global, source);
-    code(answer)
+    match held.heap.store_global(thread, global, source) {
+        Ok(()) => DONE,
+        Err(refusal) => store_global_code(&held.heap, global, source, refusal),
+    }
 }
 
 /// Writes a register's reference to another one. Refused as `Mutating::copy_register` is.
-#[tactic(auto, using(crate::proofs::Calling::called))]
+#[tactic(auto, using(crate::proofs::Calling::stepped))]
 #[unsafe(no_mangle)]
 pub extern "C" fn pauseless_copy(heap: &mut Handle, thread: u32, target: u32, source: u32) -> u32
-    ensures { Calls (Stepped done thread (steps.CopyReg target source)) heap.old.slot.held result heap.new.slot.held }
+    ensures { CallsStep done thread (steps.CopyReg target source) heap.old.slot.held result heap.new.slot.held }
 {
     let Some(held) = heap.lend() else {
         return NO_HEAP;
     };
-    let answer = held.heap.copy_register(thread, target, source);
-    code(answer)
+    match held.heap.copy_register(thread, target, source) {
+        Ok(()) => DONE,
+        Err(refusal) => copy_code(&held.heap, target, source, refusal),
+    }
 }
 
 /// Makes a register null. Refused as `Mutating::clear_register` is.
-#[tactic(auto, using(crate::proofs::Calling::called))]
+#[tactic(auto, using(crate::proofs::Calling::stepped))]
 #[unsafe(no_mangle)]
 pub extern "C" fn pauseless_clear(heap: &mut Handle, thread: u32, target: u32) -> u32
-    ensures { Calls (Stepped done thread (steps.ClearReg target)) heap.old.slot.held result heap.new.slot.held }
+    ensures { CallsStep done thread (steps.ClearReg target) heap.old.slot.held result heap.new.slot.held }
 {
     let Some(held) = heap.lend() else {
         return NO_HEAP;
     };
-    let answer = held.heap.clear_register(thread, target);
-    code(answer)
+    match held.heap.clear_register(thread, target) {
+        Ok(()) => DONE,
+        Err(refusal) => clear_code(&held.heap, target, refusal),
+    }
 }
 
 /// Tells whether two registers name the same object, or both none. Refused as `Mutating::same` is.
@@ -194,14 +218,19 @@ pub extern "C" fn pauseless_same(
     right: u32,
     is_so: &mut bool,
 ) -> u32
-    ensures { Gives (Stepped answers.Truth thread (steps.Same left right)) (λ x. is_so.new ≡ x)
+    ensures { GivesStep answers.Truth thread (steps.Same left right) (λ x. is_so.new ≡ x)
         (is_so.new ≡ is_so.old) heap.old.slot.held result heap.new.slot.held }
 {
     let Some(held) = heap.lend() else {
         return NO_HEAP;
     };
-    let answer = held.heap.same(thread, left, right);
-    give_truth(answer, is_so)
+    match held.heap.same(thread, left, right) {
+        Ok(truth) => {
+            *is_so = truth;
+            DONE
+        }
+        Err(refusal) => same_code(&held.heap, left, right, refusal),
+    }
 }
 
 /// Tells whether a register is null. Refused as `Mutating::is_null` is.
@@ -213,12 +242,17 @@ pub extern "C" fn pauseless_is_null(
     register: u32,
     is_so: &mut bool,
 ) -> u32
-    ensures { Gives (Stepped answers.Truth thread (steps.IsNull register)) (λ x. is_so.new ≡ x)
+    ensures { GivesStep answers.Truth thread (steps.IsNull register) (λ x. is_so.new ≡ x)
         (is_so.new ≡ is_so.old) heap.old.slot.held result heap.new.slot.held }
 {
     let Some(held) = heap.lend() else {
         return NO_HEAP;
     };
-    let answer = held.heap.is_null(thread, register);
-    give_truth(answer, is_so)
+    match held.heap.is_null(thread, register) {
+        Ok(truth) => {
+            *is_so = truth;
+            DONE
+        }
+        Err(refusal) => is_null_code(&held.heap, register, refusal),
+    }
 }

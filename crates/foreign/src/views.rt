@@ -1,35 +1,29 @@
 //! The whole heap, read as it stands: objects by their places, which hold for as long as nothing changes the heap.
 
-ghost use Rattle.std.specs.Prelude.{◌≡◌, MatchResult};
+ghost use Rattle.std.specs.Prelude.{◌≡◌};
+ghost use Rattle.collecting.specs.declared.numbers.Number.TheVariants as numbers;
 ghost use Rattle.foreign.specs.Calls.{Gives, IsSeen};
 ghost use Rattle.foreign.specs.Views.{IsPlace, ReadsPlace, ViewsDatum, ViewsField, ViewsGlobal, ViewsObject, ViewsRegister};
-ghost use Rattle.foreign.specs.Codes.{code_of};
+ghost use Rattle.foreign.specs.Which.{kind_code, place_code, plain_code, view_code};
 
-use crate::codes::{DONE, NO_HEAP, give_number, refusal_code};
+use crate::codes::{DONE, NO_HEAP, refusal_code};
 use crate::handle::Handle;
-use crate::objects::{ObjectOfC, give_object};
-use collecting::Object;
+use crate::objects::{ObjectOfC, tell_object};
+use crate::which::{kind_code, place_code, view_code};
+use collecting::{Number, Object};
 use managed::ManagedHeap;
 use model::Refusal;
 use refword::Addr;
 use viewing::places::{data_word_at, global_at, object_at, reference_at, register_at};
 
-/// The code of a search for an object, whose place is written for C if the search was done: 0 where null was found.
-fn give_place(answer: Result<Option<Addr>, Refusal>, place: &mut u64) -> u32
-    ensures code { result ≡ code_of answer }
-    ensures place { MatchResult answer (IsPlace place.new) (λ _. place.new ≡ place.old) }
+/// The place of what was found, for C: 0 where null was found.
+fn tell_place(found: Option<Addr>, place: &mut u64)
+    ensures { IsPlace place.new found }
 {
-    match answer {
-        Ok(Some(address)) => {
-            *place = address.number();
-            DONE
-        }
-        Ok(None) => {
-            *place = 0;
-            DONE
-        }
-        Err(refusal) => refusal_code(refusal),
-    }
+    *place = match found {
+        Some(address) => address.number(),
+        None => 0,
+    };
 }
 
 /// The address that a place of C is. Refused as `Null` where it is 0, and as `BadIndex` where no object can be there.
@@ -54,28 +48,38 @@ pub extern "C" fn pauseless_view_register(
     register: u32,
     place: &mut u64,
 ) -> u32
-    ensures { Gives (ViewsRegister thread register) (IsPlace place.new) (place.new ≡ place.old) heap.old.slot.held
-        result heap.new.slot.held }
+    ensures { Gives (view_code thread) (ViewsRegister thread register) (IsPlace place.new) (place.new ≡ place.old)
+        heap.old.slot.held result heap.new.slot.held }
 {
     let Some(held) = heap.lend() else {
         return NO_HEAP;
     };
-    let answer = register_at(&held.heap, thread, register);
-    give_place(answer, place)
+    match register_at(&held.heap, thread, register) {
+        Ok(found) => {
+            tell_place(found, place);
+            DONE
+        }
+        Err(refusal) => view_code(&held.heap, thread, refusal),
+    }
 }
 
 /// Tells where the object is that a global names. Refused as `viewing::places::global_at` is.
 #[tactic(auto, using(crate::proofs::Calling::given))]
 #[unsafe(no_mangle)]
 pub extern "C" fn pauseless_view_global(heap: &mut Handle, global: u32, place: &mut u64) -> u32
-    ensures { Gives (ViewsGlobal global) (IsPlace place.new) (place.new ≡ place.old) heap.old.slot.held result
-        heap.new.slot.held }
+    ensures { Gives (kind_code numbers.Global) (ViewsGlobal global) (IsPlace place.new) (place.new ≡ place.old)
+        heap.old.slot.held result heap.new.slot.held }
 {
     let Some(held) = heap.lend() else {
         return NO_HEAP;
     };
-    let answer = global_at(&held.heap, global);
-    give_place(answer, place)
+    match global_at(&held.heap, global) {
+        Ok(found) => {
+            tell_place(found, place);
+            DONE
+        }
+        Err(refusal) => kind_code(&held.heap, Number::Global, refusal),
+    }
 }
 
 /// A reference of the object at a place.
@@ -99,14 +103,19 @@ pub extern "C" fn pauseless_view_load(
     field: u32,
     place: &mut u64,
 ) -> u32
-    ensures { Gives (ViewsField object field) (IsPlace place.new) (place.new ≡ place.old) heap.old.slot.held result
-        heap.new.slot.held }
+    ensures { Gives (place_code numbers.Field object) (ViewsField object field) (IsPlace place.new)
+        (place.new ≡ place.old) heap.old.slot.held result heap.new.slot.held }
 {
     let Some(held) = heap.lend() else {
         return NO_HEAP;
     };
-    let answer = load_at(&held.heap, object, field);
-    give_place(answer, place)
+    match load_at(&held.heap, object, field) {
+        Ok(found) => {
+            tell_place(found, place);
+            DONE
+        }
+        Err(refusal) => place_code(&held.heap, Number::Field, object, refusal),
+    }
 }
 
 /// A data word of the object at a place.
@@ -130,14 +139,19 @@ pub extern "C" fn pauseless_view_get(
     index: u32,
     value: &mut u64,
 ) -> u32
-    ensures { Gives (ViewsDatum object index) (λ x. value.new ≡ x) (value.new ≡ value.old) heap.old.slot.held result
-        heap.new.slot.held }
+    ensures { Gives (place_code numbers.Datum object) (ViewsDatum object index) (λ x. value.new ≡ x)
+        (value.new ≡ value.old) heap.old.slot.held result heap.new.slot.held }
 {
     let Some(held) = heap.lend() else {
         return NO_HEAP;
     };
-    let answer = get_at(&held.heap, object, index);
-    give_number(answer, value)
+    match get_at(&held.heap, object, index) {
+        Ok(datum) => {
+            *value = datum;
+            DONE
+        }
+        Err(refusal) => place_code(&held.heap, Number::Datum, object, refusal),
+    }
 }
 
 /// The object at a place.
@@ -155,12 +169,17 @@ fn look_at(heap: &ManagedHeap, place: u64) -> Result<Object, Refusal>
 #[tactic(auto, using(crate::proofs::Calling::given))]
 #[unsafe(no_mangle)]
 pub extern "C" fn pauseless_view_look(heap: &mut Handle, place: u64, object: &mut ObjectOfC) -> u32
-    ensures { Gives (ViewsObject place) (IsSeen object.new) (object.new ≡ object.old) heap.old.slot.held result
-        heap.new.slot.held }
+    ensures { Gives plain_code (ViewsObject place) (IsSeen object.new) (object.new ≡ object.old) heap.old.slot.held
+        result heap.new.slot.held }
 {
     let Some(held) = heap.lend() else {
         return NO_HEAP;
     };
-    let answer = look_at(&held.heap, place);
-    give_object(answer, object)
+    match look_at(&held.heap, place) {
+        Ok(seen) => {
+            tell_object(seen, object);
+            DONE
+        }
+        Err(refusal) => refusal_code(refusal),
+    }
 }

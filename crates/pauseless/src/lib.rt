@@ -6,7 +6,8 @@
 //! trait `Mutating` each, such as `heap.datum(thread, object, index)`, which gives a plain value or a
 //! `Refusal`. The trait `Holding` has what a program asks besides: `heap.read` loads a reference, through
 //! the read barrier; `heap.make` makes an object, and collects by itself where frames run low;
-//! `heap.collect` is a whole collection. Calls that need memory take an allocator first, which a program
+//! `heap.collect` is a whole collection. The trait `Counting` has the same calls, which count in `Counters` what
+//! collections have come to. Calls that need memory take an allocator first, which a program
 //! gets from its runtime by `rt.alloc()`.
 //!
 //! A `Heap` keeps, as the invariant of its type, that it stands for a plain heap, which never moves or
@@ -34,7 +35,10 @@
 pub mod prelude;
 
 pub use choosing::choose;
-pub use collecting::{CallFault, Collected, Holding, Object, Parts, Policy};
+pub use collecting::{
+    CallFault, Cause, Collected, Counters, Counting, Holding, Number, Object, Parts, Policy,
+    PolicyFault, Target, wrong_number,
+};
 pub use cycle::{
     Actor, Answer, Book, Buffer, Entry, EntryRef, History, Mutating, PageList, Reply, Step, Trap,
     next_drain, run, three_traps,

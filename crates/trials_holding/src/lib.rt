@@ -9,6 +9,8 @@ mod between;
 #[cfg(test)]
 mod choices;
 #[cfg(test)]
+mod counted;
+#[cfg(test)]
 mod counting;
 #[cfg(test)]
 mod data;
@@ -20,6 +22,8 @@ mod listing;
 mod long;
 #[cfg(test)]
 mod marks;
+#[cfg(test)]
+mod numbers;
 #[cfg(test)]
 mod parts;
 #[cfg(test)]

@@ -1,0 +1,17 @@
+use Rattle.collecting.proofs.Collections.{unseen}
+use Rattle.collecting.proofs.NotRoom.{part_not}
+use Rattle.collecting.proofs.Parted.{part_goes}
+use Rattle.collecting.proofs.counted.ManagedHeapCounting.collect_some_counted.Goals as goal
+
+pub returns-clause-goes : goal.returns-clause-goes
+returns-clause-goes c = part_goes c.args.self.now c.part_counted-result.new.heap c.part_counted-result.result
+    c.part_counted-result.ensures.ends
+
+pub returns-clause-stands : goal.returns-clause-stands
+returns-clause-stands c = unseen c.args.self.now c.part_counted-result.new.heap
+    (part_goes c.args.self.now c.part_counted-result.new.heap c.part_counted-result.result
+    c.part_counted-result.ensures.ends)
+
+pub returns-clause-room : goal.returns-clause-room
+returns-clause-room c = part_not c.args.self.now c.part_counted-result.result c.part_counted-result.new.heap
+    c.part_counted-result.ensures.ends

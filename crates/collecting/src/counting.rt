@@ -1,0 +1,166 @@
+//! What collections have come to, counted beside a heap.
+
+ghost use Rattle.std.specs.Prelude.{◌≡◌, IfOk, false};
+ghost use Rattle.model.specs.Phases.{is_protect_crossing};
+ghost use Rattle.managed.specs.Scrubbing.{AreScrubbed};
+ghost use Rattle.collecting.specs.Collections.{CollectsWhole};
+ghost use Rattle.collecting.specs.Counting.{begun, counted, ended, no_counts, part_counted, part_done, seen_in_use};
+ghost use Rattle.collecting.specs.Parts.{EndsPart};
+ghost use Rattle.collecting.specs.Stages.{PartGoesOn};
+ghost use Rattle.collecting.specs.Targets.{in_use};
+
+use crate::collecting::{Collected, collect_whole};
+use crate::parts::{Parts, collect_some};
+use heap::Heap;
+use managed::ManagedHeap;
+use model::Refusal;
+use std::alloc::Global;
+
+/// Why a complete collection has begun.
+#[derive(Clone, Copy, Debug, PartialEq, Eq)]
+pub enum Cause {
+    /// A call asked for it.
+    Call,
+    /// A thread was to get a fresh buffer, and at most as many frames were free as its policy says.
+    Policy,
+    /// A thread was to get a fresh buffer, and there was no room for one.
+    Room,
+}
+
+/// What the collections of a heap have come to, since these counters were made. A program keeps them beside its heap;
+/// the calls of `Counting` count. Each number stops at the greatest of 64 bits.
+#[derive(Clone, Copy, Debug, PartialEq, Eq)]
+pub struct Counters {
+    /// Complete collections that have begun because a call asked for them.
+    pub by_calls: u64,
+    /// Complete collections that have begun for a fresh buffer, as few frames were free.
+    pub by_policy: u64,
+    /// Complete collections that have begun for a fresh buffer, as there was no room for one.
+    pub by_room: u64,
+    /// Complete collections that have ended. Each other one that has begun was refused on its way.
+    pub ended: u64,
+    /// Collections in parts that a part has begun.
+    pub by_parts: u64,
+    /// Parts that were done.
+    pub parts: u64,
+    /// Collections in parts that have ended.
+    pub ended_in_parts: u64,
+    /// Pages that collections have emptied, complete ones and those in parts.
+    pub emptied: u64,
+    /// The objects that the last complete collection has found to live.
+    pub live: u64,
+    /// The most frames that were used after a call of `Counting`.
+    pub most_frames: u32,
+}
+
+impl Counters {
+    /// Nothing was counted so far.
+    pub fn new() -> Counters
+        ensures { result ≡ no_counts }
+    {
+        Counters {
+            by_calls: 0,
+            by_policy: 0,
+            by_room: 0,
+            ended: 0,
+            by_parts: 0,
+            parts: 0,
+            ended_in_parts: 0,
+            emptied: 0,
+            live: 0,
+            most_frames: 0,
+        }
+    }
+
+    /// One more complete collection has begun.
+    fn begin(&mut self, cause: Cause)
+        ensures { self.new ≡ begun cause self.old }
+    {
+        match cause {
+            Cause::Call => self.by_calls = self.by_calls.saturating_add(1),
+            Cause::Policy => self.by_policy = self.by_policy.saturating_add(1),
+            Cause::Room => self.by_room = self.by_room.saturating_add(1),
+        }
+    }
+
+    /// A complete collection has ended so.
+    fn end(&mut self, answer: &Result<Collected, Refusal>)
+        ensures { self.new ≡ ended answer.now self.old }
+    {
+        if let Ok(collected) = answer {
+            self.ended = self.ended.saturating_add(1);
+            self.emptied = self.emptied.saturating_add(collected.emptied);
+            self.live = collected.live;
+        }
+    }
+
+    /// So many frames are used now.
+    pub(crate) fn see(&mut self, heap: &Heap)
+        ensures { self.new ≡ seen_in_use (in_use heap.now) self.old }
+    {
+        let used = heap
+            .config()
+            .frames
+            .saturating_sub(heap.memory().free_frames());
+        if used > self.most_frames {
+            self.most_frames = used;
+        }
+    }
+
+    /// A part was done, which has begun a collection, emptied a page, or ended the collection, or not.
+    fn count_part(&mut self, begins: bool, empties: bool, ends: bool)
+        ensures { self.new ≡ part_done begins empties ends self.old }
+    {
+        self.parts = self.parts.saturating_add(1);
+        if begins {
+            self.by_parts = self.by_parts.saturating_add(1);
+        }
+        if empties {
+            self.emptied = self.emptied.saturating_add(1);
+        }
+        if ends {
+            self.ended_in_parts = self.ended_in_parts.saturating_add(1);
+        }
+    }
+}
+
+/// A complete collection, which is counted.
+pub(crate) fn collect_counted(
+    heap: &mut ManagedHeap,
+    alloc: Global,
+    counters: &mut Counters,
+    cause: Cause,
+    percent: u32,
+) -> Result<Collected, Refusal>
+    ensures ends { CollectsWhole percent heap.old result heap.new }
+    ensures scrubbed { IfOk result (λ collected. AreScrubbed heap.new) }
+    ensures counts { counters.new ≡ counted cause result counters.old }
+{
+    counters.begin(cause);
+    let result = collect_whole(heap, alloc, percent);
+    counters.end(&result);
+    result
+}
+
+/// The next part of a collection, which is counted if it is done.
+pub(crate) fn part_counted(
+    heap: &mut ManagedHeap,
+    alloc: Global,
+    counters: &mut Counters,
+    parts: &mut Parts,
+    percent: u32,
+    budget: u32,
+) -> Result<bool, Refusal>
+    ensures ends { EndsPart heap.old result heap.new }
+    ensures scrubbed { IfOk result (λ ended. is_protect_crossing heap.new.phase ≡ false → AreScrubbed heap.new) }
+    ensures parts { PartGoesOn percent budget parts.old heap.old result parts.new heap.new }
+    ensures counts { counters.new ≡ part_counted parts.old heap.old result counters.old }
+{
+    let begins = !parts.has_begun(heap.heap());
+    let empties = parts.is_emptying();
+    let result = collect_some(heap, alloc, parts, percent, budget);
+    if let Ok(ends) = result {
+        counters.count_part(begins, empties, ends);
+    }
+    result
+}
