@@ -1,14 +1,19 @@
 -- What a call did, by what was held before it and after it.
-use Rattle.std.proofs.Common.{◌≡◌, ℕ, List, Option, Some, subst}
-use Rattle.std.specs.Prelude.{Result, MatchResult}
+use Rattle.std.proofs.Common.{◌≡◌, ℕ, Bool, true, false, List, Option, Some, refl, subst}
+use Rattle.std.specs.Prelude.{Result, Ok, MatchResult}
 use Rattle.model.specs.declared.steps.Refusal.{Refusal}
 use Rattle.model.specs.declared.steps.Step.{Step}
+use Rattle.model.specs.declared.steps.Step.TheVariants as steps
+use Rattle.model.specs.declared.steps.Answer.TheVariants as answers
+use Rattle.model.specs.Saying.{done}
+use Rattle.heap.specs.AtOnce.{GivesDatum}
+use Rattle.managed.specs.Found.{MayStep}
 use Rattle.model.specs.declared.steps.Answer.{Answer}
 use Rattle.cycle.specs.Mutating.{DoesThread, ThreadStands}
 use Rattle.managed.specs.declared.batches.FieldLoad.{FieldLoad}
 use Rattle.managed.specs.declared.batches.LoadsFault.{LoadsFault}
 use Rattle.managed.specs.Batches.{EndsLoads}
-use Rattle.managed.specs.Goings.{LoadsWhole, LoadStands}
+use Rattle.managed.specs.Goings.{LoadsWhole, LoadStands, MayLoadWhole}
 use Rattle.model.specs.States.{HeapState}
 use Rattle.foreign.specs.declared.held.Held.{Held}
 use Rattle.foreign.specs.Batches.{LoadsEach, code_of_loads, done_of_loads}
@@ -75,6 +80,31 @@ pub loaded : (t : ℕ) (begin : Step) (b : Held) (old : Option Held) (r : Result
     → code ≡ code_by (step_code begin g.heap) r → new ≡ replaced old g → CallsLoad t begin old code new
 loaded t begin b old r code g new was loads stands says is =
     called (step_code begin) (Loaded t begin) b old r code g new was (loads, stands) says is
+
+-- of a load in one go
+pub loaded_in_one : (t : ℕ) (begin : Step) (b : Held) (old : Option Held) (is_done : Bool) (g : Held)
+    (new : Option Held) → Some b ≡ old → MayLoadWhole is_done b.heap t begin g.heap → is_done ≡ true
+    → new ≡ replaced old g → CallsLoad t begin old 0 new
+loaded_in_one t begin b old true g new was may it is =
+    loaded t begin b old (Ok tt) 0 g new was may.0 may.1 refl is
+loaded_in_one t begin b old false g new was may it is = absurd (cc)
+
+-- of a step in one go
+pub stepped_in_one : (t : ℕ) (step : Step) (b : Held) (old : Option Held) (is_done : Bool) (g : Held)
+    (new : Option Held) → Some b ≡ old → MayStep is_done b.heap t step g.heap → is_done ≡ true
+    → new ≡ replaced old g → CallsStep done t step old 0 new
+stepped_in_one t step b old true g new was may it is =
+    stepped done t step b old (Ok tt) 0 g new was may.0 may.1 refl is
+stepped_in_one t step b old false g new was may it is = absurd (cc)
+
+-- of a datum that is read in one go
+pub datum_in_one : (t object j value : ℕ) (S : Type 0) (b : Held) (old new : Option Held) → Some b ≡ old
+    → GivesDatum b.heap t object j value
+    → ThreadStands answers.Datum b.heap t (steps.Datum object j) (Ok value) b.heap → new ≡ replaced old b
+    → GivesStep answers.Datum t (steps.Datum object j) (λ x. value ≡ x) S old 0 new
+datum_in_one t object j value S b old new was gives stands is =
+    looked answers.Datum t (steps.Datum object j) (λ x. value ≡ x) S b old (Ok value) 0 new was gives stands refl refl
+    is
 
 -- of several
 pub loaded_each : (t object : ℕ) (ls : List FieldLoad) (b : Held) (old : Option Held) (r : Result Unit LoadsFault)

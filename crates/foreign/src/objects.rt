@@ -263,6 +263,31 @@ pub(crate) fn tell_object(seen: Object, object: &mut ObjectOfC)
     object.nums = seen.nums;
 }
 
+/// The code of a look that is refused: asked once more, it is refused again.
+#[tactic(auto, using(crate::proofs::Calling::given))]
+#[cold]
+#[inline(never)]
+fn look_refused(
+    heap: &mut Handle,
+    thread: u32,
+    register: u32,
+    object: &mut ObjectOfC,
+) -> u32
+    ensures { Gives (look_code thread register) (Sees thread register) (IsSeen object.new) (object.new ≡ object.old)
+        heap.old.slot.held result heap.new.slot.held }
+{
+    let Some(held) = heap.lend() else {
+        return NO_HEAP;
+    };
+    match held.heap.object(thread, register) {
+        Ok(seen) => {
+            tell_object(seen, object);
+            DONE
+        }
+        Err(refusal) => look_code(&held.heap, thread, register, refusal),
+    }
+}
+
 /// Tells what object a register names. Refused as `Holding::object` is.
 #[tactic(auto, using(crate::proofs::Calling::given))]
 #[unsafe(no_mangle)]
@@ -283,6 +308,6 @@ pub extern "C" fn pauseless_look(
             tell_object(seen, object);
             DONE
         }
-        Err(refusal) => look_code(&held.heap, thread, register, refusal),
+        Err(_) => look_refused(heap, thread, register, object),
     }
 }

@@ -178,6 +178,22 @@ pub extern "C" fn pauseless_store_global(
     }
 }
 
+/// The code of a copy of a register that is refused: asked once more, it is refused again.
+#[tactic(auto, using(crate::proofs::Calling::stepped))]
+#[cold]
+#[inline(never)]
+fn copy_refused(heap: &mut Handle, thread: u32, target: u32, source: u32) -> u32
+    ensures { CallsStep done thread (steps.CopyReg target source) heap.old.slot.held result heap.new.slot.held }
+{
+    let Some(held) = heap.lend() else {
+        return NO_HEAP;
+    };
+    match held.heap.copy_register(thread, target, source) {
+        Ok(()) => DONE,
+        Err(refusal) => copy_code(&held.heap, target, source, refusal),
+    }
+}
+
 /// Writes a register's reference to another one. Refused as `Mutating::copy_register` is.
 #[tactic(auto, using(crate::proofs::Calling::stepped))]
 #[unsafe(no_mangle)]
@@ -189,7 +205,23 @@ pub extern "C" fn pauseless_copy(heap: &mut Handle, thread: u32, target: u32, so
     };
     match held.heap.copy_register(thread, target, source) {
         Ok(()) => DONE,
-        Err(refusal) => copy_code(&held.heap, target, source, refusal),
+        Err(_) => copy_refused(heap, thread, target, source),
+    }
+}
+
+/// The code of clearing a register that is refused: asked once more, it is refused again.
+#[tactic(auto, using(crate::proofs::Calling::stepped))]
+#[cold]
+#[inline(never)]
+fn clear_refused(heap: &mut Handle, thread: u32, target: u32) -> u32
+    ensures { CallsStep done thread (steps.ClearReg target) heap.old.slot.held result heap.new.slot.held }
+{
+    let Some(held) = heap.lend() else {
+        return NO_HEAP;
+    };
+    match held.heap.clear_register(thread, target) {
+        Ok(()) => DONE,
+        Err(refusal) => clear_code(&held.heap, target, refusal),
     }
 }
 
@@ -204,7 +236,33 @@ pub extern "C" fn pauseless_clear(heap: &mut Handle, thread: u32, target: u32) -
     };
     match held.heap.clear_register(thread, target) {
         Ok(()) => DONE,
-        Err(refusal) => clear_code(&held.heap, target, refusal),
+        Err(_) => clear_refused(heap, thread, target),
+    }
+}
+
+/// The code of a comparison that is refused: asked once more, it is refused again.
+#[tactic(auto, using(crate::proofs::Calling::looked))]
+#[cold]
+#[inline(never)]
+fn same_refused(
+    heap: &mut Handle,
+    thread: u32,
+    left: u32,
+    right: u32,
+    is_so: &mut bool,
+) -> u32
+    ensures { GivesStep answers.Truth thread (steps.Same left right) (λ x. is_so.new ≡ x)
+        (is_so.new ≡ is_so.old) heap.old.slot.held result heap.new.slot.held }
+{
+    let Some(held) = heap.lend() else {
+        return NO_HEAP;
+    };
+    match held.heap.same(thread, left, right) {
+        Ok(truth) => {
+            *is_so = truth;
+            DONE
+        }
+        Err(refusal) => same_code(&held.heap, left, right, refusal),
     }
 }
 
@@ -229,7 +287,32 @@ pub extern "C" fn pauseless_same(
             *is_so = truth;
             DONE
         }
-        Err(refusal) => same_code(&held.heap, left, right, refusal),
+        Err(_) => same_refused(heap, thread, left, right, is_so),
+    }
+}
+
+/// The code of a test for null that is refused: asked once more, it is refused again.
+#[tactic(auto, using(crate::proofs::Calling::looked))]
+#[cold]
+#[inline(never)]
+fn is_null_refused(
+    heap: &mut Handle,
+    thread: u32,
+    register: u32,
+    is_so: &mut bool,
+) -> u32
+    ensures { GivesStep answers.Truth thread (steps.IsNull register) (λ x. is_so.new ≡ x)
+        (is_so.new ≡ is_so.old) heap.old.slot.held result heap.new.slot.held }
+{
+    let Some(held) = heap.lend() else {
+        return NO_HEAP;
+    };
+    match held.heap.is_null(thread, register) {
+        Ok(truth) => {
+            *is_so = truth;
+            DONE
+        }
+        Err(refusal) => is_null_code(&held.heap, register, refusal),
     }
 }
 
@@ -253,6 +336,6 @@ pub extern "C" fn pauseless_is_null(
             *is_so = truth;
             DONE
         }
-        Err(refusal) => is_null_code(&held.heap, register, refusal),
+        Err(_) => is_null_refused(heap, thread, register, is_so),
     }
 }
