@@ -258,6 +258,7 @@ impl Holding for ManagedHeap {
         ManagedHeap::read_global(self, thread, target, global)
     }
 
+    #[inline(always)]
     fn object(&self, thread: u32, register: u32) -> Result<Object, Refusal>
         ensures { result ≡ seen self.now thread register }
     {

@@ -23,6 +23,7 @@ pub struct Object {
 
 /// The object that a register of a thread names. Refused as `Null`, `Stall` and `Stale` where the register may
 /// not be used, and as `BadIndex` where no object stands there.
+#[inline(always)]
 #[tactic(auto, unfolding(crate::specs::Objects::seen))]
 pub(crate) fn look(heap: &ManagedHeap, thread: u32, register: u32) -> Result<Object, Refusal>
     ensures { result ≡ seen heap.now thread register }

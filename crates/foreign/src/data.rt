@@ -46,7 +46,7 @@ pub extern "C" fn pauseless_get(
         (value.new ≡ value.old) heap.old.slot.held result heap.new.slot.held }
 {
     let Some(held) = heap.lend() else {
-        return NO_HEAP;
+        return get_by_tests(heap, thread, object, index, value);
     };
     if let Some(datum) = held.heap.datum_at_once(thread, object, index) {
         *value = datum;
@@ -85,7 +85,7 @@ pub extern "C" fn pauseless_set(
         heap.new.slot.held }
 {
     let Some(held) = heap.lend() else {
-        return NO_HEAP;
+        return set_by_tests(heap, thread, object, index, value);
     };
     if held.heap.set_datum_at_once(thread, object, index, value) {
         return DONE;

@@ -301,7 +301,7 @@ pub extern "C" fn pauseless_look(
         heap.old.slot.held result heap.new.slot.held }
 {
     let Some(held) = heap.lend() else {
-        return NO_HEAP;
+        return look_refused(heap, thread, register, object);
     };
     match held.heap.object(thread, register) {
         Ok(seen) => {

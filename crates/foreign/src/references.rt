@@ -70,7 +70,7 @@ pub extern "C" fn pauseless_load(
     ensures { CallsLoad thread (steps.Load target object field) heap.old.slot.held result heap.new.slot.held }
 {
     let Some(held) = heap.lend() else {
-        return NO_HEAP;
+        return load_by_steps(heap, thread, target, object, field);
     };
     if held.heap.read_at_once(thread, target, object, field) {
         return DONE;
@@ -129,7 +129,7 @@ pub extern "C" fn pauseless_store(
         heap.new.slot.held }
 {
     let Some(held) = heap.lend() else {
-        return NO_HEAP;
+        return store_by_tests(heap, thread, object, field, source);
     };
     if held.heap.store_at_once(thread, object, field, source) {
         return DONE;
@@ -201,7 +201,7 @@ pub extern "C" fn pauseless_copy(heap: &mut Handle, thread: u32, target: u32, so
     ensures { CallsStep done thread (steps.CopyReg target source) heap.old.slot.held result heap.new.slot.held }
 {
     let Some(held) = heap.lend() else {
-        return NO_HEAP;
+        return copy_refused(heap, thread, target, source);
     };
     match held.heap.copy_register(thread, target, source) {
         Ok(()) => DONE,
@@ -232,7 +232,7 @@ pub extern "C" fn pauseless_clear(heap: &mut Handle, thread: u32, target: u32) -
     ensures { CallsStep done thread (steps.ClearReg target) heap.old.slot.held result heap.new.slot.held }
 {
     let Some(held) = heap.lend() else {
-        return NO_HEAP;
+        return clear_refused(heap, thread, target);
     };
     match held.heap.clear_register(thread, target) {
         Ok(()) => DONE,
@@ -280,7 +280,7 @@ pub extern "C" fn pauseless_same(
         (is_so.new ≡ is_so.old) heap.old.slot.held result heap.new.slot.held }
 {
     let Some(held) = heap.lend() else {
-        return NO_HEAP;
+        return same_refused(heap, thread, left, right, is_so);
     };
     match held.heap.same(thread, left, right) {
         Ok(truth) => {
@@ -329,7 +329,7 @@ pub extern "C" fn pauseless_is_null(
         (is_so.new ≡ is_so.old) heap.old.slot.held result heap.new.slot.held }
 {
     let Some(held) = heap.lend() else {
-        return NO_HEAP;
+        return is_null_refused(heap, thread, register, is_so);
     };
     match held.heap.is_null(thread, register) {
         Ok(truth) => {
