@@ -17,6 +17,8 @@ mod data;
 #[cfg(test)]
 mod faults;
 #[cfg(test)]
+mod in_one_go;
+#[cfg(test)]
 mod listing;
 #[cfg(test)]
 mod long;
