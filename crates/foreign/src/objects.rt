@@ -267,12 +267,7 @@ pub(crate) fn tell_object(seen: Object, object: &mut ObjectOfC)
 #[tactic(auto, using(crate::proofs::Calling::given))]
 #[cold]
 #[inline(never)]
-fn look_refused(
-    heap: &mut Handle,
-    thread: u32,
-    register: u32,
-    object: &mut ObjectOfC,
-) -> u32
+fn look_refused(heap: &mut Handle, thread: u32, register: u32, object: &mut ObjectOfC) -> u32
     ensures { Gives (look_code thread register) (Sees thread register) (IsSeen object.new) (object.new ≡ object.old)
         heap.old.slot.held result heap.new.slot.held }
 {

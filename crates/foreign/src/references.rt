@@ -244,13 +244,7 @@ pub extern "C" fn pauseless_clear(heap: &mut Handle, thread: u32, target: u32) -
 #[tactic(auto, using(crate::proofs::Calling::looked))]
 #[cold]
 #[inline(never)]
-fn same_refused(
-    heap: &mut Handle,
-    thread: u32,
-    left: u32,
-    right: u32,
-    is_so: &mut bool,
-) -> u32
+fn same_refused(heap: &mut Handle, thread: u32, left: u32, right: u32, is_so: &mut bool) -> u32
     ensures { GivesStep answers.Truth thread (steps.Same left right) (λ x. is_so.new ≡ x)
         (is_so.new ≡ is_so.old) heap.old.slot.held result heap.new.slot.held }
 {
@@ -295,12 +289,7 @@ pub extern "C" fn pauseless_same(
 #[tactic(auto, using(crate::proofs::Calling::looked))]
 #[cold]
 #[inline(never)]
-fn is_null_refused(
-    heap: &mut Handle,
-    thread: u32,
-    register: u32,
-    is_so: &mut bool,
-) -> u32
+fn is_null_refused(heap: &mut Handle, thread: u32, register: u32, is_so: &mut bool) -> u32
     ensures { GivesStep answers.Truth thread (steps.IsNull register) (λ x. is_so.new ≡ x)
         (is_so.new ≡ is_so.old) heap.old.slot.held result heap.new.slot.held }
 {

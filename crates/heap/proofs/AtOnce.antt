@@ -7,7 +7,7 @@ use Rattle.std.specs.Prelude.{nat_lt}
 use Rattle.std.specs.Option.{is_some}
 use Rattle.std.proofs.lemmas.Bool.{or_parts, leb-false}
 use Rattle.std.proofs.lemmas.Option.{slice_get_within, same_Some}
-use Rattle.refword.specs.Words.{IsAddress, IsBits, IsWord, bits_of, address_in, number_in, read_word}
+use Rattle.refword.specs.Words.{IsAddress, IsBits, bits_of, address_in, number_in, read_word}
 use Rattle.refword.proofs.Reading.{bits_of-read_word, read_word-is_word}
 use Rattle.layout.specs.Objects.{layout_of}
 use Rattle.model.specs.declared.records.Barrier.{Barrier}
@@ -42,10 +42,7 @@ use Rattle.heap.proofs.Keeping.{store_keeps, thread_keeps}
 use Rattle.model.proofs.Lists.{get_within, get_set_same}
 use Rattle.model.proofs.Tables.{length_changed}
 use Rattle.heap.specs.AtOnce.{begun, LoadsAtOnce, NamesAtOnce, ReadsAtOnce, SourceAtOnce, UsesAtOnce, IsOpenTo, IsQuiet, mark_is_due, GivesDatum, MayDoAtOnce}
-use Rattle.heap.specs.AtOnce.{GivesSame, HoldsAtOnce}
-use Rattle.std.proofs.Common.{nat_eq}
-use Rattle.std.proofs.lemmas.Bool.Decides.{nat_tests}
-use Rattle.model.specs.Registers.{same_address, same_outcome}
+use Rattle.heap.specs.AtOnce.{HoldsAtOnce}
 
 -- ---- no trap is due
 
@@ -478,28 +475,3 @@ pub may_set_datum : (h g : HeapState) (t object j value a k : ℕ) (done : Bool)
     → MayDoAtOnce done h t (steps.SetDatum object j value) g
 may_set_datum h g t object j value a k true u f e = datum_set h g t object j value a k u f e
 may_set_datum h g t object j value a k false u f e = e
-
--- two registers are compared by what their words have
-
-same_numbers : (v w : Reference) (a b : ℕ) → a ≡ number_in v → b ≡ number_in w
-    → IsWord v → IsWord w
-    → same_address (address_in v) (address_in w) ≡ nat_eq a b
-same_numbers None None a b e f k l = rw (e, f) refl
-same_numbers None (Some y) a b e f k l = unequal a b e (omega (arith, f, l.above))
-  where
-    unequal : (a b : ℕ) → a ≡ 0 → 0 < b → false ≡ nat_eq a b
-    unequal a b e l = grind (arith, nat_tests)
-same_numbers (Some x) None a b e f k l = unequal a b (omega (arith, e, k.above)) f
-  where
-    unequal : (a b : ℕ) → 0 < a → b ≡ 0 → false ≡ nat_eq a b
-    unequal a b l e = grind (arith, nat_tests)
-same_numbers (Some x) (Some y) a b e f k l = rw (e, f) refl
-
-pub compared : (h : HeapState) (t left right a b : ℕ) (u v w : Reference) → HoldsAtOnce h t left u
-    → SourceAtOnce h t left v → SourceAtOnce h t right w → a ≡ number_in v → b ≡ number_in w → IsWord v → IsWord w
-    → GivesSame h t left right (nat_eq a b)
-unfolding outcome same_outcome
-compared h t left right a b u v w held l r e f is it =
-    let good : has_bad_index h (steps.Same left right) ≡ false = rw (l.there, r.there) refl in
-    let gate : Passes h t (steps.Same left right) = held.passes (steps.Same left right) refl good in
-    rw (gate, l.usable, r.usable) (ap (λ y. Ok (h, answers.Truth y)) (same_numbers v w a b e f is it))

@@ -59,8 +59,11 @@ module _ (h : HeapState) (a : ℕ) (words : List ℕ) (k : IsWhole h.store h.con
   -- its layout is in the table
   pub layout_within : (o n : ℕ) → o ≡ a % h.store.words → n ≡ layout_of (get_or words o 0)
       → n < length h.config.layouts
-  layout_within o n e is = omega (arith, number_read o n e is,
-      slice_get_within h.config.layouts (layout_of k.header) k.layout k.named)
+  layout_within o n e is = omega (
+    arith,
+    number_read o n e is,
+    slice_get_within h.config.layouts (layout_of k.header) k.layout k.named,
+  )
 
   layout_read : (o n : ℕ) (d : Layout) → o ≡ a % h.store.words → n ≡ layout_of (get_or words o 0)
       → get_or h.config.layouts n d ≡ k.layout

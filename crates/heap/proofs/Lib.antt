@@ -11,3 +11,4 @@ pub mod Runs
 pub mod TakenBuffers
 pub mod GivenRows
 pub mod Found
+pub mod Compared

@@ -230,13 +230,7 @@ impl ManagedHeap {
     /// Writes the first data words of an object that was found, up to the first that can't be written in one go. Returns
     /// how many are written.
     #[inline(always)]
-    fn set_first(
-        &mut self,
-        found: FoundObject,
-        thread: u32,
-        object: u32,
-        nums: &[u64],
-    ) -> usize
+    fn set_first(&mut self, found: FoundObject, thread: u32, object: u32, nums: &[u64]) -> usize
         requires found { FindsObject self.old thread object found }
         requires few { length nums.now ≤ 65535 }
         ensures { IsRestOfData thread object 0 self.old nums.now result self.new }

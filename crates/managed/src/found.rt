@@ -92,7 +92,8 @@ impl ManagedHeap {
     {
         self.heap.law();
         refinement::law();
-        self.heap.set_datum_found(found, thread, object, index, value)
+        self.heap
+            .set_datum_found(found, thread, object, index, value)
     }
 
     /// A complete load of a reference in one go, if no test refuses it and no trap is due. Returns whether it is done;

@@ -34,14 +34,21 @@ impl Telling for Brand {
 
 /// What a pass knows: the keeper's all rows, and a thread's its registers. No value of it is made.
 pub struct View {
+    /// Whether it is the keeper's.
     pub keeps: bool,
+    /// What the keeper knows of each thread's registers.
     pub rows: LinkedList<LinkedList<Option<u64>>>,
+    /// How many threads have got a token from the keeper.
     pub dealt: u64,
+    /// Whether it is a thread's.
     pub claims: bool,
+    /// The number of its thread, from 0.
     pub thread: u64,
+    /// What it knows of its thread's registers.
     pub registers: LinkedList<Option<u64>>,
 }
 
+/// The rule of the cell: what a thread's pass knows, the keeper's knows too.
 pub struct Knowing;
 
 impl Protocol<[u64; 1], View> for Knowing {

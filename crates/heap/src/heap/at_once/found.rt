@@ -162,7 +162,13 @@ impl Heap {
 
     /// A data word of an object that was found, as `datum_at_once`.
     #[inline(always)]
-    pub fn datum_found(&self, found: FoundObject, thread: u32, object: u32, index: u32) -> Option<u64>
+    pub fn datum_found(
+        &self,
+        found: FoundObject,
+        thread: u32,
+        object: u32,
+        index: u32,
+    ) -> Option<u64>
         requires { FindsObject self.now thread object found }
         ensures { IfSome result (GivesDatum self.now thread object index) }
     {

@@ -1,4 +1,4 @@
-use Rattle.heap.proofs.AtOnce.{compared}
+use Rattle.heap.proofs.Compared.{compared}
 use Rattle.heap.proofs.heap.Heap.same_at_once.Goals as goal
 
 pub returns : goal.returns
