@@ -14,8 +14,8 @@
 #                   target/unproved/libpauseless.a, by a build that proves nothing
 # make install      installs the program in PREFIX/bin, and the library, its headers and its pkg-config file
 # make bench        times the program on generated scripts, loops over the library's calls, collections compared with
-#                   bdwgc, threads that share a heap, also compared with the JVM's ZGC, the Lisp in C, and heaps near
-#                   the limits
+#                   bdwgc, threads that share a heap, also compared with the JVM's ZGC, the Lisp in C, heaps near the
+#                   limits, and a cache under load
 # make film         makes film.html of examples/moving.script, or of SCRIPT=..; FILM=.. names another file; with TRY=1
 #                   by a build that proves nothing and is kept
 # make plot         makes plot.html of a long run, or of SCRIPT=..; PLOT=.. names another file; EVERY=.. counts after
@@ -170,16 +170,17 @@ bench: pauseless libpauseless.a
 	@$(call built,holds,holds 64 8 4 2 10)
 	@$(call built,contention,portions 2 128)
 	@$(call built,lists,views 2 4000)
-	@$(call part,1 of 9: the program on generated scripts) $(PYTHON) bench/run.py ./pauseless
-	@$(call part,2 of 9: calls of the library) $(PYTHON) bench/calls.py crates/bench/out/bench
-	@export CC='$(CC)'; $(call part,3 of 9: collections compared with bdwgc) \
+	@$(call part,1 of 10: the program on generated scripts) $(PYTHON) bench/run.py ./pauseless
+	@$(call part,2 of 10: calls of the library) $(PYTHON) bench/calls.py crates/bench/out/bench
+	@export CC='$(CC)'; $(call part,3 of 10: collections compared with bdwgc) \
 		$(PYTHON) bench/boehm.py crates/timings/out/timings
-	@$(call part,4 of 9: threads that share a heap) $(PYTHON) bench/crowds.py
-	@$(call part,5 of 9: lists of threads compared with ZGC) $(PYTHON) bench/zgc.py
-	@$(call part,6 of 9: pauses of collections in parts) $(PYTHON) bench/pauses.py
-	@$(call part,7 of 9: commands of scripts) $(PYTHON) bench/commands.py ./pauseless
-	@export CC='$(CC)'; $(call part,8 of 9: the Lisp) $(PYTHON) bench/lisp.py ./libpauseless.a
-	@export CC='$(CC)'; $(call part,9 of 9: heaps near the limits) $(PYTHON) bench/large.py ./libpauseless.a
+	@$(call part,4 of 10: threads that share a heap) $(PYTHON) bench/crowds.py
+	@$(call part,5 of 10: lists of threads compared with ZGC) $(PYTHON) bench/zgc.py
+	@$(call part,6 of 10: pauses of collections in parts) $(PYTHON) bench/pauses.py
+	@$(call part,7 of 10: commands of scripts) $(PYTHON) bench/commands.py ./pauseless
+	@export CC='$(CC)'; $(call part,8 of 10: the Lisp) $(PYTHON) bench/lisp.py ./libpauseless.a
+	@export CC='$(CC)'; $(call part,9 of 10: heaps near the limits) $(PYTHON) bench/large.py ./libpauseless.a
+	@export CC='$(CC)'; $(call part,10 of 10: a cache under load) $(PYTHON) bench/cache.py ./libpauseless.a
 
 # The program that writes the states of a script's heap, with TRY=1 as a build that proves nothing.
 ifdef TRY

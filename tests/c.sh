@@ -71,6 +71,14 @@ for source in examples/c/*.c; do
     leaves "$name"
 done
 
+# A cache in a heap that is never full: no operation is refused, with complete collections and with those in parts.
+build bench/cache.c
+for words in '92 4 0' '92 23 400' '108 27 1600' '124 31 100' '124 31 1600' '248 62 400'; do
+    # shellcheck disable=SC2086 # the words are several
+    "$kept/cache" $words 20000 > "$kept/output" && grep -q ' 0$' "$kept/output"
+    told "a cache with frames, free frames and a budget of $words" $?
+done
+
 # The memory of the process follows what lives in the heap. By malloc as it is in glibc, and not under valgrind.
 if printf '#include <malloc.h>\nint main(void) { return malloc_trim(0) > 1; }' | $CC -xc - -o "$kept/trims" 2> "$kept/errors"
 then

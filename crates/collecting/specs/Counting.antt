@@ -18,7 +18,7 @@ use Rattle.collecting.specs.declared.counting.Counters.{Counters}
 use Rattle.collecting.specs.declared.parts.Stage.{Stage}
 use Rattle.collecting.specs.declared.parts.Stage.TheVariants as stages
 use Rattle.collecting.specs.Collections.{CollectsWhole, lacks_room}
-use Rattle.collecting.specs.Pacing.{has_begun, is_due, lacks_buffer}
+use Rattle.collecting.specs.Pacing.{has_begun, is_due, lacks_buffer, left_frames}
 use Rattle.collecting.specs.Stages.{PartGoesOn, PartsState}
 use Rattle.collecting.specs.Targets.{in_use}
 
@@ -157,11 +157,11 @@ CountsParts true free percent budget p h old q g new = (o : PartsState) × (m : 
     × CountsPart true percent budget p h old o m c × CountsPart (is_due free o m) percent budget o m c q g new
 CountsParts false free percent budget p h old q g new = new ≡ old
 
--- then thread t was to make an object, for which the heap is collected only if one frame is free, or none
+-- then thread t was to make an object, for which the heap is collected only if few frames are free
 abbrev pub CountsPaced : Bool → ℕ → ℕ → ℕ → ℕ → ℕ → ℕ → ℕ → PartsState → HeapState → Counters → PartsState
     → Counters → Type 0
 CountsPaced due t n free percent budget target layout p h old q new = (m : HeapState) × (c : Counters)
-    × CountsParts due free percent budget p h old q m c × CountsMake t n (min free 1) percent target layout m c new
+    × CountsParts due free percent budget p h old q m c × CountsMake t n (left_frames free) percent target layout m c new
 
 -- the parts come only if the thread's buffer has no room
 abbrev pub CountsPacedIf : Bool → ℕ → ℕ → ℕ → ℕ → ℕ → ℕ → ℕ → PartsState → HeapState → Counters → PartsState

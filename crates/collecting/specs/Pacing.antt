@@ -1,5 +1,5 @@
 -- Objects that are made beside a collection in parts.
-use Rattle.std.specs.Prelude.{◌≡◌, ◌||◌, ◌&&◌, not, ℕ, Bool, true, false, count_by, is_none, nat_le, Result, Err}
+use Rattle.std.specs.Prelude.{◌≡◌, ◌||◌, ◌&&◌, not, ℕ, Bool, true, false, count_by, is_none, nat_le, ◌/◌, max, min, Result, Err}
 use Rattle.model.specs.Outcome.{outcome}
 use Rattle.model.specs.Phases.{is_marking}
 use Rattle.model.specs.States.{HeapState}
@@ -30,6 +30,11 @@ has_begun p h = not (is_first p.stage) || is_marking h.phase
 -- at most so many frames are free, or a collection has begun
 abbrev pub is_due : ℕ → PartsState → HeapState → Bool
 is_due free p h = nat_le (count_by is_none h.store.owners) free || has_begun p h
+
+-- how many free frames are left to a complete collection, if a policy asks for so many: a quarter, and one if it asks for
+-- any
+abbrev pub left_frames : ℕ → ℕ
+left_frames free = max (free / 4) (min free 1)
 
 -- the next part of a collection was done, if one was due; else nothing was
 abbrev pub Paces : Bool → ℕ → ℕ → PartsState → HeapState → PartsState → HeapState → Type 0

@@ -7,7 +7,7 @@ ghost use Rattle.model.specs.declared.steps.Step.TheVariants as steps;
 ghost use Rattle.managed.specs.Batches.{LayoutHas};
 ghost use Rattle.collecting.specs.Counting.{CountsPaced, CountsPart, CountsParts};
 ghost use Rattle.collecting.specs.Filling.{EndsMakingWith, MakesAndFills};
-ghost use Rattle.collecting.specs.Pacing.{MakesPaced, Paces, PacesAndMakes, PacesTwice, is_due, lacks_buffer};
+ghost use Rattle.collecting.specs.Pacing.{MakesPaced, Paces, PacesAndMakes, PacesTwice, is_due, lacks_buffer, left_frames};
 
 use crate::collecting::Holding;
 use crate::counting::{Counters, part_counted};
@@ -76,8 +76,16 @@ fn pace(
     }
 }
 
-/// The next two parts of a collection, if they are due, and then an object. The last free frame is kept for a
-/// complete collection, as objects need one to move to. All collections are counted.
+/// How many free frames are left to a complete collection, if a policy asks for so many: a quarter, as objects need
+/// frames to move to. With a single one, a heap of dense pages would gain next to nothing by it.
+fn left_frames(free: u32) -> u32
+    ensures { result ≡ left_frames free }
+{
+    (free / 4).max(free.min(1))
+}
+
+/// The next two parts of a collection, if they are due, and then an object. The last free frames are left to a
+/// complete collection. All collections are counted.
 #[cold]
 #[inline(never)]
 pub(crate) fn pace_and_make_counted(
@@ -99,7 +107,7 @@ pub(crate) fn pace_and_make_counted(
     pace(heap, alloc, counters, parts, policy, budget);
     let last = Policy {
         words: policy.words,
-        free: policy.free.min(1),
+        free: left_frames(policy.free),
         percent: policy.percent,
     };
     make_counted(heap, alloc, counters, last, thread, target, layout)

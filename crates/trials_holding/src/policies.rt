@@ -93,7 +93,7 @@ fn waste_filled(alloc: Global, heap: &mut impl Framed, count: u32) -> Result<u32
 }
 
 /// Frames are taken while the heap is collected in parts, which ends while many are left: a complete collection waits
-/// until at most one is.
+/// until at most eight are, a quarter of those that the policy asks for.
 fn paces(rt: &impl Abort, alloc: Global, mut heap: impl Framed + Drop) -> Result<(), Fail> {
     let least = waste_paced(alloc, &mut heap, 5000)?;
     assert!(rt;
