@@ -32,8 +32,6 @@ for named in \
     trials_memory:pages::takes_in_the_lowest_page \
     trials_heap:heaps::the_first_fault_is_told \
     trials_heap:protections::a_page_is_protected \
-    trials_holding:counted::collections_are_counted \
-    trials_holding:in_one_go::calls_are_done_in_one_go \
     shortages:protections::four_pages_are_protected \
     shortages:protections::four_pages_of_a_managed_heap \
     shortages:emptying::pages_are_emptied \
