@@ -9,23 +9,17 @@ mod between;
 #[cfg(test)]
 mod choices;
 #[cfg(test)]
-mod counted;
-#[cfg(test)]
 mod counting;
 #[cfg(test)]
 mod data;
 #[cfg(test)]
 mod faults;
 #[cfg(test)]
-mod in_one_go;
-#[cfg(test)]
 mod listing;
 #[cfg(test)]
 mod long;
 #[cfg(test)]
 mod marks;
-#[cfg(test)]
-mod numbers;
 #[cfg(test)]
 mod parts;
 #[cfg(test)]

@@ -1,6 +1,6 @@
 //! Collections that are counted beside a heap.
 
-use crate::rooms::{new_heap, same};
+use crate::heaps::{new_heap, same};
 use collecting::{Counters, Counting, Parts, Policy};
 use managed::ManagedHeap;
 use model::Refusal;

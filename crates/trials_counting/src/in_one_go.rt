@@ -1,7 +1,7 @@
 //! Calls that are done in one go: on a heap that isn't collected each of them is, also while a thread has loaded. Their
 //! contracts allow that nothing is done; the call behind each then does it.
 
-use crate::rooms::same;
+use crate::heaps::same;
 use collecting::{Holding, Policy};
 use heap::Config;
 use layout::{Layout, Layouts};

@@ -1,6 +1,6 @@
 //! Which number of a call names nothing, and policies that are out of their range.
 
-use crate::rooms::{new_heap, same};
+use crate::heaps::{new_heap, same};
 use collecting::{CallFault, Holding, Number, Policy, PolicyFault};
 use managed::ManagedHeap;
 use model::{Refusal, Step};

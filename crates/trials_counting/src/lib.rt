@@ -1,0 +1,12 @@
+//! Tests of what a program learns of a heap that it holds: which number of a step is wrong, what collections have come to,
+//! and which calls are done in one go.
+#![tactic(auto)]
+
+#[cfg(test)]
+mod counted;
+#[cfg(test)]
+mod heaps;
+#[cfg(test)]
+mod in_one_go;
+#[cfg(test)]
+mod numbers;
