@@ -2,7 +2,6 @@
 
 use crate::heaps::{new_heap, same};
 use collecting::{Counters, Counting, Parts, Policy};
-use managed::ManagedHeap;
 use model::Refusal;
 use std::alloc::Global;
 use std::process::Abort;
@@ -75,14 +74,18 @@ fn parts_of(
 }
 
 /// Parts are counted, those that a call asks for and those for a fresh buffer.
-fn counts_parts(rt: &impl Abort, alloc: Global, mut heap: ManagedHeap) -> Result<(), Fail> {
+fn counts_parts(
+    rt: &impl Abort,
+    alloc: Global,
+    mut heap: impl Counting + Drop,
+) -> Result<(), Fail> {
     let (mut counters, mut parts) = (Counters::new(), Parts::new(alloc));
     waste(alloc, &mut heap, &mut counters, 0, 20)?;
     let done = parts_of(alloc, &mut heap, &mut counters, &mut parts)?;
     same(rt, counters.parts, done);
     same(rt, (counters.by_parts, counters.ended_in_parts), (1, 1));
     same(rt, counters.emptied > 0, true);
-    same(rt, counters.by_policy + counters.by_room, 0);
+    same(rt, (counters.by_policy, counters.by_room), (0, 0));
     heap.refill_counted(alloc, &mut counters, policy(0), ME)?;
     for _ in 0..6 {
         heap.make_paced_counted(
@@ -96,7 +99,7 @@ fn counts_parts(rt: &impl Abort, alloc: Global, mut heap: ManagedHeap) -> Result
             0,
         )?;
     }
-    same(rt, counters.parts, done + 2);
+    same(rt, counters.parts, done.saturating_add(2));
     same(rt, counters.by_parts, 2);
     let nums = [7];
     heap.make_with_paced_counted(
@@ -111,7 +114,7 @@ fn counts_parts(rt: &impl Abort, alloc: Global, mut heap: ManagedHeap) -> Result
         &[],
         &nums,
     )?;
-    same(rt, counters.parts, done + 2);
+    same(rt, counters.parts, done.saturating_add(2));
     Ok(())
 }
 
