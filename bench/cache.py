@@ -6,12 +6,11 @@ complete collections and with collections in parts by several budgets; the longe
 collections there were for 1,000 operations. bench/cache.c says what the cache is. Figures are the least of some runs.
 """
 
-import os
 import subprocess
 import sys
 import tempfile
 
-HERE = os.path.dirname(os.path.abspath(__file__))
+from measuring import built_over
 
 RUNS = 3
 
@@ -23,14 +22,6 @@ FRAMES = [92, 108, 124, 144, 180, 248]
 BUDGETS = [(0, 16), (100, 4), (400, 4), (1_600, 4)]
 
 
-def built(library, folder):
-    """The program over the library."""
-    program = os.path.join(folder, "cache")
-    subprocess.run([os.environ.get("CC", "cc"), "-std=c11", "-O2", "-I", os.path.join(HERE, "..", "include"),
-                    os.path.join(HERE, "cache.c"), library, "-o", program], check=True)
-    return program
-
-
 def least(program, *words):
     """Of several runs the least of each number."""
     runs = [subprocess.run([program, *map(str, words)], stdout=subprocess.PIPE, text=True, check=True).stdout.split()
@@ -39,7 +30,7 @@ def least(program, *words):
 
 
 def cell(program, frames, budget, share):
-    """What a cache in so many frames takes."""
+    """What a cache takes in this number of frames."""
     live, operation, longest, whole, _, refused = least(program, frames, frames // share, budget, OPERATIONS)
     if refused:
         return live, "refused"
@@ -53,7 +44,7 @@ def main():
     print("| Frames over live pages | " + " | ".join(heads) + " |")
     print("|" + "---|" * (1 + len(BUDGETS)))
     with tempfile.TemporaryDirectory() as folder:
-        program = built(sys.argv[1], folder)
+        program = built_over(sys.argv[1], "cache", folder)
         for frames in FRAMES:
             cells = [cell(program, frames, budget, share) for budget, share in BUDGETS]
             print(f"| {frames / cells[0][0]:.2f} | " + " | ".join(text for _, text in cells) + " |", flush=True)

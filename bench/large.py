@@ -6,12 +6,11 @@ collected in parts and verified, as far as the machine has memory for them. Figu
 what a large heap takes. bench/large.c says what each work is.
 """
 
-import os
 import subprocess
 import sys
 import tempfile
 
-HERE = os.path.dirname(os.path.abspath(__file__))
+from measuring import built_over
 
 RUNS = 5
 
@@ -24,14 +23,6 @@ FRAMES = [4_096, 65_536, 1_048_575]
 HEAPS = [4_096, 16_384, 32_768]
 
 BUDGET = 1_000
-
-
-def built(library, folder):
-    """The program over the library."""
-    program = os.path.join(folder, "large")
-    subprocess.run([os.environ.get("CC", "cc"), "-std=c11", "-O2", "-I", os.path.join(HERE, "..", "include"),
-                    os.path.join(HERE, "large.c"), library, "-o", program], check=True)
-    return program
 
 
 def numbers(program, *words):
@@ -72,7 +63,7 @@ def main():
     if len(sys.argv) != 2:
         sys.exit(__doc__)
     with tempfile.TemporaryDirectory() as folder:
-        program = built(sys.argv[1], folder)
+        program = built_over(sys.argv[1], "large", folder)
         rows = [[f"{count:,}", *(f"{micros:,.0f}" for micros in least(program, "registers", count))]
                 for count in REGISTERS]
         table(["Registers", "longest part if each names an object, us", "if all are null, us"], rows)

@@ -21,6 +21,15 @@ def asked(what, program):
     return found, words.instructions
 
 
+def built_over(library, name, folder):
+    """Builds the program in C of this name over the library for C, in a folder, and gives its path."""
+    here = os.path.dirname(os.path.abspath(__file__))
+    program = os.path.join(folder, name)
+    subprocess.run([os.environ.get("CC", "cc"), "-std=c11", "-O2", "-I", os.path.join(here, "..", "include"),
+                    os.path.join(here, f"{name}.c"), library, "-o", program], check=True)
+    return program
+
+
 def lines(program, words):
     """What a timed run prints: for each name its count, its median and its longest time."""
     command = [program, "timed"] + [str(word) for word in words]
